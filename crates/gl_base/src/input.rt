@@ -1,0 +1,44 @@
+ghost use Rattle.gl_base.specs.Input.{HasInputCause, ReadsAll};
+
+use crate::row::Row;
+use crate::source::{ReadAnswer, Source};
+use std::alloc::Global;
+
+/// What reading a source to its end came to.
+#[derive(Debug, Drop)]
+pub enum Input {
+    /// All that was left.
+    Whole(Row<u8>),
+    /// More bytes than the limit came.
+    Longer,
+    /// A fault, which the source has counted.
+    Failed,
+    NoMemory,
+}
+
+/// How many bytes one read asks for.
+const PIECE: usize = 65536;
+
+/// Reads to the end. `Longer` comes exactly where more than `limit` bytes came. On every answer but
+/// `Whole` a part from the front may have been taken.
+pub fn read_all<R: Source>(alloc: Global, source: &mut R, limit: usize) -> Input
+    ensures bytes { ReadsAll limit (R.left source.old) (R.left source.new) result }
+    ensures cause { HasInputCause (R.health source.old) (R.health source.new) result }
+{
+    let mut all = Row::new(alloc);
+    let mut piece = [0u8; PIECE];
+    loop {
+        match source.read(&mut piece) {
+            ReadAnswer::Took(n) => {
+                if n > limit - all.len() {
+                    return Input::Longer;
+                }
+                if all.extend(&piece[..n]).is_err() {
+                    return Input::NoMemory;
+                }
+            }
+            ReadAnswer::End => return Input::Whole(all),
+            ReadAnswer::Failed => return Input::Failed,
+        }
+    }
+}
