@@ -1,0 +1,5 @@
+use Rattle.block_codec.proofs.Frames.{length-frame_bytes}
+use Rattle.block_codec.proofs.laws.frames_are_longer.Goals as goal
+
+pub returns : goal.returns
+returns c = length-frame_bytes

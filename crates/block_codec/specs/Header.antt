@@ -1,0 +1,28 @@
+-- The header of a block and the ten bytes that stand for it on the line.
+use Rattle.std.specs.Prelude.{ℕ, Bool, ◌+◌, ◌/◌, ◌%◌, ◌^◌, ◌<◌, List, ◌∷◌, if◌then◌else◌}
+use Rattle.std.specs.Int.{w32, to_be_bytes}
+use Rattle.block_codec.specs.declared.header.Header.{Header}
+
+-- a byte whose highest bit is a flag and whose other seven are a number (SEMI E4, header)
+abbrev pub flagged : Bool → ℕ → ℕ
+flagged flag low = (if flag then 128 else 0) + low
+
+-- R bit and device, W bit and stream, function, E bit and block number, four system bytes (SEMI E4, header)
+abbrev pub header_bytes : Header → List ℕ
+header_bytes header =
+    flagged header.from_equipment (header.device / 256) ∷ header.device % 256
+    ∷ flagged header.wait header.stream ∷ header.function
+    ∷ flagged header.last (header.number / 256) ∷ header.number % 256
+    ∷ to_be_bytes w32 header.system
+
+-- device and block number have 15 bits, the stream has 7 (SEMI E4, header)
+pub record Fits (header : Header) : Type 0 where
+  pub device : header.device < 32768
+  pub stream : header.stream < 128
+  pub number : header.number < 32768
+
+-- it fits, the function is a byte and the system bytes are four (SEMI E4, header)
+pub record IsHeader (header : Header) : Type 0 where
+  pub fits : Fits header
+  pub function : header.function < 256
+  pub system : header.system < 2 ^ 32

@@ -1,0 +1,5 @@
+pub mod Block
+pub mod Fault
+pub mod Frame
+pub mod Header
+pub mod Laws

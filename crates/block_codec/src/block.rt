@@ -1,0 +1,61 @@
+ghost use Rattle.std.specs.Prelude.{◌≡◌, ◌≤◌, ◌↔◌, length, IsSome, IfSome};
+ghost use Rattle.block_codec.specs.Block.{IsBlock};
+ghost use Rattle.block_codec.specs.Header.{Fits};
+
+use crate::Header;
+use arrayvec::ArrayVec;
+use std::marker::Model;
+
+/// A block of a message: a header that fits and at most 244 bytes of the message's text.
+#[derive(Drop, Debug)]
+pub struct Block {
+    header: Header,
+    body: ArrayVec<u8, 244>,
+}
+
+impl Model for Block {
+    ghost use Rattle.block_codec.specs.Block.{BlockView, IsBlock};
+
+    ghost Value = { BlockView };
+
+    ghost view = { λ inside. record { header = inside.header; body = inside.body.items } };
+
+    ghost invariant = { λ inside. IsBlock (record { header = inside.header; body = inside.body.items }) };
+}
+
+impl Block {
+    /// A block of this header and this body.
+    ///
+    /// `None` exactly where the header does not fit or the body has more than 244 bytes.
+    pub fn new(header: Header, body: &[u8]) -> Option<Block>
+        ensures variant { IsSome result ↔ (Fits header × (length body.now ≤ 244)) }
+        ensures some { IfSome result (λ block. (block.header ≡ header) × (block.body ≡ body.now)) }
+        ensures is_block { IfSome result (λ block. IsBlock block) }
+    {
+        if !header.fits() {
+            return None;
+        }
+        let mut items = ArrayVec::new();
+        items.try_extend_from_slice(body).ok()?;
+        Some(Block {
+            header,
+            body: items,
+        })
+    }
+
+    /// The header.
+    pub fn header(&self) -> Header
+        ensures value { result ≡ self.now.header }
+        ensures is_block { IsBlock self.now }
+    {
+        self.header
+    }
+
+    /// The body.
+    pub fn body(&self) -> &[u8]
+        ensures value { result.now ≡ self.now.body }
+        ensures is_block { IsBlock self.now }
+    {
+        self.body.as_slice()
+    }
+}
