@@ -1,0 +1,67 @@
+ghost use Rattle.std.specs.Prelude.{◌≡◌, ◌<◌, length, None};
+ghost use Rattle.gl_base.specs.Sink.{HasWriteCause, SinkHealth, Writes, WritesWithin};
+ghost use Rattle.gemline.specs.Passing.{WritesOn};
+
+use gl_base::{Sink, WriteAnswer};
+use std::io::Write;
+
+/// A real object to write to, which tells nothing of its bytes and counts its faults.
+#[derive(Drop)]
+pub struct Writing<W> {
+    inner: W,
+    faults: u64,
+}
+
+impl<W> Writing<W> {
+    /// No fault yet.
+    pub fn new(inner: W) -> Writing<W>
+        ensures { result ≡ record { inner = inner; faults = 0 } }
+    {
+        Writing { inner, faults: 0 }
+    }
+}
+
+impl<W: Write> Sink for Writing<W> {
+    ghost received = { λ _. None };
+
+    ghost health = { λ s. record { faults = s.faults; room = 0 } };
+
+    // An object that takes nothing is a fault.
+    fn write(&mut self, bytes: &[u8]) -> WriteAnswer
+        requires { 0 < length bytes.now }
+        ensures within { WritesWithin (length bytes.now) result }
+        ensures bytes { Writes None bytes.now None result }
+        ensures cause { HasWriteCause
+            (record { faults = self.old.faults; room = 0 })
+            (record { faults = self.new.faults; room = 0 })
+            (length bytes.now)
+            result }
+        ensures passed { WritesOn (W.contents self.old.inner) (W.contents self.new.inner) bytes.now result }
+    {
+        match self.inner.write(bytes) {
+            Ok(n) if n > 0 => WriteAnswer::Took(n),
+            _ => {
+                self.faults = self.faults.saturating_add(1);
+                WriteAnswer::Failed
+            }
+        }
+    }
+}
+
+#[cfg(test)]
+mod tests {
+    use super::*;
+    use std::test::Fail;
+
+    #[test]
+    fn writes_what_the_object_takes(rt: HostRuntime) -> Result<(), Fail> {
+        let mut room = [0; 3];
+        let mut writing = Writing::new(room.as_mut_slice());
+        assert_eq!(rt; writing.write(b"ab"), WriteAnswer::Took(2));
+        assert_eq!(rt; writing.write(b"cd"), WriteAnswer::Took(1));
+        assert_eq!(rt; writing.write(b"d"), WriteAnswer::Failed);
+        assert_eq!(rt; writing.faults, 1);
+        assert_eq!(rt; room.as_slice(), b"abc".as_slice());
+        Ok(())
+    }
+}

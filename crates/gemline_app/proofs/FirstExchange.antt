@@ -1,0 +1,49 @@
+-- The capture of the first exchange, and what `show` of it over objects that do not fail comes to.
+use Rattle.std.proofs.Common.{◌≡◌, ◌⊎◌, ℕ, ◌≤◌, List, [], ◌∷◌, true, false, length, Some, refl, sym, ap, ◌∙◌, inl, inr, arith}
+use Rattle.std.specs.Fmt.{digits}
+use Rattle.hex.specs.Hex.{encode_with}
+use Rattle.gl_base.specs.Sink.{appended}
+use Rattle.block_codec.specs.Block.{BlockView, IsBlock}
+use Rattle.gemline_app.specs.Capture.{Reads}
+use Rattle.gemline_app.specs.FirstExchange.{first_lines}
+use Rattle.gemline_app.specs.Gemline.{IsRun, SourceTold, is_show}
+use Rattle.gemline_app.specs.Lines.{lines_from}
+use Rattle.gemline_app.specs.Show.{SinkTold}
+use Rattle.gemline_app.specs.declared.capture.Ending.TheVariants.{Whole}
+use Rattle.gemline_app.proofs.Completeness.{whole_capture}
+
+abbrev pub first_frame : List ℕ
+first_frame = 10 ∷ 0 ∷ 0 ∷ 129 ∷ 1 ∷ 128 ∷ 1 ∷ 0 ∷ 0 ∷ 0 ∷ 1 ∷ 1 ∷ 4 ∷ []
+
+abbrev pub first_block : BlockView
+first_block = record {
+  header = record { from_equipment = false; device = 0; wait = true; stream = 1; function = 1; last = true; number = 1; system = 1 };
+  body = [];
+}
+
+first_is_block : IsBlock first_block
+first_is_block = record {
+  header = record { fits = record { device = omega arith; stream = omega arith; number = omega arith }; function = omega arith; system = omega arith };
+  at_most_244 = omega arith;
+  bytes = λ k d below. absurd (omega arith);
+}
+
+first_reads : Reads first_frame (first_block ∷ []) Whole
+first_reads = record { rest = []; whole = refl; shown = (first_is_block, refl, tt); ends = refl }
+
+first_text : lines_from 0 (first_block ∷ []) ≡ first_lines
+unfolding encode_with digits
+first_text = refl
+
+pub first_ends : (words : List (List ℕ)) (input : SourceTold) (out err : SinkTold) (status : ℕ) (received : List ℕ) →
+    IsRun words input out err status → is_show words ≡ true → input.before ≡ Some first_frame → input.health.reliable ≡ true →
+    out.before ≡ Some [] → out.after ≡ Some received → 88 ≤ out.health.room → (status ≡ 71) ⊎ ((status ≡ 0) × (received ≡ first_lines))
+first_ends words input out err status received run shows told reliable empty after room =
+    let long : length (lines_from 0 (first_block ∷ [])) ≡ 88 = ap length first_text in
+    elim (whole_capture words input out err status first_frame (first_block ∷ []) run shows told (omega arith) reliable first_reads (omega arith)) [
+      | inl memory ↦ inl memory
+      | inr done ↦
+          let all : Some received ≡ Some (lines_from 0 (first_block ∷ [])) = sym after ∙ done.1 ∙ ap (λ r. appended r (lines_from 0 (first_block ∷ []))) empty in
+          let same : received ≡ lines_from 0 (first_block ∷ []) = cc in
+          inr (done.0, same ∙ first_text)
+    ]

@@ -1,0 +1,5 @@
+use Rattle.gemline_app.proofs.Completeness.{due_outcome}
+use Rattle.gemline_app.proofs.laws.outcomes_are_due.Goals as goal
+
+pub returns : goal.returns
+returns c = due_outcome

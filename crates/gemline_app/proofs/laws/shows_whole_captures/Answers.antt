@@ -1,0 +1,5 @@
+use Rattle.gemline_app.proofs.Completeness.{whole_capture}
+use Rattle.gemline_app.proofs.laws.shows_whole_captures.Goals as goal
+
+pub returns : goal.returns
+returns c = whole_capture

@@ -1,0 +1,379 @@
+ghost use Rattle.std.specs.Prelude.{◌≡◌, ◌⊎◌, IfOk, Some, map, string_bytes, true};
+ghost use Rattle.gemline_app.specs.FirstExchange.{first_lines};
+ghost use Rattle.gemline_app.specs.Gemline.{is_show};
+
+use super::*;
+use gl_base::{MemSink, MemSource, NoMemory, ReadAnswer, Row, Sink, Source, WriteAnswer};
+use std::alloc::Global;
+use std::process::Abort;
+use std::test::Fail;
+
+/// The frame of an S1F1 with W from the host, block 1 with E, system bytes 1.
+const S1F1: [u8; 13] = [
+    0x0a, 0x00, 0x00, 0x81, 0x01, 0x80, 0x01, 0x00, 0x00, 0x00, 0x01, 0x01, 0x04,
+];
+
+const S1F1_LINES: &str =
+    "0 BLOCK H>E dev=0 S1F1 W n=1 E sys=00000001 bytes=0\n0 MESSAGE H>E S1F1 W sys=00000001 -\n";
+
+fn row(alloc: Global, bytes: &[u8]) -> Result<Row<u8>, NoMemory>
+    ensures { IfOk result (λ row. row ≡ bytes.now) }
+{
+    let mut row = Row::new(alloc);
+    row.extend(bytes)?;
+    Ok(row)
+}
+
+fn numbers(alloc: Global, number: u32) -> Result<Row<u32>, NoMemory> {
+    let mut row = Row::new(alloc);
+    row.push(number)?;
+    Ok(row)
+}
+
+fn show_word(alloc: Global) -> Result<Vec<String>, NoMemory>
+    ensures { IfOk result (λ words. is_show (map string_bytes words.items) ≡ true) }
+{
+    let mut words = Vec::new(alloc);
+    words.push(String::from_str(alloc, "show")?)?;
+    Ok(words)
+}
+
+/// What `show` of a capture came to.
+#[derive(Drop)]
+struct Run {
+    status: u8,
+    out: MemSink,
+    err: MemSink,
+}
+
+fn shown(alloc: Global, bytes: Row<u8>) -> Result<Run, NoMemory> {
+    let words = show_word(alloc)?;
+    let mut input = MemSource::new(bytes);
+    let mut out = MemSink::new(alloc, 1_000_000)?;
+    let mut err = MemSink::new(alloc, 100)?;
+    let status = gemline(alloc, &words, &mut input, &mut out, &mut err);
+    Ok(Run { status, out, err })
+}
+
+/// Shows the first exchange over memory with room. From the contract of the top call alone: either
+/// all lines are there and the status is 0, or memory ran out.
+fn first_exchange(alloc: Global) -> Result<(u8, MemSink), NoMemory>
+    ensures { IfOk result (λ end. (end.0 ≡ 71) ⊎ ((end.0 ≡ 0) × (end.1.received ≡ first_lines))) }
+{
+    let words = show_word(alloc)?;
+    let mut input = MemSource::new(row(alloc, &S1F1)?);
+    let mut out = MemSink::new(alloc, 100)?;
+    let mut err = MemSink::new(alloc, 100)?;
+    let status = gemline(alloc, &words, &mut input, &mut out, &mut err);
+    Ok((status, out))
+}
+
+#[test]
+fn shows_the_first_exchange(rt: HostRuntime) -> Result<(), Fail> {
+    let (status, out) = first_exchange(rt.alloc())?;
+    assert_eq!(rt; status, 0);
+    assert_eq!(rt; out.bytes(), S1F1_LINES.as_bytes());
+    Ok(())
+}
+
+/// Shows a capture, and compares the status, the lines and the line on the errors.
+fn expect(
+    rt: &impl Abort,
+    alloc: Global,
+    bytes: &[u8],
+    status: u8,
+    out: &str,
+    err: &str,
+) -> Result<(), NoMemory> {
+    let end = shown(alloc, row(alloc, bytes)?)?;
+    assert_eq!(rt; end.status, status, "{bytes:?}");
+    assert_eq!(rt; end.out.bytes(), out.as_bytes(), "{bytes:?}");
+    assert_eq!(rt; end.err.bytes(), err.as_bytes(), "{bytes:?}");
+    Ok(())
+}
+
+#[test]
+fn names_breaks(rt: HostRuntime) -> Result<(), Fail> {
+    let alloc = rt.alloc();
+    let mut wrong_sum = S1F1;
+    wrong_sum[12] = 0x05;
+    expect(&rt, alloc, &[], 0, "", "")?;
+    expect(
+        &rt,
+        alloc,
+        &wrong_sum,
+        65,
+        "",
+        "gemline: 65 frame at 0: sum 0104 found 0105\n",
+    )?;
+    expect(
+        &rt,
+        alloc,
+        &[0x09],
+        65,
+        "",
+        "gemline: 65 frame at 0: length 9\n",
+    )?;
+    expect(
+        &rt,
+        alloc,
+        &[0xff],
+        65,
+        "",
+        "gemline: 65 frame at 0: length 255\n",
+    )?;
+    expect(
+        &rt,
+        alloc,
+        &[0x0a, 0x00],
+        65,
+        "",
+        "gemline: 65 frame at 2: short\n",
+    )?;
+    Ok(())
+}
+
+#[test]
+fn names_what_is_not_built(rt: HostRuntime) -> Result<(), Fail> {
+    let alloc = rt.alloc();
+    for byte in [0x05, 0x04, 0x06, 0x15] {
+        expect(&rt, alloc, &[byte], 79, "", "gemline: 79 not built at 0\n")?;
+    }
+    let without_last = [0x0a, 0, 0, 1, 1, 0, 1, 0, 0, 0, 1, 0, 4];
+    expect(
+        &rt,
+        alloc,
+        &without_last,
+        79,
+        "",
+        "gemline: 79 not built at 0\n",
+    )?;
+    let second_block = [0x0a, 0, 0, 0x81, 1, 0x80, 2, 0, 0, 0, 1, 1, 5];
+    expect(
+        &rt,
+        alloc,
+        &second_block,
+        79,
+        "",
+        "gemline: 79 not built at 0\n",
+    )?;
+    let with_body = [0x0b, 0, 0, 0x81, 1, 0x80, 1, 0, 0, 0, 1, 0, 1, 4];
+    expect(
+        &rt,
+        alloc,
+        &with_body,
+        79,
+        "",
+        "gemline: 79 not built at 0\n",
+    )?;
+    Ok(())
+}
+
+#[test]
+fn shows_each_part_of_a_header(rt: HostRuntime) -> Result<(), Fail> {
+    let alloc = rt.alloc();
+    let reply = [
+        0x0a, 0x81, 0x02, 0x01, 0x02, 0x80, 0x01, 0xde, 0xad, 0xbe, 0xef, 0x04, 0x3f,
+    ];
+    let lines =
+        "0 BLOCK E>H dev=258 S1F2 n=1 E sys=DEADBEEF bytes=0\n0 MESSAGE E>H S1F2 sys=DEADBEEF -\n";
+    expect(&rt, alloc, &reply, 0, lines, "")?;
+    let number_0 = [0x0a, 0, 0, 0x81, 1, 0x80, 0, 0, 0, 0, 1, 1, 3];
+    let lines =
+        "0 BLOCK H>E dev=0 S1F1 W n=0 E sys=00000001 bytes=0\n0 MESSAGE H>E S1F1 W sys=00000001 -\n";
+    expect(&rt, alloc, &number_0, 0, lines, "")?;
+    Ok(())
+}
+
+#[test]
+fn a_repeat_is_not_built(rt: HostRuntime) -> Result<(), Fail> {
+    let alloc = rt.alloc();
+    let mut repeated = [0; 26];
+    repeated[..13].copy_from_slice(&S1F1);
+    repeated[13..].copy_from_slice(&S1F1);
+    expect(
+        &rt,
+        alloc,
+        &repeated,
+        79,
+        S1F1_LINES,
+        "gemline: 79 not built at 13\n",
+    )?;
+    expect(
+        &rt,
+        alloc,
+        &repeated[..20],
+        65,
+        S1F1_LINES,
+        "gemline: 65 frame at 20: short\n",
+    )?;
+    Ok(())
+}
+
+#[test]
+fn the_largest_frame_has_a_body(rt: HostRuntime) -> Result<(), Fail> {
+    let alloc = rt.alloc();
+    let mut largest = [0; 257];
+    largest[0] = 254;
+    let end = shown(alloc, row(alloc, &largest)?)?;
+    assert_eq!(rt; end.err.bytes(), b"gemline: 79 not built at 0\n".as_slice());
+    let end = shown(alloc, row(alloc, &largest[..256])?)?;
+    assert_eq!(rt;
+        end.err.bytes(),
+        b"gemline: 65 frame at 256: short\n".as_slice()
+    );
+    Ok(())
+}
+
+#[test]
+fn a_capture_has_a_limit(rt: HostRuntime) -> Result<(), Fail> {
+    let alloc = rt.alloc();
+    let zeros = [0; 4096];
+    for (more, line) in [
+        (0, "gemline: 65 frame at 0: length 0\n"),
+        (1, "gemline: 65 input longer\n"),
+    ] {
+        let mut capture = Row::new(alloc);
+        for _ in 0..4096 {
+            capture.extend(&zeros)?;
+        }
+        capture.extend(&zeros[..more])?;
+        let end = shown(alloc, capture)?;
+        assert_eq!(rt; end.status, 65);
+        assert_eq!(rt; end.out.bytes(), b"".as_slice());
+        assert_eq!(rt; end.err.bytes(), line.as_bytes());
+    }
+    Ok(())
+}
+
+#[test]
+fn other_words_are_refused(rt: HostRuntime) -> Result<(), Fail> {
+    let alloc = rt.alloc();
+    for words in [
+        [].as_slice(),
+        &["shwo"],
+        &["show", "show"],
+        &["--help"],
+        &[""],
+    ] {
+        let mut texts = Vec::new(alloc);
+        for word in words {
+            texts.push(String::from_str(alloc, word)?)?;
+        }
+        let mut input = MemSource::new(row(alloc, &S1F1)?);
+        let mut out = MemSink::new(alloc, 100)?;
+        let mut err = MemSink::new(alloc, 100)?;
+        assert_eq!(rt; gemline(alloc, &texts, &mut input, &mut out, &mut err), 64);
+        assert_eq!(rt; out.bytes(), b"".as_slice());
+        assert_eq!(rt; err.bytes(), b"gemline: 64 usage\n".as_slice());
+    }
+    Ok(())
+}
+
+#[test]
+fn faults_end_the_run(rt: HostRuntime) -> Result<(), Fail> {
+    let alloc = rt.alloc();
+    let words = show_word(alloc)?;
+    for (number, status, lines, line) in [
+        (1, 68, "", "gemline: 68 read\n"),
+        (2, 68, "", "gemline: 68 read\n"),
+        (3, 0, S1F1_LINES, ""),
+    ] {
+        let mut input = MemSource::failing(row(alloc, &S1F1)?, numbers(alloc, number)?);
+        let mut out = MemSink::new(alloc, 100)?;
+        let mut err = MemSink::new(alloc, 100)?;
+        assert_eq!(rt;
+            gemline(alloc, &words, &mut input, &mut out, &mut err),
+            status,
+            "read {number}"
+        );
+    }
+    for (number, status, line) in [(1, 73, "gemline: 73 write\n"), (2, 0, "")] {
+        let mut input = MemSource::new(row(alloc, &S1F1)?);
+        let mut out = MemSink::failing(alloc, 100, numbers(alloc, number)?)?;
+        let mut err = MemSink::new(alloc, 100)?;
+        assert_eq!(rt;
+            gemline(alloc, &words, &mut input, &mut out, &mut err),
+            status,
+            "write {number}"
+        );
+        assert_eq!(rt; err.bytes(), line.as_bytes());
+    }
+    // a fault on `err` is passed over
+    let mut input = MemSource::new(row(alloc, &[0x09])?);
+    let mut out = MemSink::new(alloc, 0)?;
+    let mut err = MemSink::new(alloc, 0)?;
+    assert_eq!(rt; gemline(alloc, &words, &mut input, &mut out, &mut err), 65);
+    Ok(())
+}
+
+/// Passes each call on with one byte.
+#[derive(Drop)]
+struct OneByte<T>(T);
+
+impl<R: Source> Source for OneByte<R> {
+    ghost left = { λ s. R.left s.0 };
+
+    ghost health = { λ s. R.health s.0 };
+
+    fn read(&mut self, into: &mut [u8]) -> ReadAnswer {
+        self.0.read(&mut into[..1])
+    }
+}
+
+/// Takes one byte at a time, into memory.
+#[derive(Drop)]
+struct Narrow(Row<u8>);
+
+impl Sink for Narrow {
+    ghost received = { λ s. Some s.0 };
+
+    ghost health = { λ s. record { faults = 18446744073709551615; room = 0 } };
+
+    fn write(&mut self, bytes: &[u8]) -> WriteAnswer {
+        match self.0.push(bytes[0]) {
+            Ok(()) => WriteAnswer::Took(1),
+            Err(_) => WriteAnswer::Failed,
+        }
+    }
+}
+
+#[test]
+fn pieces_make_no_difference(rt: HostRuntime) -> Result<(), Fail> {
+    let alloc = rt.alloc();
+    let words = show_word(alloc)?;
+    let mut input = OneByte(MemSource::new(row(alloc, &S1F1)?));
+    let mut out = Narrow(Row::new(alloc));
+    let mut err = MemSink::new(alloc, 100)?;
+    assert_eq!(rt; gemline(alloc, &words, &mut input, &mut out, &mut err), 0);
+    assert_eq!(rt; out.0.as_slice(), S1F1_LINES.as_bytes());
+    Ok(())
+}
+
+#[test]
+fn many_frames_pass_through_pages(rt: HostRuntime) -> Result<(), Fail> {
+    let alloc = rt.alloc();
+    let mut capture = Row::new(alloc);
+    for number in 0..2000u16 {
+        let mut frame = S1F1;
+        frame[9..11].copy_from_slice(&number.to_be_bytes());
+        let sum: u16 = frame[1..11].iter().map(|byte| u16::from(*byte)).sum();
+        frame[11..].copy_from_slice(&sum.to_be_bytes());
+        capture.extend(&frame)?;
+    }
+    let end = shown(alloc, capture)?;
+    assert_eq!(rt; end.status, 0);
+    let lines = end
+        .out
+        .bytes()
+        .iter()
+        .filter(|byte| **byte == b'\n')
+        .count();
+    assert_eq!(rt; lines, 4000);
+    assert!(rt;
+        end.out
+            .bytes()
+            .ends_with(b"25987 MESSAGE H>E S1F1 W sys=000007CF -\n")
+    );
+    Ok(())
+}
