@@ -270,36 +270,58 @@ fn other_words_are_refused(rt: HostRuntime) -> Result<(), Fail> {
     Ok(())
 }
 
+/// Shows the first exchange over these objects, and compares the status, the lines and the line on the errors.
+fn expect_of(
+    rt: &impl Abort,
+    alloc: Global,
+    mut input: MemSource,
+    mut out: MemSink,
+    status: u8,
+    lines: &str,
+    line: &str,
+) -> Result<(), NoMemory> {
+    let words = show_word(alloc)?;
+    let mut err = MemSink::new(alloc, 100)?;
+    assert_eq!(rt;
+        gemline(alloc, &words, &mut input, &mut out, &mut err),
+        status
+    );
+    assert_eq!(rt; out.bytes(), lines.as_bytes());
+    assert_eq!(rt; err.bytes(), line.as_bytes());
+    Ok(())
+}
+
 #[test]
-fn faults_end_the_run(rt: HostRuntime) -> Result<(), Fail> {
+fn a_read_fails(rt: HostRuntime) -> Result<(), Fail> {
+    let alloc = rt.alloc();
+    for number in 1..4 {
+        let input = MemSource::failing(row(alloc, &S1F1)?, numbers(alloc, number)?);
+        let out = MemSink::new(alloc, 100)?;
+        if number < 3 {
+            expect_of(&rt, alloc, input, out, 68, "", "gemline: 68 read\n")?;
+        } else {
+            expect_of(&rt, alloc, input, out, 0, S1F1_LINES, "")?;
+        }
+    }
+    Ok(())
+}
+
+#[test]
+fn a_write_fails(rt: HostRuntime) -> Result<(), Fail> {
+    let alloc = rt.alloc();
+    let input = MemSource::new(row(alloc, &S1F1)?);
+    let out = MemSink::failing(alloc, 100, numbers(alloc, 1)?)?;
+    expect_of(&rt, alloc, input, out, 73, "", "gemline: 73 write\n")?;
+    let input = MemSource::new(row(alloc, &S1F1)?);
+    let out = MemSink::failing(alloc, 100, numbers(alloc, 2)?)?;
+    expect_of(&rt, alloc, input, out, 0, S1F1_LINES, "")?;
+    Ok(())
+}
+
+#[test]
+fn a_fault_of_the_errors_is_passed_over(rt: HostRuntime) -> Result<(), Fail> {
     let alloc = rt.alloc();
     let words = show_word(alloc)?;
-    for (number, status, lines, line) in [
-        (1, 68, "", "gemline: 68 read\n"),
-        (2, 68, "", "gemline: 68 read\n"),
-        (3, 0, S1F1_LINES, ""),
-    ] {
-        let mut input = MemSource::failing(row(alloc, &S1F1)?, numbers(alloc, number)?);
-        let mut out = MemSink::new(alloc, 100)?;
-        let mut err = MemSink::new(alloc, 100)?;
-        assert_eq!(rt;
-            gemline(alloc, &words, &mut input, &mut out, &mut err),
-            status,
-            "read {number}"
-        );
-    }
-    for (number, status, line) in [(1, 73, "gemline: 73 write\n"), (2, 0, "")] {
-        let mut input = MemSource::new(row(alloc, &S1F1)?);
-        let mut out = MemSink::failing(alloc, 100, numbers(alloc, number)?)?;
-        let mut err = MemSink::new(alloc, 100)?;
-        assert_eq!(rt;
-            gemline(alloc, &words, &mut input, &mut out, &mut err),
-            status,
-            "write {number}"
-        );
-        assert_eq!(rt; err.bytes(), line.as_bytes());
-    }
-    // a fault on `err` is passed over
     let mut input = MemSource::new(row(alloc, &[0x09])?);
     let mut out = MemSink::new(alloc, 0)?;
     let mut err = MemSink::new(alloc, 0)?;
