@@ -1,0 +1,9 @@
+pub mod End
+pub mod Exchange
+pub mod Frames
+pub mod Laws
+pub mod Plan
+pub mod Runs
+pub mod State
+pub mod Step
+pub mod Worked

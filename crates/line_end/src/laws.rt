@@ -1,0 +1,59 @@
+ghost use Rattle.line_end.specs.Laws.{
+  ArrivedFramesCame,
+  CleanExchange,
+  FramesAreOwn,
+  StatesAreKept,
+  StepsAreSmall,
+  TriesAreLimited,
+};
+ghost use Rattle.line_end.specs.Worked.{
+  CarriesOneBlock,
+  ComesWhole,
+  GivesUp,
+  SendsAgain,
+  YieldsOnce,
+};
+
+/// Where no character is lost or late, a block with N header and body bytes is carried in N + 6 characters of both
+/// directions, arrives unchanged, and leaves both ends idle; a block that the receiver holds stays held.
+pub fn clean_exchange()
+    ensures { CleanExchange }
+{}
+
+/// From `send` to `Sent`, `Failed` or `cancel` the frame is written at most RTY + 1 times, and `Failed` comes at the
+/// failed try of that number and at no other call. A slave's yield is no try.
+pub fn tries_are_limited()
+    ensures { TriesAreLimited }
+{}
+
+/// An end never writes a frame but of the block that it holds.
+pub fn frames_are_own()
+    ensures { FramesAreOwn }
+{}
+
+/// The frame of a block that arrives is exactly what the line gave last, all of it after the EOT that asked for it.
+pub fn arrived_frames_came()
+    ensures { ArrivedFramesCame }
+{}
+
+/// A new end is in a state, and each call that may be made leads from a state to a state.
+pub fn states_are_kept()
+    ensures { StatesAreKept }
+{}
+
+/// Any one call keeps the gathered characters, drops them, begins with the character that it takes or goes on with it; a
+/// block that arrives is what was gathered with that character; a held block stays, is dropped, or is the one given.
+pub fn steps_are_small()
+    ensures { StepsAreSmall }
+{}
+
+/// Runs of the table that can be followed by hand, and that meet what the laws above start from: one block over the
+/// line, RTY 0 and 3 without any answer and with NAK to each frame, a slave that yields and sends its own block
+/// afterwards, and a block that arrives.
+pub fn worked_runs()
+    ensures carries { CarriesOneBlock }
+    ensures gives_up { GivesUp }
+    ensures sends_again { SendsAgain }
+    ensures yields { YieldsOnce }
+    ensures comes { ComesWhole }
+{}
