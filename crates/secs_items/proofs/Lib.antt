@@ -1,0 +1,14 @@
+mod ElementLoop
+mod Faults
+mod HeadLaws
+mod ItemLaws
+mod ItemLoop
+mod ItemSteps
+mod Layers
+mod Leaves
+mod Numbers
+mod Shortest
+mod SpellLaws
+mod ViewSteps
+mod Viewing
+mod Written

@@ -1,0 +1,7 @@
+use Rattle.std.proofs.Common.{◌≡◌, ◌++◌, take}
+use Rattle.std.specs.List.{flat_map}
+use Rattle.secs_items.proofs.writing.put_each.Given as goal
+
+-- the elements so far are written
+abbrev pub invariant-loop-element : goal.invariant-loop-element
+invariant-loop-element g l = l.into ≡ l.initial.into ++ flat_map g.T.Element.bytes_of (take l.element-index l.elements)

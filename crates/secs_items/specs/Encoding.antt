@@ -1,0 +1,43 @@
+-- Which items have a spelling, and where the first stands that has none.
+use Rattle.std.specs.Prelude.{◌≡◌, ◌≢◌, ℕ, zero, suc, ◌+◌, List, [], ◌∷◌, ◌++◌, length, nat_lt, if◌then◌else◌, Option, Some, None, Result, Ok, Err}
+use Rattle.std.specs.Option.{option_or}
+use Rattle.secs_items.specs.declared.encode_fault.EncodeFault.{EncodeFault}
+use Rattle.secs_items.specs.declared.encode_fault.EncodeFault.TheVariants as fault
+use Rattle.secs_items.specs.declared.item.Item.{Item, out-Item}
+use Rattle.secs_items.specs.declared.item.Item.TheOpen.{Item-F}
+use Rattle.secs_items.specs.Kinds.{is_list}
+use Rattle.secs_items.specs.Layers.{kind_of, length_of, items_of}
+use Rattle.secs_items.specs.Spelling.{shortest_head, shortest_spelling}
+
+-- an item whose length three bytes don't hold, before which stand at bytes
+abbrev pub long_fault : ℕ → ℕ → Option EncodeFault
+long_fault at n = if nat_lt 16777215 n then Some (fault.TooLong at) else None
+
+-- the first fault of items one after another, before which stand at bytes, where faulty says what each has at its place
+abbrev pub first_of : (ℕ → Item → Option EncodeFault) → ℕ → List Item → Option EncodeFault
+first_of faulty at [] = None
+first_of faulty at (item ∷ items) = option_or (faulty at item) (first_of faulty (at + length (shortest_spelling item)) items)
+
+-- The first fault, in the spelling's order, of an item before which stand at bytes and in which lists may nest so
+-- deep. A list that stands too deep has that fault before any other.
+abbrev pub fault_within : ℕ → ℕ → Item → Option EncodeFault
+fault_within zero at item =
+    let x = out-Item item in
+    if is_list (kind_of x) then Some (fault.TooDeep at) else long_fault at (length_of x)
+fault_within (suc depth) at item =
+    let x = out-Item item in
+    option_or (long_fault at (length_of x)) (first_of (fault_within depth) (at + length (shortest_head (kind_of x) (length_of x))) (items_of x))
+
+-- the first fault of an item, if it has no spelling; lists nest at most 64 deep (this profile)
+unfoldable pub encode_fault : Item → Option EncodeFault
+encode_fault = fault_within 64 0
+
+-- the row has grown, if at all
+abbrev pub Grows : List ℕ → List ℕ → Type 0
+Grows old new = (more : List ℕ) × (new ≡ old ++ more)
+
+-- What a step of writing has done: all was put at the end, or the row has grown and, unless memory ran out, the fault is the
+-- first one.
+abbrev pub Puts : List ℕ → Option EncodeFault → List ℕ → List ℕ → Result (Unit {0}) EncodeFault → Type 0
+Puts spelling first old new (Ok _) = (new ≡ old ++ spelling) × (first ≡ None)
+Puts spelling first old new (Err e) = Grows old new × (e ≢ fault.NoMemory → first ≡ Some e)

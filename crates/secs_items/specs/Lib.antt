@@ -1,0 +1,9 @@
+pub mod Elements
+pub mod Encoding
+pub mod Heads
+pub mod Kinds
+pub mod Layers
+pub mod Ranges
+pub mod Reading
+pub mod Spelling
+pub mod Views

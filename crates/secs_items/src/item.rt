@@ -1,0 +1,70 @@
+ghost use Rattle.std.specs.Prelude.{◌≡◌, IfOk};
+
+use gl_base::{NoMemory, Row};
+use std::alloc::Global;
+
+/// An item of SECS-II: a list of items, or elements of one kind (SEMI E5).
+#[derive(Debug, Drop)]
+pub enum Item {
+    L(Row<Item>),
+    B(Row<u8>),
+    Bool(Row<u8>),
+    A(Row<u8>),
+    J(Row<u8>),
+    I1(Row<i8>),
+    I2(Row<i16>),
+    I4(Row<i32>),
+    I8(Row<i64>),
+    U1(Row<u8>),
+    U2(Row<u16>),
+    U4(Row<u32>),
+    U8(Row<u64>),
+    F4(Row<[u8; 4]>),
+    F8(Row<[u8; 8]>),
+}
+
+impl Item {
+    /// An item that is equal to this one.
+    #[cycle(copying)]
+    pub fn copy(&self, alloc: Global) -> Result<Item, NoMemory>
+        ensures { IfOk result (λ copy. copy ≡ self.now) }
+    {
+        Ok(match self {
+            Item::L(items) => Item::L(copy_items(alloc, items.as_slice())?),
+            Item::B(bytes) => Item::B(copy_row(alloc, bytes)?),
+            Item::Bool(bytes) => Item::Bool(copy_row(alloc, bytes)?),
+            Item::A(bytes) => Item::A(copy_row(alloc, bytes)?),
+            Item::J(bytes) => Item::J(copy_row(alloc, bytes)?),
+            Item::I1(numbers) => Item::I1(copy_row(alloc, numbers)?),
+            Item::I2(numbers) => Item::I2(copy_row(alloc, numbers)?),
+            Item::I4(numbers) => Item::I4(copy_row(alloc, numbers)?),
+            Item::I8(numbers) => Item::I8(copy_row(alloc, numbers)?),
+            Item::U1(numbers) => Item::U1(copy_row(alloc, numbers)?),
+            Item::U2(numbers) => Item::U2(copy_row(alloc, numbers)?),
+            Item::U4(numbers) => Item::U4(copy_row(alloc, numbers)?),
+            Item::U8(numbers) => Item::U8(copy_row(alloc, numbers)?),
+            Item::F4(floats) => Item::F4(copy_row(alloc, floats)?),
+            Item::F8(floats) => Item::F8(copy_row(alloc, floats)?),
+        })
+    }
+}
+
+/// Items that are equal to these, one by one.
+#[cycle(copying)]
+fn copy_items(alloc: Global, items: &[Item]) -> Result<Row<Item>, NoMemory>
+    ensures { IfOk result (λ copies. copies ≡ items.now) }
+{
+    let mut copies = Row::new(alloc);
+    for item in items {
+        copies.push(item.copy(alloc)?)?;
+    }
+    Ok(copies)
+}
+
+fn copy_row<T: Copy>(alloc: Global, row: &Row<T>) -> Result<Row<T>, NoMemory>
+    ensures { IfOk result (λ copy. copy ≡ row.now) }
+{
+    let mut copy = Row::new(alloc);
+    copy.extend(row.as_slice())?;
+    Ok(copy)
+}

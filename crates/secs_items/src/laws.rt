@@ -1,0 +1,29 @@
+//! Laws of items and their bytes.
+
+ghost use Rattle.std.specs.Prelude.{◌≡◌, ℕ, List, [], ◌++◌, None};
+ghost use Rattle.std.specs.List.{AllByRecursion};
+ghost use Rattle.secs_items.specs.declared.item.Item.{Item};
+ghost use Rattle.secs_items.specs.Elements.{IsByte};
+ghost use Rattle.secs_items.specs.Encoding.{encode_fault};
+ghost use Rattle.secs_items.specs.Ranges.{InRange};
+ghost use Rattle.secs_items.specs.Reading.{first_fault};
+ghost use Rattle.secs_items.specs.Spelling.{Spells, shortest_spelling};
+
+/// What `encode_into` appends is read again as the item itself, for each item whose elements are within the ranges
+/// of their kinds.
+pub fn decodes_what_it_encodes()
+    ensures spelled { (item : Item) → InRange item → encode_fault item ≡ None → Spells item (shortest_spelling item) }
+    ensures alone { (item read : Item) → InRange item → encode_fault item ≡ None → Spells read (shortest_spelling item) → read ≡ item }
+{}
+
+/// No spelling of an item is a proper prefix of a spelling of any item, and bytes spell one item at most.
+pub fn no_spelling_begins_another()
+    ensures whole { (first second : Item) (bytes more : List ℕ) → Spells first bytes → Spells second (bytes ++ more) → more ≡ [] }
+    ensures alone { (first second : Item) (bytes : List ℕ) → Spells first bytes → Spells second bytes → first ≡ second }
+{}
+
+/// Bytes have no fault exactly where they spell some item.
+pub fn no_fault_exactly_in_a_spelling()
+    ensures spelled { (item : Item) (bytes : List ℕ) → Spells item bytes → first_fault bytes ≡ None }
+    ensures only { (bytes : List ℕ) → AllByRecursion IsByte bytes → first_fault bytes ≡ None → (item : Item) × Spells item bytes }
+{}
