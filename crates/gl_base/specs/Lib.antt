@@ -1,6 +1,8 @@
 pub mod Calls
 pub mod Faults
+pub mod Files
 pub mod Input
+pub mod MemFiles
 pub mod MemSink
 pub mod MemSource
 pub mod Sink

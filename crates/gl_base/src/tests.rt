@@ -21,6 +21,28 @@ fn is_whole(input: &Input, bytes: &[u8]) -> bool {
     }
 }
 
+fn file(alloc: Global, name: &[u8], bytes: &[u8]) -> Result<MemFile, NoMemory> {
+    Ok(MemFile {
+        name: row(alloc, name)?,
+        bytes: row(alloc, bytes)?,
+    })
+}
+
+fn three_files(alloc: Global) -> Result<Row<MemFile>, NoMemory> {
+    let mut files = Row::new(alloc);
+    files.push(file(alloc, b"plan", b"abc")?)?;
+    files.push(file(alloc, b"empty", b"")?)?;
+    files.push(file(alloc, b"plan", b"hidden")?)?;
+    Ok(files)
+}
+
+fn is_file(answer: &FileAnswer, bytes: &[u8]) -> bool {
+    match answer {
+        FileAnswer::Whole(all) => all.as_slice() == bytes,
+        _ => false,
+    }
+}
+
 #[test]
 fn a_row_is_a_list(rt: HostRuntime) -> Result<(), Fail> {
     let mut row = Row::new(rt.alloc());
@@ -70,5 +92,40 @@ fn a_sink_fails_at_its_calls_and_past_its_room(rt: HostRuntime) -> Result<(), Fa
     assert_eq!(rt; sink.bytes(), b"abcde".as_slice());
     let mut full = MemSink::new(alloc, 0)?;
     assert_eq!(rt; copy_out(&mut full, b"a"), SinkAnswer::Failed);
+    Ok(())
+}
+
+#[test]
+fn reads_files_up_to_a_limit(rt: HostRuntime) -> Result<(), Fail> {
+    let alloc = rt.alloc();
+    let mut files = MemFiles::new(three_files(alloc)?);
+    for (limit, whole) in [(2, false), (3, true), (4, true)] {
+        let answer = files.read_file(alloc, "plan", limit);
+        assert_eq!(rt; is_file(&answer, b"abc"), whole, "limit {limit}");
+        assert_eq!(rt;
+            matches!(answer, FileAnswer::Longer),
+            !whole,
+            "limit {limit}"
+        );
+    }
+    assert!(rt; is_file(&files.read_file(alloc, "empty", 0), b""));
+    assert!(rt; matches!(files.read_file(alloc, "pla", 9), FileAnswer::Failed));
+    assert!(rt; matches!(files.read_file(alloc, "", 9), FileAnswer::Failed));
+    Ok(())
+}
+
+#[test]
+fn files_fail_at_their_calls(rt: HostRuntime) -> Result<(), Fail> {
+    let alloc = rt.alloc();
+    let mut files = MemFiles::failing(three_files(alloc)?, numbers(alloc, 2)?);
+    for call in 1..=3 {
+        let answer = files.read_file(alloc, "plan", 9);
+        assert_eq!(rt;
+            matches!(answer, FileAnswer::Failed),
+            call == 2,
+            "call {call}"
+        );
+        assert_eq!(rt; is_file(&answer, b"abc"), call != 2, "call {call}");
+    }
     Ok(())
 }

@@ -1,0 +1,31 @@
+-- Files in memory, which fail exactly at the calls of their list and at a name that they don't hold (this profile).
+use Rattle.std.specs.Prelude.{ℕ, nat_le, ◌||◌, List, length, Option, Some, None, is_none, if◌then◌else◌}
+use Rattle.gl_base.specs.Calls.{called, faulted, fails_next, is_safe}
+use Rattle.gl_base.specs.declared.calls.Calls.{Calls}
+use Rattle.gl_base.specs.Files.{FilesHealth, file_named}
+use Rattle.gl_base.specs.declared.files.MemFile.{MemFile}
+use Rattle.gl_base.specs.declared.files.FileAnswer.{FileAnswer}
+use Rattle.gl_base.specs.declared.files.FileAnswer.TheVariants.{Whole, Longer, Failed}
+
+-- the files, and the calls so far
+pub record FilesState : Type 0 where
+  pub files : List MemFile
+  pub calls : Calls
+
+abbrev pub files_health : FilesState → FilesHealth
+files_health s = record { faults = s.calls.faults; reliable = is_safe s.calls }
+
+-- a file's bytes up to a limit
+abbrev pub up_to : ℕ → Option (List ℕ) → FileAnswer
+up_to limit (Some bytes) = if nat_le (length bytes) limit then Whole bytes else Longer
+up_to limit None = Failed
+
+-- what a reading answers with ample memory
+abbrev pub answer_to_reading : ℕ → List ℕ → FilesState → FileAnswer
+answer_to_reading limit name s = if fails_next s.calls then Failed else up_to limit (file_named name s.files)
+
+-- and the files after it
+abbrev pub after_reading : List ℕ → FilesState → FilesState
+after_reading name s =
+    if fails_next s.calls || is_none (file_named name s.files) then record s { calls = faulted (called s.calls) }
+    else record s { calls = called s.calls }
