@@ -1,5 +1,5 @@
 mod ElementLoop
-mod Faults
+pub mod Faults
 mod HeadLaws
 mod ItemLaws
 mod ItemLoop
@@ -8,7 +8,7 @@ mod Layers
 mod Leaves
 mod Numbers
 mod Shortest
-mod SpellLaws
+pub mod SpellLaws
 mod ViewSteps
 mod Viewing
 mod Written
