@@ -1,0 +1,9 @@
+pub mod Calls
+pub mod Flows
+pub mod Given
+pub mod Receiving
+pub mod Sending
+pub mod Slips
+pub mod Sound
+pub mod Steps
+pub mod Told

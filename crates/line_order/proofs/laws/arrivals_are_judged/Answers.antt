@@ -1,0 +1,5 @@
+use Rattle.line_order.proofs.Slips.{judged}
+use Rattle.line_order.proofs.laws.arrivals_are_judged.Goals as goal
+
+pub returns : goal.returns
+returns c = judged
