@@ -1,0 +1,5 @@
+use Rattle.secs_text.proofs.TextLaws.{one_value}
+use Rattle.secs_text.proofs.laws.one_item_a_text.Goals as goal
+
+pub returns : goal.returns
+returns c = one_value

@@ -1,0 +1,7 @@
+use Rattle.std.proofs.Common.{◌≡◌, ◌++◌, take}
+use Rattle.secs_text.specs.Text.{spaced, text_of}
+use Rattle.secs_text.proofs.printing.+printing.Given as goal
+
+-- the items so far are put
+abbrev pub invariant-put_list-loop-item : goal.invariant-put_list-loop-item
+invariant-put_list-loop-item l = l.into ≡ l.initial.into ++ spaced text_of (take l.item-index l.items)

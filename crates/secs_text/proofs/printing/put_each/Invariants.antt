@@ -1,0 +1,7 @@
+use Rattle.std.proofs.Common.{◌≡◌, ◌++◌, take}
+use Rattle.secs_text.specs.Text.{spaced}
+use Rattle.secs_text.proofs.printing.put_each.Given as goal
+
+-- the elements so far are put
+abbrev pub invariant-loop-element : goal.invariant-loop-element
+invariant-loop-element g l = l.into ≡ l.initial.into ++ spaced g.F.Form.text (take l.element-index l.elements)

@@ -1,0 +1,105 @@
+-- Which text reads as which item (this profile).
+use Rattle.std.specs.Prelude.{◌≡◌, ◌≢◌, ℕ, zero, suc, ◌+◌, ◌*◌, ◌<◌, ◌^◌, ◌⊎◌, ℤ, true, false, List, [], ◌∷◌, ◌++◌, length, Some, FitsSigned, decimal}
+use Rattle.std.specs.Fmt.{signed_decimal}
+use Rattle.std.specs.Int.{Width, w8, w16, w32, w64}
+use Rattle.std.specs.List.{AllByRecursion}
+use Rattle.hex.specs.Hex.{hex_digit_value}
+use Rattle.secs_items.specs.declared.item.Item.{Item, out-Item}
+use Rattle.secs_items.specs.declared.item.Item.TheOpen.{Item-F}
+use Rattle.secs_items.specs.Kinds.{is_list}
+use Rattle.secs_items.specs.Layers.{items_of, kind_of}
+use Rattle.secs_text.specs.Names.{is_blank, name_of, stands_for_itself}
+
+-- one text after another, of each value
+abbrev pub InTurn : {T : Type 0} → (T → List ℕ → Type 0) → List T → List ℕ → Type 0
+InTurn Is [] text = text ≡ []
+InTurn Is (x ∷ xs) text = (front : List ℕ) × (rest : List ℕ) × (text ≡ front ++ rest) × Is x front × InTurn Is xs rest
+
+-- any run of spaces, tabs, CR and LF
+abbrev pub AreBlanks : List ℕ → Type 0
+AreBlanks = AllByRecursion (λ b. is_blank b ≡ true)
+
+-- an element, and some blanks before it
+abbrev pub AfterBlanks : {T : Type 0} → (T → List ℕ → Type 0) → T → List ℕ → Type 0
+AfterBlanks Is x text = (blanks : List ℕ) × (front : List ℕ) × (text ≡ blanks ++ front) × AreBlanks blanks × (blanks ≢ []) × Is x front
+
+-- two hex digits in either case
+abbrev pub IsHexByte : ℕ → List ℕ → Type 0
+IsHexByte b (high ∷ low ∷ []) = (h : ℕ) × (l : ℕ) × (hex_digit_value high ≡ Some h) × (hex_digit_value low ≡ Some l) × (b ≡ 16 * h + l)
+IsHexByte b _ = ⊥
+
+-- so many bytes in hex, one after another
+abbrev pub IsHexBytes : ℕ → List ℕ → List ℕ → Type 0
+IsHexBytes size bytes text = (length bytes ≡ size) × InTurn IsHexByte bytes text
+
+-- a byte between quotes: as it is where it stands for itself, else a backslash, x and two hex digits
+abbrev pub IsShown : ℕ → List ℕ → Type 0
+IsShown b text =
+    ((stands_for_itself b ≡ true) × (text ≡ b ∷ []))
+    ⊎ ((stands_for_itself b ≡ false) × (digits : List ℕ) × (text ≡ 92 ∷ 120 ∷ digits) × IsHexByte b digits)
+
+-- a text in quotes
+abbrev pub IsQuoted : List ℕ → List ℕ → Type 0
+IsQuoted bytes text = (inner : List ℕ) × (text ≡ 34 ∷ inner ++ 34 ∷ []) × InTurn IsShown bytes inner
+
+-- a number below the limit, without leading zeros
+abbrev pub IsUnsigned : ℕ → ℕ → List ℕ → Type 0
+IsUnsigned limit n text = (n < limit) × (text ≡ decimal n)
+
+-- a signed number that so many bits hold, without leading zeros
+abbrev pub IsSigned : Width → ℤ → List ℕ → Type 0
+IsSigned w z text = FitsSigned w z × (text ≡ signed_decimal z)
+
+-- the elements of one item, where Items says what the items of a list are
+abbrev pub HasElements : (List Item → List ℕ → Type 0) → Item-F Item → List ℕ → Type 0
+HasElements Items (Item-F.L items) = Items items
+HasElements Items (Item-F.B bytes) = InTurn (AfterBlanks IsHexByte) bytes
+HasElements Items (Item-F.Bool bytes) = InTurn (AfterBlanks IsHexByte) bytes
+HasElements Items (Item-F.A bytes) = AfterBlanks IsQuoted bytes
+HasElements Items (Item-F.J bytes) = InTurn (AfterBlanks IsHexByte) bytes
+HasElements Items (Item-F.I1 numbers) = InTurn (AfterBlanks (IsSigned w8)) numbers
+HasElements Items (Item-F.I2 numbers) = InTurn (AfterBlanks (IsSigned w16)) numbers
+HasElements Items (Item-F.I4 numbers) = InTurn (AfterBlanks (IsSigned w32)) numbers
+HasElements Items (Item-F.I8 numbers) = InTurn (AfterBlanks (IsSigned w64)) numbers
+HasElements Items (Item-F.U1 numbers) = InTurn (AfterBlanks (IsUnsigned (2 ^ 8))) numbers
+HasElements Items (Item-F.U2 numbers) = InTurn (AfterBlanks (IsUnsigned (2 ^ 16))) numbers
+HasElements Items (Item-F.U4 numbers) = InTurn (AfterBlanks (IsUnsigned (2 ^ 32))) numbers
+HasElements Items (Item-F.U8 numbers) = InTurn (AfterBlanks (IsUnsigned (2 ^ 64))) numbers
+HasElements Items (Item-F.F4 floats) = InTurn (AfterBlanks (IsHexBytes 4)) floats
+HasElements Items (Item-F.F8 floats) = InTurn (AfterBlanks (IsHexBytes 8)) floats
+
+-- `<`, the name, the elements, any blanks and `>`
+pub record IsText (Items : List Item → List ℕ → Type 0) (x : Item-F Item) (text : List ℕ) : Type 0 where
+  pub elements : List ℕ
+  pub blanks : List ℕ
+  pub holds : HasElements Items x elements
+  pub ends : AreBlanks blanks
+  pub placed : text ≡ 60 ∷ name_of (kind_of x) ++ (elements ++ (blanks ++ 62 ∷ []))
+
+-- The text reads as the item, in which lists nest at most so deep.
+abbrev pub ReadsWithin : ℕ → Item → List ℕ → Type 0
+ReadsWithin zero item = IsText (λ _ _. ⊥) (out-Item item)
+ReadsWithin (suc depth) item = IsText (InTurn (AfterBlanks (ReadsWithin depth))) (out-Item item)
+
+-- The text of an item, from `<` to `>`. Lists nest at most 64 deep.
+unfoldable pub IsItemText : Item → List ℕ → Type 0
+IsItemText = ReadsWithin 64
+
+-- The text reads as the item. Blanks may stand at both ends.
+pub record ReadsAs (text : List ℕ) (item : Item) : Type 0 where
+  pub before : List ℕ
+  pub inner : List ℕ
+  pub after : List ℕ
+  pub begins : AreBlanks before
+  pub reads : IsItemText item inner
+  pub ends : AreBlanks after
+  pub placed : text ≡ before ++ (inner ++ after)
+
+-- Lists nest at most so deep in the item.
+abbrev pub NestsWithin : ℕ → Item → Type 0
+NestsWithin zero item = is_list (kind_of (out-Item item)) ≡ false
+NestsWithin (suc depth) item = AllByRecursion (NestsWithin depth) (items_of (out-Item item))
+
+-- no list of the item stands in 64 others
+unfoldable pub IsShallow : Item → Type 0
+IsShallow = NestsWithin 64
