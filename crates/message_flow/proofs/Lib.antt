@@ -1,0 +1,13 @@
+mod Agreement
+mod Arrivals
+mod Deadlines
+mod Distinct
+mod Firsts
+mod Found
+mod Judging
+mod Kept
+mod Keys
+mod Missed
+mod Numbered
+mod Queue
+mod Standing

@@ -1,0 +1,5 @@
+use Rattle.message_flow.proofs.Missed.{whole-numbered}
+use Rattle.message_flow.proofs.laws.whole_is_numbered.Goals as goal
+
+pub returns : goal.returns
+returns c = whole-numbered

@@ -1,0 +1,129 @@
+-- The messages that come in, as they are kept block by block.
+use Rattle.std.specs.Prelude.{ℕ, Bool, false, ◌+◌, ◌≤◌, ◌==◌, ◌&&◌, ◌||◌, nat_lt, nat_le, List, [], ◌∷◌, ◌++◌, length, set, All, Option, Some, None, if◌then◌else◌}
+use Rattle.std.specs.List.{find, position_or_len, remove}
+use Rattle.block_codec.specs.Block.{BlockView}
+use Rattle.block_codec.specs.declared.header.Header.{Header}
+use Rattle.message_flow.specs.declared.flow.Flow.{Flow}
+use Rattle.message_flow.specs.declared.flow.Flow.TheVariants.{Part, Whole, Duplicate, Foreign, Unexpected, TooLong, Crowded}
+use Rattle.message_flow.specs.declared.message.Message.{Message}
+use Rattle.message_flow.specs.declared.partial.Partial.{Partial}
+use Rattle.message_flow.specs.Key.{is_given, same_key}
+use Rattle.message_flow.specs.Receiver.{IsReceiver, Receiver, address_of, is_foreign}
+
+-- a message with this key and this text
+abbrev pub message_of : Header → List ℕ → Message
+message_of header body = record {
+  stream = header.stream;
+  function = header.function;
+  wait = header.wait;
+  system = header.system;
+  body = body;
+}
+
+-- a message of which this block is the first
+abbrev pub new_partial : BlockView → ℕ → Partial
+new_partial block deadline = record { header = block.header; deadline = deadline; body = block.body }
+
+-- the next block of a message has come
+abbrev pub grown : Partial → BlockView → ℕ → Partial
+grown partial block deadline = record { header = block.header; deadline = deadline; body = partial.body ++ block.body }
+
+-- a message with the key of a header
+abbrev pub has_key : Header → Partial → Bool
+has_key header partial = same_key partial.header header
+
+-- the header of the last block, and the text so far
+abbrev pub header_so_far : Option Partial → Option Header
+header_so_far None = None
+header_so_far (Some partial) = Some partial.header
+
+abbrev pub body_so_far : Option Partial → List ℕ
+body_so_far None = []
+body_so_far (Some partial) = partial.body
+
+-- a block is the next of its message: its number follows that of the block before it, and the first one has number 1, or 0
+-- where it is the only one (SEMI E4, block number)
+abbrev pub is_next : Option Header → Header → Bool
+is_next None header = (header.number == 1) || ((header.number == 0) && header.last)
+is_next (Some before) header = header.number == before.number + 1
+
+-- a message would be opened where 16 are open (this profile)
+abbrev pub is_crowded : Option Header → ℕ → Bool
+is_crowded None count = nat_le 16 count
+is_crowded (Some before) count = false
+
+-- what a block of this receiver is that is no duplicate, from the block of its key before it, the text so far and how many
+-- messages are open: the first that applies (SEMI E4, receive; the limits are this profile's)
+abbrev pub judged : Receiver → Option Header → List ℕ → ℕ → BlockView → Flow
+judged receiver before body count block =
+    if is_next before block.header then
+    (if nat_lt receiver.max_body (length body + length block.body) then TooLong
+    else if block.header.last then Whole (message_of block.header (body ++ block.body))
+    else if is_crowded before count then Crowded
+    else Part)
+    else Unexpected
+
+-- what an arrived block is, from the header of the block that came last and the messages that are open
+abbrev pub flow_of : Receiver → Option Header → List Partial → BlockView → Flow
+flow_of receiver last partials block =
+    if is_given last block.header then Duplicate
+    else if is_foreign receiver block.header then Foreign (address_of block.header)
+    else judged receiver (header_so_far (find (has_key block.header) partials)) (body_so_far (find (has_key block.header) partials))
+    (length partials) block
+
+-- the open messages without the one of this key
+abbrev pub without_key : Header → List Partial → List Partial
+without_key header partials = remove partials (position_or_len (has_key header) partials)
+
+-- the open messages with this block, at the end where it is the first of its message
+abbrev pub joined : Option Partial → List Partial → BlockView → ℕ → List Partial
+joined None partials block deadline = partials ++ new_partial block deadline ∷ []
+joined (Some found) partials block deadline =
+    set partials (position_or_len (has_key block.header) partials) (grown found block deadline)
+
+-- the open messages after a block that was judged so: a part opens a message or goes on with it, and puts its end at T4 from
+-- now; whole, unexpected and too long end it (SEMI E4, T4 and receive)
+abbrev pub partials_after : List Partial → BlockView → ℕ → Flow → List Partial
+partials_after partials block deadline Part = joined (find (has_key block.header) partials) partials block deadline
+partials_after partials block deadline (Whole message) = without_key block.header partials
+partials_after partials block deadline Duplicate = partials
+partials_after partials block deadline (Foreign address) = partials
+partials_after partials block deadline Unexpected = without_key block.header partials
+partials_after partials block deadline TooLong = without_key block.header partials
+partials_after partials block deadline Crowded = partials
+
+-- the same, with the message of the block's key open at this place
+abbrev pub after_next : List Partial → ℕ → Partial → BlockView → ℕ → Flow → List Partial
+after_next partials place found block deadline Part = set partials place (grown found block deadline)
+after_next partials place found block deadline (Whole message) = remove partials place
+after_next partials place found block deadline Duplicate = partials
+after_next partials place found block deadline (Foreign address) = partials
+after_next partials place found block deadline Unexpected = remove partials place
+after_next partials place found block deadline TooLong = remove partials place
+after_next partials place found block deadline Crowded = partials
+
+-- the same, with no message of the block's key open
+abbrev pub after_first : List Partial → BlockView → ℕ → Flow → List Partial
+after_first partials block deadline Part = partials ++ new_partial block deadline ∷ []
+after_first partials block deadline (Whole message) = partials
+after_first partials block deadline Duplicate = partials
+after_first partials block deadline (Foreign address) = partials
+after_first partials block deadline Unexpected = partials
+after_first partials block deadline TooLong = partials
+after_first partials block deadline Crowded = partials
+
+-- the receiver, the header of the block that came last, and the open messages in the order in which they were opened
+pub record AssemblyView : Type 0 where
+  pub receiver : Receiver
+  pub last : Option Header
+  pub partials : List Partial
+
+-- at most 16 messages are open, none with more text than the receiver takes (this profile)
+pub record IsAssembly (assembly : AssemblyView) : Type 0 where
+  pub receiver : IsReceiver assembly.receiver
+  pub few : length assembly.partials ≤ 16
+  pub bodies : All (λ partial. length partial.body ≤ assembly.receiver.max_body) assembly.partials
+
+-- T4 has run out on a message at this moment (SEMI E4, T4)
+abbrev pub is_due : ℕ → Partial → Bool
+is_due now partial = nat_le partial.deadline now

@@ -1,0 +1,13 @@
+pub mod Arrivals
+pub mod Assembly
+pub mod Blocks
+pub mod Deadlines
+pub mod Entries
+pub mod History
+pub mod Key
+pub mod Laws
+pub mod Message
+pub mod Outgoing
+pub mod Receiver
+pub mod Waiting
+pub mod Worked

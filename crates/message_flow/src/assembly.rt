@@ -1,0 +1,253 @@
+ghost use Rattle.std.specs.Prelude.{◌≡◌, ◌+◌, ◌^◌, ◌<◌, ◌≤◌, ◌↔◌, ◌++◌, ◌&&◌, [], ◌∷◌, List, Some, None, length, map, min, slice_index_or, IfOk, IfSome, IfNone, OnErr, OnOk};
+ghost use Rattle.std.specs.List.{find, position, position_or_len, reduce, remove};
+ghost use Rattle.std.specs.Option.{option_map, OnSome};
+ghost use Rattle.block_codec.specs.Header.{Fits};
+ghost use Rattle.message_flow.specs.declared.partial.Partial.{Partial};
+ghost use Rattle.message_flow.specs.Assembly.{AssemblyView, IsAssembly, flow_of, has_key, header_so_far, is_due, judged, body_so_far, partials_after, message_of, after_first, after_next};
+ghost use Rattle.message_flow.specs.Deadlines.{IsDeadlineAt, dropped_at};
+ghost use Rattle.message_flow.specs.Entries.{Entry, StandsFor};
+ghost use Rattle.message_flow.specs.History.{flow_at};
+ghost use Rattle.message_flow.specs.Entries.Entry.{Dropped, Given};
+ghost use Rattle.message_flow.specs.Key.{is_given, same_key, same_header};
+ghost use Rattle.message_flow.specs.Receiver.{IsReceiver, Receiver, address_of, is_foreign};
+
+use crate::partial::Partial;
+use crate::{Flow, Message};
+use block_codec::{Block, Header};
+use gl_base::{NoMemory, Row, Side};
+use std::alloc::Global;
+use std::marker::Model;
+
+// The most messages that are open.
+const MOST: usize = 16;
+
+/// The messages that come in to one side, block by block.
+#[derive(Debug, Drop)]
+pub struct Assembly {
+    alloc: Global,
+    side: Side,
+    device: Option<u16>,
+    t4: u32,
+    max_body: u32,
+    last: Option<Header>,
+    partials: Vec<Partial>,
+}
+
+impl Model for Assembly {
+    ghost use Rattle.message_flow.specs.Assembly.{AssemblyView, IsAssembly};
+    ghost use Rattle.message_flow.specs.Receiver.{Receiver};
+
+    ghost Value = { AssemblyView };
+
+    ghost view = { λ inside. record {
+      receiver = record { side = inside.side; device = inside.device; t4 = inside.t4; max_body = inside.max_body };
+      last = inside.last;
+      partials = inside.partials.items;
+    } };
+
+    ghost invariant = { λ inside. IsAssembly (record {
+      receiver = record { side = inside.side; device = inside.device; t4 = inside.t4; max_body = inside.max_body };
+      last = inside.last;
+      partials = inside.partials.items;
+    }) };
+}
+
+impl Assembly {
+    /// What comes in to this side, from every device where none is given. T4 is in milliseconds, and `max_body` is the most
+    /// bytes of a message's text that is taken. No memory is taken yet.
+    pub fn new(alloc: Global, side: Side, device: Option<u16>, t4: u32, max_body: u32) -> Assembly
+        requires { IsReceiver (record { side = side; device = device; t4 = t4; max_body = max_body }) }
+        ensures receiver { result.receiver ≡ record { side = side; device = device; t4 = t4; max_body = max_body } }
+        ensures stands { StandsFor result [] }
+    {
+        Assembly {
+            alloc,
+            side,
+            device,
+            t4,
+            max_body,
+            last: None,
+            partials: Vec::new(alloc),
+        }
+    }
+
+    /// What a block is that arrives now, after all blocks that were given so far and all messages that T4 dropped.
+    ///
+    /// Where memory runs out nothing has changed, and the block was not given.
+    #[tactic(auto, using(crate::proofs::Standing::flow_stands, crate::proofs::Standing::stands_given))]
+    pub fn accept(&mut self, block: &Block, now: u64) -> Result<Flow, NoMemory>
+        requires { now < 2 ^ 62 }
+        ensures answer { (entries : List Entry) → StandsFor self.old entries → IfOk result (λ flow. flow ≡ flow_at self.old.receiver entries block.now) }
+        ensures stands { (entries : List Entry) → StandsFor self.old entries → OnOk result (StandsFor self.new (entries ++ Given block.now now ∷ [])) }
+        ensures receiver { self.new.receiver ≡ self.old.receiver }
+        ensures err { OnErr result (self.new ≡ self.old) }
+    {
+        let flow = self.judge(block, now)?;
+        self.last = Some(block.header());
+        Ok(flow)
+    }
+
+    /// Drops the message that was opened first among those on which T4 has run out, and gives the header of its last block.
+    ///
+    /// `None` exactly where T4 has run out on none. No memory is taken.
+    pub fn tick(&mut self, now: u64) -> Option<Header>
+        ensures answer { result ≡ header_so_far (find (is_due now) self.old.partials) }
+        ensures dropped { (entries : List Entry) → StandsFor self.old entries → result ≡ dropped_at self.old.receiver entries now }
+        ensures stands { (entries : List Entry) → StandsFor self.old entries → IfSome result (λ header. StandsFor self.new (entries ++ Dropped header now ∷ [])) }
+        ensures receiver { self.new.receiver ≡ self.old.receiver }
+        ensures none { IfNone result (self.new ≡ self.old) }
+    {
+        let place = self.first_due(now)?;
+        Some(self.partials.remove(place).header)
+    }
+
+    /// When T4 runs out on a message next: T4 after the last block of one, the least of all. `None` exactly where no message is
+    /// open.
+    #[tactic(auto, using(crate::proofs::Deadlines::deadline_stands))]
+    pub fn deadline(&self) -> Option<u64>
+        ensures kept { result ≡ reduce min (map (λ partial. partial.deadline) self.now.partials) }
+        ensures answer { (entries : List Entry) → StandsFor self.now entries → IsDeadlineAt self.now.receiver entries result }
+    {
+        self.least_deadline()
+    }
+
+    // What a block is, with the change of the open messages that follows.
+    fn judge(&mut self, block: &Block, now: u64) -> Result<Flow, NoMemory>
+        requires { now < 2 ^ 62 }
+        ensures flow { IfOk result (λ flow. flow ≡ flow_of self.old.receiver self.old.last self.old.partials block.now) }
+        ensures partials { IfOk result (λ flow. self.new ≡ record self.old { partials = partials_after self.old.partials block.now (now + self.old.receiver.t4) flow }) }
+        ensures err { OnErr result (self.new ≡ self.old) }
+    {
+        let header = block.header();
+        if self.is_given(&header) {
+            return Ok(Flow::Duplicate);
+        }
+        if self.is_foreign(&header) {
+            return Ok(Flow::Foreign(address_of(&header)));
+        }
+        match self.place_of(&header) {
+            Some(place) => self.go_on(place, block, now),
+            None => self.begin(block, now),
+        }
+    }
+
+    // What a block is whose message is open at this place.
+    fn go_on(&mut self, place: usize, block: &Block, now: u64) -> Result<Flow, NoMemory>
+        requires now { now < 2 ^ 62 }
+        requires place { place < length self.old.partials }
+        ensures flow { (partial : Partial) → partial ≡ slice_index_or self.old.partials place partial → IfOk result (λ flow. flow ≡ judged self.old.receiver (Some partial.header) partial.body (length self.old.partials) block.now) }
+        ensures partials { (partial : Partial) → partial ≡ slice_index_or self.old.partials place partial → IfOk result (λ flow. self.new ≡ record self.old { partials = after_next self.old.partials place partial block.now (now + self.old.receiver.t4) flow }) }
+        ensures err { OnErr result (self.new ≡ self.old) }
+    {
+        let header = block.header();
+        let deadline = now + u64::from(self.t4);
+        let partial = &mut self.partials[place];
+        if u32::from(header.number) != u32::from(partial.header.number) + 1 {
+            self.partials.remove(place);
+            return Ok(Flow::Unexpected);
+        }
+        if partial.body.len() + block.body().len() > self.max_body as usize {
+            self.partials.remove(place);
+            return Ok(Flow::TooLong);
+        }
+        partial.grow(block, deadline)?;
+        if header.last {
+            Ok(Flow::Whole(self.partials.remove(place).into_message()))
+        } else {
+            Ok(Flow::Part)
+        }
+    }
+
+    // What a block is whose message is not open.
+    fn begin(&mut self, block: &Block, now: u64) -> Result<Flow, NoMemory>
+        requires { now < 2 ^ 62 }
+        ensures flow { IfOk result (λ flow. flow ≡ judged self.old.receiver None [] (length self.old.partials) block.now) }
+        ensures partials { IfOk result (λ flow. self.new ≡ record self.old { partials = after_first self.old.partials block.now (now + self.old.receiver.t4) flow }) }
+        ensures err { OnErr result (self.new ≡ self.old) }
+    {
+        let header = block.header();
+        if header.number != 1 && !(header.number == 0 && header.last) {
+            return Ok(Flow::Unexpected);
+        }
+        if !header.last && self.partials.len() == MOST {
+            return Ok(Flow::Crowded);
+        }
+        let partial = Partial::new(self.alloc, block, now + u64::from(self.t4))?;
+        if header.last {
+            return Ok(Flow::Whole(partial.into_message()));
+        }
+        self.partials.push(partial)?;
+        Ok(Flow::Part)
+    }
+
+    // The least deadline of the open messages.
+    fn least_deadline(&self) -> Option<u64>
+        ensures { result ≡ reduce min (map (λ partial. partial.deadline) self.now.partials) }
+    {
+        self.partials.iter().map(|partial| partial.deadline).min()
+    }
+
+    // The place of the message with the key of this header.
+    fn place_of(&self, header: &Header) -> Option<usize>
+        ensures { result ≡ position (has_key header.now) self.now.partials }
+    {
+        self.partials
+            .iter()
+            .position(|partial| same_key(&partial.header, header))
+    }
+
+    // The place of the message that was opened first among those on which T4 has run out.
+    fn first_due(&self, now: u64) -> Option<usize>
+        ensures { result ≡ position (is_due now) self.now.partials }
+    {
+        self.partials
+            .iter()
+            .position(|partial| partial.deadline <= now)
+    }
+
+    // Whether the block that came last has this header.
+    fn is_given(&self, header: &Header) -> bool
+        ensures { result ≡ is_given self.now.last header.now }
+    {
+        match &self.last {
+            Some(last) => same_header(last, header),
+            None => false,
+        }
+    }
+
+    // Whether a block goes out from this side, or is of another device.
+    fn is_foreign(&self, header: &Header) -> bool
+        ensures { result ≡ is_foreign self.now.receiver header.now }
+    {
+        let own = header.from_equipment == (self.side == Side::Equipment);
+        own || self.device.is_some_and(|device| device != header.device)
+    }
+}
+
+// Whether two blocks are of one message: all of the headers agrees but E bit and block number.
+fn same_key(a: &Header, b: &Header) -> bool
+    ensures { result ≡ same_key a.now b.now }
+{
+    a.from_equipment == b.from_equipment
+        && a.device == b.device
+        && a.stream == b.stream
+        && a.wait == b.wait
+        && a.function == b.function
+        && a.system == b.system
+}
+
+// Whether two headers have the same ten bytes.
+fn same_header(a: &Header, b: &Header) -> bool
+    ensures { result ≡ same_header a.now b.now }
+{
+    same_key(a, b) && a.last == b.last && a.number == b.number
+}
+
+// The first two bytes of a header, as one number.
+fn address_of(header: &Header) -> u16
+    requires { Fits header.now }
+    ensures { result ≡ address_of header.now }
+{
+    let [high, low, ..] = header.to_bytes();
+    u16::from_be_bytes([high, low])
+}

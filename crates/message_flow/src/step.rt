@@ -1,0 +1,29 @@
+use arrayvec::ArrayVec;
+use gl_base::Row;
+
+/// What an end of the link is given in one step.
+#[derive(Debug, Drop)]
+pub enum NodeInput<'a, C> {
+    /// A character came over the line.
+    Char(u8),
+    /// The moment that the end waited for has come.
+    Time,
+    /// A command of the end's own side.
+    Command(&'a C),
+}
+
+/// One line of what an end tells of itself, without its moment and its line end.
+#[derive(Debug, Drop)]
+pub struct Note {
+    /// The line's bytes.
+    pub text: Row<u8>,
+}
+
+/// What an end gives in one step: the characters that it writes, and its notes.
+#[derive(Debug, Drop)]
+pub struct StepOut {
+    /// The characters, in the order in which they go out. Empty as a step begins.
+    pub line: ArrayVec<u8, 1024>,
+    /// What was noted, the oldest first. Empty as a step begins.
+    pub notes: Row<Note>,
+}
