@@ -4,13 +4,16 @@ use Rattle.std.specs.Fmt.{digits}
 use Rattle.hex.specs.Hex.{encode_with}
 use Rattle.gl_base.specs.Sink.{appended}
 use Rattle.block_codec.specs.Block.{BlockView, IsBlock}
-use Rattle.gemline_app.specs.Capture.{Reads}
+use Rattle.line_show.specs.Capture.{Reads}
+use Rattle.line_show.specs.Lines.{lines_of}
+use Rattle.line_show.specs.Show.{SinkTold}
+use Rattle.line_show.specs.declared.capture.Ending.TheVariants.{Whole}
+use Rattle.line_show.specs.declared.capture.Piece.TheVariants.{Framed}
 use Rattle.gemline_app.specs.FirstExchange.{first_lines}
-use Rattle.gemline_app.specs.Gemline.{IsRun, SourceTold, is_show}
-use Rattle.gemline_app.specs.Lines.{lines_from}
-use Rattle.gemline_app.specs.Show.{SinkTold}
-use Rattle.gemline_app.specs.declared.capture.Ending.TheVariants.{Whole}
-use Rattle.gemline_app.proofs.Completeness.{whole_capture}
+use Rattle.gemline_app.specs.Gemline.{IsRun, SourceTold}
+use Rattle.gemline_app.specs.Words.{command_of}
+use Rattle.gemline_app.specs.declared.words.Command.TheVariants.{Show}
+use Rattle.gemline_app.proofs.Due.{whole_capture}
 
 abbrev pub first_frame : List ℕ
 first_frame = 10 ∷ 0 ∷ 0 ∷ 129 ∷ 1 ∷ 128 ∷ 1 ∷ 0 ∷ 0 ∷ 0 ∷ 1 ∷ 1 ∷ 4 ∷ []
@@ -28,22 +31,22 @@ first_is_block = record {
   bytes = λ k d below. absurd (omega arith);
 }
 
-first_reads : Reads first_frame (first_block ∷ []) Whole
-first_reads = record { rest = []; whole = refl; shown = (first_is_block, refl, tt); ends = refl }
+first_reads : Reads first_frame (Framed first_block ∷ []) Whole
+first_reads = ([], record { stands = first_is_block; whole = refl }, refl)
 
-first_text : lines_from 0 (first_block ∷ []) ≡ first_lines
+first_text : lines_of (Framed first_block ∷ []) ≡ first_lines
 unfolding encode_with digits
 first_text = refl
 
 pub first_ends : (words : List (List ℕ)) (input : SourceTold) (out err : SinkTold) (status : ℕ) (received : List ℕ) →
-    IsRun words input out err status → is_show words ≡ true → input.before ≡ Some first_frame → input.health.reliable ≡ true →
+    IsRun words input out err status → command_of words ≡ Some Show → input.before ≡ Some first_frame → input.health.reliable ≡ true →
     out.before ≡ Some [] → out.after ≡ Some received → 88 ≤ out.health.room → (status ≡ 71) ⊎ ((status ≡ 0) × (received ≡ first_lines))
 first_ends words input out err status received run shows told reliable empty after room =
-    let long : length (lines_from 0 (first_block ∷ [])) ≡ 88 = ap length first_text in
-    elim (whole_capture words input out err status first_frame (first_block ∷ []) run shows told (omega arith) reliable first_reads (omega arith)) [
+    let long : length (lines_of (Framed first_block ∷ [])) ≡ 88 = ap length first_text in
+    elim (whole_capture words input out err status first_frame (Framed first_block ∷ []) run shows told (omega arith) reliable first_reads (omega arith)) [
       | inl memory ↦ inl memory
       | inr done ↦
-          let all : Some received ≡ Some (lines_from 0 (first_block ∷ [])) = sym after ∙ done.1 ∙ ap (λ r. appended r (lines_from 0 (first_block ∷ []))) empty in
-          let same : received ≡ lines_from 0 (first_block ∷ []) = cc in
+          let all : Some received ≡ Some (lines_of (Framed first_block ∷ [])) = sym after ∙ done.1 ∙ ap (λ r. appended r (lines_of (Framed first_block ∷ []))) empty in
+          let same : received ≡ lines_of (Framed first_block ∷ []) = cc in
           inr (done.0, same ∙ first_text)
     ]

@@ -1,8 +1,6 @@
-pub mod Captures
-pub mod Completeness
-pub mod Existence
-pub mod FirstExchange
-pub mod Fronts
-pub mod Hex
-pub mod Running
-pub mod Showing
+mod Carrying
+mod Due
+mod FirstExchange
+mod HexLaws
+mod SpelledBytes
+mod TextItems

@@ -1,29 +1,28 @@
 -- What a run of the program is, by its words and what the outside tells (this profile).
-use Rattle.std.specs.Prelude.{◌≡◌, ◌⊎◌, ℕ, Bool, true, false, List, [], ◌∷◌, length, codes, Option, Result, Ok, Err}
-use Rattle.std.specs.Str.{bytes_eq}
+use Rattle.std.specs.Prelude.{◌≡◌, ◌⊎◌, ℕ, List, length, Option, Some, None, Result, Ok, Err}
 use Rattle.gl_base.specs.Input.{HasInputCause, ReadsAll}
 use Rattle.gl_base.specs.Source.{SourceHealth}
-use Rattle.gl_base.specs.Sink.{Copies, HasCopyCause}
+use Rattle.gl_base.specs.Sink.{Copies, HasCopyCause, WriteFault}
 use Rattle.gl_base.specs.declared.input.Input.{Input}
 use Rattle.gl_base.specs.declared.input.Input.TheVariants as input
 use Rattle.gl_base.specs.declared.sink.SinkAnswer.{SinkAnswer}
-use Rattle.gemline_app.specs.Show.{HasStopCause, SinkTold, Shows}
-use Rattle.gemline_app.specs.Outcome.{status_of, line_of}
+use Rattle.line_show.specs.Show.{HasStopCause, Shows, SinkTold, WrotePart, WroteText}
+use Rattle.line_show.specs.declared.capture.Ending.{Ending}
+use Rattle.line_show.specs.declared.printer.Stop.{Stop}
+use Rattle.secs_items.specs.Reading.{first_fault}
+use Rattle.secs_items.specs.declared.item.Item.{Item}
+use Rattle.secs_items.specs.Spelling.{Spells}
+use Rattle.secs_text.specs.Grammar.{ReadsAs}
+use Rattle.secs_text.specs.Reading.{first_text_fault}
+use Rattle.secs_text.specs.declared.text_fault.TextFault.{TextFault}
+use Rattle.gemline_app.specs.HexInput.{HexMeans, IsHexBreak}
+use Rattle.gemline_app.specs.Outcome.{line_of, shown_outcome, status_of}
+use Rattle.gemline_app.specs.Spelling.{HexSpells, spelled_line, text_line, text_place}
+use Rattle.gemline_app.specs.Words.{command_of, limit_of}
 use Rattle.gemline_app.specs.declared.outcome.Outcome.{Outcome}
-use Rattle.gemline_app.specs.declared.outcome.Outcome.TheVariants.{Usage, Longer, ReadFailed, Shown, WriteFailed, NoMemory}
-use Rattle.gemline_app.specs.declared.capture.Ending.{Ending}
-use Rattle.gemline_app.specs.declared.printer.Stop.{Stop}
-use Rattle.gemline_app.specs.declared.printer.Stop.TheVariants as stop
-
--- the words are the one word `show`
-abbrev pub is_show : List (List ℕ) → Bool
-is_show [] = false
-is_show (word ∷ []) = bytes_eq word (codes "show")
-is_show (word ∷ more ∷ words) = false
-
--- how long a capture may be, in bytes: 16 MiB
-abbrev pub capture_limit : ℕ
-capture_limit = 16777216
+use Rattle.gemline_app.specs.declared.outcome.Outcome.TheVariants.{Done, Usage, BadText, BadHex, BadItem, Longer, ReadFailed, NoMemory, WriteFailed}
+use Rattle.gemline_app.specs.declared.words.Command.{Command}
+use Rattle.gemline_app.specs.declared.words.Command.TheVariants.{Show, Spell, SpellHex}
 
 -- what a source told before a run and after it
 pub record SourceTold : Type 0 where
@@ -35,9 +34,9 @@ pub record SourceTold : Type 0 where
 abbrev pub source_told : Option (List ℕ) → Option (List ℕ) → SourceHealth → SourceHealth → SourceTold
 source_told before after health health_after = record { before = before; after = after; health = health; health_after = health_after }
 
--- reading it to its end within the limit came to this
-pub record WasRead (source : SourceTold) (answer : Input) : Type 0 where
-  pub bytes : ReadsAll capture_limit source.before source.after answer
+-- reading it to its end within a limit came to this
+pub record WasRead (limit : ℕ) (source : SourceTold) (answer : Input) : Type 0 where
+  pub bytes : ReadsAll limit source.before source.after answer
   pub cause : HasInputCause source.health source.health_after answer
 
 -- nothing was written
@@ -45,22 +44,97 @@ pub record IsUntouched (out : SinkTold) : Type 0 where
   pub received : out.after ≡ out.before
   pub health : out.health_after ≡ out.health
 
--- a capture was read, which is all that the source told, and showing it came to this
-pub record WasShown (source : SourceTold) (out : SinkTold) (result : Result Ending Stop) : Type 0 where
-  pub capture : List ℕ
-  pub read : WasRead source (input.Whole capture)
+-- the capture was shown, and showing it came to this
+pub record WasShown (capture : List ℕ) (out : SinkTold) (outcome : Outcome) : Type 0 where
+  pub result : Result Ending Stop
+  pub outcome_is : outcome ≡ shown_outcome result
   pub shown : Shows out capture result
   pub cause : HasStopCause out result
 
+-- a line was to be written, and a write failed
+pub record WasCutOff (out : SinkTold) (line : List ℕ) : Type 0 where
+  pub part : WrotePart out line
+  pub fault : WriteFault out.health out.health_after (length line)
+
+-- why a text is refused: it has a fault, or memory ran out
+abbrev pub TextRefuses : List ℕ → Outcome → Type 0
+TextRefuses text (BadText at) = (fault : TextFault) × (first_text_fault text ≡ Some fault) × (at ≡ text_place fault)
+TextRefuses text NoMemory = Unit {0}
+TextRefuses text _ = ⊥
+
+-- why bytes are refused that are to spell an item
+abbrev pub ItemRefuses : List ℕ → Outcome → Type 0
+ItemRefuses bytes (BadItem fault) = first_fault bytes ≡ Some fault
+ItemRefuses bytes NoMemory = Unit {0}
+ItemRefuses bytes _ = ⊥
+
+-- why hex is refused that is to be the bytes of an item
+abbrev pub HexRefuses : List ℕ → Outcome → Type 0
+HexRefuses digits (BadHex at) = IsHexBreak digits at
+HexRefuses digits (BadItem fault) = (bytes : List ℕ) × HexMeans bytes digits × (first_fault bytes ≡ Some fault)
+HexRefuses digits NoMemory = Unit {0}
+HexRefuses digits _ = ⊥
+
+-- what `spell` answers of a text: the line to write, whose bytes `view` tells, or a refusal
+abbrev pub SpellAnswers : {T : Type 0} → (T → List ℕ) → List ℕ → Result T Outcome → Type 0
+SpellAnswers view text (Ok line) = (item : Item) × ReadsAs text item × (view line ≡ spelled_line item)
+SpellAnswers view text (Err refusal) = TextRefuses text refusal
+
+-- what `spell --hex` answers of bytes
+abbrev pub ItemAnswers : List ℕ → Result (List ℕ) Outcome → Type 0
+ItemAnswers bytes (Ok line) = (item : Item) × Spells item bytes × (line ≡ text_line item)
+ItemAnswers bytes (Err refusal) = ItemRefuses bytes refusal
+
+-- and of their hex
+abbrev pub HexAnswers : List ℕ → Result (List ℕ) Outcome → Type 0
+HexAnswers digits (Ok line) = (item : Item) × HexSpells item digits × (line ≡ text_line item)
+HexAnswers digits (Err refusal) = HexRefuses digits refusal
+
+-- what writing a line came to
+abbrev pub WasWritten : List ℕ → SinkTold → Outcome → Type 0
+WasWritten line out Done = WroteText out line
+WasWritten line out WriteFailed = WasCutOff out line
+WasWritten line out _ = ⊥
+
+-- a line was written, or a refusal is the outcome and nothing was written
+abbrev pub WasAnswered : Result (List ℕ) Outcome → SinkTold → Outcome → Type 0
+WasAnswered (Ok line) out outcome = WasWritten line out outcome
+WasAnswered (Err refusal) out outcome = (outcome ≡ refusal) × IsUntouched out
+
+abbrev pub WasSpelled : List ℕ → SinkTold → Outcome → Type 0
+WasSpelled text out outcome = (answer : Result (List ℕ) Outcome) × SpellAnswers (λ line. line) text answer × WasAnswered answer out outcome
+
+abbrev pub WasPrinted : List ℕ → SinkTold → Outcome → Type 0
+WasPrinted digits out outcome = (answer : Result (List ℕ) Outcome) × HexAnswers digits answer × WasAnswered answer out outcome
+
+-- what a command with its whole input came to
+abbrev pub WasDone : Command → List ℕ → SinkTold → Outcome → Type 0
+WasDone Show capture = WasShown capture
+WasDone Spell text = WasSpelled text
+WasDone SpellHex digits = WasPrinted digits
+
+-- its input was read whole, and the command came to this
+abbrev pub WasCarriedOut : Command → SourceTold → SinkTold → Outcome → Type 0
+WasCarriedOut command source out outcome =
+    (bytes : List ℕ) × WasRead (limit_of command) source (input.Whole bytes) × WasDone command bytes out outcome
+
+-- its input was not read whole, and nothing was written
+abbrev pub WasNotRead : Command → SourceTold → SinkTold → Outcome → Type 0
+WasNotRead command source out Longer = WasRead (limit_of command) source input.Longer × IsUntouched out
+WasNotRead command source out ReadFailed = WasRead (limit_of command) source input.Failed × IsUntouched out
+WasNotRead command source out NoMemory = WasRead (limit_of command) source input.NoMemory × IsUntouched out
+WasNotRead command source out _ = ⊥
+
+-- no words of a command: nothing is read and nothing written
+pub record IsRefused (source : SourceTold) (out : SinkTold) (outcome : Outcome) : Type 0 where
+  pub usage : outcome ≡ Usage
+  pub left : source.after ≡ source.before
+  pub written : IsUntouched out
+
 -- what each outcome comes from
-abbrev pub ComesFrom : List (List ℕ) → SourceTold → SinkTold → Outcome → Type 0
-ComesFrom words source out Usage = (is_show words ≡ false) × (source.after ≡ source.before) × IsUntouched out
-ComesFrom words source out Longer = (is_show words ≡ true) × WasRead source input.Longer × IsUntouched out
-ComesFrom words source out ReadFailed = (is_show words ≡ true) × WasRead source input.Failed × IsUntouched out
-ComesFrom words source out (Shown ending) = (is_show words ≡ true) × WasShown source out (Ok ending)
-ComesFrom words source out WriteFailed = (is_show words ≡ true) × WasShown source out (Err stop.WriteFailed)
-ComesFrom words source out NoMemory =
-    (is_show words ≡ true) × ((WasRead source input.NoMemory × IsUntouched out) ⊎ WasShown source out (Err stop.NoMemory))
+abbrev pub ComesFrom : Option Command → SourceTold → SinkTold → Outcome → Type 0
+ComesFrom None source out outcome = IsRefused source out outcome
+ComesFrom (Some command) source out outcome = WasNotRead command source out outcome ⊎ WasCarriedOut command source out outcome
 
 -- the bytes went to a sink, all of them or, where its count of faults rose, a part
 pub record WereSent (bytes : List ℕ) (err : SinkTold) : Type 0 where
@@ -72,5 +146,5 @@ pub record WereSent (bytes : List ℕ) (err : SinkTold) : Type 0 where
 pub record IsRun (words : List (List ℕ)) (source : SourceTold) (out err : SinkTold) (status : ℕ) : Type 0 where
   pub outcome : Outcome
   pub status_is : status ≡ status_of outcome
-  pub comes : ComesFrom words source out outcome
+  pub comes : ComesFrom (command_of words) source out outcome
   pub line : WereSent (line_of outcome) err

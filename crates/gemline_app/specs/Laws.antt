@@ -1,58 +1,81 @@
--- What holds of all captures and all runs.
-use Rattle.std.specs.Prelude.{◌≡◌, ◌<◌, ◌≤◌, ◌⊎◌, ℕ, true, false, List, length, All, Some}
+-- What holds of all runs.
+use Rattle.std.specs.Prelude.{◌≡◌, ◌<◌, ◌≤◌, ◌⊎◌, ℕ, true, List, length, Option, Some, None, Ok}
 use Rattle.gl_base.specs.Faults.{Rose}
 use Rattle.gl_base.specs.Sink.{appended}
-use Rattle.block_codec.specs.Block.{BlockView}
-use Rattle.gemline_app.specs.Capture.{Reads}
-use Rattle.gemline_app.specs.Gemline.{IsRun, SourceTold, capture_limit, is_show}
-use Rattle.gemline_app.specs.Lines.{lines_from}
-use Rattle.gemline_app.specs.Show.{SinkTold}
-use Rattle.gemline_app.specs.declared.capture.Ending.{Ending}
-use Rattle.gemline_app.specs.declared.capture.Ending.TheVariants.{Whole}
+use Rattle.line_show.specs.Capture.{Reads}
+use Rattle.line_show.specs.Lines.{lines_of}
+use Rattle.line_show.specs.Show.{SinkTold}
+use Rattle.line_show.specs.declared.capture.Ending.{Ending}
+use Rattle.line_show.specs.declared.capture.Ending.TheVariants.{Whole}
+use Rattle.line_show.specs.declared.capture.Piece.{Piece}
+use Rattle.secs_items.specs.Reading.{first_fault}
+use Rattle.secs_items.specs.declared.item.Item.{Item}
+use Rattle.secs_items.specs.Spelling.{Spells}
+use Rattle.secs_items.specs.declared.item_fault.ItemFault.{ItemFault}
+use Rattle.secs_text.specs.Grammar.{ReadsAs}
+use Rattle.secs_text.specs.Reading.{first_text_fault}
+use Rattle.secs_text.specs.declared.text_fault.TextFault.{TextFault}
+use Rattle.gemline_app.specs.Gemline.{IsRun, SourceTold}
+use Rattle.gemline_app.specs.HexInput.{HexMeans, IsHexBreak}
+use Rattle.gemline_app.specs.Outcome.{shown_outcome}
+use Rattle.gemline_app.specs.Spelling.{HexSpells, spelled_line, text_place}
+use Rattle.gemline_app.specs.Words.{command_of, limit_of}
 use Rattle.gemline_app.specs.declared.outcome.Outcome.{Outcome}
-use Rattle.gemline_app.specs.declared.outcome.Outcome.TheVariants.{Usage, Longer, ReadFailed, Shown, WriteFailed, NoMemory}
+use Rattle.gemline_app.specs.declared.outcome.Outcome.TheVariants.{Done, Usage, BadText, BadHex, BadItem, Longer, ReadFailed, NoMemory, WriteFailed}
+use Rattle.gemline_app.specs.declared.words.Command.{Command}
+use Rattle.gemline_app.specs.declared.words.Command.TheVariants.{Show, Spell, SpellHex}
 
--- each capture is blocks and an ending
-abbrev pub CapturesRead : Type 0
-CapturesRead = (capture : List ℕ) → All (λ byte. byte < 256) capture → (blocks : List BlockView) × (ending : Ending) × Reads capture blocks ending
+-- what a capture asks for: its pieces, and the outcome of how they end
+abbrev pub CaptureAsks : List ℕ → Outcome → Type 0
+CaptureAsks capture due = (pieces : List Piece) × (ending : Ending) × Reads capture pieces ending × (due ≡ shown_outcome (Ok ending))
 
--- and in one way only
-abbrev pub CapturesReadInOneWay : Type 0
-CapturesReadInOneWay =
-    (capture : List ℕ) (a b : List BlockView) (ending_a ending_b : Ending)
-    → Reads capture a ending_a → Reads capture b ending_b → (a ≡ b) × (ending_a ≡ ending_b)
+-- what a text asks for: its item, or its first fault
+abbrev pub TextAsks : List ℕ → Outcome → Type 0
+TextAsks text due =
+    ((item : Item) × ReadsAs text item × (due ≡ Done))
+    ⊎ ((fault : TextFault) × (first_text_fault text ≡ Some fault) × (due ≡ BadText (text_place fault)))
 
--- the outcome that is due of words and a capture
-abbrev pub IsDue : List (List ℕ) → List ℕ → Outcome → Type 0
-IsDue words capture Usage = is_show words ≡ false
-IsDue words capture Longer = (is_show words ≡ true) × (capture_limit < length capture)
-IsDue words capture (Shown ending) =
-    (is_show words ≡ true) × (length capture ≤ capture_limit) × (blocks : List BlockView) × Reads capture blocks ending
-IsDue words capture ReadFailed = ⊥
-IsDue words capture WriteFailed = ⊥
-IsDue words capture NoMemory = ⊥
+-- what hex asks for: the item that its bytes spell, their first fault, or the break of the hex itself
+abbrev pub HexAsks : List ℕ → Outcome → Type 0
+HexAsks digits due =
+    ((bytes : List ℕ) × HexMeans bytes digits
+    × (((item : Item) × Spells item bytes × (due ≡ Done)) ⊎ ((fault : ItemFault) × (first_fault bytes ≡ Some fault) × (due ≡ BadItem fault))))
+    ⊎ ((at : ℕ) × IsHexBreak digits at × (due ≡ BadHex at))
+
+abbrev pub Asks : Command → List ℕ → Outcome → Type 0
+Asks Show = CaptureAsks
+Asks Spell = TextAsks
+Asks SpellHex = HexAsks
+
+-- the outcome that is due of a command and its input
+abbrev pub IsDue : Option Command → List ℕ → Outcome → Type 0
+IsDue None bytes due = due ≡ Usage
+IsDue (Some command) bytes due =
+    ((limit_of command < length bytes) × (due ≡ Longer)) ⊎ ((length bytes ≤ limit_of command) × Asks command bytes due)
 
 -- an outcome that may come in place of the one that is due: memory ran out, or a count of faults rose
 abbrev pub Hinders : SourceTold → SinkTold → Outcome → Type 0
 Hinders source out NoMemory = Unit {0}
 Hinders source out ReadFailed = Rose source.health.faults source.health_after.faults
 Hinders source out WriteFailed = Rose out.health.faults out.health_after.faults
-Hinders source out Usage = ⊥
-Hinders source out Longer = ⊥
-Hinders source out (Shown ending) = ⊥
+Hinders source out _ = ⊥
 
 -- the outcome that is due comes, unless one hinders it
 abbrev pub OutcomesAreDue : Type 0
 OutcomesAreDue =
-    (words : List (List ℕ)) (source : SourceTold) (out err : SinkTold) (status : ℕ) (capture : List ℕ) (due : Outcome)
-    → (run : IsRun words source out err status) → source.before ≡ Some capture → IsDue words capture due
+    (words : List (List ℕ)) (source : SourceTold) (out err : SinkTold) (status : ℕ) (bytes : List ℕ) (due : Outcome)
+    → (run : IsRun words source out err status) → source.before ≡ Some bytes → IsDue (command_of words) bytes due
     → (run.outcome ≡ due) ⊎ Hinders source out run.outcome
 
 -- over objects that do not fail, `show` of a capture without a break ends with status 0 and its lines, but for want of memory
 abbrev pub ShowsWholeCaptures : Type 0
 ShowsWholeCaptures =
-    (words : List (List ℕ)) (source : SourceTold) (out err : SinkTold) (status : ℕ) (capture : List ℕ) (blocks : List BlockView)
-    → IsRun words source out err status → is_show words ≡ true
-    → source.before ≡ Some capture → length capture ≤ capture_limit → source.health.reliable ≡ true
-    → Reads capture blocks Whole → length (lines_from 0 blocks) ≤ out.health.room
-    → (status ≡ 71) ⊎ ((status ≡ 0) × (out.after ≡ appended out.before (lines_from 0 blocks)))
+    (words : List (List ℕ)) (source : SourceTold) (out err : SinkTold) (status : ℕ) (capture : List ℕ) (pieces : List Piece)
+    → IsRun words source out err status → command_of words ≡ Some Show
+    → source.before ≡ Some capture → length capture ≤ limit_of Show → source.health.reliable ≡ true
+    → Reads capture pieces Whole → length (lines_of pieces) ≤ out.health.room
+    → (status ≡ 71) ⊎ ((status ≡ 0) × (out.after ≡ appended out.before (lines_of pieces)))
+
+-- what `spell` writes of a text that is within its limit, `spell --hex` reads as the same item
+abbrev pub SpelledReadsBack : Type 0
+SpelledReadsBack = (text : List ℕ) (item : Item) → ReadsAs text item → length text ≤ limit_of Spell → HexSpells item (spelled_line item)

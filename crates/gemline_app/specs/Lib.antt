@@ -1,8 +1,8 @@
-pub mod Capture
 pub mod FirstExchange
 pub mod Gemline
-pub mod LastHeaders
+pub mod HexInput
+pub mod HexReading
 pub mod Laws
-pub mod Lines
 pub mod Outcome
-pub mod Show
+pub mod Spelling
+pub mod Words

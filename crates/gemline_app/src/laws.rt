@@ -1,22 +1,7 @@
-ghost use Rattle.gemline_app.specs.Laws.{
-  CapturesRead,
-  CapturesReadInOneWay,
-  OutcomesAreDue,
-  ShowsWholeCaptures,
-};
+ghost use Rattle.gemline_app.specs.Laws.{OutcomesAreDue, ShowsWholeCaptures, SpelledReadsBack};
 
-/// Each capture is blocks and an ending.
-pub fn captures_read()
-    ensures { CapturesRead }
-{}
-
-/// A capture is blocks and an ending in one way only.
-pub fn captures_read_in_one_way()
-    ensures { CapturesReadInOneWay }
-{}
-
-/// Usage, a capture that is too long, its break, a form that isn't built and its end are told exactly
-/// where they are due, unless memory runs out or a count of faults rises.
+/// Usage, an input that is too long, its fault and its end are told exactly where they are due, unless memory runs out or
+/// a count of faults rises.
 pub fn outcomes_are_due()
     ensures { OutcomesAreDue }
 {}
@@ -25,4 +10,9 @@ pub fn outcomes_are_due()
 /// lines, or it runs out of memory.
 pub fn shows_whole_captures()
     ensures { ShowsWholeCaptures }
+{}
+
+/// What `spell` writes, `spell --hex` reads as the same item.
+pub fn spelled_reads_back()
+    ensures { SpelledReadsBack }
 {}

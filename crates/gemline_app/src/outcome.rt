@@ -1,25 +1,33 @@
-ghost use Rattle.std.specs.Prelude.{◌≡◌, ◌+◌, ◌++◌, ◌≤◌};
+ghost use Rattle.std.specs.Prelude.{◌≡◌, ◌+◌, ◌++◌, ◌≤◌, codes, decimal, length};
 ghost use Rattle.arrayvec.specs.ArrayVec.{array_vec_len};
 ghost use Rattle.gemline_app.specs.Outcome.{break_text};
 
-use crate::capture::{Break, Ending};
-use crate::lines::{Line, put, put_hex, put_number};
+use line_show::{Break, Line, put, put_fault, put_hex, put_number};
+use secs_items::ItemFault;
 
 /// What a run of the program came to.
 #[derive(Clone, Copy, Debug, PartialEq, Eq)]
 pub enum Outcome {
+    /// The work is done.
+    Done,
     /// The words are no command.
     Usage,
+    /// All was written that stands before this broken frame of the capture.
+    BadFrame(Break),
+    /// The text reads as no item. Its first fault is there.
+    BadText { at: usize },
+    /// The input is no hex digits in pairs: what is there can't be.
+    BadHex { at: usize },
+    /// The bytes spell no item.
+    BadItem(ItemFault),
     /// The input is longer than its limit.
     Longer,
     /// The input failed.
     ReadFailed,
-    /// All was written that stands before the capture's ending.
-    Shown(Ending),
-    /// The output failed.
-    WriteFailed,
     /// Memory ran out.
     NoMemory,
+    /// The output failed.
+    WriteFailed,
 }
 
 impl Outcome {
@@ -30,13 +38,16 @@ impl Outcome {
         ensures { result ≡ status_of self.now }
     {
         match self {
-            Outcome::Shown(Ending::Whole) => 0,
+            Outcome::Done => 0,
             Outcome::Usage => 64,
-            Outcome::Shown(Ending::Broken(_)) | Outcome::Longer => 65,
+            Outcome::BadFrame(_)
+            | Outcome::BadText { .. }
+            | Outcome::BadHex { .. }
+            | Outcome::BadItem(_)
+            | Outcome::Longer => 65,
             Outcome::ReadFailed => 68,
             Outcome::NoMemory => 71,
             Outcome::WriteFailed => 73,
-            Outcome::Shown(Ending::NotBuilt { .. }) => 79,
         }
     }
 
@@ -46,25 +57,37 @@ impl Outcome {
     {
         let mut line = Line::new();
         match self {
-            Outcome::Shown(Ending::Whole) => {}
+            Outcome::Done => {}
             Outcome::Usage => put(&mut line, b"gemline: 64 usage\n"),
-            Outcome::Shown(Ending::Broken(named)) => {
+            Outcome::BadFrame(named) => {
                 put(&mut line, b"gemline: 65 frame at ");
                 put_break(&mut line, *named);
+                put(&mut line, b"\n");
+            }
+            Outcome::BadText { at } => put_place(&mut line, b"gemline: 65 text at ", *at),
+            Outcome::BadHex { at } => put_place(&mut line, b"gemline: 65 hex at ", *at),
+            Outcome::BadItem(fault) => {
+                put(&mut line, b"gemline: 65 item ");
+                put_fault(&mut line, *fault);
                 put(&mut line, b"\n");
             }
             Outcome::Longer => put(&mut line, b"gemline: 65 input longer\n"),
             Outcome::ReadFailed => put(&mut line, b"gemline: 68 read\n"),
             Outcome::NoMemory => put(&mut line, b"gemline: 71 memory\n"),
             Outcome::WriteFailed => put(&mut line, b"gemline: 73 write\n"),
-            Outcome::Shown(Ending::NotBuilt { at }) => {
-                put(&mut line, b"gemline: 79 not built at ");
-                put_number(&mut line, *at as u64);
-                put(&mut line, b"\n");
-            }
         }
         line
     }
+}
+
+// Puts a few words and a place of the input, and ends the line.
+fn put_place(line: &mut Line, words: &[u8], at: usize)
+    requires { array_vec_len line.old + length words.now ≤ 100 }
+    ensures { line.new.items ≡ line.old.items ++ (words.now ++ decimal at ++ codes "\n") }
+{
+    put(line, words);
+    put_number(line, at as u64);
+    put(line, b"\n");
 }
 
 // Puts a broken frame's place and what is wrong with it.

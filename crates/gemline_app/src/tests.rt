@@ -1,6 +1,7 @@
 ghost use Rattle.std.specs.Prelude.{◌≡◌, ◌⊎◌, IfOk, Some, map, string_bytes, true};
 ghost use Rattle.gemline_app.specs.FirstExchange.{first_lines};
-ghost use Rattle.gemline_app.specs.Gemline.{is_show};
+ghost use Rattle.gemline_app.specs.declared.words.Command.TheVariants as commands;
+ghost use Rattle.gemline_app.specs.Words.{command_of};
 
 use super::*;
 use gl_base::{MemSink, MemSource, NoMemory, ReadAnswer, Row, Sink, Source, WriteAnswer};
@@ -31,7 +32,7 @@ fn numbers(alloc: Global, number: u32) -> Result<Row<u32>, NoMemory> {
 }
 
 fn show_word(alloc: Global) -> Result<Vec<String>, NoMemory>
-    ensures { IfOk result (λ words. is_show (map string_bytes words.items) ≡ true) }
+    ensures { IfOk result (λ words. command_of (map string_bytes words.items) ≡ Some commands.Show) }
 {
     let mut words = Vec::new(alloc);
     words.push(String::from_str(alloc, "show")?)?;
@@ -133,94 +134,122 @@ fn names_breaks(rt: HostRuntime) -> Result<(), Fail> {
     Ok(())
 }
 
-#[test]
-fn names_what_is_not_built(rt: HostRuntime) -> Result<(), Fail> {
-    let alloc = rt.alloc();
-    for byte in [0x05, 0x04, 0x06, 0x15] {
-        expect(&rt, alloc, &[byte], 79, "", "gemline: 79 not built at 0\n")?;
+/// What `spell` or `spell --hex` of an input comes to: whether status, output and line on the errors are these.
+fn is_spelled(
+    alloc: Global,
+    flag: Option<&str>,
+    input: &[u8],
+    status: u8,
+    out: &str,
+    err: &str,
+) -> Result<bool, NoMemory> {
+    let mut words = Vec::new(alloc);
+    words.push(String::from_str(alloc, "spell")?)?;
+    if let Some(flag) = flag {
+        words.push(String::from_str(alloc, flag)?)?;
     }
-    let without_last = [0x0a, 0, 0, 1, 1, 0, 1, 0, 0, 0, 1, 0, 4];
-    expect(
-        &rt,
-        alloc,
-        &without_last,
-        79,
-        "",
-        "gemline: 79 not built at 0\n",
-    )?;
-    let second_block = [0x0a, 0, 0, 0x81, 1, 0x80, 2, 0, 0, 0, 1, 1, 5];
-    expect(
-        &rt,
-        alloc,
-        &second_block,
-        79,
-        "",
-        "gemline: 79 not built at 0\n",
-    )?;
-    let with_body = [0x0b, 0, 0, 0x81, 1, 0x80, 1, 0, 0, 0, 1, 0, 1, 4];
-    expect(
-        &rt,
-        alloc,
-        &with_body,
-        79,
-        "",
-        "gemline: 79 not built at 0\n",
-    )?;
+    let mut source = MemSource::new(row(alloc, input)?);
+    let mut sink = MemSink::new(alloc, 1000)?;
+    let mut errors = MemSink::new(alloc, 100)?;
+    let found = gemline(alloc, &words, &mut source, &mut sink, &mut errors);
+    Ok(found == status && sink.bytes() == out.as_bytes() && errors.bytes() == err.as_bytes())
+}
+
+#[test]
+fn spells_items(rt: HostRuntime) -> Result<(), Fail> {
+    let alloc = rt.alloc();
+    assert!(rt; is_spelled(alloc, None, b"<U4 5>", 0, "B10400000005\n", "")?);
+    assert!(rt;
+        is_spelled(
+            alloc,
+            None,
+            b" <L <A \"a\\x0A\">>\n",
+            0,
+            "01014102610A\n",
+            ""
+        )?
+    );
+    assert!(rt; is_spelled(alloc, None, b"<U1 256>", 65, "", "gemline: 65 text at 4\n")?);
+    assert!(rt; is_spelled(alloc, None, b"<U1 1", 65, "", "gemline: 65 text at 5\n")?);
+    assert!(rt; is_spelled(alloc, None, b"", 65, "", "gemline: 65 text at 0\n")?);
     Ok(())
 }
 
 #[test]
-fn shows_each_part_of_a_header(rt: HostRuntime) -> Result<(), Fail> {
+fn reads_hex_as_items(rt: HostRuntime) -> Result<(), Fail> {
     let alloc = rt.alloc();
-    let reply = [
-        0x0a, 0x81, 0x02, 0x01, 0x02, 0x80, 0x01, 0xde, 0xad, 0xbe, 0xef, 0x04, 0x3f,
-    ];
-    let lines =
-        "0 BLOCK E>H dev=258 S1F2 n=1 E sys=DEADBEEF bytes=0\n0 MESSAGE E>H S1F2 sys=DEADBEEF -\n";
-    expect(&rt, alloc, &reply, 0, lines, "")?;
-    let number_0 = [0x0a, 0, 0, 0x81, 1, 0x80, 0, 0, 0, 0, 1, 1, 3];
-    let lines =
-        "0 BLOCK H>E dev=0 S1F1 W n=0 E sys=00000001 bytes=0\n0 MESSAGE H>E S1F1 W sys=00000001 -\n";
-    expect(&rt, alloc, &number_0, 0, lines, "")?;
+    let hex = Some("--hex");
+    assert!(rt; is_spelled(alloc, hex, b"B10400000005\n", 0, "<U4 5>\n", "")?);
+    assert!(rt; is_spelled(alloc, hex, b" b2 00 04\n00000005", 0, "<U4 5>\n", "")?);
+    assert!(rt;
+        is_spelled(
+            alloc,
+            hex,
+            b"B1 0 400000005",
+            65,
+            "",
+            "gemline: 65 hex at 4\n"
+        )?
+    );
+    assert!(rt; is_spelled(alloc, hex, b"B104\t", 65, "", "gemline: 65 hex at 4\n")?);
+    assert!(rt; is_spelled(alloc, hex, b"B10", 65, "", "gemline: 65 hex at 3\n")?);
     Ok(())
 }
 
 #[test]
-fn a_repeat_is_not_built(rt: HostRuntime) -> Result<(), Fail> {
+fn names_the_faults_of_items(rt: HostRuntime) -> Result<(), Fail> {
     let alloc = rt.alloc();
-    let mut repeated = [0; 26];
-    repeated[..13].copy_from_slice(&S1F1);
-    repeated[13..].copy_from_slice(&S1F1);
-    expect(
-        &rt,
-        alloc,
-        &repeated,
-        79,
-        S1F1_LINES,
-        "gemline: 79 not built at 13\n",
-    )?;
-    expect(
-        &rt,
-        alloc,
-        &repeated[..20],
-        65,
-        S1F1_LINES,
-        "gemline: 65 frame at 20: short\n",
-    )?;
-    Ok(())
-}
-
-#[test]
-fn the_largest_frame_has_a_body(rt: HostRuntime) -> Result<(), Fail> {
-    let alloc = rt.alloc();
-    let mut largest = [0; 257];
-    largest[0] = 254;
-    let end = shown(alloc, row(alloc, &largest)?)?;
-    assert_eq!(rt; end.err.bytes(), b"gemline: 79 not built at 0\n".as_slice());
-    let end = shown(alloc, row(alloc, &largest[..256])?)?;
-    assert_eq!(rt;
-        end.err.bytes(),
-        b"gemline: 65 frame at 256: short\n".as_slice()
+    let hex = Some("--hex");
+    assert!(rt; is_spelled(alloc, hex, b" \n", 65, "", "gemline: 65 item Short at 0\n")?);
+    assert!(rt;
+        is_spelled(
+            alloc,
+            hex,
+            b"B0",
+            65,
+            "",
+            "gemline: 65 item NoLengthBytes at 0\n"
+        )?
+    );
+    assert!(rt;
+        is_spelled(
+            alloc,
+            hex,
+            b"B103000000",
+            65,
+            "",
+            "gemline: 65 item Uneven at 0\n"
+        )?
+    );
+    assert!(rt;
+        is_spelled(
+            alloc,
+            hex,
+            b"410241",
+            65,
+            "",
+            "gemline: 65 item Short at 3\n"
+        )?
+    );
+    assert!(rt;
+        is_spelled(
+            alloc,
+            hex,
+            b"4900",
+            65,
+            "",
+            "gemline: 65 item BadCode at 0\n"
+        )?
+    );
+    assert!(rt;
+        is_spelled(
+            alloc,
+            hex,
+            b"010000",
+            65,
+            "",
+            "gemline: 65 item Trailing at 2\n"
+        )?
     );
     Ok(())
 }
@@ -253,6 +282,8 @@ fn other_words_are_refused(rt: HostRuntime) -> Result<(), Fail> {
         [].as_slice(),
         &["shwo"],
         &["show", "show"],
+        &["spell", "--hex", "--hex"],
+        &["spell", "hex"],
         &["--help"],
         &[""],
     ] {

@@ -1,4 +1,4 @@
-use Rattle.gemline_app.proofs.Completeness.{due_outcome}
+use Rattle.gemline_app.proofs.Due.{due_outcome}
 use Rattle.gemline_app.proofs.laws.outcomes_are_due.Goals as goal
 
 pub returns : goal.returns

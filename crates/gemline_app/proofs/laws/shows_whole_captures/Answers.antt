@@ -1,4 +1,4 @@
-use Rattle.gemline_app.proofs.Completeness.{whole_capture}
+use Rattle.gemline_app.proofs.Due.{whole_capture}
 use Rattle.gemline_app.proofs.laws.shows_whole_captures.Goals as goal
 
 pub returns : goal.returns

@@ -1,0 +1,43 @@
+-- What commands answer.
+use Rattle.std.proofs.Common.{◌≡◌, ℕ, List, None, Result, Ok, Err}
+use Rattle.line_show.specs.Show.{HasStopCause, Shows, SinkTold}
+use Rattle.line_show.specs.declared.capture.Ending.{Ending}
+use Rattle.line_show.specs.declared.printer.Stop.{Stop}
+use Rattle.gemline_app.specs.Outcome.{shown_outcome}
+use Rattle.gemline_app.specs.declared.words.Command.{Command}
+use Rattle.gemline_app.specs.declared.words.Command.TheVariants.{Show}
+use Rattle.gemline_app.specs.Gemline.{WasDone, HexAnswers, HexRefuses, ItemAnswers, ItemRefuses}
+use Rattle.gemline_app.specs.HexInput.{HexMeans}
+use Rattle.gemline_app.specs.HexReading.{Gives, digits_from}
+use Rattle.gemline_app.specs.Spelling.{refusal_of}
+use Rattle.gemline_app.specs.declared.hex_input.HexFault.{HexFault}
+use Rattle.gemline_app.specs.declared.hex_input.HexFault.TheVariants as hex_fault
+use Rattle.gemline_app.proofs.HexLaws.{read_break}
+use Rattle.gemline_app.specs.declared.outcome.Outcome.{Outcome}
+use Rattle.gemline_app.specs.declared.outcome.Outcome.TheVariants.{Done, Usage, BadFrame, BadText, BadHex, BadItem, Longer, ReadFailed, NoMemory, WriteFailed}
+
+hex_refuses : (digits bytes : List ℕ) (refusal : Outcome) → HexMeans bytes digits → ItemRefuses bytes refusal → HexRefuses digits refusal
+hex_refuses digits bytes Done means refuses = absurd refuses
+hex_refuses digits bytes Usage means refuses = absurd refuses
+hex_refuses digits bytes (BadFrame named) means refuses = absurd refuses
+hex_refuses digits bytes (BadText at) means refuses = absurd refuses
+hex_refuses digits bytes (BadHex at) means refuses = absurd refuses
+hex_refuses digits bytes (BadItem fault) means refuses = (bytes, means, refuses)
+hex_refuses digits bytes Longer means refuses = absurd refuses
+hex_refuses digits bytes ReadFailed means refuses = absurd refuses
+hex_refuses digits bytes NoMemory means refuses = tt
+hex_refuses digits bytes WriteFailed means refuses = absurd refuses
+
+-- what bytes give, their hex gives
+pub hex_answers : (digits bytes : List ℕ) (answer : Result (List ℕ) Outcome) → HexMeans bytes digits → ItemAnswers bytes answer → HexAnswers digits answer
+hex_answers digits bytes (Ok line) means (item, spelled, is) = (item, (bytes, means, spelled), is)
+hex_answers digits bytes (Err refusal) means refuses = hex_refuses digits bytes refusal means refuses
+
+pub shown_done : (command : Command) (capture : List ℕ) (out : SinkTold) (result : Result Ending Stop) (outcome : Outcome) → command ≡ Show →
+    outcome ≡ shown_outcome result → Shows out capture result → HasStopCause out result → WasDone command capture out outcome
+shown_done command capture out result outcome is_show is shown cause =
+    rw is_show (record { result = result; outcome_is = is; shown = shown; cause = cause })
+
+pub hex_refusal : (digits : List ℕ) (fault : HexFault) → Gives (Err fault) (digits_from None 0 digits) → HexRefuses digits (refusal_of fault)
+hex_refusal digits (hex_fault.Break at) gives = read_break digits at gives
+hex_refusal digits hex_fault.NoMemory gives = tt

@@ -1,0 +1,225 @@
+-- Which outcome is due, and when another one comes in its place.
+use Rattle.std.proofs.Common.{◌≡◌, ◌⊎◌, ◌≤◌, ℕ, true, List, length, Option, Some, None, Result, Ok, Err, refl, sym, ap, subst, ◌∙◌, inl, inr, arith}
+use Rattle.gl_base.specs.Input.{ReadsAll, ReadsAllOf}
+use Rattle.gl_base.specs.Sink.{appended}
+use Rattle.gl_base.specs.declared.input.Input.{Input}
+use Rattle.gl_base.specs.declared.input.Input.TheVariants as input
+use Rattle.line_show.specs.Capture.{Reads}
+use Rattle.line_show.specs.Lines.{lines_of}
+use Rattle.line_show.specs.Show.{HasStopCause, Shows, SinkTold}
+use Rattle.line_show.specs.declared.capture.Ending.{Ending}
+use Rattle.line_show.specs.declared.capture.Ending.TheVariants.{Whole, Broken}
+use Rattle.line_show.specs.declared.capture.Piece.{Piece}
+use Rattle.line_show.specs.declared.printer.Stop.{Stop}
+use Rattle.line_show.specs.declared.printer.Stop.TheVariants as stop
+use Rattle.secs_items.specs.Reading.{first_fault}
+use Rattle.secs_items.specs.Spelling.{Spells}
+use Rattle.secs_items.specs.declared.item.Item.{Item}
+use Rattle.secs_items.specs.declared.item_fault.ItemFault.{ItemFault}
+use Rattle.secs_items.proofs.SpellLaws.{spells_none}
+use Rattle.secs_text.specs.Reading.{first_text_fault}
+use Rattle.secs_text.specs.declared.text_fault.TextFault.{TextFault}
+use Rattle.secs_text.proofs.TextLaws.{no_fault}
+use Rattle.gemline_app.specs.Gemline.{ComesFrom, HexRefuses, IsRun, SourceTold, TextRefuses, WasCarriedOut, WasDone, WasNotRead, WasRead, WasWritten}
+use Rattle.gemline_app.specs.HexInput.{HexMeans}
+use Rattle.gemline_app.specs.Laws.{Asks, HexAsks, Hinders, IsDue, TextAsks}
+use Rattle.gemline_app.specs.Outcome.{shown_outcome, status_of}
+use Rattle.gemline_app.specs.Spelling.{text_place}
+use Rattle.gemline_app.specs.Words.{command_of, limit_of}
+use Rattle.gemline_app.specs.declared.outcome.Outcome.{Outcome}
+use Rattle.gemline_app.specs.declared.outcome.Outcome.TheVariants.{Done, Usage, BadFrame, BadText, BadHex, BadItem, Longer, ReadFailed, NoMemory, WriteFailed}
+use Rattle.gemline_app.specs.declared.words.Command.{Command}
+use Rattle.gemline_app.specs.declared.words.Command.TheVariants.{Show, Spell, SpellHex}
+use Rattle.gemline_app.proofs.HexLaws.{means_read, one_break}
+
+-- ---- a command of its whole input
+
+abbrev Comes : SourceTold → SinkTold → Outcome → Outcome → Type 0
+Comes source out outcome due = (outcome ≡ due) ⊎ Hinders source out outcome
+
+shown_due : (source : SourceTold) (out : SinkTold) (capture : List ℕ) (pieces : List Piece) (ending : Ending) (outcome due : Outcome) (result : Result Ending Stop) →
+    outcome ≡ shown_outcome result → Shows out capture result → HasStopCause out result → Reads capture pieces ending → due ≡ shown_outcome (Ok ending) → Comes source out outcome due
+shown_due source out capture pieces ending outcome due (Ok found) is shows cause reads is_due =
+    inl (is ∙ ap (λ (e : Ending). shown_outcome (Ok e)) (shows pieces ending reads).0 ∙ sym is_due)
+shown_due source out capture pieces ending outcome due (Err stop.NoMemory) is shows cause reads is_due = inr (subst (Hinders source out) (sym is) tt)
+shown_due source out capture pieces ending outcome due (Err stop.WriteFailed) is shows cause reads is_due = inr (subst (Hinders source out) (sym is) cause.1)
+
+-- a line was written, or a write failed
+written_due : (source : SourceTold) (out : SinkTold) (line : List ℕ) (outcome : Outcome) → WasWritten line out outcome → Comes source out outcome Done
+written_due source out line Done written = inl refl
+written_due source out line Usage written = absurd written
+written_due source out line (BadFrame named) written = absurd written
+written_due source out line (BadText at) written = absurd written
+written_due source out line (BadHex at) written = absurd written
+written_due source out line (BadItem fault) written = absurd written
+written_due source out line Longer written = absurd written
+written_due source out line ReadFailed written = absurd written
+written_due source out line NoMemory written = absurd written
+written_due source out line WriteFailed written = inr written.fault.rose
+
+-- what a text is refused for
+text_refused : (text : List ℕ) (refusal : Outcome) → TextRefuses text refusal →
+    (refusal ≡ NoMemory) ⊎ ((fault : TextFault) × (first_text_fault text ≡ Some fault) × (refusal ≡ BadText (text_place fault)))
+text_refused text Done refuses = absurd refuses
+text_refused text Usage refuses = absurd refuses
+text_refused text (BadFrame named) refuses = absurd refuses
+text_refused text (BadText at) (fault, is, place) = inr (fault, is, ap (λ p. BadText p) place)
+text_refused text (BadHex at) refuses = absurd refuses
+text_refused text (BadItem fault) refuses = absurd refuses
+text_refused text Longer refuses = absurd refuses
+text_refused text ReadFailed refuses = absurd refuses
+text_refused text NoMemory refuses = inl refl
+text_refused text WriteFailed refuses = absurd refuses
+
+hex_refused : (digits : List ℕ) (refusal : Outcome) → HexRefuses digits refusal →
+    (refusal ≡ NoMemory) ⊎ HexAsks digits refusal
+hex_refused digits Done refuses = absurd refuses
+hex_refused digits Usage refuses = absurd refuses
+hex_refused digits (BadFrame named) refuses = absurd refuses
+hex_refused digits (BadText at) refuses = absurd refuses
+hex_refused digits (BadHex at) broken = inr (inr (at, broken, refl))
+hex_refused digits (BadItem fault) (bytes, means, is) = inr (inl (bytes, means, inr (fault, is, refl)))
+hex_refused digits Longer refuses = absurd refuses
+hex_refused digits ReadFailed refuses = absurd refuses
+hex_refused digits NoMemory refuses = inl refl
+hex_refused digits WriteFailed refuses = absurd refuses
+
+-- a text asks for one outcome
+one_text : (text : List ℕ) (a b : Outcome) → TextAsks text a → TextAsks text b → a ≡ b
+one_text text a b (inl (item, reads, is)) (inl (item', reads', is')) = is ∙ sym is'
+one_text text a b (inl (item, reads, is)) (inr (fault, some, is')) = let none = no_fault text item reads in cc
+one_text text a b (inr (fault, some, is)) (inl (item, reads, is')) = let none = no_fault text item reads in cc
+one_text text a b (inr (fault, some, is)) (inr (fault', some', is')) =
+    let same : fault ≡ fault' = cc in
+    is ∙ ap (λ (f : TextFault). BadText (text_place f)) same ∙ sym is'
+
+abbrev BytesAsk : List ℕ → Outcome → Type 0
+BytesAsk bytes due = ((item : Item) × Spells item bytes × (due ≡ Done)) ⊎ ((fault : ItemFault) × (first_fault bytes ≡ Some fault) × (due ≡ BadItem fault))
+
+one_item : (bytes : List ℕ) (a b : Outcome) → BytesAsk bytes a → BytesAsk bytes b → a ≡ b
+one_item bytes a b (inl (item, spelled, is)) (inl (item', spelled', is')) = is ∙ sym is'
+one_item bytes a b (inl (item, spelled, is)) (inr (fault, some, is')) = let none = spells_none item bytes spelled in cc
+one_item bytes a b (inr (fault, some, is)) (inl (item, spelled, is')) = let none = spells_none item bytes spelled in cc
+one_item bytes a b (inr (fault, some, is)) (inr (fault', some', is')) =
+    let same : fault ≡ fault' = cc in
+    is ∙ ap (λ (f : ItemFault). BadItem f) same ∙ sym is'
+
+one_bytes : (digits bytes bytes' : List ℕ) → HexMeans bytes digits → HexMeans bytes' digits → bytes ≡ bytes'
+one_bytes digits bytes bytes' means means' =
+    let both : Ok bytes ≡ Ok bytes' = sym (means_read digits bytes means) ∙ means_read digits bytes' means' in
+    cc
+
+one_hex : (digits : List ℕ) (a b : Outcome) → HexAsks digits a → HexAsks digits b → a ≡ b
+one_hex digits a b (inl (bytes, means, asks)) (inl (bytes', means', asks')) =
+    one_item bytes a b asks (subst (λ (all : List ℕ). BytesAsk all b) (sym (one_bytes digits bytes bytes' means means')) asks')
+one_hex digits a b (inl (bytes, means, asks)) (inr (at, broken, is')) = absurd (broken.unread bytes means)
+one_hex digits a b (inr (at, broken, is)) (inl (bytes, means, asks)) = absurd (broken.unread bytes means)
+one_hex digits a b (inr (at, broken, is)) (inr (at', broken', is')) = is ∙ ap (λ p. BadHex p) (one_break digits at at' broken broken') ∙ sym is'
+
+-- an outcome that is a refusal for want of memory hinders, another one is what is asked for
+refused_due : (source : SourceTold) (out : SinkTold) (outcome refusal due : Outcome) (A : Outcome → Type 0) → outcome ≡ refusal →
+    ((a b : Outcome) → A a → A b → a ≡ b) → (refusal ≡ NoMemory) ⊎ A refusal → A due → Comes source out outcome due
+refused_due source out outcome refusal due A is one (inl memory) asks = inr (subst (Hinders source out) (sym (is ∙ memory)) tt)
+refused_due source out outcome refusal due A is one (inr why) asks = inl (is ∙ one refusal due why asks)
+
+text_why : (text : List ℕ) (refusal : Outcome) → TextRefuses text refusal → (refusal ≡ NoMemory) ⊎ TextAsks text refusal
+text_why text refusal refuses = elim (text_refused text refusal refuses) [ inl memory ↦ inl memory | inr why ↦ inr (inr why) ]
+
+line_due : (source : SourceTold) (out : SinkTold) (line : List ℕ) (outcome due : Outcome) → WasWritten line out outcome → due ≡ Done → Comes source out outcome due
+line_due source out line outcome due written is = subst (Comes source out outcome) (sym is) (written_due source out line outcome written)
+
+done_due : (command : Command) (bytes : List ℕ) (source : SourceTold) (out : SinkTold) (outcome due : Outcome) →
+    WasDone command bytes out outcome → Asks command bytes due → Comes source out outcome due
+done_due Show capture source out outcome due was (pieces, ending, reads, is) =
+    shown_due source out capture pieces ending outcome due was.result was.outcome_is was.shown was.cause reads is
+done_due Spell text source out outcome due (Ok line, (item, reads, is), written) asks =
+    line_due source out line outcome due written (one_text text due Done asks (inl (item, reads, refl)))
+done_due Spell text source out outcome due (Err refusal, refuses, (is, untouched)) asks =
+    refused_due source out outcome refusal due (TextAsks text) is (one_text text) (text_why text refusal refuses) asks
+done_due SpellHex digits source out outcome due (Ok line, (item, (bytes, means, spelled), is), written) asks =
+    line_due source out line outcome due written (one_hex digits due Done asks (inl (bytes, means, inl (item, spelled, refl))))
+done_due SpellHex digits source out outcome due (Err refusal, refuses, (is, untouched)) asks =
+    refused_due source out outcome refusal due (HexAsks digits) is (one_hex digits) (hex_refused digits refusal refuses) asks
+
+-- ---- a run
+
+-- what reading came to, where the source told its bytes
+read_of : (limit : ℕ) (source : SourceTold) (bytes : List ℕ) (answer : Input) → source.before ≡ Some bytes → WasRead limit source answer →
+    ReadsAllOf limit bytes source.after answer
+read_of limit source bytes answer told read = subst (λ (b : Option (List ℕ)). ReadsAll limit b source.after answer) told read.bytes
+
+-- what was not read
+unread_due : (command : Command) (source : SourceTold) (out : SinkTold) (bytes : List ℕ) (outcome due : Outcome) → source.before ≡ Some bytes →
+    WasNotRead command source out outcome → IsDue (Some command) bytes due → Comes source out outcome due
+unread_due command source out bytes Longer due told (read, untouched) (inl (past, is)) = inl (sym is)
+unread_due command source out bytes Longer due told (read, untouched) (inr (within, asks)) =
+    let past = (read_of (limit_of command) source bytes input.Longer told read).0 in absurd (omega arith)
+unread_due command source out bytes ReadFailed due told (read, untouched) is_due = inr read.cause.1.rose
+unread_due command source out bytes NoMemory due told (read, untouched) is_due = inr tt
+unread_due command source out bytes Done due told was is_due = absurd was
+unread_due command source out bytes Usage due told was is_due = absurd was
+unread_due command source out bytes (BadFrame named) due told was is_due = absurd was
+unread_due command source out bytes (BadText at) due told was is_due = absurd was
+unread_due command source out bytes (BadHex at) due told was is_due = absurd was
+unread_due command source out bytes (BadItem fault) due told was is_due = absurd was
+unread_due command source out bytes WriteFailed due told was is_due = absurd was
+
+carried_due : (command : Command) (source : SourceTold) (out : SinkTold) (bytes : List ℕ) (outcome due : Outcome) → source.before ≡ Some bytes →
+    WasCarriedOut command source out outcome → IsDue (Some command) bytes due → Comes source out outcome due
+carried_due command source out bytes outcome due told (whole, read, done) (inl (past, is)) =
+    let within = (read_of (limit_of command) source bytes (input.Whole whole) told read).0 in absurd (omega arith)
+carried_due command source out bytes outcome due told (whole, read, done) (inr (within, asks)) =
+    let same = (read_of (limit_of command) source bytes (input.Whole whole) told read).1 in
+    done_due command bytes source out outcome due (subst (λ (all : List ℕ). WasDone command all out outcome) same done) asks
+
+comes_due : (command : Option Command) (source : SourceTold) (out : SinkTold) (bytes : List ℕ) (outcome due : Outcome) → source.before ≡ Some bytes →
+    ComesFrom command source out outcome → IsDue command bytes due → Comes source out outcome due
+comes_due None source out bytes outcome due told refused is = inl (refused.usage ∙ sym is)
+comes_due (Some command) source out bytes outcome due told (inl unread) is_due = unread_due command source out bytes outcome due told unread is_due
+comes_due (Some command) source out bytes outcome due told (inr carried) is_due = carried_due command source out bytes outcome due told carried is_due
+
+pub due_outcome : (words : List (List ℕ)) (source : SourceTold) (out err : SinkTold) (status : ℕ) (bytes : List ℕ) (due : Outcome)
+    → (run : IsRun words source out err status) → source.before ≡ Some bytes → IsDue (command_of words) bytes due
+    → (run.outcome ≡ due) ⊎ Hinders source out run.outcome
+due_outcome words source out err status bytes due run told is_due = comes_due (command_of words) source out bytes run.outcome due told run.comes is_due
+
+-- ---- over objects that do not fail
+
+module _ (source : SourceTold) (out : SinkTold) (capture : List ℕ) (pieces : List Piece)
+    (told : source.before ≡ Some capture) (within : length capture ≤ 16777216) (reliable : source.health.reliable ≡ true)
+    (reads : Reads capture pieces Whole) (room : length (lines_of pieces) ≤ out.health.room) where
+  abbrev Ends : Outcome → Type 0
+  Ends outcome = (status_of outcome ≡ 71) ⊎ ((status_of outcome ≡ 0) × (out.after ≡ appended out.before (lines_of pieces)))
+
+  by_result : (result : Result Ending Stop) (outcome : Outcome) → outcome ≡ shown_outcome result → Shows out capture result → Ends outcome
+  by_result (Ok Whole) outcome is shows = rw is (inr (refl, (shows pieces Whole reads).1.received))
+  by_result (Ok (Broken named)) outcome is shows = let no = (shows pieces Whole reads).0 in cc
+  by_result (Err stop.NoMemory) outcome is shows = rw is (inl refl)
+  by_result (Err stop.WriteFailed) outcome is shows = let crowded = (shows pieces Whole reads).1.crowded in absurd (omega arith)
+
+  unread_ends : (outcome : Outcome) → WasNotRead Show source out outcome → Ends outcome
+  unread_ends Longer was = let past = (read_of 16777216 source capture input.Longer told was.0).0 in absurd (omega arith)
+  unread_ends ReadFailed was = let no = was.0.cause.1.unreliable in cc
+  unread_ends NoMemory was = inl refl
+  unread_ends Done was = absurd was
+  unread_ends Usage was = absurd was
+  unread_ends (BadFrame named) was = absurd was
+  unread_ends (BadText at) was = absurd was
+  unread_ends (BadHex at) was = absurd was
+  unread_ends (BadItem fault) was = absurd was
+  unread_ends WriteFailed was = absurd was
+
+  show_ends : (outcome : Outcome) → ComesFrom (Some Show) source out outcome → Ends outcome
+  show_ends outcome (inl unread) = unread_ends outcome unread
+  show_ends outcome (inr (whole, read, done)) =
+      let same = (read_of 16777216 source capture (input.Whole whole) told read).1 in
+      by_result done.result outcome done.outcome_is (subst (λ (all : List ℕ). Shows out all done.result) same done.shown)
+
+pub whole_capture : (words : List (List ℕ)) (source : SourceTold) (out err : SinkTold) (status : ℕ) (capture : List ℕ) (pieces : List Piece)
+    → IsRun words source out err status → command_of words ≡ Some Show
+    → source.before ≡ Some capture → length capture ≤ 16777216 → source.health.reliable ≡ true
+    → Reads capture pieces Whole → length (lines_of pieces) ≤ out.health.room
+    → (status ≡ 71) ⊎ ((status ≡ 0) × (out.after ≡ appended out.before (lines_of pieces)))
+whole_capture words source out err status capture pieces run shows told within reliable reads room =
+    rw run.status_is (show_ends source out capture pieces told within reliable reads room run.outcome
+    (subst (λ (command : Option Command). ComesFrom command source out run.outcome) shows run.comes))

@@ -1,0 +1,5 @@
+use Rattle.gemline_app.proofs.TextItems.{text_encodes}
+use Rattle.gemline_app.proofs.spelling.spelled.Goals as goal
+
+pub spelling_of-requires : goal.spelling_of-requires
+spelling_of-requires c = text_encodes _ _ c.in-Ok.ensures.found c.requires

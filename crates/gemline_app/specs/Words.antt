@@ -1,0 +1,18 @@
+-- Which words are a command (this profile).
+use Rattle.std.specs.Prelude.{ℕ, List, [], ◌∷◌, codes, Option, Some, None, ◌&&◌, if◌then◌else◌}
+use Rattle.std.specs.Str.{bytes_eq}
+use Rattle.gemline_app.specs.declared.words.Command.{Command}
+use Rattle.gemline_app.specs.declared.words.Command.TheVariants.{Show, Spell, SpellHex}
+
+-- the words are exactly those of a command
+abbrev pub command_of : List (List ℕ) → Option Command
+command_of [] = None
+command_of (word ∷ []) = if bytes_eq word (codes "show") then Some Show else if bytes_eq word (codes "spell") then Some Spell else None
+command_of (word ∷ flag ∷ []) = if bytes_eq word (codes "spell") && bytes_eq flag (codes "--hex") then Some SpellHex else None
+command_of (word ∷ second ∷ third ∷ words) = None
+
+-- how long the input of a command may be, in bytes: a capture 16 MiB, an item's text or its bytes in hex 1 MiB
+abbrev pub limit_of : Command → ℕ
+limit_of Show = 16777216
+limit_of Spell = 1048576
+limit_of SpellHex = 1048576
