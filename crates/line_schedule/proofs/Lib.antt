@@ -1,0 +1,7 @@
+pub mod Decisions
+pub mod Following
+pub mod LineEnds
+pub mod LineTests
+pub mod Places
+pub mod ScheduleLaws
+pub mod WordTests
