@@ -1,10 +1,12 @@
 //! The program: real input and output, and the top call.
 #![tactic(auto)]
 
+mod host_files;
 mod reading;
 mod writing;
 
 use gemline_app::{Outcome, gemline, report};
+use host_files::HostFiles;
 use reading::Reading;
 use std::process::ExitCode;
 use std::rt::Env;
@@ -12,12 +14,20 @@ use std::{env, io};
 use writing::Writing;
 
 fn main(rt: HostRuntime) -> ExitCode {
+    let mut files = HostFiles::new(&rt);
     let mut input = Reading::new(rt.stdin());
     let mut out = Writing::new(rt.stdout());
     let mut err = Writing::new(rt.stderr());
     let status = match words_of(&rt) {
-        Ok(words) => gemline(rt.alloc(), &words, &mut input, &mut out, &mut err),
-        Err(outcome) => report(&outcome, &mut err),
+        Ok(words) => gemline(
+            rt.alloc(),
+            &words,
+            &mut files,
+            &mut input,
+            &mut out,
+            &mut err,
+        ),
+        Err(outcome) => report(&outcome, &[], &mut err),
     };
     ExitCode::from(status)
 }

@@ -14,7 +14,7 @@ use Rattle.gemline_app.specs.declared.hex_input.HexFault.{HexFault}
 use Rattle.gemline_app.specs.declared.hex_input.HexFault.TheVariants as hex_fault
 use Rattle.gemline_app.proofs.HexLaws.{read_break}
 use Rattle.gemline_app.specs.declared.outcome.Outcome.{Outcome}
-use Rattle.gemline_app.specs.declared.outcome.Outcome.TheVariants.{Done, Usage, BadFrame, BadText, BadHex, BadItem, Longer, ReadFailed, NoMemory, WriteFailed}
+use Rattle.gemline_app.specs.declared.outcome.Outcome.TheVariants.{Done, Usage, BadFrame, BadText, BadHex, BadItem, BadLine, Longer, FileLonger, FileFailed, ReadFailed, NoMemory, WriteFailed, TurnsSpent, Slipped, PlanNotBuilt, LineNotBuilt}
 
 hex_refuses : (digits bytes : List ℕ) (refusal : Outcome) → HexMeans bytes digits → ItemRefuses bytes refusal → HexRefuses digits refusal
 hex_refuses digits bytes Done means refuses = absurd refuses
@@ -27,6 +27,13 @@ hex_refuses digits bytes Longer means refuses = absurd refuses
 hex_refuses digits bytes ReadFailed means refuses = absurd refuses
 hex_refuses digits bytes NoMemory means refuses = tt
 hex_refuses digits bytes WriteFailed means refuses = absurd refuses
+hex_refuses digits bytes (BadLine number) means refuses = absurd refuses
+hex_refuses digits bytes (FileLonger which) means refuses = absurd refuses
+hex_refuses digits bytes (FileFailed which) means refuses = absurd refuses
+hex_refuses digits bytes TurnsSpent means refuses = absurd refuses
+hex_refuses digits bytes Slipped means refuses = absurd refuses
+hex_refuses digits bytes PlanNotBuilt means refuses = absurd refuses
+hex_refuses digits bytes (LineNotBuilt number) means refuses = absurd refuses
 
 -- what bytes give, their hex gives
 pub hex_answers : (digits bytes : List ℕ) (answer : Result (List ℕ) Outcome) → HexMeans bytes digits → ItemAnswers bytes answer → HexAnswers digits answer

@@ -1,5 +1,5 @@
 -- Which outcome is due, and when another one comes in its place.
-use Rattle.std.proofs.Common.{◌≡◌, ◌⊎◌, ◌≤◌, ℕ, true, List, length, Option, Some, None, Result, Ok, Err, refl, sym, ap, subst, ◌∙◌, inl, inr, arith}
+use Rattle.std.proofs.Common.{◌≡◌, ◌⊎◌, ◌≤◌, ℕ, true, List, length, Option, Some, Result, Ok, Err, refl, sym, ap, subst, ◌∙◌, inl, inr, arith}
 use Rattle.gl_base.specs.Input.{ReadsAll, ReadsAllOf}
 use Rattle.gl_base.specs.Sink.{appended}
 use Rattle.gl_base.specs.declared.input.Input.{Input}
@@ -25,37 +25,46 @@ use Rattle.gemline_app.specs.HexInput.{HexMeans}
 use Rattle.gemline_app.specs.Laws.{Asks, HexAsks, Hinders, IsDue, TextAsks}
 use Rattle.gemline_app.specs.Outcome.{shown_outcome, status_of}
 use Rattle.gemline_app.specs.Spelling.{text_place}
-use Rattle.gemline_app.specs.Words.{command_of, limit_of}
+use Rattle.gemline_app.specs.Replay.{FilesTold}
+use Rattle.gemline_app.specs.Words.{Asked, asked_of, limit_of}
+use Rattle.gemline_app.specs.Words.Asked.{Nothing, OnInput, Replays}
 use Rattle.gemline_app.specs.declared.outcome.Outcome.{Outcome}
-use Rattle.gemline_app.specs.declared.outcome.Outcome.TheVariants.{Done, Usage, BadFrame, BadText, BadHex, BadItem, Longer, ReadFailed, NoMemory, WriteFailed}
+use Rattle.gemline_app.specs.declared.outcome.Outcome.TheVariants.{Done, Usage, BadFrame, BadText, BadHex, BadItem, BadLine, Longer, FileLonger, FileFailed, ReadFailed, NoMemory, WriteFailed, TurnsSpent, Slipped, PlanNotBuilt, LineNotBuilt}
 use Rattle.gemline_app.specs.declared.words.Command.{Command}
 use Rattle.gemline_app.specs.declared.words.Command.TheVariants.{Show, Spell, SpellHex}
 use Rattle.gemline_app.proofs.HexLaws.{means_read, one_break}
 
 -- ---- a command of its whole input
 
-abbrev Comes : SourceTold → SinkTold → Outcome → Outcome → Type 0
-Comes source out outcome due = (outcome ≡ due) ⊎ Hinders source out outcome
+abbrev Comes : SourceTold → FilesTold → SinkTold → Outcome → Outcome → Type 0
+Comes source files out outcome due = (outcome ≡ due) ⊎ Hinders source files out outcome
 
-shown_due : (source : SourceTold) (out : SinkTold) (capture : List ℕ) (pieces : List Piece) (ending : Ending) (outcome due : Outcome) (result : Result Ending Stop) →
-    outcome ≡ shown_outcome result → Shows out capture result → HasStopCause out result → Reads capture pieces ending → due ≡ shown_outcome (Ok ending) → Comes source out outcome due
-shown_due source out capture pieces ending outcome due (Ok found) is shows cause reads is_due =
+shown_due : (source : SourceTold) (files : FilesTold) (out : SinkTold) (capture : List ℕ) (pieces : List Piece) (ending : Ending) (outcome due : Outcome) (result : Result Ending Stop) →
+    outcome ≡ shown_outcome result → Shows out capture result → HasStopCause out result → Reads capture pieces ending → due ≡ shown_outcome (Ok ending) → Comes source files out outcome due
+shown_due source files out capture pieces ending outcome due (Ok found) is shows cause reads is_due =
     inl (is ∙ ap (λ (e : Ending). shown_outcome (Ok e)) (shows pieces ending reads).0 ∙ sym is_due)
-shown_due source out capture pieces ending outcome due (Err stop.NoMemory) is shows cause reads is_due = inr (subst (Hinders source out) (sym is) tt)
-shown_due source out capture pieces ending outcome due (Err stop.WriteFailed) is shows cause reads is_due = inr (subst (Hinders source out) (sym is) cause.1)
+shown_due source files out capture pieces ending outcome due (Err stop.NoMemory) is shows cause reads is_due = inr (subst (Hinders source files out) (sym is) tt)
+shown_due source files out capture pieces ending outcome due (Err stop.WriteFailed) is shows cause reads is_due = inr (subst (Hinders source files out) (sym is) cause.1)
 
 -- a line was written, or a write failed
-written_due : (source : SourceTold) (out : SinkTold) (line : List ℕ) (outcome : Outcome) → WasWritten line out outcome → Comes source out outcome Done
-written_due source out line Done written = inl refl
-written_due source out line Usage written = absurd written
-written_due source out line (BadFrame named) written = absurd written
-written_due source out line (BadText at) written = absurd written
-written_due source out line (BadHex at) written = absurd written
-written_due source out line (BadItem fault) written = absurd written
-written_due source out line Longer written = absurd written
-written_due source out line ReadFailed written = absurd written
-written_due source out line NoMemory written = absurd written
-written_due source out line WriteFailed written = inr written.fault.rose
+written_due : (source : SourceTold) (files : FilesTold) (out : SinkTold) (line : List ℕ) (outcome : Outcome) → WasWritten line out outcome → Comes source files out outcome Done
+written_due source files out line Done written = inl refl
+written_due source files out line Usage written = absurd written
+written_due source files out line (BadFrame named) written = absurd written
+written_due source files out line (BadText at) written = absurd written
+written_due source files out line (BadHex at) written = absurd written
+written_due source files out line (BadItem fault) written = absurd written
+written_due source files out line Longer written = absurd written
+written_due source files out line ReadFailed written = absurd written
+written_due source files out line NoMemory written = absurd written
+written_due source files out line WriteFailed written = inr written.fault.rose
+written_due source files out line (BadLine number) written = absurd written
+written_due source files out line (FileLonger which) written = absurd written
+written_due source files out line (FileFailed which) written = absurd written
+written_due source files out line TurnsSpent written = absurd written
+written_due source files out line Slipped written = absurd written
+written_due source files out line PlanNotBuilt written = absurd written
+written_due source files out line (LineNotBuilt number) written = absurd written
 
 -- what a text is refused for
 text_refused : (text : List ℕ) (refusal : Outcome) → TextRefuses text refusal →
@@ -70,6 +79,13 @@ text_refused text Longer refuses = absurd refuses
 text_refused text ReadFailed refuses = absurd refuses
 text_refused text NoMemory refuses = inl refl
 text_refused text WriteFailed refuses = absurd refuses
+text_refused text (BadLine number) refuses = absurd refuses
+text_refused text (FileLonger which) refuses = absurd refuses
+text_refused text (FileFailed which) refuses = absurd refuses
+text_refused text TurnsSpent refuses = absurd refuses
+text_refused text Slipped refuses = absurd refuses
+text_refused text PlanNotBuilt refuses = absurd refuses
+text_refused text (LineNotBuilt number) refuses = absurd refuses
 
 hex_refused : (digits : List ℕ) (refusal : Outcome) → HexRefuses digits refusal →
     (refusal ≡ NoMemory) ⊎ HexAsks digits refusal
@@ -83,6 +99,13 @@ hex_refused digits Longer refuses = absurd refuses
 hex_refused digits ReadFailed refuses = absurd refuses
 hex_refused digits NoMemory refuses = inl refl
 hex_refused digits WriteFailed refuses = absurd refuses
+hex_refused digits (BadLine number) refuses = absurd refuses
+hex_refused digits (FileLonger which) refuses = absurd refuses
+hex_refused digits (FileFailed which) refuses = absurd refuses
+hex_refused digits TurnsSpent refuses = absurd refuses
+hex_refused digits Slipped refuses = absurd refuses
+hex_refused digits PlanNotBuilt refuses = absurd refuses
+hex_refused digits (LineNotBuilt number) refuses = absurd refuses
 
 -- a text asks for one outcome
 one_text : (text : List ℕ) (a b : Outcome) → TextAsks text a → TextAsks text b → a ≡ b
@@ -117,29 +140,29 @@ one_hex digits a b (inr (at, broken, is)) (inl (bytes, means, asks)) = absurd (b
 one_hex digits a b (inr (at, broken, is)) (inr (at', broken', is')) = is ∙ ap (λ p. BadHex p) (one_break digits at at' broken broken') ∙ sym is'
 
 -- an outcome that is a refusal for want of memory hinders, another one is what is asked for
-refused_due : (source : SourceTold) (out : SinkTold) (outcome refusal due : Outcome) (A : Outcome → Type 0) → outcome ≡ refusal →
-    ((a b : Outcome) → A a → A b → a ≡ b) → (refusal ≡ NoMemory) ⊎ A refusal → A due → Comes source out outcome due
-refused_due source out outcome refusal due A is one (inl memory) asks = inr (subst (Hinders source out) (sym (is ∙ memory)) tt)
-refused_due source out outcome refusal due A is one (inr why) asks = inl (is ∙ one refusal due why asks)
+refused_due : (source : SourceTold) (files : FilesTold) (out : SinkTold) (outcome refusal due : Outcome) (A : Outcome → Type 0) → outcome ≡ refusal →
+    ((a b : Outcome) → A a → A b → a ≡ b) → (refusal ≡ NoMemory) ⊎ A refusal → A due → Comes source files out outcome due
+refused_due source files out outcome refusal due A is one (inl memory) asks = inr (subst (Hinders source files out) (sym (is ∙ memory)) tt)
+refused_due source files out outcome refusal due A is one (inr why) asks = inl (is ∙ one refusal due why asks)
 
 text_why : (text : List ℕ) (refusal : Outcome) → TextRefuses text refusal → (refusal ≡ NoMemory) ⊎ TextAsks text refusal
 text_why text refusal refuses = elim (text_refused text refusal refuses) [ inl memory ↦ inl memory | inr why ↦ inr (inr why) ]
 
-line_due : (source : SourceTold) (out : SinkTold) (line : List ℕ) (outcome due : Outcome) → WasWritten line out outcome → due ≡ Done → Comes source out outcome due
-line_due source out line outcome due written is = subst (Comes source out outcome) (sym is) (written_due source out line outcome written)
+line_due : (source : SourceTold) (files : FilesTold) (out : SinkTold) (line : List ℕ) (outcome due : Outcome) → WasWritten line out outcome → due ≡ Done → Comes source files out outcome due
+line_due source files out line outcome due written is = subst (Comes source files out outcome) (sym is) (written_due source files out line outcome written)
 
-done_due : (command : Command) (bytes : List ℕ) (source : SourceTold) (out : SinkTold) (outcome due : Outcome) →
-    WasDone command bytes out outcome → Asks command bytes due → Comes source out outcome due
-done_due Show capture source out outcome due was (pieces, ending, reads, is) =
-    shown_due source out capture pieces ending outcome due was.result was.outcome_is was.shown was.cause reads is
-done_due Spell text source out outcome due (Ok line, (item, reads, is), written) asks =
-    line_due source out line outcome due written (one_text text due Done asks (inl (item, reads, refl)))
-done_due Spell text source out outcome due (Err refusal, refuses, (is, untouched)) asks =
-    refused_due source out outcome refusal due (TextAsks text) is (one_text text) (text_why text refusal refuses) asks
-done_due SpellHex digits source out outcome due (Ok line, (item, (bytes, means, spelled), is), written) asks =
-    line_due source out line outcome due written (one_hex digits due Done asks (inl (bytes, means, inl (item, spelled, refl))))
-done_due SpellHex digits source out outcome due (Err refusal, refuses, (is, untouched)) asks =
-    refused_due source out outcome refusal due (HexAsks digits) is (one_hex digits) (hex_refused digits refusal refuses) asks
+done_due : (command : Command) (bytes : List ℕ) (source : SourceTold) (files : FilesTold) (out : SinkTold) (outcome due : Outcome) →
+    WasDone command bytes out outcome → Asks command bytes due → Comes source files out outcome due
+done_due Show capture source files out outcome due was (pieces, ending, reads, is) =
+    shown_due source files out capture pieces ending outcome due was.result was.outcome_is was.shown was.cause reads is
+done_due Spell text source files out outcome due (Ok line, (item, reads, is), written) asks =
+    line_due source files out line outcome due written (one_text text due Done asks (inl (item, reads, refl)))
+done_due Spell text source files out outcome due (Err refusal, refuses, (is, untouched)) asks =
+    refused_due source files out outcome refusal due (TextAsks text) is (one_text text) (text_why text refusal refuses) asks
+done_due SpellHex digits source files out outcome due (Ok line, (item, (bytes, means, spelled), is), written) asks =
+    line_due source files out line outcome due written (one_hex digits due Done asks (inl (bytes, means, inl (item, spelled, refl))))
+done_due SpellHex digits source files out outcome due (Err refusal, refuses, (is, untouched)) asks =
+    refused_due source files out outcome refusal due (HexAsks digits) is (one_hex digits) (hex_refused digits refusal refuses) asks
 
 -- ---- a run
 
@@ -149,43 +172,53 @@ read_of : (limit : ℕ) (source : SourceTold) (bytes : List ℕ) (answer : Input
 read_of limit source bytes answer told read = subst (λ (b : Option (List ℕ)). ReadsAll limit b source.after answer) told read.bytes
 
 -- what was not read
-unread_due : (command : Command) (source : SourceTold) (out : SinkTold) (bytes : List ℕ) (outcome due : Outcome) → source.before ≡ Some bytes →
-    WasNotRead command source out outcome → IsDue (Some command) bytes due → Comes source out outcome due
-unread_due command source out bytes Longer due told (read, untouched) (inl (past, is)) = inl (sym is)
-unread_due command source out bytes Longer due told (read, untouched) (inr (within, asks)) =
+unread_due : (command : Command) (source : SourceTold) (files : FilesTold) (out : SinkTold) (bytes : List ℕ) (outcome due : Outcome) → source.before ≡ Some bytes →
+    WasNotRead command source out outcome → IsDue (OnInput command) bytes due → Comes source files out outcome due
+unread_due command source files out bytes Longer due told (read, untouched) (inl (past, is)) = inl (sym is)
+unread_due command source files out bytes Longer due told (read, untouched) (inr (within, asks)) =
     let past = (read_of (limit_of command) source bytes input.Longer told read).0 in absurd (omega arith)
-unread_due command source out bytes ReadFailed due told (read, untouched) is_due = inr read.cause.1.rose
-unread_due command source out bytes NoMemory due told (read, untouched) is_due = inr tt
-unread_due command source out bytes Done due told was is_due = absurd was
-unread_due command source out bytes Usage due told was is_due = absurd was
-unread_due command source out bytes (BadFrame named) due told was is_due = absurd was
-unread_due command source out bytes (BadText at) due told was is_due = absurd was
-unread_due command source out bytes (BadHex at) due told was is_due = absurd was
-unread_due command source out bytes (BadItem fault) due told was is_due = absurd was
-unread_due command source out bytes WriteFailed due told was is_due = absurd was
+unread_due command source files out bytes ReadFailed due told (read, untouched) is_due = inr read.cause.1.rose
+unread_due command source files out bytes NoMemory due told (read, untouched) is_due = inr tt
+unread_due command source files out bytes Done due told was is_due = absurd was
+unread_due command source files out bytes Usage due told was is_due = absurd was
+unread_due command source files out bytes (BadFrame named) due told was is_due = absurd was
+unread_due command source files out bytes (BadText at) due told was is_due = absurd was
+unread_due command source files out bytes (BadHex at) due told was is_due = absurd was
+unread_due command source files out bytes (BadItem fault) due told was is_due = absurd was
+unread_due command source files out bytes WriteFailed due told was is_due = absurd was
+unread_due command source files out bytes (BadLine number) due told was is_due = absurd was
+unread_due command source files out bytes (FileLonger which) due told was is_due = absurd was
+unread_due command source files out bytes (FileFailed which) due told was is_due = absurd was
+unread_due command source files out bytes TurnsSpent due told was is_due = absurd was
+unread_due command source files out bytes Slipped due told was is_due = absurd was
+unread_due command source files out bytes PlanNotBuilt due told was is_due = absurd was
+unread_due command source files out bytes (LineNotBuilt number) due told was is_due = absurd was
 
-carried_due : (command : Command) (source : SourceTold) (out : SinkTold) (bytes : List ℕ) (outcome due : Outcome) → source.before ≡ Some bytes →
-    WasCarriedOut command source out outcome → IsDue (Some command) bytes due → Comes source out outcome due
-carried_due command source out bytes outcome due told (whole, read, done) (inl (past, is)) =
+carried_due : (command : Command) (source : SourceTold) (files : FilesTold) (out : SinkTold) (bytes : List ℕ) (outcome due : Outcome) → source.before ≡ Some bytes →
+    WasCarriedOut command source out outcome → IsDue (OnInput command) bytes due → Comes source files out outcome due
+carried_due command source files out bytes outcome due told (whole, read, done) (inl (past, is)) =
     let within = (read_of (limit_of command) source bytes (input.Whole whole) told read).0 in absurd (omega arith)
-carried_due command source out bytes outcome due told (whole, read, done) (inr (within, asks)) =
+carried_due command source files out bytes outcome due told (whole, read, done) (inr (within, asks)) =
     let same = (read_of (limit_of command) source bytes (input.Whole whole) told read).1 in
-    done_due command bytes source out outcome due (subst (λ (all : List ℕ). WasDone command all out outcome) same done) asks
+    done_due command bytes source files out outcome due (subst (λ (all : List ℕ). WasDone command all out outcome) same done) asks
 
-comes_due : (command : Option Command) (source : SourceTold) (out : SinkTold) (bytes : List ℕ) (outcome due : Outcome) → source.before ≡ Some bytes →
-    ComesFrom command source out outcome → IsDue command bytes due → Comes source out outcome due
-comes_due None source out bytes outcome due told refused is = inl (refused.usage ∙ sym is)
-comes_due (Some command) source out bytes outcome due told (inl unread) is_due = unread_due command source out bytes outcome due told unread is_due
-comes_due (Some command) source out bytes outcome due told (inr carried) is_due = carried_due command source out bytes outcome due told carried is_due
+comes_due : (asked : Asked) (source : SourceTold) (files : FilesTold) (out : SinkTold) (bytes : List ℕ) (outcome due : Outcome) → source.before ≡ Some bytes →
+    ComesFrom asked source files out outcome → IsDue asked bytes due → Comes source files out outcome due
+comes_due Nothing source files out bytes outcome due told refused is = inl (refused.usage ∙ sym is)
+comes_due (OnInput command) source files out bytes outcome due told (files_unread, inl unread) is_due =
+    unread_due command source files out bytes outcome due told unread is_due
+comes_due (OnInput command) source files out bytes outcome due told (files_unread, inr carried) is_due =
+    carried_due command source files out bytes outcome due told carried is_due
+comes_due (Replays plan schedule) source files out bytes outcome due told comes is_due = absurd is_due
 
-pub due_outcome : (words : List (List ℕ)) (source : SourceTold) (out err : SinkTold) (status : ℕ) (bytes : List ℕ) (due : Outcome)
-    → (run : IsRun words source out err status) → source.before ≡ Some bytes → IsDue (command_of words) bytes due
-    → (run.outcome ≡ due) ⊎ Hinders source out run.outcome
-due_outcome words source out err status bytes due run told is_due = comes_due (command_of words) source out bytes run.outcome due told run.comes is_due
+pub due_outcome : (words : List (List ℕ)) (source : SourceTold) (files : FilesTold) (out err : SinkTold) (status : ℕ) (bytes : List ℕ) (due : Outcome)
+    → (run : IsRun words source files out err status) → source.before ≡ Some bytes → IsDue (asked_of words) bytes due
+    → (run.outcome ≡ due) ⊎ Hinders source files out run.outcome
+due_outcome words source files out err status bytes due run told is_due = comes_due (asked_of words) source files out bytes run.outcome due told run.comes is_due
 
 -- ---- over objects that do not fail
 
-module _ (source : SourceTold) (out : SinkTold) (capture : List ℕ) (pieces : List Piece)
+module _ (source : SourceTold) (files : FilesTold) (out : SinkTold) (capture : List ℕ) (pieces : List Piece)
     (told : source.before ≡ Some capture) (within : length capture ≤ 16777216) (reliable : source.health.reliable ≡ true)
     (reads : Reads capture pieces Whole) (room : length (lines_of pieces) ≤ out.health.room) where
   abbrev Ends : Outcome → Type 0
@@ -208,18 +241,25 @@ module _ (source : SourceTold) (out : SinkTold) (capture : List ℕ) (pieces : L
   unread_ends (BadHex at) was = absurd was
   unread_ends (BadItem fault) was = absurd was
   unread_ends WriteFailed was = absurd was
+  unread_ends (BadLine number) was = absurd was
+  unread_ends (FileLonger which) was = absurd was
+  unread_ends (FileFailed which) was = absurd was
+  unread_ends TurnsSpent was = absurd was
+  unread_ends Slipped was = absurd was
+  unread_ends PlanNotBuilt was = absurd was
+  unread_ends (LineNotBuilt number) was = absurd was
 
-  show_ends : (outcome : Outcome) → ComesFrom (Some Show) source out outcome → Ends outcome
-  show_ends outcome (inl unread) = unread_ends outcome unread
-  show_ends outcome (inr (whole, read, done)) =
+  show_ends : (outcome : Outcome) → ComesFrom (OnInput Show) source files out outcome → Ends outcome
+  show_ends outcome (files_unread, inl unread) = unread_ends outcome unread
+  show_ends outcome (files_unread, inr (whole, read, done)) =
       let same = (read_of 16777216 source capture (input.Whole whole) told read).1 in
       by_result done.result outcome done.outcome_is (subst (λ (all : List ℕ). Shows out all done.result) same done.shown)
 
-pub whole_capture : (words : List (List ℕ)) (source : SourceTold) (out err : SinkTold) (status : ℕ) (capture : List ℕ) (pieces : List Piece)
-    → IsRun words source out err status → command_of words ≡ Some Show
+pub whole_capture : (words : List (List ℕ)) (source : SourceTold) (files : FilesTold) (out err : SinkTold) (status : ℕ) (capture : List ℕ) (pieces : List Piece)
+    → IsRun words source files out err status → asked_of words ≡ OnInput Show
     → source.before ≡ Some capture → length capture ≤ 16777216 → source.health.reliable ≡ true
     → Reads capture pieces Whole → length (lines_of pieces) ≤ out.health.room
     → (status ≡ 71) ⊎ ((status ≡ 0) × (out.after ≡ appended out.before (lines_of pieces)))
-whole_capture words source out err status capture pieces run shows told within reliable reads room =
-    rw run.status_is (show_ends source out capture pieces told within reliable reads room run.outcome
-    (subst (λ (command : Option Command). ComesFrom command source out run.outcome) shows run.comes))
+whole_capture words source files out err status capture pieces run shows told within reliable reads room =
+    rw run.status_is (show_ends source files out capture pieces told within reliable reads room run.outcome
+    (subst (λ (asked : Asked). ComesFrom asked source files out run.outcome) shows run.comes))

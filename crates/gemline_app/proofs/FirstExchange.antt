@@ -11,7 +11,9 @@ use Rattle.line_show.specs.declared.capture.Ending.TheVariants.{Whole}
 use Rattle.line_show.specs.declared.capture.Piece.TheVariants.{Framed}
 use Rattle.gemline_app.specs.FirstExchange.{first_lines}
 use Rattle.gemline_app.specs.Gemline.{IsRun, SourceTold}
-use Rattle.gemline_app.specs.Words.{command_of}
+use Rattle.gemline_app.specs.Replay.{FilesTold}
+use Rattle.gemline_app.specs.Words.{asked_of}
+use Rattle.gemline_app.specs.Words.Asked.{OnInput}
 use Rattle.gemline_app.specs.declared.words.Command.TheVariants.{Show}
 use Rattle.gemline_app.proofs.Due.{whole_capture}
 
@@ -38,12 +40,12 @@ first_text : lines_of (Framed first_block ∷ []) ≡ first_lines
 unfolding encode_with digits
 first_text = refl
 
-pub first_ends : (words : List (List ℕ)) (input : SourceTold) (out err : SinkTold) (status : ℕ) (received : List ℕ) →
-    IsRun words input out err status → command_of words ≡ Some Show → input.before ≡ Some first_frame → input.health.reliable ≡ true →
+pub first_ends : (words : List (List ℕ)) (input : SourceTold) (files : FilesTold) (out err : SinkTold) (status : ℕ) (received : List ℕ) →
+    IsRun words input files out err status → asked_of words ≡ OnInput Show → input.before ≡ Some first_frame → input.health.reliable ≡ true →
     out.before ≡ Some [] → out.after ≡ Some received → 88 ≤ out.health.room → (status ≡ 71) ⊎ ((status ≡ 0) × (received ≡ first_lines))
-first_ends words input out err status received run shows told reliable empty after room =
+first_ends words input files out err status received run shows told reliable empty after room =
     let long : length (lines_of (Framed first_block ∷ [])) ≡ 88 = ap length first_text in
-    elim (whole_capture words input out err status first_frame (Framed first_block ∷ []) run shows told (omega arith) reliable first_reads (omega arith)) [
+    elim (whole_capture words input files out err status first_frame (Framed first_block ∷ []) run shows told (omega arith) reliable first_reads (omega arith)) [
       | inl memory ↦ inl memory
       | inr done ↦
           let all : Some received ≡ Some (lines_of (Framed first_block ∷ [])) = sym after ∙ done.1 ∙ ap (λ r. appended r (lines_of (Framed first_block ∷ []))) empty in

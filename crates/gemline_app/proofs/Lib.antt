@@ -2,5 +2,8 @@ mod Carrying
 mod Due
 mod FirstExchange
 mod HexLaws
+mod ReplayDue
+mod Replaying
+mod Sending
 mod SpelledBytes
 mod TextItems

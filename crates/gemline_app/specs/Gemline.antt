@@ -1,5 +1,5 @@
 -- What a run of the program is, by its words and what the outside tells (this profile).
-use Rattle.std.specs.Prelude.{◌≡◌, ◌⊎◌, ℕ, List, length, Option, Some, None, Result, Ok, Err}
+use Rattle.std.specs.Prelude.{◌≡◌, ◌⊎◌, ℕ, List, length, Option, Some, Result, Ok, Err}
 use Rattle.gl_base.specs.Input.{HasInputCause, ReadsAll}
 use Rattle.gl_base.specs.Source.{SourceHealth}
 use Rattle.gl_base.specs.Sink.{Copies, HasCopyCause, WriteFault}
@@ -16,9 +16,12 @@ use Rattle.secs_text.specs.Grammar.{ReadsAs}
 use Rattle.secs_text.specs.Reading.{first_text_fault}
 use Rattle.secs_text.specs.declared.text_fault.TextFault.{TextFault}
 use Rattle.gemline_app.specs.HexInput.{HexMeans, IsHexBreak}
-use Rattle.gemline_app.specs.Outcome.{line_of, shown_outcome, status_of}
+use Rattle.gemline_app.specs.Outcome.{file_of, line_of, shown_outcome, status_of}
 use Rattle.gemline_app.specs.Spelling.{HexSpells, spelled_line, text_line, text_place}
-use Rattle.gemline_app.specs.Words.{command_of, limit_of}
+use Rattle.gemline_app.specs.Replay.{FilesTold, ReplayComes}
+use Rattle.gemline_app.specs.Words.{Asked, asked_of, limit_of}
+use Rattle.gemline_app.specs.Words.Asked.{Nothing, OnInput, Replays}
+use Rattle.gemline_app.specs.Written.{IsUntouched}
 use Rattle.gemline_app.specs.declared.outcome.Outcome.{Outcome}
 use Rattle.gemline_app.specs.declared.outcome.Outcome.TheVariants.{Done, Usage, BadText, BadHex, BadItem, Longer, ReadFailed, NoMemory, WriteFailed}
 use Rattle.gemline_app.specs.declared.words.Command.{Command}
@@ -34,15 +37,19 @@ pub record SourceTold : Type 0 where
 abbrev pub source_told : Option (List ℕ) → Option (List ℕ) → SourceHealth → SourceHealth → SourceTold
 source_told before after health health_after = record { before = before; after = after; health = health; health_after = health_after }
 
+-- nothing was read
+pub record IsUnread (source : SourceTold) : Type 0 where
+  pub left : source.after ≡ source.before
+  pub health : source.health_after ≡ source.health
+
+pub record AreUnread (files : FilesTold) : Type 0 where
+  pub told : files.told_after ≡ files.told
+  pub health : files.health_after ≡ files.health
+
 -- reading it to its end within a limit came to this
 pub record WasRead (limit : ℕ) (source : SourceTold) (answer : Input) : Type 0 where
   pub bytes : ReadsAll limit source.before source.after answer
   pub cause : HasInputCause source.health source.health_after answer
-
--- nothing was written
-pub record IsUntouched (out : SinkTold) : Type 0 where
-  pub received : out.after ≡ out.before
-  pub health : out.health_after ≡ out.health
 
 -- the capture was shown, and showing it came to this
 pub record WasShown (capture : List ℕ) (out : SinkTold) (outcome : Outcome) : Type 0 where
@@ -125,16 +132,23 @@ WasNotRead command source out ReadFailed = WasRead (limit_of command) source inp
 WasNotRead command source out NoMemory = WasRead (limit_of command) source input.NoMemory × IsUntouched out
 WasNotRead command source out _ = ⊥
 
+-- what a command over the input came to
+abbrev pub ComesOnInput : Command → SourceTold → SinkTold → Outcome → Type 0
+ComesOnInput command source out outcome = WasNotRead command source out outcome ⊎ WasCarriedOut command source out outcome
+
 -- no words of a command: nothing is read and nothing written
-pub record IsRefused (source : SourceTold) (out : SinkTold) (outcome : Outcome) : Type 0 where
+pub record IsRefused (source : SourceTold) (files : FilesTold) (out : SinkTold) (outcome : Outcome) : Type 0 where
   pub usage : outcome ≡ Usage
-  pub left : source.after ≡ source.before
+  pub input : IsUnread source
+  pub unread : AreUnread files
   pub written : IsUntouched out
 
 -- what each outcome comes from
-abbrev pub ComesFrom : Option Command → SourceTold → SinkTold → Outcome → Type 0
-ComesFrom None source out outcome = IsRefused source out outcome
-ComesFrom (Some command) source out outcome = WasNotRead command source out outcome ⊎ WasCarriedOut command source out outcome
+abbrev pub ComesFrom : Asked → SourceTold → FilesTold → SinkTold → Outcome → Type 0
+ComesFrom Nothing source files out outcome = IsRefused source files out outcome
+ComesFrom (OnInput command) source files out outcome =
+    AreUnread files × ComesOnInput command source out outcome
+ComesFrom (Replays plan schedule) source files out outcome = IsUnread source × ReplayComes plan schedule files out outcome
 
 -- the bytes went to a sink, all of them or, where its count of faults rose, a part
 pub record WereSent (bytes : List ℕ) (err : SinkTold) : Type 0 where
@@ -143,8 +157,8 @@ pub record WereSent (bytes : List ℕ) (err : SinkTold) : Type 0 where
   pub cause : HasCopyCause err.health err.health_after (length bytes) answer
 
 -- a run: its outcome, which comes only from its cause and gives the status and the line on the sink of errors
-pub record IsRun (words : List (List ℕ)) (source : SourceTold) (out err : SinkTold) (status : ℕ) : Type 0 where
+pub record IsRun (words : List (List ℕ)) (source : SourceTold) (files : FilesTold) (out err : SinkTold) (status : ℕ) : Type 0 where
   pub outcome : Outcome
   pub status_is : status ≡ status_of outcome
-  pub comes : ComesFrom (command_of words) source out outcome
-  pub line : WereSent (line_of outcome) err
+  pub comes : ComesFrom (asked_of words) source files out outcome
+  pub line : WereSent (line_of (file_of words outcome) outcome) err

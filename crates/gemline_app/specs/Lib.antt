@@ -4,5 +4,7 @@ pub mod HexInput
 pub mod HexReading
 pub mod Laws
 pub mod Outcome
+pub mod Replay
 pub mod Spelling
 pub mod Words
+pub mod Written

@@ -1,5 +1,5 @@
 -- The statuses that the program ends with, and the line that tells of each (this profile).
-use Rattle.std.specs.Prelude.{ℕ, List, [], ◌++◌, codes, decimal, Result, Ok, Err}
+use Rattle.std.specs.Prelude.{ℕ, List, [], ◌++◌, get_or, codes, decimal, Result, Ok, Err}
 use Rattle.std.specs.Int.{w16, to_be_bytes}
 use Rattle.hex.specs.Hex.{encode_upper}
 use Rattle.line_show.specs.Bodies.{fault_text}
@@ -9,8 +9,10 @@ use Rattle.line_show.specs.declared.capture.Ending.{Ending}
 use Rattle.line_show.specs.declared.capture.Ending.TheVariants.{Whole, Broken}
 use Rattle.line_show.specs.declared.printer.Stop.{Stop}
 use Rattle.line_show.specs.declared.printer.Stop.TheVariants as stop
+use Rattle.gemline_app.specs.declared.outcome.FileRole.{FileRole}
+use Rattle.gemline_app.specs.declared.outcome.FileRole.TheVariants.{Plan, Schedule}
 use Rattle.gemline_app.specs.declared.outcome.Outcome.{Outcome}
-use Rattle.gemline_app.specs.declared.outcome.Outcome.TheVariants.{Done, Usage, BadFrame, BadText, BadHex, BadItem, Longer, ReadFailed, NoMemory, WriteFailed}
+use Rattle.gemline_app.specs.declared.outcome.Outcome.TheVariants.{Done, Usage, BadFrame, BadText, BadHex, BadItem, BadLine, Longer, FileLonger, FileFailed, ReadFailed, NoMemory, WriteFailed, TurnsSpent, Slipped, PlanNotBuilt, LineNotBuilt}
 
 -- what a capture that was read came to
 abbrev pub shown_outcome : Result Ending Stop → Outcome
@@ -26,25 +28,60 @@ status_of (BadFrame named) = 65
 status_of (BadText at) = 65
 status_of (BadHex at) = 65
 status_of (BadItem fault) = 65
+status_of (BadLine number) = 65
 status_of Longer = 65
+status_of (FileLonger which) = 65
+status_of (FileFailed which) = 66
 status_of ReadFailed = 68
 status_of NoMemory = 71
 status_of WriteFailed = 73
+status_of TurnsSpent = 75
+status_of Slipped = 76
+status_of PlanNotBuilt = 79
+status_of (LineNotBuilt number) = 79
 
 abbrev pub break_text : Break → List ℕ
 break_text (Length at n) = decimal at ++ codes ": length " ++ decimal n
 break_text (Short at) = decimal at ++ codes ": short"
 break_text (Sum at want found) = decimal at ++ codes ": sum " ++ encode_upper (to_be_bytes w16 want) ++ codes " found " ++ encode_upper (to_be_bytes w16 found)
 
--- nothing is said of work that is done
-abbrev pub line_of : Outcome → List ℕ
-line_of Done = []
-line_of Usage = codes "gemline: 64 usage\n"
-line_of (BadFrame named) = codes "gemline: 65 frame at " ++ break_text named ++ codes "\n"
-line_of (BadText at) = codes "gemline: 65 text at " ++ decimal at ++ codes "\n"
-line_of (BadHex at) = codes "gemline: 65 hex at " ++ decimal at ++ codes "\n"
-line_of (BadItem fault) = codes "gemline: 65 item " ++ fault_text fault ++ codes "\n"
-line_of Longer = codes "gemline: 65 input longer\n"
-line_of ReadFailed = codes "gemline: 68 read\n"
-line_of NoMemory = codes "gemline: 71 memory\n"
-line_of WriteFailed = codes "gemline: 73 write\n"
+-- the name of a file of `replay`, which is the second or the third word
+abbrev pub name_in : List (List ℕ) → FileRole → List ℕ
+name_in words Plan = get_or words 1 []
+name_in words Schedule = get_or words 2 []
+
+-- the name of the file that an outcome speaks of, if it speaks of one
+abbrev pub file_of : List (List ℕ) → Outcome → List ℕ
+file_of words (FileLonger which) = name_in words which
+file_of words (FileFailed which) = name_in words which
+file_of words _ = []
+
+-- what is said before the name of a file, and all where there is none. Nothing is said of work that is done
+abbrev pub head_of : Outcome → List ℕ
+head_of Done = []
+head_of Usage = codes "gemline: 64 usage\n"
+head_of (BadFrame named) = codes "gemline: 65 frame at " ++ break_text named ++ codes "\n"
+head_of (BadText at) = codes "gemline: 65 text at " ++ decimal at ++ codes "\n"
+head_of (BadHex at) = codes "gemline: 65 hex at " ++ decimal at ++ codes "\n"
+head_of (BadItem fault) = codes "gemline: 65 item " ++ fault_text fault ++ codes "\n"
+head_of (BadLine number) = codes "gemline: 65 schedule line " ++ decimal number ++ codes "\n"
+head_of Longer = codes "gemline: 65 input longer\n"
+head_of (FileLonger which) = codes "gemline: 65 file "
+head_of (FileFailed which) = codes "gemline: 66 file "
+head_of ReadFailed = codes "gemline: 68 read\n"
+head_of NoMemory = codes "gemline: 71 memory\n"
+head_of WriteFailed = codes "gemline: 73 write\n"
+head_of TurnsSpent = codes "gemline: 75 turns\n"
+head_of Slipped = codes "gemline: 76 slip\n"
+head_of PlanNotBuilt = codes "gemline: 79 not built in plan\n"
+head_of (LineNotBuilt number) = codes "gemline: 79 not built at line " ++ decimal number ++ codes "\n"
+
+-- and behind it
+abbrev pub tail_of : Outcome → List ℕ
+tail_of (FileLonger which) = codes " longer\n"
+tail_of (FileFailed which) = codes "\n"
+tail_of _ = []
+
+-- the line that tells of an outcome, which speaks of the file of this name if of any
+abbrev pub line_of : List ℕ → Outcome → List ℕ
+line_of name outcome = head_of outcome ++ (name ++ tail_of outcome)

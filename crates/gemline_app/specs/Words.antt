@@ -16,3 +16,20 @@ abbrev pub limit_of : Command → ℕ
 limit_of Show = 16777216
 limit_of Spell = 1048576
 limit_of SpellHex = 1048576
+
+-- what words ask for: nothing that there is, a command over the input, or a plan and a schedule to be replayed
+pub data Asked : Type 0 where
+  Nothing : Asked
+  OnInput : (command : Command) → Asked
+  Replays : (plan schedule : List ℕ) → Asked
+
+abbrev pub on_input : Option Command → Asked
+on_input None = Nothing
+on_input (Some command) = OnInput command
+
+abbrev pub asked_of : List (List ℕ) → Asked
+asked_of [] = Nothing
+asked_of (word ∷ []) = on_input (command_of (word ∷ []))
+asked_of (word ∷ flag ∷ []) = on_input (command_of (word ∷ flag ∷ []))
+asked_of (word ∷ plan ∷ schedule ∷ []) = if bytes_eq word (codes "replay") then Replays plan schedule else Nothing
+asked_of (word ∷ second ∷ third ∷ fourth ∷ words) = Nothing

@@ -4,12 +4,13 @@
 mod hex_input;
 mod laws;
 mod outcome;
+mod replay;
 mod run;
 mod spelling;
 mod words;
 
-pub use laws::{outcomes_are_due, shows_whole_captures, spelled_reads_back};
-pub use outcome::Outcome;
+pub use laws::{outcomes_are_due, replays_are_due, shows_whole_captures, spelled_reads_back};
+pub use outcome::{FileRole, Outcome};
 pub use run::{gemline, report};
 pub use words::Command;
 

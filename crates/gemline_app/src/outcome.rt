@@ -5,6 +5,13 @@ ghost use Rattle.gemline_app.specs.Outcome.{break_text};
 use line_show::{Break, Line, put, put_fault, put_hex, put_number};
 use secs_items::ItemFault;
 
+/// A file that `replay` reads.
+#[derive(Clone, Copy, Debug, PartialEq, Eq)]
+pub enum FileRole {
+    Plan,
+    Schedule,
+}
+
 /// What a run of the program came to.
 #[derive(Clone, Copy, Debug, PartialEq, Eq)]
 pub enum Outcome {
@@ -20,18 +27,32 @@ pub enum Outcome {
     BadHex { at: usize },
     /// The bytes spell no item.
     BadItem(ItemFault),
+    /// The line of this number, from 1, is none of a schedule.
+    BadLine { number: u32 },
     /// The input is longer than its limit.
     Longer,
+    /// A file is longer than its limit.
+    FileLonger(FileRole),
+    /// A file could not be read.
+    FileFailed(FileRole),
     /// The input failed.
     ReadFailed,
     /// Memory ran out.
     NoMemory,
     /// The output failed.
     WriteFailed,
+    /// The schedule takes more steps than a run makes.
+    TurnsSpent,
+    /// A false block arrived, which length and sum don't show.
+    Slipped,
+    /// The plan has some text, which isn't built yet.
+    PlanNotBuilt,
+    /// The line of this number, from 1, is of a kind that isn't built yet.
+    LineNotBuilt { number: u32 },
 }
 
 impl Outcome {
-    ghost use Rattle.gemline_app.specs.Outcome.{line_of, status_of};
+    ghost use Rattle.gemline_app.specs.Outcome.{head_of, status_of, tail_of};
 
     /// The status that the program ends with.
     pub fn status(&self) -> u8
@@ -44,16 +65,22 @@ impl Outcome {
             | Outcome::BadText { .. }
             | Outcome::BadHex { .. }
             | Outcome::BadItem(_)
-            | Outcome::Longer => 65,
+            | Outcome::BadLine { .. }
+            | Outcome::Longer
+            | Outcome::FileLonger(_) => 65,
+            Outcome::FileFailed(_) => 66,
             Outcome::ReadFailed => 68,
             Outcome::NoMemory => 71,
             Outcome::WriteFailed => 73,
+            Outcome::TurnsSpent => 75,
+            Outcome::Slipped => 76,
+            Outcome::PlanNotBuilt | Outcome::LineNotBuilt { .. } => 79,
         }
     }
 
-    /// The line that tells of it: none where the work is done.
-    pub fn line(&self) -> Line
-        ensures { result.items ≡ line_of self.now }
+    /// The line that tells of it, up to the name of a file if it speaks of one: none where the work is done.
+    pub fn head(&self) -> Line
+        ensures { result.items ≡ head_of self.now }
     {
         let mut line = Line::new();
         match self {
@@ -71,12 +98,38 @@ impl Outcome {
                 put_fault(&mut line, *fault);
                 put(&mut line, b"\n");
             }
+            Outcome::BadLine { number } => {
+                put_place(&mut line, b"gemline: 65 schedule line ", *number as usize);
+            }
             Outcome::Longer => put(&mut line, b"gemline: 65 input longer\n"),
+            Outcome::FileLonger(_) => put(&mut line, b"gemline: 65 file "),
+            Outcome::FileFailed(_) => put(&mut line, b"gemline: 66 file "),
             Outcome::ReadFailed => put(&mut line, b"gemline: 68 read\n"),
             Outcome::NoMemory => put(&mut line, b"gemline: 71 memory\n"),
             Outcome::WriteFailed => put(&mut line, b"gemline: 73 write\n"),
+            Outcome::TurnsSpent => put(&mut line, b"gemline: 75 turns\n"),
+            Outcome::Slipped => put(&mut line, b"gemline: 76 slip\n"),
+            Outcome::PlanNotBuilt => put(&mut line, b"gemline: 79 not built in plan\n"),
+            Outcome::LineNotBuilt { number } => {
+                put_place(
+                    &mut line,
+                    b"gemline: 79 not built at line ",
+                    *number as usize,
+                );
+            }
         }
         line
+    }
+
+    /// The rest of that line behind the name of a file.
+    pub fn tail(&self) -> &'static [u8]
+        ensures { result.now ≡ tail_of self.now }
+    {
+        match self {
+            Outcome::FileLonger(_) => b" longer\n",
+            Outcome::FileFailed(_) => b"\n",
+            _ => b"",
+        }
     }
 }
 

@@ -1,13 +1,15 @@
-ghost use Rattle.std.specs.Prelude.{◌≡◌, ◌≤◌, length, map, string_bytes};
-ghost use Rattle.gemline_app.specs.Gemline.{ComesFrom, IsRun, WasDone, WereSent, source_told};
-ghost use Rattle.gemline_app.specs.Outcome.{line_of, shown_outcome, status_of};
-ghost use Rattle.gemline_app.specs.Words.{command_of, limit_of};
+ghost use Rattle.std.specs.Prelude.{◌≡◌, ◌≤◌, ◌++◌, length, map, string_bytes};
+ghost use Rattle.gemline_app.specs.Gemline.{ComesFrom, ComesOnInput, IsRun, WasDone, WereSent, source_told};
+ghost use Rattle.gemline_app.specs.Outcome.{file_of, line_of, name_in, shown_outcome, status_of};
+ghost use Rattle.gemline_app.specs.Replay.{files_told};
+ghost use Rattle.gemline_app.specs.Words.{asked_of, limit_of};
 ghost use Rattle.line_show.specs.Show.{sink_told};
 
-use crate::outcome::Outcome;
+use crate::outcome::{FileRole, Outcome};
+use crate::replay::replay;
 use crate::spelling::{spell, spell_hex};
 use crate::words::{Command, command_of};
-use gl_base::{Input, Sink, Source, copy_out, read_all};
+use gl_base::{Files, Input, Sink, SinkAnswer, Source, copy_out, read_all};
 use line_show::{Ending, Stop, show};
 use std::alloc::Global;
 
@@ -15,46 +17,136 @@ use std::alloc::Global;
 ///
 /// `show` reads a capture from `input` and writes to `out` a line for each frame and each character of the handshake, and
 /// what each block brings: its message, or why there is none. `spell` reads an item's text and writes its shortest
-/// spelling in hex; `spell --hex` reads bytes in hex and writes the text of their item.
+/// spelling in hex; `spell --hex` reads bytes in hex and writes the text of their item. `replay` reads a plan and a
+/// schedule from `files` and writes the trace of both ends of a line.
 /// `err` gets one line where the status isn't 0.
-pub fn gemline<R: Source, W: Sink, E: Sink>(
+pub fn gemline<F: Files, R: Source, W: Sink, E: Sink>(
     alloc: Global,
     words: &[String],
+    files: &mut F,
     input: &mut R,
     out: &mut W,
     err: &mut E,
 ) -> u8
-    // the words, what the input told, what the output and the errors told, and the status
+    // the words, what input, files, output and errors told, and the status
     ensures run { IsRun (map string_bytes words.now)
         (source_told (R.left input.old) (R.left input.new) (R.health input.old) (R.health input.new))
+        (files_told (F.told files.old) (F.told files.new) (F.health files.old) (F.health files.new))
         (sink_told (W.received out.old) (W.received out.new) (W.health out.old) (W.health out.new))
         (sink_told (E.received err.old) (E.received err.new) (E.health err.old) (E.health err.new))
         result }
 {
-    let outcome = run(alloc, words, input, out);
-    report(&outcome, err)
+    let outcome = run(alloc, words, files, input, out);
+    report(&outcome, words, err)
 }
 
 /// Tells of an outcome on `err`, and answers its status.
-pub fn report<E: Sink>(outcome: &Outcome, err: &mut E) -> u8
+pub fn report<E: Sink>(outcome: &Outcome, words: &[String], err: &mut E) -> u8
     ensures status { result ≡ status_of outcome.now }
-    ensures line { WereSent (line_of outcome.now)
+    ensures line { WereSent (line_of (file_of (map string_bytes words.now) outcome.now) outcome.now)
         (sink_told (E.received err.old) (E.received err.new) (E.health err.old) (E.health err.new)) }
 {
-    let _ = copy_out(err, &outcome.line());
+    send(
+        &outcome.head(),
+        file_of(words, outcome),
+        outcome.tail(),
+        err,
+    );
     outcome.status()
 }
 
-// Runs the command of the words.
-fn run<R: Source, W: Sink>(alloc: Global, words: &[String], input: &mut R, out: &mut W) -> Outcome
-    ensures { ComesFrom (command_of (map string_bytes words.now))
+// Sends three parts of a line, one after another.
+fn send<E: Sink>(head: &[u8], name: &[u8], tail: &[u8], err: &mut E)
+    ensures { WereSent (head.now ++ (name.now ++ tail.now))
+        (sink_told (E.received err.old) (E.received err.new) (E.health err.old) (E.health err.new)) }
+{
+    match copy_out(err, head) {
+        SinkAnswer::Done => send_two(name, tail, err),
+        SinkAnswer::Failed => {}
+    }
+}
+
+fn send_two<E: Sink>(name: &[u8], tail: &[u8], err: &mut E)
+    ensures { WereSent (name.now ++ tail.now)
+        (sink_told (E.received err.old) (E.received err.new) (E.health err.old) (E.health err.new)) }
+{
+    match copy_out(err, name) {
+        SinkAnswer::Done => send_one(tail, err),
+        SinkAnswer::Failed => {}
+    }
+}
+
+fn send_one<E: Sink>(bytes: &[u8], err: &mut E)
+    ensures { WereSent bytes.now
+        (sink_told (E.received err.old) (E.received err.new) (E.health err.old) (E.health err.new)) }
+{
+    let _ = copy_out(err, bytes);
+}
+
+// The name of the file that an outcome speaks of, if it speaks of one.
+fn file_of<'a>(words: &'a [String], outcome: &Outcome) -> &'a [u8]
+    ensures { result.now ≡ file_of (map string_bytes words.now) outcome.now }
+{
+    match outcome {
+        Outcome::FileLonger(which) | Outcome::FileFailed(which) => name_in(words, *which),
+        _ => b"",
+    }
+}
+
+fn name_in(words: &[String], which: FileRole) -> &[u8]
+    ensures { result.now ≡ name_in (map string_bytes words.now) which }
+{
+    let place = match which {
+        FileRole::Plan => 1,
+        FileRole::Schedule => 2,
+    };
+    match words.get(place) {
+        Some(word) => word.as_bytes(),
+        None => b"",
+    }
+}
+
+// Does what the words ask for.
+fn run<F: Files, R: Source, W: Sink>(
+    alloc: Global,
+    words: &[String],
+    files: &mut F,
+    input: &mut R,
+    out: &mut W,
+) -> Outcome
+    ensures { ComesFrom (asked_of (map string_bytes words.now))
+        (source_told (R.left input.old) (R.left input.new) (R.health input.old) (R.health input.new))
+        (files_told (F.told files.old) (F.told files.new) (F.health files.old) (F.health files.new))
+        (sink_told (W.received out.old) (W.received out.new) (W.health out.old) (W.health out.new))
+        result }
+{
+    match words {
+        [word, plan, schedule] => {
+            if word.as_str() == "replay" {
+                replay(alloc, plan.as_str(), schedule.as_str(), files, out)
+            } else {
+                Outcome::Usage
+            }
+        }
+        _ => match command_of(words) {
+            Some(command) => run_on_input(alloc, command, input, out),
+            None => Outcome::Usage,
+        },
+    }
+}
+
+// Runs a command over the input.
+fn run_on_input<R: Source, W: Sink>(
+    alloc: Global,
+    command: Command,
+    input: &mut R,
+    out: &mut W,
+) -> Outcome
+    ensures { ComesOnInput command
         (source_told (R.left input.old) (R.left input.new) (R.health input.old) (R.health input.new))
         (sink_told (W.received out.old) (W.received out.new) (W.health out.old) (W.health out.new))
         result }
 {
-    let Some(command) = command_of(words) else {
-        return Outcome::Usage;
-    };
     match read_all(alloc, input, command.limit()) {
         Input::Whole(bytes) => carry_out(alloc, command, bytes.as_slice(), out),
         Input::Longer => Outcome::Longer,

@@ -1,10 +1,13 @@
 ghost use Rattle.std.specs.Prelude.{◌≡◌, ◌⊎◌, IfOk, Some, map, string_bytes, true};
 ghost use Rattle.gemline_app.specs.FirstExchange.{first_lines};
 ghost use Rattle.gemline_app.specs.declared.words.Command.TheVariants as commands;
-ghost use Rattle.gemline_app.specs.Words.{command_of};
+ghost use Rattle.gemline_app.specs.Words.{asked_of};
+ghost use Rattle.gemline_app.specs.Words.Asked.{OnInput};
 
 use super::*;
-use gl_base::{MemSink, MemSource, NoMemory, ReadAnswer, Row, Sink, Source, WriteAnswer};
+use gl_base::{
+    MemFile, MemFiles, MemSink, MemSource, NoMemory, ReadAnswer, Row, Sink, Source, WriteAnswer,
+};
 use std::alloc::Global;
 use std::process::Abort;
 use std::test::Fail;
@@ -31,8 +34,12 @@ fn numbers(alloc: Global, number: u32) -> Result<Row<u32>, NoMemory> {
     Ok(row)
 }
 
+fn no_files(alloc: Global) -> MemFiles {
+    MemFiles::new(Row::new(alloc))
+}
+
 fn show_word(alloc: Global) -> Result<Vec<String>, NoMemory>
-    ensures { IfOk result (λ words. command_of (map string_bytes words.items) ≡ Some commands.Show) }
+    ensures { IfOk result (λ words. asked_of (map string_bytes words.items) ≡ OnInput commands.Show) }
 {
     let mut words = Vec::new(alloc);
     words.push(String::from_str(alloc, "show")?)?;
@@ -52,7 +59,14 @@ fn shown(alloc: Global, bytes: Row<u8>) -> Result<Run, NoMemory> {
     let mut input = MemSource::new(bytes);
     let mut out = MemSink::new(alloc, 1_000_000)?;
     let mut err = MemSink::new(alloc, 100)?;
-    let status = gemline(alloc, &words, &mut input, &mut out, &mut err);
+    let status = gemline(
+        alloc,
+        &words,
+        &mut no_files(alloc),
+        &mut input,
+        &mut out,
+        &mut err,
+    );
     Ok(Run { status, out, err })
 }
 
@@ -65,7 +79,14 @@ fn first_exchange(alloc: Global) -> Result<(u8, MemSink), NoMemory>
     let mut input = MemSource::new(row(alloc, &S1F1)?);
     let mut out = MemSink::new(alloc, 100)?;
     let mut err = MemSink::new(alloc, 100)?;
-    let status = gemline(alloc, &words, &mut input, &mut out, &mut err);
+    let status = gemline(
+        alloc,
+        &words,
+        &mut no_files(alloc),
+        &mut input,
+        &mut out,
+        &mut err,
+    );
     Ok((status, out))
 }
 
@@ -151,7 +172,14 @@ fn is_spelled(
     let mut source = MemSource::new(row(alloc, input)?);
     let mut sink = MemSink::new(alloc, 1000)?;
     let mut errors = MemSink::new(alloc, 100)?;
-    let found = gemline(alloc, &words, &mut source, &mut sink, &mut errors);
+    let found = gemline(
+        alloc,
+        &words,
+        &mut no_files(alloc),
+        &mut source,
+        &mut sink,
+        &mut errors,
+    );
     Ok(found == status && sink.bytes() == out.as_bytes() && errors.bytes() == err.as_bytes())
 }
 
@@ -284,6 +312,10 @@ fn other_words_are_refused(rt: HostRuntime) -> Result<(), Fail> {
         &["show", "show"],
         &["spell", "--hex", "--hex"],
         &["spell", "hex"],
+        &["replay"],
+        &["replay", "plan"],
+        &["replay", "plan", "schedule", "more"],
+        &["reply", "plan", "schedule"],
         &["--help"],
         &[""],
     ] {
@@ -294,7 +326,17 @@ fn other_words_are_refused(rt: HostRuntime) -> Result<(), Fail> {
         let mut input = MemSource::new(row(alloc, &S1F1)?);
         let mut out = MemSink::new(alloc, 100)?;
         let mut err = MemSink::new(alloc, 100)?;
-        assert_eq!(rt; gemline(alloc, &texts, &mut input, &mut out, &mut err), 64);
+        assert_eq!(rt;
+            gemline(
+                alloc,
+                &texts,
+                &mut no_files(alloc),
+                &mut input,
+                &mut out,
+                &mut err
+            ),
+            64
+        );
         assert_eq!(rt; out.bytes(), b"".as_slice());
         assert_eq!(rt; err.bytes(), b"gemline: 64 usage\n".as_slice());
     }
@@ -314,7 +356,14 @@ fn expect_of(
     let words = show_word(alloc)?;
     let mut err = MemSink::new(alloc, 100)?;
     assert_eq!(rt;
-        gemline(alloc, &words, &mut input, &mut out, &mut err),
+        gemline(
+            alloc,
+            &words,
+            &mut no_files(alloc),
+            &mut input,
+            &mut out,
+            &mut err
+        ),
         status
     );
     assert_eq!(rt; out.bytes(), lines.as_bytes());
@@ -356,7 +405,17 @@ fn a_fault_of_the_errors_is_passed_over(rt: HostRuntime) -> Result<(), Fail> {
     let mut input = MemSource::new(row(alloc, &[0x09])?);
     let mut out = MemSink::new(alloc, 0)?;
     let mut err = MemSink::new(alloc, 0)?;
-    assert_eq!(rt; gemline(alloc, &words, &mut input, &mut out, &mut err), 65);
+    assert_eq!(rt;
+        gemline(
+            alloc,
+            &words,
+            &mut no_files(alloc),
+            &mut input,
+            &mut out,
+            &mut err
+        ),
+        65
+    );
     Ok(())
 }
 
@@ -398,7 +457,17 @@ fn pieces_make_no_difference(rt: HostRuntime) -> Result<(), Fail> {
     let mut input = OneByte(MemSource::new(row(alloc, &S1F1)?));
     let mut out = Narrow(Row::new(alloc));
     let mut err = MemSink::new(alloc, 100)?;
-    assert_eq!(rt; gemline(alloc, &words, &mut input, &mut out, &mut err), 0);
+    assert_eq!(rt;
+        gemline(
+            alloc,
+            &words,
+            &mut no_files(alloc),
+            &mut input,
+            &mut out,
+            &mut err
+        ),
+        0
+    );
     assert_eq!(rt; out.0.as_slice(), S1F1_LINES.as_bytes());
     Ok(())
 }
@@ -428,5 +497,115 @@ fn many_frames_pass_through_pages(rt: HostRuntime) -> Result<(), Fail> {
             .bytes()
             .ends_with(b"25987 MESSAGE H>E S1F1 W sys=000007CF -\n")
     );
+    Ok(())
+}
+
+/// What `replay plan schedule` over these two files comes to.
+fn replayed(
+    alloc: Global,
+    plan: &[u8],
+    schedule: &[u8],
+    fails: Row<u32>,
+    out: &mut MemSink,
+    err: &mut MemSink,
+) -> Result<u8, NoMemory> {
+    let mut words = Vec::new(alloc);
+    words.push(String::from_str(alloc, "replay")?)?;
+    words.push(String::from_str(alloc, "plan")?)?;
+    words.push(String::from_str(alloc, "schedule")?)?;
+    let mut files = Row::new(alloc);
+    files.push(MemFile {
+        name: row(alloc, b"plan")?,
+        bytes: row(alloc, plan)?,
+    })?;
+    files.push(MemFile {
+        name: row(alloc, b"schedule")?,
+        bytes: row(alloc, schedule)?,
+    })?;
+    let mut files = MemFiles::failing(files, fails);
+    let mut input = MemSource::new(Row::new(alloc));
+    Ok(gemline(alloc, &words, &mut files, &mut input, out, err))
+}
+
+/// Whether `replay` over these two files has this status, output and line on the errors.
+fn is_replayed(
+    alloc: Global,
+    plan: &[u8],
+    schedule: &[u8],
+    status: u8,
+    lines: &str,
+    line: &str,
+) -> Result<bool, NoMemory> {
+    let mut out = MemSink::new(alloc, 2000)?;
+    let mut err = MemSink::new(alloc, 100)?;
+    let found = replayed(alloc, plan, schedule, Row::new(alloc), &mut out, &mut err)?;
+    Ok(found == status && out.bytes() == lines.as_bytes() && err.bytes() == line.as_bytes())
+}
+
+#[test]
+fn replays_a_schedule(rt: HostRuntime) -> Result<(), Fail> {
+    let alloc = rt.alloc();
+    let lines = "0 E start len=0 base=0\n0 H start\n\
+        0 E sent S1F13 W 00000000 0102410747454D4C494E45410131\n0 E tx 05\n0 H tx 04\n\
+        0 E tx 188000810D8001000000000102410747454D4C494E45410131044E\n\
+        0 H rx S1F13 W 00000000 0102410747454D4C494E45410131\n0 H tx 06\n0 end\n";
+    assert!(rt; is_replayed(alloc, b"", b"settle\n", 0, lines, "")?);
+    assert!(rt; is_replayed(alloc, b"", b"# all\n\nsettle", 0, lines, "")?);
+    Ok(())
+}
+
+#[test]
+fn refuses_plans_and_schedules(rt: HostRuntime) -> Result<(), Fail> {
+    let alloc = rt.alloc();
+    assert!(rt;
+        is_replayed(
+            alloc,
+            b" ",
+            b"settle",
+            79,
+            "",
+            "gemline: 79 not built in plan\n"
+        )?
+    );
+    assert!(rt;
+        is_replayed(
+            alloc,
+            b"",
+            b"wait 1\njump",
+            65,
+            "",
+            "gemline: 65 schedule line 2\n"
+        )?
+    );
+    assert!(rt;
+        is_replayed(
+            alloc,
+            b"",
+            b"wait 1\nlose H 1",
+            79,
+            "",
+            "gemline: 79 not built at line 2\n"
+        )?
+    );
+    Ok(())
+}
+
+#[test]
+fn a_file_fails(rt: HostRuntime) -> Result<(), Fail> {
+    let alloc = rt.alloc();
+    for (number, line) in [
+        (1, "gemline: 66 file plan\n"),
+        (2, "gemline: 66 file schedule\n"),
+    ] {
+        let mut out = MemSink::new(alloc, 2000)?;
+        let mut err = MemSink::new(alloc, 100)?;
+        let fails = numbers(alloc, number)?;
+        assert_eq!(rt;
+            replayed(alloc, b"", b"settle", fails, &mut out, &mut err)?,
+            66
+        );
+        assert_eq!(rt; out.bytes(), b"".as_slice());
+        assert_eq!(rt; err.bytes(), line.as_bytes());
+    }
     Ok(())
 }

@@ -1,0 +1,64 @@
+-- A schedule's text that was read, and what came of it.
+use Rattle.std.proofs.Common.{◌≡◌, ℕ, List, Result, Ok, Err, refl, sym, ap, subst, inl, inr}
+use Rattle.line_schedule.specs.Schedule.{IsSchedule, LaterAt, OutsideAt, ReadsOnly, RefusesOnly}
+use Rattle.line_schedule.specs.declared.event.Event.{Event}
+use Rattle.line_schedule.specs.declared.schedule.Schedule.{Schedule}
+use Rattle.line_schedule.specs.declared.schedule.ScheduleFault.{ScheduleFault}
+use Rattle.line_schedule.specs.declared.schedule.ScheduleFault.TheVariants as schedule_fault
+use Rattle.line_end.specs.declared.plan.LinePlan.{LinePlan}
+use Rattle.line_show.specs.Show.{SinkTold}
+use Rattle.line_world.specs.Run.{Runs, course_of, log_of, trace_text}
+use Rattle.line_world.specs.declared.running.RunEnd.{RunEnd}
+use Rattle.trace_log.specs.Delivered.{Delivered}
+use Rattle.gemline_app.specs.Replay.{ComesOnly, ScheduleRefuses, TextRuns, WasReplayed, as_told, empty_plan, outcome_of_end, schedule_refusal}
+use Rattle.gemline_app.specs.Written.{IsUntouched}
+use Rattle.gemline_app.specs.declared.outcome.Outcome.{Outcome}
+
+-- what the reading of a text says of its result
+pub record ReadsText (text : List ℕ) (result : Result Schedule ScheduleFault) : Type 0 where
+  pub only : (events : List Event) → IsSchedule text events → ReadsOnly events result
+  pub line : (number : ℕ) → result ≡ Err (schedule_fault.Line number) → OutsideAt text number
+  pub not_built : (number : ℕ) → result ≡ Err (schedule_fault.NotBuilt number) → LaterAt text number
+  pub outside : (number : ℕ) → OutsideAt text number → RefusesOnly (schedule_fault.Line number) result
+  pub later : (number : ℕ) → LaterAt text number → RefusesOnly (schedule_fault.NotBuilt number) result
+
+pub runs_schedule : (text : List ℕ) (out : SinkTold) (schedule : Schedule) (outcome : Outcome) → ReadsText text (Ok schedule) →
+    IsSchedule text schedule.events → WasReplayed schedule out outcome → TextRuns text out outcome
+runs_schedule text out schedule outcome reads is was = record {
+  because = inl (schedule, is, was);
+  outside = λ number at. absurd (reads.outside number at);
+  later = λ number at. absurd (reads.later number at);
+  only = λ other is_other.
+      let same : schedule.events ≡ other.events = reads.only other.events is_other in
+      inl (subst (λ (s : Schedule). WasReplayed s out outcome) (ap (λ (events : List Event). record { events = events }) same) was);
+}
+
+refuses : (text : List ℕ) (out : SinkTold) (fault : ScheduleFault) → ReadsText text (Err fault) → IsUntouched out → ScheduleRefuses text out fault
+refuses text out (schedule_fault.Line number) reads untouched = (reads.line number refl, untouched)
+refuses text out (schedule_fault.NotBuilt number) reads untouched = (reads.not_built number refl, untouched)
+refuses text out schedule_fault.NoMemory reads untouched = untouched
+
+comes_only : (out : SinkTold) (fault named : ScheduleFault) → RefusesOnly named (Err fault) → IsUntouched out → ComesOnly (schedule_refusal named) out (schedule_refusal fault)
+comes_only out fault named (inl same) untouched = (inl (ap schedule_refusal same), untouched)
+comes_only out fault named (inr memory) untouched = (inr (ap schedule_refusal memory), untouched)
+
+pub refuses_text : (text : List ℕ) (out : SinkTold) (fault : ScheduleFault) (outcome : Outcome) → ReadsText text (Err fault) → IsUntouched out →
+    outcome ≡ schedule_refusal fault → TextRuns text out outcome
+refuses_text text out fault outcome reads untouched is =
+    subst (TextRuns text out) (sym is) (record {
+      because = inr (fault, refuses text out fault reads untouched, refl);
+      outside = λ number at. comes_only out fault (schedule_fault.Line number) (reads.outside number at) untouched;
+      later = λ number at. comes_only out fault (schedule_fault.NotBuilt number) (reads.later number at) untouched;
+      only = λ other is_other. inr (ap schedule_refusal (reads.only other.events is_other), untouched);
+    })
+
+-- what was carried out over the parameters of an empty plan
+pub replayed_over : (plan : LinePlan) (schedule : Schedule) (out : SinkTold) (ended : RunEnd) (outcome : Outcome) → plan ≡ empty_plan →
+    outcome ≡ outcome_of_end ended → Runs (as_told out) (trace_text plan schedule) (course_of plan schedule) ended → Delivered (log_of plan schedule) →
+    WasReplayed schedule out outcome
+replayed_over plan schedule out ended outcome same is wrote delivered = record {
+  ended = ended;
+  outcome_is = is;
+  wrote = subst (λ (p : LinePlan). Runs (as_told out) (trace_text p schedule) (course_of p schedule) ended) same wrote;
+  delivered = subst (λ (p : LinePlan). Delivered (log_of p schedule)) same delivered;
+}

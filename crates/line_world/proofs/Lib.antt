@@ -1,0 +1,9 @@
+mod Bare
+mod Carrying
+mod Deliveries
+mod Gathered
+mod Parts
+mod Progress
+mod Safe
+mod Texts
+mod Written

@@ -1,0 +1,5 @@
+pub mod Ends
+pub mod Kept
+pub mod Laws
+pub mod Run
+pub mod World

@@ -1,0 +1,110 @@
+ghost use Rattle.std.specs.Prelude.{◌≡◌, ◌++◌, ◌+◌, OnErr, OnOk};
+ghost use Rattle.line_end.specs.Plan.{LinePlanFits};
+ghost use Rattle.line_schedule.specs.Schedule.{Fits};
+ghost use Rattle.line_world.specs.Run.{Runs, course_of, end_of, end_text, log_of, sink_told, trace_text};
+ghost use Rattle.trace_log.specs.Delivered.{Delivered};
+
+use crate::course::Course;
+use crate::laws::deliveries_were_sent;
+use crate::world::World;
+use gl_base::{NoMemory, Row, Sink, SinkAnswer, copy_out};
+use line_end::LinePlan;
+use line_schedule::Schedule;
+use std::alloc::Global;
+use trace_log::end_line;
+
+/// How a run ended.
+#[derive(Clone, Copy, Debug, PartialEq, Eq)]
+pub enum RunEnd {
+    /// The schedule was carried out, and the whole trace was written.
+    Whole,
+    /// The trace was written up to the first block whose characters are no frame's.
+    Slip,
+    /// The trace was written up to the last of 4,000,000 steps, and a step was left.
+    Turns,
+    /// Memory ran out. A part of the trace from the front was written.
+    NoMemory,
+    /// The output failed. A part of the trace from the front was written.
+    WriteFailed,
+}
+
+/// How many bytes are gathered before they are written.
+const PAGE: usize = 65536;
+
+/// Carries out a schedule on a line between an equipment that has one message to send and a host that only receives, and
+/// writes the trace of what both ends note. In that trace each message delivered was sent.
+///
+/// The plan and the schedule must fit.
+pub fn run<W: Sink>(alloc: Global, plan: &LinePlan, schedule: &Schedule, out: &mut W) -> RunEnd
+    requires plan { LinePlanFits plan.now }
+    requires schedule { Fits schedule.now }
+    ensures text { Runs
+        (sink_told (W.received out.old) (W.received out.new) (W.health out.old) (W.health out.new))
+        (trace_text plan.now schedule.now)
+        (course_of plan.now schedule.now)
+        result }
+    ensures delivered { Delivered (log_of plan.now schedule.now) }
+{
+    deliveries_were_sent();
+    write_trace(alloc, plan, schedule, out)
+}
+
+// Carries out a schedule, and writes its trace.
+fn write_trace<W: Sink>(alloc: Global, plan: &LinePlan, schedule: &Schedule, out: &mut W) -> RunEnd
+    requires plan { LinePlanFits plan.now }
+    requires schedule { Fits schedule.now }
+    ensures text { Runs
+        (sink_told (W.received out.old) (W.received out.new) (W.health out.old) (W.health out.new))
+        (trace_text plan.now schedule.now)
+        (course_of plan.now schedule.now)
+        result }
+{
+    let mut page = Row::new(alloc);
+    let Ok(mut world) = World::begin(alloc, plan, &mut page) else {
+        return RunEnd::NoMemory;
+    };
+    let mut lines = Row::new(alloc);
+    'events: for event in schedule.events.as_slice() {
+        lines.truncate(0);
+        let Ok(()) = world.carry_out(alloc, event, &mut lines) else {
+            return RunEnd::NoMemory;
+        };
+        let Ok(()) = page.extend(lines.as_slice()) else {
+            return RunEnd::NoMemory;
+        };
+        if page.len() >= PAGE {
+            match copy_out(out, page.as_slice()) {
+                SinkAnswer::Done => page.truncate(0),
+                SinkAnswer::Failed => return RunEnd::WriteFailed,
+            }
+        }
+    }
+    let Ok(()) = put_end(&world, &mut page) else {
+        return RunEnd::NoMemory;
+    };
+    match copy_out(out, page.as_slice()) {
+        SinkAnswer::Done => end_of(world.course()),
+        SinkAnswer::Failed => RunEnd::WriteFailed,
+    }
+}
+
+// Puts the line of the end of a world that has gone on to it.
+fn put_end(world: &World, page: &mut Row<u8>) -> Result<(), NoMemory>
+    ensures ok { OnOk result (page.new ≡ page.old ++ end_text world.now.course world.now.moment) }
+    ensures err { OnErr result (page.new ≡ page.old) }
+{
+    match world.course() {
+        Course::GoesOn => page.extend(&end_line(world.moment())),
+        Course::Slips | Course::Turns => Ok(()),
+    }
+}
+
+fn end_of(course: Course) -> RunEnd
+    ensures { result ≡ end_of course }
+{
+    match course {
+        Course::GoesOn => RunEnd::Whole,
+        Course::Slips => RunEnd::Slip,
+        Course::Turns => RunEnd::Turns,
+    }
+}

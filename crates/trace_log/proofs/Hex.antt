@@ -1,0 +1,32 @@
+-- Hex digits, byte by byte.
+use Rattle.std.proofs.Common.{◌≡◌, ℕ, ◌+◌, ◌/◌, ◌%◌, ◌<◌, ◌≤◌, List, [], ◌∷◌, ◌++◌, length, drop, get_or, refl, sym, ap, ◌∙◌, append_assoc, add-one, append-nil, drop-cons}
+use Rattle.std.proofs.lemmas.List.{drop_all}
+use Rattle.hex.specs.Hex.{encode_upper, encode_with, upper_digits}
+
+encode_upper-cons : (byte : ℕ) (bytes : List ℕ) → encode_upper (byte ∷ bytes) ≡ get_or upper_digits (byte / 16) 0 ∷ get_or upper_digits (byte % 16) 0 ∷ encode_upper bytes
+unfolding encode_with
+encode_upper-cons byte bytes = refl
+
+encode_upper-nil : encode_upper [] ≡ []
+unfolding encode_with
+encode_upper-nil = refl
+
+drop-byte : (bytes : List ℕ) (i : ℕ) → i < length bytes → drop i bytes ≡ get_or bytes i 0 ∷ drop (i + 1) bytes
+drop-byte bytes i below = drop-cons bytes i 0 below ∙ ap (λ (k : ℕ). get_or bytes i 0 ∷ drop k bytes) (sym (add-one i))
+
+-- with two digits more, what is left to write is one byte less
+pub encode_upper-step : (line one two whole bytes : List ℕ) (i high low : ℕ) → i < length bytes →
+    high ≡ get_or upper_digits (get_or bytes i 0 / 16) 0 → low ≡ get_or upper_digits (get_or bytes i 0 % 16) 0 →
+    one ≡ line ++ high ∷ [] → two ≡ one ++ low ∷ [] → line ++ encode_upper (drop i bytes) ≡ whole → two ++ encode_upper (drop (i + 1) bytes) ≡ whole
+encode_upper-step line one two whole bytes i high low below is_high is_low is_one is_two so_far =
+    let rest : List ℕ = encode_upper (drop (i + 1) bytes) in
+    ap (λ (t : List ℕ). t ++ rest) (is_two ∙ ap (λ (t : List ℕ). t ++ low ∷ []) is_one)
+    ∙ append_assoc (line ++ high ∷ []) (low ∷ []) rest
+    ∙ append_assoc line (high ∷ []) (low ∷ rest)
+    ∙ ap (λ (h : ℕ). line ++ h ∷ low ∷ rest) is_high
+    ∙ ap (λ (l : ℕ). line ++ get_or upper_digits (get_or bytes i 0 / 16) 0 ∷ l ∷ rest) is_low
+    ∙ sym (ap (λ (t : List ℕ). line ++ t) (ap encode_upper (drop-byte bytes i below) ∙ encode_upper-cons (get_or bytes i 0) (drop (i + 1) bytes)))
+    ∙ so_far
+
+pub encode_upper-done : (line bytes : List ℕ) (i : ℕ) → length bytes ≤ i → line ++ encode_upper (drop i bytes) ≡ line
+encode_upper-done line bytes i done = ap (λ (rest : List ℕ). line ++ encode_upper rest) (drop_all i bytes done) ∙ ap (λ (digits : List ℕ). line ++ digits) encode_upper-nil ∙ append-nil line

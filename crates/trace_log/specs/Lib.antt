@@ -1,0 +1,3 @@
+pub mod Delivered
+pub mod Log
+pub mod Text
