@@ -1,4 +1,4 @@
-ghost use Rattle.line_world.specs.Laws.{DeliveriesWereSent};
+ghost use Rattle.line_world.specs.Laws.{DeliveriesWereSent, RunsAreBounded};
 
 use line_order::{arrivals_are_judged, blocks_arrive_in_order};
 
@@ -11,3 +11,8 @@ pub fn deliveries_were_sent()
     blocks_arrive_in_order();
     arrivals_are_judged();
 }
+
+/// A step that is left after 4,000,000 of them ends a run, and a log that ends so, or with a slip, has no line of the end.
+pub fn runs_are_bounded()
+    ensures { RunsAreBounded }
+{}

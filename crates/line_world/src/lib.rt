@@ -11,5 +11,5 @@ mod station;
 mod tests;
 mod world;
 
-pub use laws::deliveries_were_sent;
+pub use laws::{deliveries_were_sent, runs_are_bounded};
 pub use running::{RunEnd, run};
