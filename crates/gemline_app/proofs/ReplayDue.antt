@@ -11,7 +11,7 @@ use Rattle.line_world.specs.declared.course.Course.{Course}
 use Rattle.line_world.specs.declared.running.RunEnd.{RunEnd}
 use Rattle.line_world.specs.declared.running.RunEnd.TheVariants as end
 use Rattle.gemline_app.specs.Gemline.{ComesFrom, IsRun, SourceTold}
-use Rattle.gemline_app.specs.Laws.{Hinders, IsReplayDue, ScheduleAsks, outcome_of_course}
+use Rattle.gemline_app.specs.Laws.{Hinders, IsReplayDue, IsScheduleDue, ScheduleAsks, outcome_of_course}
 use Rattle.gemline_app.specs.Replay.{FileRefuses, FilesTold, ReplayComes, ScheduleComes, TextRuns, WasFile, as_told, empty_plan, files_told, limit_of, outcome_of_end}
 use Rattle.gemline_app.specs.Words.{Asked, asked_of}
 use Rattle.gemline_app.specs.Words.Asked.{Replays}
@@ -105,19 +105,16 @@ text_due source files out text outcome due runs (inr (inr (number, at, is_due)))
 
 -- ---- both files
 
-abbrev ScheduleDue : List ℕ → Outcome → Type 0
-ScheduleDue text due = ((limit_of role.Schedule < length text) × (due ≡ FileLonger role.Schedule)) ⊎ ((length text ≤ limit_of role.Schedule) × ScheduleAsks text due)
-
 -- a fault behind another moment is a fault
 rose_since : (before mid now : ℕ) → before ≤ mid → Rose mid now → Rose before now
 rose_since before mid now later rose = omega (arith, later, rose)
 
 schedule_due : (source : SourceTold) (files later : FilesTold) (out : SinkTold) (name text : List ℕ) (outcome due : Outcome) →
     files.health.faults ≤ later.health.faults → later.health_after ≡ files.health_after → told_file name later.told ≡ Some text →
-    ScheduleComes name later out outcome → ScheduleDue text due → Comes source files out outcome due
+    ScheduleComes name later out outcome → IsScheduleDue text due → Comes source files out outcome due
 schedule_due source files later out name text outcome due since same told (inl (refuses, untouched)) is_due = go (refused role.Schedule name text later outcome told refuses) is_due
   where
-    go : Refused role.Schedule text later outcome → ScheduleDue text due → Comes source files out outcome due
+    go : Refused role.Schedule text later outcome → IsScheduleDue text due → Comes source files out outcome due
     go (inl (longer, past)) (inl (also, is)) = inl (longer ∙ sym is)
     go (inl (longer, past)) (inr (within, asks)) = absurd (omega arith)
     go (inr (inl (found, is, rose))) due_is =
@@ -129,52 +126,49 @@ schedule_due source files later out name text outcome due since same told (inr (
     read : (text ≡ whole) × (length text ≤ limit_of role.Schedule)
     read = whole_is role.Schedule name text whole later told was
 
-    go : ScheduleDue text due → Comes source files out outcome due
+    go : IsScheduleDue text due → Comes source files out outcome due
     go (inl (past, is)) = let within = read.1 in absurd (omega arith)
     go (inr (within, asks)) = text_due source files out text outcome due (subst (λ (t : List ℕ). TextRuns t out outcome) (sym read.0) runs) asks
 
-replay_due : (source : SourceTold) (files : FilesTold) (out : SinkTold) (plan schedule bytes text : List ℕ) (outcome due : Outcome) →
-    told_file plan files.told ≡ Some bytes → told_file schedule files.told ≡ Some text → ReplayComes plan schedule files out outcome → IsReplayDue bytes text due →
+replay_due : (source : SourceTold) (files : FilesTold) (out : SinkTold) (plan schedule bytes : List ℕ) (outcome due : Outcome) →
+    told_file plan files.told ≡ Some bytes → ReplayComes plan schedule files out outcome → IsReplayDue schedule files bytes due →
     Comes source files out outcome due
-replay_due source files out plan schedule bytes text outcome due told also (inl (refuses, untouched)) is_due = go (refused role.Plan plan bytes files outcome told refuses) is_due
+replay_due source files out plan schedule bytes outcome due told (inl (refuses, untouched)) is_due = go (refused role.Plan plan bytes files outcome told refuses) is_due
   where
-    go : Refused role.Plan bytes files outcome → IsReplayDue bytes text due → Comes source files out outcome due
+    go : Refused role.Plan bytes files outcome → IsReplayDue schedule files bytes due → Comes source files out outcome due
     go (inl (longer, past)) (inl (_, is)) = inl (longer ∙ sym is)
     go (inl (longer, past)) (inr (inl (within, some, is))) = absurd (omega arith)
-    go (inl (longer, past)) (inr (inr (empty, rest))) = let long = ap length empty in absurd (omega arith)
+    go (inl (longer, past)) (inr (inr (empty, text, also, rest))) = let long = ap length empty in absurd (omega arith)
     go (inr (inl (found, is, rose))) due_is = inr (failed source files out outcome found is rose)
     go (inr (inr memory)) due_is = inr (hindered source files out outcome memory)
-replay_due source files out plan schedule bytes text outcome due told also (inr (inl (found, was, some, is, untouched))) is_due = go is_due
+replay_due source files out plan schedule bytes outcome due told (inr (inl (found, was, some, is, untouched))) is_due = go is_due
   where
     read : (bytes ≡ found) × (length bytes ≤ limit_of role.Plan)
     read = whole_is role.Plan plan bytes found files told was
 
-    go : IsReplayDue bytes text due → Comes source files out outcome due
+    go : IsReplayDue schedule files bytes due → Comes source files out outcome due
     go (inl (past, is_longer)) = let within = read.1 in absurd (omega arith)
     go (inr (inl (within, something, is_due'))) = inl (is ∙ sym is_due')
-    go (inr (inr (empty, rest))) = absurd (some (sym read.0 ∙ empty))
-replay_due source files out plan schedule bytes text outcome due told also (inr (inr empty_plan)) is_due = go is_due
+    go (inr (inr (empty, text, also, rest))) = absurd (some (sym read.0 ∙ empty))
+replay_due source files out plan schedule bytes outcome due told (inr (inr over)) is_due = go is_due
   where
     first : FilesTold
-    first = files_told files.told empty_plan.told files.health empty_plan.health
+    first = files_told files.told over.told files.health over.health
 
     read : (bytes ≡ []) × (length bytes ≤ limit_of role.Plan)
-    read = whole_is role.Plan plan bytes [] first told empty_plan.read
+    read = whole_is role.Plan plan bytes [] first told over.read
 
-    still : told_file schedule empty_plan.told ≡ Some text
-    still = ap (told_file schedule) empty_plan.read.same ∙ also
-
-    go : IsReplayDue bytes text due → Comes source files out outcome due
+    go : IsReplayDue schedule files bytes due → Comes source files out outcome due
     go (inl (past, is_longer)) = let within = read.1 in absurd (omega arith)
     go (inr (inl (within, something, is_due'))) = absurd (something read.0)
-    go (inr (inr (empty, rest))) =
-        schedule_due source files (files_told empty_plan.told files.told_after empty_plan.health files.health_after) out schedule text outcome due
-        empty_plan.read.cause.later refl still empty_plan.rest rest
+    go (inr (inr (empty, text, also, rest))) =
+        schedule_due source files (files_told over.told files.told_after over.health files.health_after) out schedule text outcome due
+        over.read.cause.later refl (ap (told_file schedule) over.read.same ∙ also) over.rest rest
 
-pub replays_due : (words : List (List ℕ)) (source : SourceTold) (files : FilesTold) (out err : SinkTold) (status : ℕ) (plan schedule bytes text : List ℕ) (due : Outcome)
+pub replays_due : (words : List (List ℕ)) (source : SourceTold) (files : FilesTold) (out err : SinkTold) (status : ℕ) (plan schedule bytes : List ℕ) (due : Outcome)
     → (run : IsRun words source files out err status) → asked_of words ≡ Replays plan schedule
-    → told_file plan files.told ≡ Some bytes → told_file schedule files.told ≡ Some text → IsReplayDue bytes text due
+    → told_file plan files.told ≡ Some bytes → IsReplayDue schedule files bytes due
     → (run.outcome ≡ due) ⊎ Hinders source files out run.outcome
-replays_due words source files out err status plan schedule bytes text due run asks told also is_due =
-    replay_due source files out plan schedule bytes text run.outcome due told also
+replays_due words source files out err status plan schedule bytes due run asks told is_due =
+    replay_due source files out plan schedule bytes run.outcome due told
     (subst (λ (asked : Asked). ComesFrom asked source files out run.outcome) asks run.comes).1 is_due

@@ -75,14 +75,18 @@ ScheduleAsks text due =
     ((schedule : Schedule) × IsSchedule text schedule.events × (due ≡ outcome_of_course (course_of empty_plan schedule)))
     ⊎ (((number : ℕ) × OutsideAt text number × (due ≡ BadLine number)) ⊎ ((number : ℕ) × LaterAt text number × (due ≡ LineNotBuilt number)))
 
--- the outcome that is due of a plan and a schedule
-abbrev pub IsReplayDue : List ℕ → List ℕ → Outcome → Type 0
-IsReplayDue plan text due =
+-- the outcome that is due of a schedule's text
+abbrev pub IsScheduleDue : List ℕ → Outcome → Type 0
+IsScheduleDue text due =
+    ((replay.limit_of role.Schedule < length text) × (due ≡ FileLonger role.Schedule))
+    ⊎ ((length text ≤ replay.limit_of role.Schedule) × ScheduleAsks text due)
+
+-- the outcome that is due of a plan, and of the schedule of this name where the plan is empty
+abbrev pub IsReplayDue : List ℕ → FilesTold → List ℕ → Outcome → Type 0
+IsReplayDue schedule files plan due =
     ((replay.limit_of role.Plan < length plan) × (due ≡ FileLonger role.Plan))
     ⊎ (((length plan ≤ replay.limit_of role.Plan) × (plan ≢ []) × (due ≡ PlanNotBuilt))
-    ⊎ ((plan ≡ [])
-    × (((replay.limit_of role.Schedule < length text) × (due ≡ FileLonger role.Schedule))
-    ⊎ ((length text ≤ replay.limit_of role.Schedule) × ScheduleAsks text due))))
+    ⊎ ((plan ≡ []) × (text : List ℕ) × (told_file schedule files.told ≡ Some text) × IsScheduleDue text due))
 
 -- an outcome that may come in place of the one that is due: memory ran out, or a count of faults rose
 abbrev pub Hinders : SourceTold → FilesTold → SinkTold → Outcome → Type 0
@@ -99,12 +103,12 @@ OutcomesAreDue =
     → (run : IsRun words source files out err status) → source.before ≡ Some bytes → IsDue (asked_of words) bytes due
     → (run.outcome ≡ due) ⊎ Hinders source files out run.outcome
 
--- the same of `replay`, where the files tell of both
+-- the same of `replay`, where the files tell of the plan, and of the schedule if it is read
 abbrev pub ReplaysAreDue : Type 0
 ReplaysAreDue =
-    (words : List (List ℕ)) (source : SourceTold) (files : FilesTold) (out err : SinkTold) (status : ℕ) (plan schedule bytes text : List ℕ) (due : Outcome)
+    (words : List (List ℕ)) (source : SourceTold) (files : FilesTold) (out err : SinkTold) (status : ℕ) (plan schedule bytes : List ℕ) (due : Outcome)
     → (run : IsRun words source files out err status) → asked_of words ≡ Replays plan schedule
-    → told_file plan files.told ≡ Some bytes → told_file schedule files.told ≡ Some text → IsReplayDue bytes text due
+    → told_file plan files.told ≡ Some bytes → IsReplayDue schedule files bytes due
     → (run.outcome ≡ due) ⊎ Hinders source files out run.outcome
 
 -- over objects that do not fail, `show` of a capture without a break ends with status 0 and its lines, but for want of memory
