@@ -1,5 +1,5 @@
 -- Frames, their parts and their faults.
-use Rattle.std.proofs.Common.{◌≡◌, ◌≢◌, ℕ, ◌+◌, ◌<◌, ◌^◌, List, [], ◌++◌, length, take, drop, get_or, Some, None, refl, sym, ap, ◌∙◌, arith, length-append}
+use Rattle.std.proofs.Common.{◌≡◌, ◌≢◌, ℕ, ◌+◌, ◌<◌, ◌≤◌, ◌^◌, List, [], ◌++◌, length, take, drop, get_or, Some, None, refl, sym, ap, ◌∙◌, arith, length-append}
 use Rattle.std.specs.Int.{w16, from_be_bytes, to_be_bytes}
 use Rattle.std.proofs.lemmas.Bool.Decides.{nat_tests}
 use Rattle.std.proofs.lemmas.Grind.{common_steps}
@@ -11,9 +11,9 @@ use Rattle.block_codec.specs.declared.header.Header.{Header}
 use Rattle.block_codec.specs.declared.frame.BlockFault.TheVariants.{Sum}
 use Rattle.block_codec.specs.Block.{BlockView, IsBlock}
 use Rattle.block_codec.specs.Fault.{fault_of, sum_fault}
-use Rattle.block_codec.specs.Frame.{IsSplit, checksum, counted_bytes, frame_bytes}
-use Rattle.block_codec.specs.Header.{header_bytes}
-use Rattle.block_codec.proofs.Headers.{header_bytes-same}
+use Rattle.block_codec.specs.Frame.{IsSplit, checksum, counted_block, counted_bytes, frame_bytes}
+use Rattle.block_codec.specs.Header.{header_bytes, header_in}
+use Rattle.block_codec.proofs.Headers.{header_in-header_bytes}
 
 -- two lists with the same front length are equal part by part
 pub append-same :
@@ -33,6 +33,17 @@ pub block-same : (a b : BlockView) → a.header ≡ b.header → a.body ≡ b.bo
 block-same a b header body =
     let made : Header → List ℕ → BlockView = λ h s. record { header = h; body = s } in
     ap (λ (h : Header). made h a.body) header ∙ ap (λ (s : List ℕ). made b.header s) body
+
+-- the block in a block's counted bytes is that block
+pub counted_block-counted_bytes :
+    (block : BlockView) → IsBlock block → counted_block (counted_bytes block) ≡ block
+counted_block-counted_bytes block in_block =
+    let front : take 10 (counted_bytes block) ≡ header_bytes block.header =
+    take_at (header_bytes block.header) block.body 10 refl
+    in
+    block-same (counted_block (counted_bytes block)) block
+    (ap header_in front ∙ header_in-header_bytes block.header in_block.header)
+    (drop_at (header_bytes block.header) block.body 10 refl)
 
 -- a frame is 13 bytes longer than its body
 pub length-frame_bytes : (block : BlockView) → length (frame_bytes block) ≡ 13 + length block.body
@@ -68,8 +79,8 @@ frame_bytes-same a b after_a after_b in_a in_b same =
     (to_be_bytes w16 (checksum (counted_bytes a))) (to_be_bytes w16 (checksum (counted_bytes b)))
     counted_long (ap (λ (bytes : List ℕ). drop 1 bytes) framed.0)
     in
-    let parts = append-same (header_bytes a.header) (header_bytes b.header) a.body b.body refl counted.0 in
-    (block-same a b (header_bytes-same a.header b.header in_a.header in_b.header parts.0) parts.1, framed.1)
+    let one = ap counted_block counted.0 in
+    (sym (counted_block-counted_bytes a in_a) ∙ one ∙ counted_block-counted_bytes b in_b, framed.1)
 
 -- of bytes that have the length of a frame only the sum can be wrong
 pub fault_of-split :
@@ -79,10 +90,9 @@ fault_of-split bytes counted sent split =
 
 -- a frame is a length byte, what it counts, and a sum
 pub frame_bytes-split :
-    (block : BlockView) → IsBlock block
+    (block : BlockView) → length block.body ≤ 244
     → IsSplit (frame_bytes block) (counted_bytes block) (to_be_bytes w16 (checksum (counted_bytes block)))
-frame_bytes-split block in_block =
-    let most = in_block.at_most_244 in
+frame_bytes-split block most =
     let long = length-counted_bytes block in
     record { whole = rw long refl; at_least_10 = omega arith; at_most_254 = omega arith; two = refl }
 
@@ -101,13 +111,17 @@ fault_of-wrong_sum bytes counted sent split wrong =
     in
     fault_of-split bytes counted sent split ∙ fault
 
--- a frame has no fault
-pub fault_of-frame_bytes : (block : BlockView) → IsBlock block → fault_of (frame_bytes block) ≡ None
-fault_of-frame_bytes block in_block =
+-- a frame of at most 244 bytes of body has no fault
+pub fault_of-short_frame : (block : BlockView) → length block.body ≤ 244 → fault_of (frame_bytes block) ≡ None
+fault_of-short_frame block most =
     let sum = checksum (counted_bytes block) in
     let below : sum < 2 ^ 16 = omega arith in
-    fault_of-split _ _ _ (frame_bytes-split block in_block)
+    fault_of-split _ _ _ (frame_bytes-split block most)
     ∙ sum_fault-right (counted_bytes block) (to_be_bytes w16 sum) (from_be_bytes-to_be_bytes_2 sum below)
+
+-- a frame has no fault
+pub fault_of-frame_bytes : (block : BlockView) → IsBlock block → fault_of (frame_bytes block) ≡ None
+fault_of-frame_bytes block in_block = fault_of-short_frame block in_block.at_most_244
 
 -- bytes whose sum is right are the frame of the block that they hold
 pub frame_bytes-from_split :

@@ -5,39 +5,14 @@ use Rattle.std.specs.Int.{w16, w32, from_be_bytes, to_be_bytes}
 use Rattle.std.proofs.lemmas.Bool.{cases_lt}
 use Rattle.std.proofs.lemmas.Bool.Decides.{nat_tests}
 use Rattle.std.proofs.lemmas.Grind.{common_steps}
-use Rattle.std.proofs.lemmas.List.{get_or_past, length-take-le, take-append-drop, length-drop}
+use Rattle.std.proofs.lemmas.List.{get_or_past, length-take, length-take-le, take-append-drop, length-drop}
 use Rattle.std.proofs.lemmas.List.Elements.{All-drop, All-tail, All-take}
 use Rattle.std.proofs.lemmas.Nat.{be_bytes_2, be_bytes_4}
-use Rattle.block_codec.specs.declared.header.Header.{Header}
 use Rattle.block_codec.specs.Block.{BlockView, IsBlock}
-use Rattle.block_codec.specs.Fault.{fault_of}
-use Rattle.block_codec.specs.Frame.{IsSplit, checksum, counted_bytes, frame_bytes}
-use Rattle.block_codec.specs.Header.{IsHeader, flagged, header_bytes}
-use Rattle.block_codec.proofs.Frames.{frame_bytes-from_split}
-
--- the header that ten bytes hold
-abbrev pub header_in : List ℕ → Header
-header_in bytes = record {
-  from_equipment = nat_le 128 (get_or bytes 0 0);
-  device = (get_or bytes 0 0 % 128) * 256 + get_or bytes 1 0;
-  wait = nat_le 128 (get_or bytes 2 0);
-  stream = get_or bytes 2 0 % 128;
-  function = get_or bytes 3 0;
-  last = nat_le 128 (get_or bytes 4 0);
-  number = (get_or bytes 4 0 % 128) * 256 + get_or bytes 5 0;
-  system = from_be_bytes w32 (drop 6 bytes);
-}
-
--- the block whose header and body these bytes are
-abbrev pub block_in : List ℕ → BlockView
-block_in counted = record { header = header_in (take 10 counted); body = drop 10 counted }
-
--- the length byte n is from 10 to 254 and counts the rest but its last two bytes, whose number is the right sum
-pub record IsFaultless (n : ℕ) (rest : List ℕ) : Type 0 where
-  pub at_least_10 : 10 ≤ n
-  pub at_most_254 : n ≤ 254
-  pub long : length rest ≡ n + 2
-  pub right : from_be_bytes w16 (drop n rest) ≡ checksum (take n rest)
+use Rattle.block_codec.specs.Fault.{fault_of, sum_fault}
+use Rattle.block_codec.specs.Frame.{IsSplit, checksum, counted_block, counted_bytes, frame_bytes}
+use Rattle.block_codec.specs.Header.{IsHeader, flagged, header_bytes, header_in}
+use Rattle.block_codec.proofs.Frames.{fault_of-split, frame_bytes-from_split}
 
 -- an element of a list of bytes is a byte, and so is the 0 past its end
 pub byte-at : (bytes : List ℕ) → All (λ (byte : ℕ). byte < 256) bytes → (i : ℕ) → get_or bytes i 0 < 256
@@ -116,45 +91,57 @@ pub two_bytes :
 two_bytes sent long small = be_bytes_2 sent _ long (byte-at sent small) refl
 
 -- the block that 10 to 254 bytes hold
-pub block_in-block :
+pub counted_block-block :
     (counted : List ℕ) → 10 ≤ length counted → length counted ≤ 254 → All (λ (byte : ℕ). byte < 256) counted
-    → IsBlock (block_in counted)
-block_in-block counted least most small = record {
+    → IsBlock (counted_block counted)
+counted_block-block counted least most small = record {
   header = header_in-fits (take 10 counted) (All-take (λ (byte : ℕ). byte < 256) 10 counted small);
   at_most_244 = simp length-drop (omega arith);
   bytes = All-drop (λ (byte : ℕ). byte < 256) 10 counted small;
 }
 
 -- the bytes of that block
-pub counted_bytes-block_in :
+pub counted_bytes-counted_block :
     (counted : List ℕ) → 10 ≤ length counted → All (λ (byte : ℕ). byte < 256) counted
-    → counted_bytes (block_in counted) ≡ counted
-counted_bytes-block_in counted least small =
+    → counted_bytes (counted_block counted) ≡ counted
+counted_bytes-counted_block counted least small =
     let header = header_bytes-header_in (take 10 counted) (length-take-le 10 counted least)
     (All-take (λ (byte : ℕ). byte < 256) 10 counted small)
     in
     ap (λ (front : List ℕ). front ++ drop 10 counted) header ∙ take-append-drop 10 counted
 
--- where there is no fault, the length and the sum are right
-pub faultless : (n : ℕ) (rest : List ℕ) → fault_of (n ∷ rest) ≡ None → IsFaultless n rest
-faultless n rest none = record {
-  at_least_10 = grind (arith, nat_tests);
-  at_most_254 = grind (arith, nat_tests);
-  long = grind (arith, nat_tests);
-  right = grind (arith, nat_tests);
-}
+-- all characters that a length byte announces are there
+pub record IsWhole (frame : List ℕ) : Type 0 where
+  pub at_least_10 : 10 ≤ get_or frame 0 0
+  pub at_most_254 : get_or frame 0 0 ≤ 254
+  pub long : length frame ≡ get_or frame 0 0 + 3
 
--- bytes with no fault are split in two
-pub faultless-split : (n : ℕ) (rest : List ℕ) → IsFaultless n rest → IsSplit (n ∷ rest) (take n rest) (drop n rest)
-faultless-split n rest good =
-    let most : n ≤ length rest = omega arith in
-    let counted = length-take-le n rest most in
+-- then they are a length byte, what that counts, and two more
+pub whole-split :
+    (frame : List ℕ) → IsWhole frame
+    → IsSplit frame (take (get_or frame 0 0) (drop 1 frame)) (drop (get_or frame 0 0) (drop 1 frame))
+whole-split [] whole = absurd (omega (arith, whole.at_least_10))
+whole-split (n ∷ rest) whole =
+    let long : length (take n rest) ≡ n = simp length-take (omega arith) in
     record {
-      whole = rw (counted, take-append-drop n rest) refl;
+      whole = rw (long, take-append-drop) refl;
       at_least_10 = omega arith;
       at_most_254 = omega arith;
       two = simp length-drop (omega arith);
     }
+
+-- bytes with no fault are whole
+pub faultless-whole : (n : ℕ) (rest : List ℕ) → fault_of (n ∷ rest) ≡ None → IsWhole (n ∷ rest)
+faultless-whole n rest none = record {
+  at_least_10 = grind (arith, nat_tests);
+  at_most_254 = grind (arith, nat_tests);
+  long = grind (arith, nat_tests);
+}
+
+-- where a sum has no fault it is right
+pub sum_fault-none :
+    (counted sent : List ℕ) → sum_fault counted sent ≡ None → from_be_bytes w16 sent ≡ checksum counted
+sum_fault-none counted sent none = grind (arith, nat_tests)
 
 -- bytes with no fault are the frame of a block
 pub faultless-frame :
@@ -162,18 +149,18 @@ pub faultless-frame :
     → (block : BlockView) × IsBlock block × (bytes ≡ frame_bytes block)
 faultless-frame [] small none = cc
 faultless-frame (n ∷ rest) small none =
-    let good = faultless n rest none in
-    let split = faultless-split n rest good in
+    let split = whole-split (n ∷ rest) (faultless-whole n rest none) in
     let small_rest = All-tail (λ (byte : ℕ). byte < 256) n rest small in
     let small_counted = All-take (λ (byte : ℕ). byte < 256) n rest small_rest in
     let counted = take n rest in
     let sent = drop n rest in
     let small_sent = All-drop (λ (byte : ℕ). byte < 256) n rest small_rest in
+    let sums = sum_fault-none counted sent (sym (fault_of-split (n ∷ rest) counted sent split) ∙ none) in
     let right : to_be_bytes w16 (checksum counted) ≡ sent =
-    ap (to_be_bytes w16) (sym good.right) ∙ two_bytes sent split.two small_sent
+    ap (to_be_bytes w16) (sym sums) ∙ two_bytes sent split.two small_sent
     in
-    let holds = counted_bytes-block_in counted split.at_least_10 small_counted in (
-      block_in counted,
-      block_in-block counted split.at_least_10 split.at_most_254 small_counted,
-      frame_bytes-from_split (block_in counted) (n ∷ rest) counted sent split holds right,
+    let holds = counted_bytes-counted_block counted split.at_least_10 small_counted in (
+      counted_block counted,
+      counted_block-block counted split.at_least_10 split.at_most_254 small_counted,
+      frame_bytes-from_split (counted_block counted) (n ∷ rest) counted sent split holds right,
     )

@@ -1,12 +1,16 @@
 -- The bytes of a block on the line.
-use Rattle.std.specs.Prelude.{◌≡◌, ◌≤◌, ℕ, ◌+◌, ◌%◌, List, ◌∷◌, ◌++◌, length, sum}
+use Rattle.std.specs.Prelude.{◌≡◌, ◌≤◌, ℕ, ◌+◌, ◌%◌, List, ◌∷◌, ◌++◌, length, take, drop, sum}
 use Rattle.std.specs.Int.{w16, to_be_bytes}
 use Rattle.block_codec.specs.Block.{BlockView}
-use Rattle.block_codec.specs.Header.{header_bytes}
+use Rattle.block_codec.specs.Header.{header_bytes, header_in}
 
 -- what the length byte counts and the checksum sums: header and body (SEMI E4, block)
 abbrev pub counted_bytes : BlockView → List ℕ
 counted_bytes block = header_bytes block.header ++ block.body
+
+-- the block whose header and body such bytes are (SEMI E4, block)
+abbrev pub counted_block : List ℕ → BlockView
+counted_block counted = record { header = header_in (take 10 counted); body = drop 10 counted }
 
 -- the sum of the bytes modulo 65,536 (SEMI E4, checksum)
 abbrev pub checksum : List ℕ → ℕ

@@ -1,6 +1,6 @@
 -- The header of a block and the ten bytes that stand for it on the line.
-use Rattle.std.specs.Prelude.{ℕ, Bool, ◌+◌, ◌/◌, ◌%◌, ◌^◌, ◌<◌, List, ◌∷◌, if◌then◌else◌}
-use Rattle.std.specs.Int.{w32, to_be_bytes}
+use Rattle.std.specs.Prelude.{ℕ, Bool, ◌+◌, ◌*◌, ◌/◌, ◌%◌, ◌^◌, ◌<◌, nat_le, List, ◌∷◌, drop, slice_index, if◌then◌else◌}
+use Rattle.std.specs.Int.{w32, from_be_bytes, to_be_bytes}
 use Rattle.block_codec.specs.declared.header.Header.{Header}
 
 -- a byte whose highest bit is a flag and whose other seven are a number (SEMI E4, header)
@@ -14,6 +14,19 @@ header_bytes header =
     ∷ flagged header.wait header.stream ∷ header.function
     ∷ flagged header.last (header.number / 256) ∷ header.number % 256
     ∷ to_be_bytes w32 header.system
+
+-- the header whose parts stand at their places in ten bytes (SEMI E4, header)
+abbrev pub header_in : List ℕ → Header
+header_in bytes = record {
+  from_equipment = nat_le 128 (slice_index bytes 0);
+  device = slice_index bytes 0 % 128 * 256 + slice_index bytes 1;
+  wait = nat_le 128 (slice_index bytes 2);
+  stream = slice_index bytes 2 % 128;
+  function = slice_index bytes 3;
+  last = nat_le 128 (slice_index bytes 4);
+  number = slice_index bytes 4 % 128 * 256 + slice_index bytes 5;
+  system = from_be_bytes w32 (drop 6 bytes);
+}
 
 -- device and block number have 15 bits, the stream has 7 (SEMI E4, header)
 pub record Fits (header : Header) : Type 0 where

@@ -113,7 +113,8 @@ kept-contends Equipment s now is receives = is
 pub kept-gathered :
     (s : LineState) (byte now : ℕ) → IsLineState s → s.phase ≡ Gathering
     → IsLineState (gathered_in (s.gathered ++ byte ∷ []) s now).next
-kept-gathered s byte now is gathering = go (nat_lt (length (s.gathered ++ byte ∷ [])) (slice_index (s.gathered ++ byte ∷ []) 0 + 3)) (is_frame (s.gathered ++ byte ∷ [])) refl
+kept-gathered s byte now is gathering =
+    go (nat_lt (length (s.gathered ++ byte ∷ [])) (slice_index (s.gathered ++ byte ∷ []) 0 + 3)) (is_frame (s.gathered ++ byte ∷ [])) refl
   where
     go : (more framed : Bool) → nat_lt (length (s.gathered ++ byte ∷ [])) (slice_index (s.gathered ++ byte ∷ []) 0 + 3) ≡ more
         → IsLineState (decided (s.gathered ++ byte ∷ []) s now more framed).next

@@ -1,25 +1,11 @@
 -- The block that stands in the characters of a frame.
-use Rattle.std.specs.Prelude.{ℕ, Bool, ◌+◌, ◌*◌, ◌%◌, nat_le, List, take, drop, slice_index}
-use Rattle.std.specs.Int.{w16, w32, from_be_bytes}
+use Rattle.std.specs.Prelude.{ℕ, Bool, List, take, drop, slice_index}
+use Rattle.std.specs.Int.{w16, from_be_bytes}
 use Rattle.std.specs.Str.{bytes_eq}
 use Rattle.block_codec.specs.Block.{BlockView}
-use Rattle.block_codec.specs.Frame.{checksum, frame_bytes}
-use Rattle.block_codec.specs.declared.header.Header.{Header}
+use Rattle.block_codec.specs.Frame.{checksum, counted_block, frame_bytes}
 use Rattle.line_end.specs.declared.event.LineCause.{LineCause}
 use Rattle.line_end.specs.declared.event.LineCause.TheVariants.{Sum}
-
--- the header whose parts stand at their places in ten bytes (SEMI E4, header)
-abbrev pub header_in : List ℕ → Header
-header_in bytes = record {
-  from_equipment = nat_le 128 (slice_index bytes 0);
-  device = slice_index bytes 0 % 128 * 256 + slice_index bytes 1;
-  wait = nat_le 128 (slice_index bytes 2);
-  stream = slice_index bytes 2 % 128;
-  function = slice_index bytes 3;
-  last = nat_le 128 (slice_index bytes 4);
-  number = slice_index bytes 4 % 128 * 256 + slice_index bytes 5;
-  system = from_be_bytes w32 (drop 6 bytes);
-}
 
 -- what the length byte counts, and what stands behind it (SEMI E4, block)
 abbrev pub counted_in : List ℕ → List ℕ
@@ -30,7 +16,7 @@ sent_in frame = drop (slice_index frame 0) (drop 1 frame)
 
 -- the block whose header and body stand at their places, whatever the sum (SEMI E4, block)
 unfoldable pub block_in : List ℕ → BlockView
-block_in frame = record { header = header_in (take 10 (counted_in frame)); body = drop 10 (counted_in frame) }
+block_in frame = counted_block (counted_in frame)
 
 -- the characters are the frame of the block that stands in them (SEMI E4, block)
 unfoldable pub is_frame : List ℕ → Bool
