@@ -4,7 +4,8 @@ use Rattle.std.proofs.lemmas.List.{take_all}
 use Rattle.std.proofs.Math.Seq.{take-add}
 use Rattle.gl_base.specs.Sink.{appended}
 
-pub appended-append : (received : Option (List ℕ)) (first second : List ℕ) → appended (appended received first) second ≡ appended received (first ++ second)
+pub appended-append : (received : Option (List ℕ)) (first second : List ℕ)
+    → appended (appended received first) second ≡ appended received (first ++ second)
 appended-append None first second = refl
 appended-append (Some before) first second = ap Some (append_assoc before first second)
 

@@ -5,6 +5,7 @@ pub mod Input
 pub mod MemFiles
 pub mod MemSink
 pub mod MemSource
+pub mod Rows
 pub mod Sink
 pub mod Source
 pub mod formers

@@ -50,3 +50,25 @@ Copies before bytes after copy.Failed = (n : ℕ) × (n < length bytes) × (afte
 abbrev pub HasCopyCause : SinkHealth → SinkHealth → ℕ → SinkAnswer → Type 0
 HasCopyCause before now size copy.Done = IsWrittenOn before now size
 HasCopyCause before now size copy.Failed = (before.faults ≤ now.faults) × WriteFault before now size
+
+-- what a sink told before a call and after it
+pub record SinkTold : Type 0 where
+  pub before : Option (List ℕ)
+  pub after : Option (List ℕ)
+  pub health : SinkHealth
+  pub health_after : SinkHealth
+
+abbrev pub sink_told : Option (List ℕ) → Option (List ℕ) → SinkHealth → SinkHealth → SinkTold
+sink_told before after health health_after =
+    record { before = before; after = after; health = health; health_after = health_after }
+
+-- a text went out, and the count of faults did not fall
+pub record WroteText (out : SinkTold) (text : List ℕ) : Type 0 where
+  pub received : out.after ≡ appended out.before text
+  pub health : IsWrittenOn out.health out.health_after (length text)
+
+-- only so many bytes of a text from its front went out
+pub record WrotePart (out : SinkTold) (text : List ℕ) : Type 0 where
+  pub count : ℕ
+  pub received : out.after ≡ appended out.before (take count text)
+  pub later : out.health.faults ≤ out.health_after.faults

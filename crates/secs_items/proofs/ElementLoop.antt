@@ -1,18 +1,20 @@
 -- Reading elements of one size one after the other, as a loop does.
-use Rattle.std.proofs.Common.{◌≡◌, ℕ, suc, ◌-◌, ◌+◌, ◌*◌, ◌/◌, ◌%◌, ◌≤◌, ◌<◌, List, [], ◌∷◌, ◌++◌, length, take, drop, refl, sym, ap, ◌∙◌, append_assoc, length-drop, arith}
+use Rattle.std.proofs.Common.{◌≡◌, ℕ, suc, ◌-◌, ◌+◌, ◌*◌, ◌/◌, ◌%◌, ◌≤◌, ◌<◌, List, [], ◌∷◌, ◌++◌, take, drop, sym, ap, ◌∙◌, append_assoc, arith}
 use Rattle.std.proofs.lemmas.List.{append-nil}
 use Rattle.std.proofs.lemmas.Nat.{div-add-mod'}
 use Rattle.std.proofs.Math.Nat.{mul_comm}
 use Rattle.secs_items.specs.Elements.{elements_at}
 
 pub element_more : {T : Type 0} (read : List ℕ → T) (size count i : ℕ) (front : List T) (rest : List ℕ) (all : List T) → i < count
-    → front ++ elements_at read size (count - i) rest ≡ all → (front ++ read (take size rest) ∷ []) ++ elements_at read size (count - (i + 1)) (drop size rest) ≡ all
+    → front ++ elements_at read size (count - i) rest ≡ all
+    → (front ++ read (take size rest) ∷ []) ++ elements_at read size (count - (i + 1)) (drop size rest) ≡ all
 element_more read size count i front rest all lt so_far =
     let k : count - i ≡ suc (count - (i + 1)) = omega arith in
     append_assoc front (read (take size rest) ∷ []) (elements_at read size (count - (i + 1)) (drop size rest))
     ∙ sym (ap (λ (n : ℕ). front ++ elements_at read size n rest) k) ∙ so_far
 
-pub elements_done : {T : Type 0} (read : List ℕ → T) (size count i : ℕ) (front : List T) (rest : List ℕ) (all : List T) → count ≤ i → front ++ elements_at read size (count - i) rest ≡ all → front ≡ all
+pub elements_done : {T : Type 0} (read : List ℕ → T) (size count i : ℕ) (front : List T) (rest : List ℕ) (all : List T) → count ≤ i
+    → front ++ elements_at read size (count - i) rest ≡ all → front ≡ all
 elements_done read size count i front rest all le so_far =
     let k : count - i ≡ 0 = omega arith in
     sym (append-nil front) ∙ sym (ap (λ (n : ℕ). front ++ elements_at read size n rest) k) ∙ so_far

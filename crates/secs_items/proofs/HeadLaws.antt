@@ -1,5 +1,5 @@
 -- A head that is read is one, and one is read.
-use Rattle.std.proofs.Common.{◌≡◌, ℕ, zero, suc, ◌+◌, ◌*◌, ◌/◌, ◌%◌, ◌-◌, ◌<◌, ◌≤◌, Bool, true, false, not, cond, eqb, ltb, ◌&&◌, List, [], ◌∷◌, ◌++◌, length, take, drop, Option, Some, None, Result, Ok, Err, refl, sym, ap, subst, ◌∙◌, length-append, length-take, arith, inl, inr}
+use Rattle.std.proofs.Common.{◌≡◌, ℕ, zero, suc, ◌+◌, ◌*◌, ◌/◌, ◌%◌, ◌-◌, ◌<◌, ◌≤◌, Bool, true, false, not, cond, eqb, ltb, ◌&&◌, List, [], ◌∷◌, ◌++◌, length, take, drop, Option, Some, None, Result, Ok, Err, refl, sym, ap, subst, ◌∙◌, length-append, length-take, arith}
 use Rattle.std.specs.Prelude.{find}
 use Rattle.std.specs.Option.{ok_or}
 use Rattle.std.proofs.lemmas.Bool.{eqb-true, eqb-false, ne_eqb, ltb-false, le-ltb}
@@ -30,7 +30,8 @@ ok_or_ok (Some x) d y e = cc
 
 -- ---- the table of kinds
 
-found_step : (b : Bool) (p : Kind → Bool) (x k : Kind) (others : Option Kind) → p x ≡ b → (others ≡ Some k → p k ≡ true) → cond b (Some x) others ≡ Some k → p k ≡ true
+found_step : (b : Bool) (p : Kind → Bool) (x k : Kind) (others : Option Kind) → p x ≡ b → (others ≡ Some k → p k ≡ true)
+    → cond b (Some x) others ≡ Some k → p k ≡ true
 found_step true p x k others h ih e = ap p (sym (same_Some x k e)) ∙ h
 found_step false p x k others h ih e = ih e
 
@@ -103,9 +104,12 @@ record TakesFormat (depth format : ℕ) (x : Kind × ℕ) : Type 0 where
 format_takes : (at depth format : ℕ) (x : Kind × ℕ) → format_at at depth format ≡ Ok x → TakesFormat depth format x
 unfolding format_at
 format_takes at depth format x e =
-    let k = bind_ok (ok_or (kind_with (format / 4)) (fault.BadCode at)) (λ (kind : Kind). cond (eqb (format % 4) 0) (Err (fault.NoLengthBytes at)) (cond (is_list kind && eqb depth 0) (Err (fault.TooDeep at)) (Ok (kind, format % 4)))) x e in
+    let k =
+    bind_ok (ok_or (kind_with (format / 4)) (fault.BadCode at))
+    (λ (kind : Kind). cond (eqb (format % 4) 0) (Err (fault.NoLengthBytes at)) (cond (is_list kind && eqb depth 0) (Err (fault.TooDeep at)) (Ok (kind, format % 4)))) x e in
     let code : code_of k.0 ≡ format / 4 = code_found (format / 4) k.0 (ok_or_ok (kind_with (format / 4)) (fault.BadCode at) k.0 k.1) in
-    let g1 = guard_ok (eqb (format % 4) 0) (fault.NoLengthBytes at) (cond (is_list k.0 && eqb depth 0) (Err (fault.TooDeep at)) (Ok (k.0, format % 4))) x k.2 in
+    let g1 =
+    guard_ok (eqb (format % 4) 0) (fault.NoLengthBytes at) (cond (is_list k.0 && eqb depth 0) (Err (fault.TooDeep at)) (Ok (k.0, format % 4))) x k.2 in
     let g2 = guard_ok (is_list k.0 && eqb depth 0) (fault.TooDeep at) (Ok (k.0, format % 4)) x g1.1 in
     let made : Kind × ℕ = (k.0, format % 4) in
     let same : made ≡ x = cc (g2.1) in
@@ -133,15 +137,20 @@ record TakesSize (kind : Kind) (count : ℕ) (bytes : List ℕ) (h : Head) : Typ
   even : h.size % unit_of kind ≡ 0
   whole : is_list kind ≡ false → h.size ≤ length h.rest
 
-size_takes : (total at : ℕ) (kind : Kind) (count : ℕ) (bytes : List ℕ) (h : Head) → (count ≡ 0 → ⊥) → count < 4 → IsBytes bytes → size_at total at kind count bytes ≡ Ok h → TakesSize kind count bytes h
+size_takes : (total at : ℕ) (kind : Kind) (count : ℕ) (bytes : List ℕ) (h : Head) → (count ≡ 0 → ⊥) → count < 4 → IsBytes bytes
+    → size_at total at kind count bytes ≡ Ok h → TakesSize kind count bytes h
 unfolding size_at
 size_takes total at kind count bytes h some few fits e =
     let lengths = take count bytes in
     let rest = drop count bytes in
     let size = number_from lengths in
     let made : Head = record { kind = kind; size = size; rest = rest } in
-    let g1 = guard_ok (ltb (length bytes) count) (fault.Short total) (cond (not (eqb (size % unit_of kind) 0)) (Err (fault.Uneven at)) (cond (not (is_list kind) && ltb (length rest) size) (Err (fault.Short total)) (Ok made))) h e in
-    let g2 = guard_ok (not (eqb (size % unit_of kind) 0)) (fault.Uneven at) (cond (not (is_list kind) && ltb (length rest) size) (Err (fault.Short total)) (Ok made)) h g1.1 in
+    let g1 =
+    guard_ok (ltb (length bytes) count) (fault.Short total)
+    (cond (not (eqb (size % unit_of kind) 0)) (Err (fault.Uneven at)) (cond (not (is_list kind) && ltb (length rest) size) (Err (fault.Short total)) (Ok made))) h e in
+    let g2 =
+    guard_ok (not (eqb (size % unit_of kind) 0)) (fault.Uneven at)
+    (cond (not (is_list kind) && ltb (length rest) size) (Err (fault.Short total)) (Ok made)) h g1.1 in
     let g3 = guard_ok (not (is_list kind) && ltb (length rest) size) (fault.Short total) (Ok made) h g2.1 in
     let same : made ≡ h = cc (g3.1) in
     let enough : count ≤ length bytes = ltb-false (length bytes) count g1.0 in
@@ -168,7 +177,8 @@ pub record TakesHead (depth : ℕ) (bytes : List ℕ) (h : Head) : Type 0 where
   pub deep : is_list h.kind ≡ true → 0 < depth
   pub whole : is_list h.kind ≡ false → h.size ≤ length h.rest
 
-joined : (depth format : ℕ) (bytes : List ℕ) (h : Head) (kind : Kind) (count : ℕ) → TakesFormat depth format (kind, count) → TakesSize kind count bytes h → TakesHead depth (format ∷ bytes) h
+joined : (depth format : ℕ) (bytes : List ℕ) (h : Head) (kind : Kind) (count : ℕ) → TakesFormat depth format (kind, count)
+    → TakesSize kind count bytes h → TakesHead depth (format ∷ bytes) h
 joined depth format bytes h kind count f s =
     let t = subst (λ (k : Kind). TakesFormat depth format (k, count)) (sym s.same) f in
     record {
@@ -192,7 +202,8 @@ head_takes total depth (format ∷ bytes) h fits e =
 
 -- ---- and back
 
-format_again : (at depth : ℕ) (kind : Kind) (n : ℕ) → 0 < n → n < 4 → (is_list kind ≡ true → 0 < depth) → format_at at depth (4 * code_of kind + n) ≡ Ok (kind, n)
+format_again : (at depth : ℕ) (kind : Kind) (n : ℕ) → 0 < n → n < 4 → (is_list kind ≡ true → 0 < depth)
+    → format_at at depth (4 * code_of kind + n) ≡ Ok (kind, n)
 unfolding format_at
 format_again at depth kind n some few deep =
     let code : (4 * code_of kind + n) / 4 ≡ code_of kind = omega arith in
@@ -203,7 +214,9 @@ format_again at depth kind n some few deep =
     shallow true deep = ne_eqb depth 0 (λ (e : depth ≡ 0). omega (arith, deep refl))
     shallow false deep = refl
 
-size_again : (total at : ℕ) (kind : Kind) (n : ℕ) (lengths rest : List ℕ) → number_from lengths ≡ n → n % unit_of kind ≡ 0 → (is_list kind ≡ false → n ≤ length rest) → size_at total at kind (length lengths) (lengths ++ rest) ≡ Ok (record { kind = kind; size = n; rest = rest })
+size_again : (total at : ℕ) (kind : Kind) (n : ℕ) (lengths rest : List ℕ) → number_from lengths ≡ n → n % unit_of kind ≡ 0
+    → (is_list kind ≡ false → n ≤ length rest)
+    → size_at total at kind (length lengths) (lengths ++ rest) ≡ Ok (record { kind = kind; size = n; rest = rest })
 unfolding size_at
 size_again total at kind n lengths rest number even whole =
     let enough : ltb (length (lengths ++ rest)) (length lengths) ≡ false = le-ltb _ _ (omega (arith, length-append lengths rest)) in
@@ -213,7 +226,8 @@ size_again total at kind n lengths rest number even whole =
     fits true whole = refl
     fits false whole = le-ltb (length rest) n (whole refl)
 
-pub head_again : (total depth : ℕ) (kind : Kind) (n : ℕ) (front rest : List ℕ) → IsHead kind n front → (is_list kind ≡ true → 0 < depth) → n % unit_of kind ≡ 0 → (is_list kind ≡ false → n ≤ length rest)
+pub head_again : (total depth : ℕ) (kind : Kind) (n : ℕ) (front rest : List ℕ) → IsHead kind n front → (is_list kind ≡ true → 0 < depth)
+    → n % unit_of kind ≡ 0 → (is_list kind ≡ false → n ≤ length rest)
     → head_at total depth (front ++ rest) ≡ Ok (record { kind = kind; size = n; rest = rest })
 unfolding head_at
 head_again total depth kind n front rest is deep even whole =

@@ -1,5 +1,5 @@
 -- Items that are no lists, and their content: each from the other.
-use Rattle.std.proofs.Common.{◌≡◌, ℕ, ◌*◌, ◌/◌, ◌%◌, true, false, List, length, refl, sym, ap, subst, ◌∙◌, arith}
+use Rattle.std.proofs.Common.{◌≡◌, ℕ, ◌/◌, ◌%◌, false, List, length, refl, sym, ap, subst, ◌∙◌, arith}
 use Rattle.std.specs.Int.{w8, w16, w32, w64, from_be_bytes}
 use Rattle.secs_items.specs.declared.item.Item.{Item, out-Item}
 use Rattle.secs_items.specs.declared.item.Item.TheOpen.{Item-F}
@@ -14,7 +14,7 @@ use Rattle.secs_items.specs.Layers.{kind_of, length_of}
 use Rattle.secs_items.specs.Reading.{leaf_of}
 use Rattle.secs_items.specs.Spelling.{HasContent}
 use Rattle.secs_items.proofs.Layers.{out_B, out_Bool, out_A, out_J, out_I1, out_I2, out_I4, out_I8, out_U1, out_U2, out_U4, out_U8, out_F4, out_F8}
-use Rattle.secs_items.proofs.Numbers.{IsBytes, IsForm, content_long, each_byte, elements_back, form_8, form_16, form_32, form_64, raw_form, read_again, signed_form}
+use Rattle.secs_items.proofs.Numbers.{IsBytes, content_long, each_byte, elements_back, form_8, form_16, form_32, form_64, raw_form, read_again, signed_form}
 
 -- an item of the kind that has the content
 pub record IsLeaf (InTurn : List Item → List ℕ → Type 0) (kind : Kind) (content : List ℕ) (x : Item-F Item) : Type 0 where
@@ -22,7 +22,8 @@ pub record IsLeaf (InTurn : List Item → List ℕ → Type 0) (kind : Kind) (co
   pub long : length_of x ≡ length content
   pub holds : HasContent InTurn x content
 
-pub leaf_takes : (InTurn : List Item → List ℕ → Type 0) (kind : Kind) (content : List ℕ) → is_list kind ≡ false → IsBytes content → length content % unit_of kind ≡ 0 → IsLeaf InTurn kind content (out-Item (leaf_of kind content))
+pub leaf_takes : (InTurn : List Item → List ℕ → Type 0) (kind : Kind) (content : List ℕ) → is_list kind ≡ false → IsBytes content
+    → length content % unit_of kind ≡ 0 → IsLeaf InTurn kind content (out-Item (leaf_of kind content))
 leaf_takes InTurn kind.L content leaf fits even = absurd cc
 leaf_takes InTurn kind.B content leaf fits even =
     subst (IsLeaf InTurn kind.B content) (sym (out_B content)) (record { same = refl; long = omega arith; holds = record { fit = each_byte content fits; placed = refl } })
@@ -62,7 +63,8 @@ leaf_takes InTurn kind.F8 content leaf fits even =
     let e = elements_back (raw_form 8) (length content / 8) content (omega (arith, even)) fits in
     subst (IsLeaf InTurn kind.F8 content) (sym (out_F8 (elements_at (λ raw. raw) 8 (length content / 8) content))) (record { same = refl; long = omega (arith, e.2, even); holds = record { fit = e.1; placed = e.0 } })
 
-pub leaf_again : (InTurn : List Item → List ℕ → Type 0) (x : Item-F Item) (i : Item) (content : List ℕ) → roll-Item x ≡ i → is_list (kind_of x) ≡ false → HasContent InTurn x content → (leaf_of (kind_of x) content ≡ i) × (length content ≡ length_of x)
+pub leaf_again : (InTurn : List Item → List ℕ → Type 0) (x : Item-F Item) (i : Item) (content : List ℕ) → roll-Item x ≡ i
+    → is_list (kind_of x) ≡ false → HasContent InTurn x content → (leaf_of (kind_of x) content ≡ i) × (length content ≡ length_of x)
 leaf_again InTurn (Item-F.L items) i content rolls leaf holds = absurd cc
 leaf_again InTurn (Item-F.B bytes) i content rolls leaf holds =
     (ap item.B holds.placed ∙ sym (rolls-B bytes) ∙ rolls, omega (arith, ap length holds.placed))

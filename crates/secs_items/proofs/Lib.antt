@@ -7,6 +7,7 @@ mod ItemSteps
 mod Layers
 mod Leaves
 mod Numbers
+pub mod RangeLaws
 mod Shortest
 pub mod SpellLaws
 mod ViewSteps

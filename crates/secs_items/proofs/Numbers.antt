@@ -1,5 +1,5 @@
 -- Elements and their bytes, each from the other: one lemma over the width.
-use Rattle.std.proofs.Common.{◌≡◌, ℕ, zero, suc, ◌+◌, ◌*◌, ◌^◌, ◌<◌, ◌≤◌, min, ℤ, List, [], ◌∷◌, ◌++◌, length, take, drop, get_or, refl, sym, ap, ◌∙◌, length-append, length-take, length-drop, get_or-drop, get_or-take, arith, inl, inr}
+use Rattle.std.proofs.Common.{◌≡◌, ℕ, zero, suc, ◌+◌, ◌*◌, ◌^◌, ◌<◌, List, [], ◌∷◌, length, take, drop, get_or, refl, sym, ap, ◌∙◌, length-append, length-take, length-drop, get_or-drop, get_or-take, arith, inl, inr}
 use Rattle.std.specs.Prelude.{FitsSigned}
 use Rattle.std.specs.Int.{Width, w8, w16, w32, w64, cast_signed, cast_unsigned, from_be_bytes, to_be_bytes}
 use Rattle.std.specs.List.{flat_map, AllByRecursion}
@@ -81,7 +81,8 @@ form_64 = record {
 }
 
 -- a signed number is its unsigned one in two's complement
-pub signed_form : (w : Width) (size : ℕ) → IsForm (λ n. n < 2 ^ bits w) (to_be_bytes w) (from_be_bytes w) size → IsForm (FitsSigned w) (signed_bytes w) (signed_at w) size
+pub signed_form : (w : Width) (size : ℕ) → IsForm (λ n. n < 2 ^ bits w) (to_be_bytes w) (from_be_bytes w) size
+    → IsForm (FitsSigned w) (signed_bytes w) (signed_at w) size
 signed_form w size form = record {
   long = λ z fits. form.long (cast_unsigned w z) (Fits-of_z fits).fits;
   again = λ z fits. ap (cast_signed w) (form.again (cast_unsigned w z) (Fits-of_z fits).fits) ∙ to_z-of_z w z fits;
@@ -98,7 +99,8 @@ raw_form size = record {
 }
 
 -- bytes that are so many elements are those elements' bytes
-pub elements_back : {T : Type 0} {Fits : T → Type 0} {put : T → List ℕ} {read : List ℕ → T} {size : ℕ} (form : IsForm Fits put read size) (count : ℕ) (bytes : List ℕ) → length bytes ≡ size * count → IsBytes bytes
+pub elements_back : {T : Type 0} {Fits : T → Type 0} {put : T → List ℕ} {read : List ℕ → T} {size : ℕ} (form : IsForm Fits put read size) (count : ℕ) (bytes : List ℕ)
+    → length bytes ≡ size * count → IsBytes bytes
     → (bytes ≡ flat_map put (elements_at read size count bytes)) × AllByRecursion Fits (elements_at read size count bytes) × (length (elements_at read size count bytes) ≡ count)
 elements_back {size = size} form zero bytes len fits = (nil_from_length bytes (omega (arith, len)), tt, refl)
 elements_back {put = put} {read = read} {size = size} form (suc count) bytes len fits =
@@ -110,7 +112,8 @@ elements_back {put = put} {read = read} {size = size} form (suc count) bytes len
     (sym (take-append-drop size bytes) ∙ rw (front, ← rest.0) refl, (form.fits first whole (IsBytes-take size bytes fits), rest.1), ap suc rest.2)
 
 -- elements' bytes are read as those elements
-pub elements_again : {T : Type 0} {Fits : T → Type 0} {put : T → List ℕ} {read : List ℕ → T} {size : ℕ} (form : IsForm Fits put read size) (xs : List T) → AllByRecursion Fits xs
+pub elements_again : {T : Type 0} {Fits : T → Type 0} {put : T → List ℕ} {read : List ℕ → T} {size : ℕ} (form : IsForm Fits put read size) (xs : List T)
+    → AllByRecursion Fits xs
     → (elements_at read size (length xs) (flat_map put xs) ≡ xs) × (length (flat_map put xs) ≡ size * length xs)
 elements_again {size = size} form [] fits = (refl, omega arith)
 elements_again {put = put} {read = read} {size = size} form (x ∷ xs) fits =
@@ -119,9 +122,11 @@ elements_again {put = put} {read = read} {size = size} form (x ∷ xs) fits =
     (rw (take_at (put x) (flat_map put xs) size long, drop_at (put x) (flat_map put xs) size long, form.again x fits.0, rest.0) refl, omega (arith, length-append (put x) (flat_map put xs), long, rest.1))
 
 -- content that is elements' bytes is read as those elements
-pub read_again : {T : Type 0} {Fits : T → Type 0} {put : T → List ℕ} {read : List ℕ → T} {size : ℕ} (form : IsForm Fits put read size) (xs : List T) (content : List ℕ) (count : ℕ) → AllByRecursion Fits xs → content ≡ flat_map put xs → count ≡ length xs
+pub read_again : {T : Type 0} {Fits : T → Type 0} {put : T → List ℕ} {read : List ℕ → T} {size : ℕ} (form : IsForm Fits put read size) (xs : List T) (content : List ℕ) (count : ℕ)
+    → AllByRecursion Fits xs → content ≡ flat_map put xs → count ≡ length xs
     → elements_at read size count content ≡ xs
 read_again {read = read} {size = size} form xs content count fit placed same = rw (placed, same) (elements_again form xs fit).0
 
-pub content_long : {T : Type 0} {Fits : T → Type 0} {put : T → List ℕ} {read : List ℕ → T} {size : ℕ} (form : IsForm Fits put read size) (xs : List T) (content : List ℕ) → AllByRecursion Fits xs → content ≡ flat_map put xs → length content ≡ size * length xs
+pub content_long : {T : Type 0} {Fits : T → Type 0} {put : T → List ℕ} {read : List ℕ → T} {size : ℕ} (form : IsForm Fits put read size) (xs : List T) (content : List ℕ)
+    → AllByRecursion Fits xs → content ≡ flat_map put xs → length content ≡ size * length xs
 content_long form xs content fit placed = ap length placed ∙ (elements_again form xs fit).1

@@ -1,15 +1,16 @@
 -- Whole inputs: what an input is read as is what it spells.
 use Rattle.std.proofs.Common.{◌≡◌, ◌≢◌, ℕ, List, [], ◌∷◌, ◌++◌, ◌-◌, ◌⊎◌, inl, inr, length, Option, Some, None, Result, Ok, Err, refl, sym, ap, subst, ◌∙◌}
 use Rattle.std.proofs.lemmas.List.{append-nil}
+use Rattle.secs_items.specs.declared.encode_fault.EncodeFault.{EncodeFault}
 use Rattle.secs_items.specs.declared.item.Item.{Item}
 use Rattle.secs_items.specs.declared.item_fault.ItemFault.{ItemFault}
 use Rattle.secs_items.specs.declared.item_fault.ItemFault.TheVariants as fault
-use Rattle.std.specs.Prelude.{IfErr, IfOk}
+use Rattle.std.specs.Prelude.{IfErr, IfOk, OnOk}
 use Rattle.std.specs.List.{AllByRecursion}
 use Rattle.secs_items.specs.Elements.{IsByte}
-use Rattle.secs_items.specs.Encoding.{encode_fault}
+use Rattle.secs_items.specs.Encoding.{Puts, encode_fault, fault_within}
 use Rattle.secs_items.specs.Ranges.{InRange}
-use Rattle.secs_items.specs.Reading.{Gives, ReadsOnly, first_fault, item_at}
+use Rattle.secs_items.specs.Reading.{ReadsOnly, first_fault, item_at}
 use Rattle.secs_items.specs.Spelling.{Spells, SpellsWithin, shortest_spelling}
 use Rattle.secs_items.specs.Views.{ChecksOnly, Viewed}
 use Rattle.secs_items.proofs.Faults.{read_fault, read_none, read_trailing}
@@ -17,7 +18,8 @@ use Rattle.secs_items.proofs.ItemLaws.{item_again, item_takes}
 use Rattle.secs_items.proofs.Numbers.{IsBytes, bytes_fit}
 use Rattle.secs_items.proofs.Shortest.{shortest_spells}
 
-pub read_spells : (bytes : List ℕ) (item : Item) (rest : List ℕ) → IsBytes bytes → item_at (length bytes) 64 bytes ≡ Ok (item, rest) → rest ≡ [] → Spells item bytes
+pub read_spells : (bytes : List ℕ) (item : Item) (rest : List ℕ) → IsBytes bytes → item_at (length bytes) 64 bytes ≡ Ok (item, rest) → rest ≡ []
+    → Spells item bytes
 unfolding Spells
 read_spells bytes item rest fits e none =
     let t = item_takes (length bytes) 64 bytes (item, rest) fits e in
@@ -32,7 +34,8 @@ spells_front total item bytes more s = item_again total 64 item bytes more s
 pub spells_read : (total : ℕ) (item : Item) (bytes : List ℕ) → Spells item bytes → item_at total 64 bytes ≡ Ok (item, [])
 spells_read total item bytes s = subst (λ (bs : List ℕ). item_at total 64 bs ≡ Ok (item, [])) (append-nil bytes) (spells_front total item bytes [] s)
 
-same_read : (first second : Item) (more rest : List ℕ) → ◌≡◌ {A = Result (Item × List ℕ) ItemFault} (Ok (first, more)) (Ok (second, rest)) → (more ≡ rest) × (first ≡ second)
+same_read : (first second : Item) (more rest : List ℕ) → ◌≡◌ {A = Result (Item × List ℕ) ItemFault} (Ok (first, more)) (Ok (second, rest))
+    → (more ≡ rest) × (first ≡ second)
 same_read first second more rest e =
     let one : Item × List ℕ = (first, more) in
     let other : Item × List ℕ = (second, rest) in
@@ -54,6 +57,13 @@ pub shortest_is_spelled : (item : Item) → InRange item → encode_fault item �
 unfolding Spells encode_fault
 shortest_is_spelled item ranges none = shortest_spells 64 0 item ranges none
 
+-- what writing has shown of the item
+pub spells_so : (r : Result (Unit {0}) EncodeFault) (item : Item) (at : ℕ) (old new : List ℕ)
+    → Puts (shortest_spelling item) (fault_within 64 at item) old new r → OnOk r (InRange item) → OnOk r (Spells item (shortest_spelling item))
+unfolding Spells
+spells_so (Ok u) item at old new puts ranges = shortest_spells 64 at item ranges puts.1
+spells_so (Err e) item at old new puts ranges = tt
+
 -- ---- what decoding answers
 
 -- a fault that is not named is want of memory
@@ -69,11 +79,13 @@ memory fault.NoMemory h = refl
 none_some : (e : ItemFault) → ◌≡◌ {A = Option ItemFault} None (Some e) → ⊥
 none_some e h = cc
 
-pub answers_only : (bytes : List ℕ) (result : Result Item ItemFault) → IfOk result (λ read. Spells read bytes) → IfErr result (λ e. e ≢ fault.NoMemory → first_fault bytes ≡ Some e) → (item : Item) → Spells item bytes → ReadsOnly item result
+pub answers_only : (bytes : List ℕ) (result : Result Item ItemFault) → IfOk result (λ read. Spells read bytes)
+    → IfErr result (λ e. e ≢ fault.NoMemory → first_fault bytes ≡ Some e) → (item : Item) → Spells item bytes → ReadsOnly item result
 answers_only bytes (Ok read) found faulty item s = one_value read item bytes found s
 answers_only bytes (Err e) found faulty item s = memory e (λ named. none_some e (sym (spells_none item bytes s) ∙ faulty named))
 
-pub checks_only : (bytes : List ℕ) (result : Result Viewed ItemFault) → IfOk result (λ view. Spells view.item bytes) → IfErr result (λ e. first_fault bytes ≡ Some e) → (item : Item) → Spells item bytes → ChecksOnly item result
+pub checks_only : (bytes : List ℕ) (result : Result Viewed ItemFault) → IfOk result (λ view. Spells view.item bytes)
+    → IfErr result (λ e. first_fault bytes ≡ Some e) → (item : Item) → Spells item bytes → ChecksOnly item result
 checks_only bytes (Ok view) found faulty item s = one_value view.item item bytes found s
 checks_only bytes (Err e) found faulty item s = none_some e (sym (spells_none item bytes s) ∙ faulty)
 
@@ -83,14 +95,16 @@ nothing : (bytes : List ℕ) → (bytes ≡ []) ⊎ (bytes ≡ [] → ⊥)
 nothing [] = inl refl
 nothing (b ∷ bytes) = inr (λ (e : b ∷ bytes ≡ []). cc)
 
-ends_so : (bytes : List ℕ) (item : Item) (rest : List ℕ) → item_at (length bytes) 64 bytes ≡ Ok (item, rest) → IsBytes bytes → first_fault bytes ≡ None → (i : Item) × Spells i bytes
+ends_so : (bytes : List ℕ) (item : Item) (rest : List ℕ) → item_at (length bytes) 64 bytes ≡ Ok (item, rest) → IsBytes bytes
+    → first_fault bytes ≡ None → (i : Item) × Spells i bytes
 ends_so bytes item rest h fits none =
     elim (nothing rest) [
       | inl empty ↦ (item, read_spells bytes item rest fits h empty)
       | inr some ↦ absurd (none_some (fault.Trailing (length bytes - length rest)) (sym none ∙ read_trailing bytes item rest h some))
     ]
 
-read_so : (bytes : List ℕ) (r : Result (Item × List ℕ) ItemFault) → item_at (length bytes) 64 bytes ≡ r → IsBytes bytes → first_fault bytes ≡ None → (i : Item) × Spells i bytes
+read_so : (bytes : List ℕ) (r : Result (Item × List ℕ) ItemFault) → item_at (length bytes) 64 bytes ≡ r → IsBytes bytes → first_fault bytes ≡ None
+    → (i : Item) × Spells i bytes
 read_so bytes (Ok x) h fits none = ends_so bytes x.0 x.1 h fits none
 read_so bytes (Err e) h fits none = absurd (none_some e (sym none ∙ read_fault bytes e h))
 

@@ -1,5 +1,5 @@
 -- What a view shows, from the parts that it keeps.
-use Rattle.std.proofs.Common.{◌≡◌, ℕ, zero, suc, ◌*◌, ◌+◌, ◌-◌, ◌/◌, ◌<◌, ◌≤◌, Bool, true, false, List, [], ◌∷◌, length, take, drop, get_or, Option, Some, None, Result, Ok, Err, refl, sym, ap, subst, ◌∙◌, arith}
+use Rattle.std.proofs.Common.{◌≡◌, ℕ, zero, suc, ◌*◌, ◌/◌, true, false, List, [], ◌∷◌, length, drop, get_or, Some, None, Result, Ok, Err, refl, sym, ap, subst, ◌∙◌, arith}
 use Rattle.std.specs.Int.{w8, w16, w32, w64, from_be_bytes}
 use Rattle.std.proofs.lemmas.List.{take_all}
 use Rattle.secs_items.specs.declared.item.Item.{Item, out-Item}
@@ -12,7 +12,7 @@ use Rattle.secs_items.specs.Kinds.{is_list, unit_of}
 use Rattle.secs_items.specs.Layers.{kind_of, count_of, length_of, items_of}
 use Rattle.secs_items.specs.Reading.{◌>>=◌, after_each, after_item, item_at, items_at}
 use Rattle.secs_items.specs.Views.{IsWhole, item_in, items_read, number_of}
-use Rattle.secs_items.proofs.Faults.{Skipper, each_rest, item_rest, rest_of}
+use Rattle.secs_items.proofs.Faults.{each_rest, item_rest, rest_of}
 use Rattle.secs_items.proofs.HeadLaws.{bind_ok}
 use Rattle.secs_items.proofs.ItemLoop.{Reader}
 use Rattle.secs_items.proofs.Layers.{out_L, out_B, out_Bool, out_A, out_J, out_I1, out_I2, out_I4, out_I8, out_U1, out_U2, out_U4, out_U8, out_F4, out_F8}
@@ -42,7 +42,8 @@ pub from_rest : {A : Type 0} (r : Result (A × List ℕ) ItemFault) (rest : List
 from_rest (Ok x) rest e = let same : x.1 ≡ rest = cc in (x.0, ap (λ (bs : List ℕ). Ok (x.0, bs)) same)
 from_rest (Err f) rest e = absurd cc
 
-pub items_left : (total depth count : ℕ) (bytes rest : List ℕ) → after_each (after_item total depth) count bytes ≡ Ok rest → (items : List Item) × (items_at (item_at total depth) count bytes ≡ Ok (items, rest))
+pub items_left : (total depth count : ℕ) (bytes rest : List ℕ) → after_each (after_item total depth) count bytes ≡ Ok rest
+    → (items : List Item) × (items_at (item_at total depth) count bytes ≡ Ok (items, rest))
 items_left total depth count bytes rest e =
     from_rest (items_at (item_at total depth) count bytes) rest (sym (each_rest (item_at total depth) (after_item total depth) (item_rest total depth) count bytes) ∙ e)
 
@@ -65,7 +66,8 @@ elements_count read size (suc count) bytes = ap suc (elements_count read size co
 pub read_as : (r : Result (List Item × List ℕ) ItemFault) (items : List Item) (rest : List ℕ) → r ≡ Ok (items, rest) → items_read r ≡ items
 read_as r items rest e = ap items_read e
 
-pub count_in : (k : Kind) (count depth : ℕ) (content : List ℕ) → IsWhole k count depth content → count_of (out-Item (item_in k count depth content)) ≡ count
+pub count_in : (k : Kind) (count depth : ℕ) (content : List ℕ) → IsWhole k count depth content
+    → count_of (out-Item (item_in k count depth content)) ≡ count
 count_in kind.L count depth content whole =
     let e = items_left 0 depth count content [] (whole.items refl) in
     ap count_of (out_L (items_read (items_at (item_at 0 depth) count content))) ∙ ap length (read_as (items_at (item_at 0 depth) count content) e.0 [] e.1) ∙ items_count (item_at 0 depth) count content (e.0, []) e.1
@@ -73,16 +75,34 @@ count_in kind.B count depth content whole = ap count_of (out_B content) ∙ omeg
 count_in kind.Bool count depth content whole = ap count_of (out_Bool content) ∙ omega (arith, whole.elements refl)
 count_in kind.A count depth content whole = ap count_of (out_A content) ∙ omega (arith, whole.elements refl)
 count_in kind.J count depth content whole = ap count_of (out_J content) ∙ omega (arith, whole.elements refl)
-count_in kind.I1 count depth content whole = ap count_of (out_I1 (elements_at (signed_at w8) 1 (length content / 1) content)) ∙ elements_count (signed_at w8) 1 (length content / 1) content ∙ omega (arith, whole.elements refl)
-count_in kind.I2 count depth content whole = ap count_of (out_I2 (elements_at (signed_at w16) 2 (length content / 2) content)) ∙ elements_count (signed_at w16) 2 (length content / 2) content ∙ omega (arith, whole.elements refl)
-count_in kind.I4 count depth content whole = ap count_of (out_I4 (elements_at (signed_at w32) 4 (length content / 4) content)) ∙ elements_count (signed_at w32) 4 (length content / 4) content ∙ omega (arith, whole.elements refl)
-count_in kind.I8 count depth content whole = ap count_of (out_I8 (elements_at (signed_at w64) 8 (length content / 8) content)) ∙ elements_count (signed_at w64) 8 (length content / 8) content ∙ omega (arith, whole.elements refl)
+count_in kind.I1 count depth content whole =
+    ap count_of (out_I1 (elements_at (signed_at w8) 1 (length content / 1) content)) ∙ elements_count (signed_at w8) 1 (length content / 1) content
+    ∙ omega (arith, whole.elements refl)
+count_in kind.I2 count depth content whole =
+    ap count_of (out_I2 (elements_at (signed_at w16) 2 (length content / 2) content)) ∙ elements_count (signed_at w16) 2 (length content / 2) content
+    ∙ omega (arith, whole.elements refl)
+count_in kind.I4 count depth content whole =
+    ap count_of (out_I4 (elements_at (signed_at w32) 4 (length content / 4) content)) ∙ elements_count (signed_at w32) 4 (length content / 4) content
+    ∙ omega (arith, whole.elements refl)
+count_in kind.I8 count depth content whole =
+    ap count_of (out_I8 (elements_at (signed_at w64) 8 (length content / 8) content)) ∙ elements_count (signed_at w64) 8 (length content / 8) content
+    ∙ omega (arith, whole.elements refl)
 count_in kind.U1 count depth content whole = ap count_of (out_U1 content) ∙ omega (arith, whole.elements refl)
-count_in kind.U2 count depth content whole = ap count_of (out_U2 (elements_at (from_be_bytes w16) 2 (length content / 2) content)) ∙ elements_count (from_be_bytes w16) 2 (length content / 2) content ∙ omega (arith, whole.elements refl)
-count_in kind.U4 count depth content whole = ap count_of (out_U4 (elements_at (from_be_bytes w32) 4 (length content / 4) content)) ∙ elements_count (from_be_bytes w32) 4 (length content / 4) content ∙ omega (arith, whole.elements refl)
-count_in kind.U8 count depth content whole = ap count_of (out_U8 (elements_at (from_be_bytes w64) 8 (length content / 8) content)) ∙ elements_count (from_be_bytes w64) 8 (length content / 8) content ∙ omega (arith, whole.elements refl)
-count_in kind.F4 count depth content whole = ap count_of (out_F4 (elements_at (λ raw. raw) 4 (length content / 4) content)) ∙ elements_count (λ raw. raw) 4 (length content / 4) content ∙ omega (arith, whole.elements refl)
-count_in kind.F8 count depth content whole = ap count_of (out_F8 (elements_at (λ raw. raw) 8 (length content / 8) content)) ∙ elements_count (λ raw. raw) 8 (length content / 8) content ∙ omega (arith, whole.elements refl)
+count_in kind.U2 count depth content whole =
+    ap count_of (out_U2 (elements_at (from_be_bytes w16) 2 (length content / 2) content))
+    ∙ elements_count (from_be_bytes w16) 2 (length content / 2) content ∙ omega (arith, whole.elements refl)
+count_in kind.U4 count depth content whole =
+    ap count_of (out_U4 (elements_at (from_be_bytes w32) 4 (length content / 4) content))
+    ∙ elements_count (from_be_bytes w32) 4 (length content / 4) content ∙ omega (arith, whole.elements refl)
+count_in kind.U8 count depth content whole =
+    ap count_of (out_U8 (elements_at (from_be_bytes w64) 8 (length content / 8) content))
+    ∙ elements_count (from_be_bytes w64) 8 (length content / 8) content ∙ omega (arith, whole.elements refl)
+count_in kind.F4 count depth content whole =
+    ap count_of (out_F4 (elements_at (λ raw. raw) 4 (length content / 4) content)) ∙ elements_count (λ raw. raw) 4 (length content / 4) content
+    ∙ omega (arith, whole.elements refl)
+count_in kind.F8 count depth content whole =
+    ap count_of (out_F8 (elements_at (λ raw. raw) 8 (length content / 8) content)) ∙ elements_count (λ raw. raw) 8 (length content / 8) content
+    ∙ omega (arith, whole.elements refl)
 
 -- ---- the number
 
@@ -113,7 +133,8 @@ no_number (Item-F.F4 xs) other = refl
 no_number (Item-F.F8 xs) other = refl
 
 -- neither has one of another kind
-pub other_kind : (k : Kind) (x : Item-F Item) → kind_of x ≡ k → (k ≡ kind.U1 → ⊥) → (k ≡ kind.U2 → ⊥) → (k ≡ kind.U4 → ⊥) → (k ≡ kind.U8 → ⊥) → number_of x ≡ None
+pub other_kind : (k : Kind) (x : Item-F Item) → kind_of x ≡ k → (k ≡ kind.U1 → ⊥) → (k ≡ kind.U2 → ⊥) → (k ≡ kind.U4 → ⊥) → (k ≡ kind.U8 → ⊥)
+    → number_of x ≡ None
 other_kind k (Item-F.L xs) e u1 u2 u4 u8 = refl
 other_kind k (Item-F.B xs) e u1 u2 u4 u8 = refl
 other_kind k (Item-F.Bool xs) e u1 u2 u4 u8 = refl
@@ -130,46 +151,56 @@ other_kind k (Item-F.U2 xs) e u1 u2 u4 u8 = absurd (u2 (sym e))
 other_kind k (Item-F.U4 xs) e u1 u2 u4 u8 = absurd (u4 (sym e))
 other_kind k (Item-F.U8 xs) e u1 u2 u4 u8 = absurd (u8 (sym e))
 
-pub number_U1 : (depth : ℕ) (content : List ℕ) (n : ℕ) → length content ≡ 1 → n ≡ get_or content 0 0 → number_of (out-Item (item_in kind.U1 1 depth content)) ≡ Some n
+pub number_U1 : (depth : ℕ) (content : List ℕ) (n : ℕ) → length content ≡ 1 → n ≡ get_or content 0 0
+    → number_of (out-Item (item_in kind.U1 1 depth content)) ≡ Some n
 number_U1 depth [] n len e = absurd (omega (arith, len))
 number_U1 depth (a ∷ []) n len e = ap number_of (out_U1 (a ∷ [])) ∙ ap Some (sym e)
 number_U1 depth (a ∷ b ∷ content) n len e = absurd (omega (arith, len))
 
 -- the one element of so many bytes
-one_element : (read : List ℕ → ℕ) (size : ℕ) (count : ℕ) (content : List ℕ) → length content ≡ size → count ≡ 1 → elements_at read size count content ≡ read content ∷ []
+one_element : (read : List ℕ → ℕ) (size : ℕ) (count : ℕ) (content : List ℕ) → length content ≡ size → count ≡ 1
+    → elements_at read size count content ≡ read content ∷ []
 one_element read size count content len one = rw one (ap (λ (bs : List ℕ). read bs ∷ []) (take_all size content (omega (arith, len))))
 
-pub number_U2 : (depth : ℕ) (content : List ℕ) (n : ℕ) → length content ≡ 2 → n ≡ from_be_bytes w16 content → number_of (out-Item (item_in kind.U2 1 depth content)) ≡ Some n
+pub number_U2 : (depth : ℕ) (content : List ℕ) (n : ℕ) → length content ≡ 2 → n ≡ from_be_bytes w16 content
+    → number_of (out-Item (item_in kind.U2 1 depth content)) ≡ Some n
 number_U2 depth content n len e =
     ap number_of (out_U2 (elements_at (from_be_bytes w16) 2 (length content / 2) content)) ∙ ap (λ (ns : List ℕ). number_of {A = Item} (Item-F.U2 ns)) (one_element (from_be_bytes w16) 2 (length content / 2) content len (omega (arith, len))) ∙ ap Some (sym e)
 
-pub number_U4 : (depth : ℕ) (content : List ℕ) (n : ℕ) → length content ≡ 4 → n ≡ from_be_bytes w32 content → number_of (out-Item (item_in kind.U4 1 depth content)) ≡ Some n
+pub number_U4 : (depth : ℕ) (content : List ℕ) (n : ℕ) → length content ≡ 4 → n ≡ from_be_bytes w32 content
+    → number_of (out-Item (item_in kind.U4 1 depth content)) ≡ Some n
 number_U4 depth content n len e =
     ap number_of (out_U4 (elements_at (from_be_bytes w32) 4 (length content / 4) content)) ∙ ap (λ (ns : List ℕ). number_of {A = Item} (Item-F.U4 ns)) (one_element (from_be_bytes w32) 4 (length content / 4) content len (omega (arith, len))) ∙ ap Some (sym e)
 
-pub number_U8 : (depth : ℕ) (content : List ℕ) (n : ℕ) → length content ≡ 8 → n ≡ from_be_bytes w64 content → number_of (out-Item (item_in kind.U8 1 depth content)) ≡ Some n
+pub number_U8 : (depth : ℕ) (content : List ℕ) (n : ℕ) → length content ≡ 8 → n ≡ from_be_bytes w64 content
+    → number_of (out-Item (item_in kind.U8 1 depth content)) ≡ Some n
 number_U8 depth content n len e =
     ap number_of (out_U8 (elements_at (from_be_bytes w64) 8 (length content / 8) content)) ∙ ap (λ (ns : List ℕ). number_of {A = Item} (Item-F.U8 ns)) (one_element (from_be_bytes w64) 8 (length content / 8) content len (omega (arith, len))) ∙ ap Some (sym e)
 
-pub as_U1 : (k : Kind) (count depth : ℕ) (content : List ℕ) (n : ℕ) → k ≡ kind.U1 → count ≡ 1 → n ≡ get_or content 0 0 → IsWhole k count depth content → number_of (out-Item (item_in k count depth content)) ≡ Some n
+pub as_U1 : (k : Kind) (count depth : ℕ) (content : List ℕ) (n : ℕ) → k ≡ kind.U1 → count ≡ 1 → n ≡ get_or content 0 0 → IsWhole k count depth content
+    → number_of (out-Item (item_in k count depth content)) ≡ Some n
 as_U1 k count depth content n e one is =
     subst (λ (j : Kind). IsWhole j count depth content → number_of (out-Item (item_in j count depth content)) ≡ Some n) (sym e) (λ (w : IsWhole kind.U1 count depth content). number_U1 depth content n (omega (arith, w.elements refl, one)) is)
 
-pub as_U2 : (k : Kind) (count depth : ℕ) (content : List ℕ) (n : ℕ) → k ≡ kind.U2 → count ≡ 1 → n ≡ from_be_bytes w16 content → IsWhole k count depth content → number_of (out-Item (item_in k count depth content)) ≡ Some n
+pub as_U2 : (k : Kind) (count depth : ℕ) (content : List ℕ) (n : ℕ) → k ≡ kind.U2 → count ≡ 1 → n ≡ from_be_bytes w16 content
+    → IsWhole k count depth content → number_of (out-Item (item_in k count depth content)) ≡ Some n
 as_U2 k count depth content n e one is =
     subst (λ (j : Kind). IsWhole j count depth content → number_of (out-Item (item_in j count depth content)) ≡ Some n) (sym e) (λ (w : IsWhole kind.U2 count depth content). number_U2 depth content n (omega (arith, w.elements refl, one)) is)
 
-pub as_U4 : (k : Kind) (count depth : ℕ) (content : List ℕ) (n : ℕ) → k ≡ kind.U4 → count ≡ 1 → n ≡ from_be_bytes w32 content → IsWhole k count depth content → number_of (out-Item (item_in k count depth content)) ≡ Some n
+pub as_U4 : (k : Kind) (count depth : ℕ) (content : List ℕ) (n : ℕ) → k ≡ kind.U4 → count ≡ 1 → n ≡ from_be_bytes w32 content
+    → IsWhole k count depth content → number_of (out-Item (item_in k count depth content)) ≡ Some n
 as_U4 k count depth content n e one is =
     subst (λ (j : Kind). IsWhole j count depth content → number_of (out-Item (item_in j count depth content)) ≡ Some n) (sym e) (λ (w : IsWhole kind.U4 count depth content). number_U4 depth content n (omega (arith, w.elements refl, one)) is)
 
-pub as_U8 : (k : Kind) (count depth : ℕ) (content : List ℕ) (n : ℕ) → k ≡ kind.U8 → count ≡ 1 → n ≡ from_be_bytes w64 content → IsWhole k count depth content → number_of (out-Item (item_in k count depth content)) ≡ Some n
+pub as_U8 : (k : Kind) (count depth : ℕ) (content : List ℕ) (n : ℕ) → k ≡ kind.U8 → count ≡ 1 → n ≡ from_be_bytes w64 content
+    → IsWhole k count depth content → number_of (out-Item (item_in k count depth content)) ≡ Some n
 as_U8 k count depth content n e one is =
     subst (λ (j : Kind). IsWhole j count depth content → number_of (out-Item (item_in j count depth content)) ≡ Some n) (sym e) (λ (w : IsWhole kind.U8 count depth content). number_U8 depth content n (omega (arith, w.elements refl, one)) is)
 
 -- ---- lengths and items
 
-pub length_in : (k : Kind) (count depth : ℕ) (content : List ℕ) → IsWhole k count depth content → length_of (out-Item (item_in k count depth content)) ≡ unit_of k * count
+pub length_in : (k : Kind) (count depth : ℕ) (content : List ℕ) → IsWhole k count depth content
+    → length_of (out-Item (item_in k count depth content)) ≡ unit_of k * count
 length_in k count depth content whole =
     let x = out-Item (item_in k count depth content) in
     ap (λ (j : Kind). unit_of j * count_of x) (kind_in k count depth content) ∙ ap (λ (n : ℕ). unit_of k * n) (count_in k count depth content whole)
@@ -196,7 +227,8 @@ pub no_items_in : (k : Kind) (count depth : ℕ) (content : List ℕ) → is_lis
 no_items_in k count depth content leaf = no_items (out-Item (item_in k count depth content)) (ap is_list (kind_in k count depth content) ∙ leaf)
 
 -- the items of a list are those that its content has
-pub items_in : (k : Kind) (count depth : ℕ) (content : List ℕ) → is_list k ≡ true → items_of (out-Item (item_in k count depth content)) ≡ items_read (items_at (item_at 0 depth) count content)
+pub items_in : (k : Kind) (count depth : ℕ) (content : List ℕ) → is_list k ≡ true
+    → items_of (out-Item (item_in k count depth content)) ≡ items_read (items_at (item_at 0 depth) count content)
 items_in k count depth content listed = rw listed (ap items_of (out_L (items_read (items_at (item_at 0 depth) count content))))
 
 list_items : (x : Item-F Item) → is_list (kind_of x) ≡ true → length (items_of x) ≡ count_of x
@@ -217,6 +249,7 @@ list_items (Item-F.F4 xs) listed = absurd cc
 list_items (Item-F.F8 xs) listed = absurd cc
 
 -- a list has as many items as its view counts
-pub list_long : (k : Kind) (count depth : ℕ) (content : List ℕ) → is_list k ≡ true → IsWhole k count depth content → length (items_of (out-Item (item_in k count depth content))) ≡ count
+pub list_long : (k : Kind) (count depth : ℕ) (content : List ℕ) → is_list k ≡ true → IsWhole k count depth content
+    → length (items_of (out-Item (item_in k count depth content))) ≡ count
 list_long k count depth content listed whole =
     list_items (out-Item (item_in k count depth content)) (ap is_list (kind_in k count depth content) ∙ listed) ∙ count_in k count depth content whole

@@ -1,10 +1,10 @@
 -- Which items have a spelling, and where the first stands that has none.
 use Rattle.std.specs.Prelude.{◌≡◌, ◌≢◌, ℕ, zero, suc, ◌+◌, List, [], ◌∷◌, ◌++◌, length, nat_lt, if◌then◌else◌, Option, Some, None, Result, Ok, Err}
 use Rattle.std.specs.Option.{option_or}
+use Rattle.gl_base.specs.Rows.{Grows}
 use Rattle.secs_items.specs.declared.encode_fault.EncodeFault.{EncodeFault}
 use Rattle.secs_items.specs.declared.encode_fault.EncodeFault.TheVariants as fault
 use Rattle.secs_items.specs.declared.item.Item.{Item, out-Item}
-use Rattle.secs_items.specs.declared.item.Item.TheOpen.{Item-F}
 use Rattle.secs_items.specs.Kinds.{is_list}
 use Rattle.secs_items.specs.Layers.{kind_of, length_of, items_of}
 use Rattle.secs_items.specs.Spelling.{shortest_head, shortest_spelling}
@@ -28,13 +28,9 @@ fault_within (suc depth) at item =
     let x = out-Item item in
     option_or (long_fault at (length_of x)) (first_of (fault_within depth) (at + length (shortest_head (kind_of x) (length_of x))) (items_of x))
 
--- the first fault of an item, if it has no spelling; lists nest at most 64 deep (this profile)
+-- the first fault of an item, if it has no spelling; no list stands in more than 63 others (this profile)
 unfoldable pub encode_fault : Item → Option EncodeFault
 encode_fault = fault_within 64 0
-
--- the row has grown, if at all
-abbrev pub Grows : List ℕ → List ℕ → Type 0
-Grows old new = (more : List ℕ) × (new ≡ old ++ more)
 
 -- What a step of writing has done: all was put at the end, or the row has grown and, unless memory ran out, the fault is the
 -- first one.

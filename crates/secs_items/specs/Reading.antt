@@ -1,5 +1,5 @@
 -- Reading from left to right: the value and the bytes after it, or the first fault that is met.
-use Rattle.std.specs.Prelude.{◌≡◌, ◌≢◌, ℕ, zero, suc, ◌+◌, ◌-◌, ◌*◌, ◌/◌, ◌%◌, Bool, not, ◌&&◌, ◌==◌, nat_lt, if◌then◌else◌, List, [], ◌∷◌, length, take, drop, fold, Option, Some, None, Result, Ok, Err}
+use Rattle.std.specs.Prelude.{◌≡◌, ◌≢◌, ℕ, zero, suc, ◌+◌, ◌-◌, ◌*◌, ◌/◌, ◌%◌, not, ◌&&◌, ◌==◌, nat_lt, if◌then◌else◌, List, [], ◌∷◌, length, take, drop, fold, Option, Some, None, Result, Ok, Err}
 use Rattle.std.specs.Int.{w8, w16, w32, w64, from_be_bytes}
 use Rattle.std.specs.Option.{ok_or}
 use Rattle.secs_items.specs.declared.item.Item.{Item}
@@ -76,7 +76,7 @@ fault_after total (Err e) = Some e
 fault_after total (Ok []) = None
 fault_after total (Ok (b ∷ rest)) = Some (fault.Trailing (total - suc (length rest)))
 
--- The first fault of bytes that are to be one item, if they have one. Lists nest at most 64 deep (this profile).
+-- The first fault of bytes that are to be one item, if they have one. No list stands in more than 63 others (this profile).
 unfoldable pub first_fault : List ℕ → Option ItemFault
 first_fault bytes = fault_after (length bytes) (after_item (length bytes) 64 bytes)
 

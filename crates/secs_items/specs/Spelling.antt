@@ -59,7 +59,7 @@ abbrev pub SpellsWithin : ℕ → Item → List ℕ → Type 0
 SpellsWithin zero item = IsSpelled (λ _ _. ⊥) (out-Item item)
 SpellsWithin (suc depth) item = IsSpelled (SpellsEach (SpellsWithin depth)) (out-Item item)
 
--- The bytes spell the item. Lists nest at most 64 deep (this profile).
+-- The bytes spell the item, in which no list stands in more than 63 others (this profile).
 unfoldable pub Spells : Item → List ℕ → Type 0
 Spells = SpellsWithin 64
 
@@ -77,6 +77,6 @@ shortest_head kind n = (4 * code_of kind + length (shortest_lengths n)) ∷ shor
 abbrev pub shortest_layer : Item-F (List ℕ) → List ℕ
 shortest_layer x = shortest_head (kind_of x) (length_of x) ++ content_of x
 
--- the spelling with the fewest length bytes everywhere
+-- the spelling in which every length has the fewest bytes
 abbrev pub shortest_spelling : Item → List ℕ
 shortest_spelling = fold-Item (List ℕ) shortest_layer

@@ -1,6 +1,5 @@
 -- What a view of checked bytes shows.
-use Rattle.std.specs.Prelude.{◌≡◌, ℕ, ◌*◌, Bool, true, false, if◌then◌else◌, List, [], ◌∷◌, ◌++◌, length, take, Option, Some, None, Result, Ok, Err}
-use Rattle.std.specs.Option.{option_map}
+use Rattle.std.specs.Prelude.{◌≡◌, ℕ, ◌*◌, true, false, if◌then◌else◌, List, [], ◌∷◌, ◌++◌, length, take, Option, Some, None, Result, Ok, Err}
 use Rattle.secs_items.specs.declared.item.Item.{Item, out-Item}
 use Rattle.secs_items.specs.declared.item.Item.TheOpen.{Item-F}
 use Rattle.secs_items.specs.declared.item.Item.TheVariants as item

@@ -1,9 +1,10 @@
 //! Elements of several bytes, high byte first.
 
-ghost use Rattle.std.specs.Prelude.{◌≡◌, ℕ, ◌++◌, ◌<◌, List, length, OnErr, OnOk};
+ghost use Rattle.std.specs.Prelude.{◌≡◌, ℕ, ◌++◌, ◌<◌, ◌^◌, List, length, FitsSigned, OnErr, OnOk};
 ghost use Rattle.std.proofs.Common.{lit<};
 ghost use Rattle.std.specs.Int.{w8, w16, w32, w64, from_be_bytes, to_be_bytes};
-ghost use Rattle.secs_items.specs.Elements.{signed_at, signed_bytes};
+ghost use Rattle.std.specs.List.{AllByRecursion};
+ghost use Rattle.secs_items.specs.Elements.{IsByte, IsRaw, signed_at, signed_bytes};
 
 use gl_base::{NoMemory, Row};
 
@@ -18,6 +19,9 @@ pub(crate) trait Element: Copy {
     /// The element that the bytes are.
     ghost element_of: { List ℕ → Self };
 
+    /// That the element is a value of its kind: a number within its range, or an array of bytes, each below 256.
+    ghost fits: { Self → Type 0 };
+
     const SIZE: usize;
 
     /// The element that `SIZE` bytes are.
@@ -28,7 +32,8 @@ pub(crate) trait Element: Copy {
     /// Puts the bytes of the element at the end.
     fn put(self, into: &mut Row<u8>) -> Result<(), NoMemory>
         ensures ok { OnOk result (into.new ≡ into.old ++ bytes_of self) }
-        ensures err { OnErr result (into.new ≡ into.old) };
+        ensures err { OnErr result (into.new ≡ into.old) }
+        ensures fit { fits self };
 
     ghost some: { 0 < SIZE };
 }
@@ -41,6 +46,8 @@ impl Element for i8 {
     ghost bytes_of = { signed_bytes w8 };
 
     ghost element_of = { signed_at w8 };
+
+    ghost fits = { FitsSigned w8 };
 
     const SIZE: usize = 1;
 
@@ -62,6 +69,8 @@ impl Element for i16 {
 
     ghost element_of = { signed_at w16 };
 
+    ghost fits = { FitsSigned w16 };
+
     const SIZE: usize = 2;
 
     fn read(bytes: &[u8]) -> i16 {
@@ -82,6 +91,8 @@ impl Element for i32 {
 
     ghost element_of = { signed_at w32 };
 
+    ghost fits = { FitsSigned w32 };
+
     const SIZE: usize = 4;
 
     fn read(bytes: &[u8]) -> i32 {
@@ -101,6 +112,8 @@ impl Element for i64 {
     ghost bytes_of = { signed_bytes w64 };
 
     ghost element_of = { signed_at w64 };
+
+    ghost fits = { FitsSigned w64 };
 
     const SIZE: usize = 8;
 
@@ -124,6 +137,8 @@ impl Element for u16 {
 
     ghost element_of = { from_be_bytes w16 };
 
+    ghost fits = { λ n. n < 2 ^ 16 };
+
     const SIZE: usize = 2;
 
     fn read(bytes: &[u8]) -> u16 {
@@ -144,6 +159,8 @@ impl Element for u32 {
 
     ghost element_of = { from_be_bytes w32 };
 
+    ghost fits = { λ n. n < 2 ^ 32 };
+
     const SIZE: usize = 4;
 
     fn read(bytes: &[u8]) -> u32 {
@@ -163,6 +180,8 @@ impl Element for u64 {
     ghost bytes_of = { to_be_bytes w64 };
 
     ghost element_of = { from_be_bytes w64 };
+
+    ghost fits = { λ n. n < 2 ^ 64 };
 
     const SIZE: usize = 8;
 
@@ -186,6 +205,8 @@ impl Element for [u8; 4] {
 
     ghost element_of = { λ bytes. bytes };
 
+    ghost fits = { IsRaw 4 };
+
     const SIZE: usize = 4;
 
     fn read(bytes: &[u8]) -> [u8; 4] {
@@ -193,7 +214,7 @@ impl Element for [u8; 4] {
     }
 
     fn put(self, into: &mut Row<u8>) -> Result<(), NoMemory> {
-        into.extend(&self)
+        put_array(&self, into)
     }
 }
 
@@ -206,6 +227,8 @@ impl Element for [u8; 8] {
 
     ghost element_of = { λ bytes. bytes };
 
+    ghost fits = { IsRaw 8 };
+
     const SIZE: usize = 8;
 
     fn read(bytes: &[u8]) -> [u8; 8] {
@@ -215,6 +238,24 @@ impl Element for [u8; 8] {
     }
 
     fn put(self, into: &mut Row<u8>) -> Result<(), NoMemory> {
-        into.extend(&self)
+        put_array(&self, into)
     }
+}
+
+/// Puts bytes as they are, and tells that each is below 256.
+pub(crate) fn put_slice(bytes: &[u8], into: &mut Row<u8>) -> Result<(), NoMemory>
+    ensures ok { OnOk result (into.new ≡ into.old ++ bytes.now) }
+    ensures err { OnErr result (into.new ≡ into.old) }
+    ensures fit { AllByRecursion IsByte bytes.now }
+{
+    into.extend(bytes)
+}
+
+/// Puts so many bytes as they are, and tells the same.
+fn put_array<const N: usize>(bytes: &[u8; N], into: &mut Row<u8>) -> Result<(), NoMemory>
+    ensures ok { OnOk result (into.new ≡ into.old ++ bytes.now) }
+    ensures err { OnErr result (into.new ≡ into.old) }
+    ensures fit { IsRaw N bytes.now }
+{
+    put_slice(bytes, into)
 }

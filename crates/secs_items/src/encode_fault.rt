@@ -1,8 +1,7 @@
 ghost use Rattle.std.specs.Prelude.{◌≡◌};
 ghost use Rattle.secs_items.specs.declared.encode_fault.EncodeFault.TheVariants as fault;
 
-/// Why an item has no spelling. `at` is the number of bytes of the spelling that would stand before the item
-/// which has none.
+/// Why an item has no spelling. `at` is how far into the spelling the item would begin that has none.
 #[derive(Clone, Copy, Debug, PartialEq, Eq)]
 pub enum EncodeFault {
     /// More than 16,777,215 items, or bytes of elements: three length bytes don't hold the length.

@@ -4,17 +4,8 @@ ghost use Rattle.std.specs.Prelude.{◌≡◌, ℕ, List, [], ◌++◌, None};
 ghost use Rattle.std.specs.List.{AllByRecursion};
 ghost use Rattle.secs_items.specs.declared.item.Item.{Item};
 ghost use Rattle.secs_items.specs.Elements.{IsByte};
-ghost use Rattle.secs_items.specs.Encoding.{encode_fault};
-ghost use Rattle.secs_items.specs.Ranges.{InRange};
 ghost use Rattle.secs_items.specs.Reading.{first_fault};
-ghost use Rattle.secs_items.specs.Spelling.{Spells, shortest_spelling};
-
-/// What `encode_into` appends is read again as the item itself, for each item whose elements are within the ranges
-/// of their kinds.
-pub fn decodes_what_it_encodes()
-    ensures spelled { (item : Item) → InRange item → encode_fault item ≡ None → Spells item (shortest_spelling item) }
-    ensures alone { (item read : Item) → InRange item → encode_fault item ≡ None → Spells read (shortest_spelling item) → read ≡ item }
-{}
+ghost use Rattle.secs_items.specs.Spelling.{Spells};
 
 /// No spelling of an item is a proper prefix of a spelling of any item, and bytes spell one item at most.
 pub fn no_spelling_begins_another()

@@ -16,9 +16,7 @@ pub use encode_fault::EncodeFault;
 pub use item::Item;
 pub use item_fault::ItemFault;
 pub use kind::Kind;
-pub use laws::{
-    decodes_what_it_encodes, no_fault_exactly_in_a_spelling, no_spelling_begins_another,
-};
+pub use laws::{no_fault_exactly_in_a_spelling, no_spelling_begins_another};
 pub use reading::decode;
 pub use view::{ItemView, check};
 pub use writing::encode_into;

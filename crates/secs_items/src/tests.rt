@@ -1,5 +1,7 @@
 //! Bytes and values side by side, written by hand from the format table of SEMI E5.
 
+ghost use Rattle.std.specs.Prelude.{◌≡◌, IfSome};
+
 use super::*;
 use gl_base::{NoMemory, Row};
 use std::alloc::Global;
@@ -32,6 +34,20 @@ fn spelling(alloc: Global, item: &Item) -> Result<Row<u8>, EncodeFault> {
     Ok(bytes)
 }
 
+/// The item again, from its bytes.
+fn comes_back(alloc: Global, item: &Item) -> Option<Item>
+    ensures { IfSome result (λ again. again ≡ item.now) }
+{
+    let mut bytes = Row::new(alloc);
+    let Ok(()) = encode_into(item, &mut bytes) else {
+        return None;
+    };
+    match decode(alloc, bytes.as_slice()) {
+        Ok(again) => Some(again),
+        Err(_) => None,
+    }
+}
+
 fn is_spelled(alloc: Global, item: &Item, bytes: &[u8]) -> bool {
     let mut row = Row::new(alloc);
     encode_into(item, &mut row).is_ok() && row.as_slice() == bytes
@@ -62,6 +78,7 @@ fn is_viewed(spelled: &[u8], content: &[u8]) -> bool {
 fn spells(rt: &impl Abort, alloc: Global, item: Item, bytes: &[u8]) -> Result<(), NoMemory> {
     let content = &bytes[bytes.len().min(2)..];
     assert!(rt; is_spelled(alloc, &item, bytes));
+    assert!(rt; comes_back(alloc, &item).is_some());
     assert!(rt; is_copied(alloc, &item, bytes));
     for more in 0..3 {
         let spelled = longer(alloc, bytes, more)?;

@@ -1,13 +1,16 @@
 //! Items to bytes.
 
 ghost use Rattle.std.specs.Prelude.{◌≡◌, ◌≢◌, ◌*◌, ◌+◌, ◌-◌, ◌≤◌, ◌++◌, length, None, Some, IfErr, OnErr, OnOk};
-ghost use Rattle.std.specs.List.{flat_map};
+ghost use Rattle.std.specs.List.{flat_map, AllByRecursion};
+ghost use Rattle.gl_base.specs.Rows.{Grows};
 ghost use Rattle.secs_items.specs.declared.encode_fault.EncodeFault.TheVariants as fault;
-ghost use Rattle.secs_items.specs.Encoding.{Grows, Puts, encode_fault, fault_within, first_of, long_fault};
+ghost use Rattle.secs_items.specs.Elements.{IsByte};
+ghost use Rattle.secs_items.specs.Encoding.{Puts, encode_fault, fault_within, first_of, long_fault};
 ghost use Rattle.secs_items.specs.Kinds.{unit_of};
-ghost use Rattle.secs_items.specs.Spelling.{shortest_head, shortest_spelling};
+ghost use Rattle.secs_items.specs.Ranges.{InRange};
+ghost use Rattle.secs_items.specs.Spelling.{Spells, shortest_head, shortest_spelling};
 
-use crate::element::Element;
+use crate::element::{Element, put_slice};
 use crate::encode_fault::EncodeFault;
 use crate::item::Item;
 use crate::kind::Kind;
@@ -19,11 +22,13 @@ pub(crate) const MAX_DEPTH: usize = 64;
 /// What three length bytes hold.
 const MAX_LENGTH: usize = 0xFF_FFFF;
 
-/// Puts the item's spelling with the fewest length bytes at the end of the row. On every refusal the row is as before.
+/// Puts the item's spelling, in as few length bytes as it can have, at the end of the row. A refusal leaves the row as it was.
 #[tactic(auto, unfolding(crate::specs::Encoding::encode_fault))]
 pub fn encode_into(item: &Item, into: &mut Row<u8>) -> Result<(), EncodeFault>
     ensures ok { OnOk result (into.new ≡ into.old ++ shortest_spelling item.now) }
-    ensures spelled { OnOk result (encode_fault item.now ≡ None) }
+    // What was put spells the item.
+    ensures spells { OnOk result (Spells item.now (shortest_spelling item.now)) }
+    ensures none { OnOk result (encode_fault item.now ≡ None) }
     ensures fault { IfErr result (λ e. e ≢ fault.NoMemory → encode_fault item.now ≡ Some e) }
     ensures err { OnErr result (into.new ≡ into.old) }
 {
@@ -39,7 +44,8 @@ pub fn encode_into(item: &Item, into: &mut Row<u8>) -> Result<(), EncodeFault>
 #[cycle(writing)]
 fn put_item(item: &Item, depth: usize, start: usize, into: &mut Row<u8>) -> Result<(), EncodeFault>
     requires { start ≤ length into.old }
-    ensures { Puts (shortest_spelling item.now) (fault_within depth (length into.old - start) item.now) into.old into.new result }
+    ensures puts { Puts (shortest_spelling item.now) (fault_within depth (length into.old - start) item.now) into.old into.new result }
+    ensures ranges { OnOk result (InRange item.now) }
 {
     let at = into.len() - start;
     match item {
@@ -76,7 +82,8 @@ fn put_items(
     into: &mut Row<u8>,
 ) -> Result<(), EncodeFault>
     requires { start ≤ length into.old }
-    ensures { Puts (flat_map shortest_spelling items.now) (first_of (fault_within depth) (length into.old - start) items.now) into.old into.new result }
+    ensures puts { Puts (flat_map shortest_spelling items.now) (first_of (fault_within depth) (length into.old - start) items.now) into.old into.new result }
+    ensures ranges { OnOk result (AllByRecursion InRange items.now) }
 {
     for item in items {
         put_item(item, depth, start, into)?;
@@ -108,10 +115,11 @@ fn put_head(kind: Kind, count: usize, at: usize, into: &mut Row<u8>) -> Result<(
 
 /// Puts an item whose elements are bytes.
 fn put_bytes(kind: Kind, bytes: &Row<u8>, at: usize, into: &mut Row<u8>) -> Result<(), EncodeFault>
-    ensures { Puts (shortest_head kind (unit_of kind * length bytes.now) ++ bytes.now) (long_fault at (unit_of kind * length bytes.now)) into.old into.new result }
+    ensures puts { Puts (shortest_head kind (unit_of kind * length bytes.now) ++ bytes.now) (long_fault at (unit_of kind * length bytes.now)) into.old into.new result }
+    ensures ranges { OnOk result (AllByRecursion IsByte bytes.now) }
 {
     put_head(kind, bytes.len(), at, into)?;
-    into.extend(bytes.as_slice())?;
+    put_slice(bytes.as_slice(), into)?;
     Ok(())
 }
 
@@ -122,7 +130,8 @@ fn put_elements<T: Element>(
     at: usize,
     into: &mut Row<u8>,
 ) -> Result<(), EncodeFault>
-    ensures { Puts (shortest_head kind (unit_of kind * length elements.now) ++ flat_map T.bytes_of elements.now) (long_fault at (unit_of kind * length elements.now)) into.old into.new result }
+    ensures puts { Puts (shortest_head kind (unit_of kind * length elements.now) ++ flat_map T.bytes_of elements.now) (long_fault at (unit_of kind * length elements.now)) into.old into.new result }
+    ensures ranges { OnOk result (AllByRecursion T.fits elements.now) }
 {
     put_head(kind, elements.len(), at, into)?;
     put_each(elements.as_slice(), into)?;
@@ -132,6 +141,7 @@ fn put_elements<T: Element>(
 fn put_each<T: Element>(elements: &[T], into: &mut Row<u8>) -> Result<(), NoMemory>
     ensures ok { OnOk result (into.new ≡ into.old ++ flat_map T.bytes_of elements.now) }
     ensures err { OnErr result (Grows into.old into.new) }
+    ensures ranges { OnOk result (AllByRecursion T.fits elements.now) }
 {
     for element in elements {
         element.put(into)?;

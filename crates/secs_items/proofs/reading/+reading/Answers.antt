@@ -1,8 +1,8 @@
-use Rattle.std.proofs.Common.{◌≡◌, refl, sym, ◌∙◌, arith}
+use Rattle.std.proofs.Common.{refl, sym, ◌∙◌, arith}
 use Rattle.std.proofs.lemmas.Result.{err_from_is_err_and}
 use Rattle.secs_items.specs.Heads.{head_view}
 use Rattle.secs_items.specs.Reading.{item_at, items_at}
-use Rattle.secs_items.proofs.ItemLoop.{goes_on, ends, is_done}
+use Rattle.secs_items.proofs.ItemLoop.{goes_on, ends}
 use Rattle.secs_items.proofs.ItemSteps.{item_no_head, item_list, item_leaf}
 use Rattle.secs_items.proofs.reading.+reading.Goals as goal
 

@@ -1,4 +1,4 @@
-use Rattle.std.proofs.Common.{◌≡◌, ℕ, ◌+◌, ◌-◌, ◌*◌, ◌/◌, ◌<◌, length, arith}
+use Rattle.std.proofs.Common.{◌+◌, ◌-◌, ◌*◌, ◌/◌, length}
 use Rattle.secs_items.proofs.ElementLoop.{element_more, left_more, left_after}
 use Rattle.secs_items.proofs.reading.elements_of.Goals as goal
 

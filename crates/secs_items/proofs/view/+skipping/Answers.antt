@@ -1,8 +1,7 @@
-use Rattle.std.proofs.Common.{◌≡◌, ◌-◌, Result, List, ℕ, sym, ap, subst, ◌∙◌, arith}
+use Rattle.std.proofs.Common.{arith}
 use Rattle.std.proofs.lemmas.Result.{err_from_is_err_and}
-use Rattle.secs_items.specs.declared.item_fault.ItemFault.{ItemFault}
 use Rattle.secs_items.specs.Heads.{head_view}
-use Rattle.secs_items.specs.Reading.{Gives, after_content, after_each, after_item}
+use Rattle.secs_items.specs.Reading.{after_each, after_item}
 use Rattle.secs_items.proofs.ItemSteps.{after_no_head, after_head, skip_more}
 use Rattle.secs_items.proofs.view.+skipping.Goals as goal
 

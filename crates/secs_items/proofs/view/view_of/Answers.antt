@@ -1,4 +1,4 @@
-use Rattle.std.proofs.Common.{◌≡◌, ℕ, ◌-◌, ◌/◌, List, length, take, Ok, sym, ap, subst, ◌∙◌, arith}
+use Rattle.std.proofs.Common.{ℕ, ◌-◌, ◌/◌, List, length, take, Ok, sym, ap, subst, ◌∙◌, arith}
 use Rattle.std.proofs.lemmas.Result.{err_from_is_err_and}
 use Rattle.secs_items.specs.Heads.{head_view}
 use Rattle.secs_items.specs.Views.{ShowsFront, item_in}
@@ -21,7 +21,10 @@ invariant_of-view c =
     let h = head_view c.in_ok-head.head in
     let rest = c.in_ok-rest.rest.now in
     let n = length h.rest - length rest in
-    let f = view_front c.args.total c.args.depth c.args.bytes.now h rest (h.size / c.unit.result) c.saturating_sub.result n (λ i. omega (arith, c.type_inv.bytes i)) c.in_ok-head.ensures.gives c.in_ok-rest.ensures.gives (omega (arith, c.in_ok-rest.ensures.within)) (ap (λ (u : ℕ). h.size / u) c.unit.ensures) c.saturating_sub.ensures in
+    let f =
+    view_front c.args.total c.args.depth c.args.bytes.now h rest (h.size / c.unit.result) c.saturating_sub.result n
+    (λ i. omega (arith, c.type_inv.bytes i)) c.in_ok-head.ensures.gives c.in_ok-rest.ensures.gives (omega (arith, c.in_ok-rest.ensures.within))
+    (ap (λ (u : ℕ). h.size / u) c.unit.ensures) c.saturating_sub.ensures in
     rw c.split_at.ensures.front f.whole
 
 pub returns-clause-gives : goal.returns-clause-gives
@@ -29,7 +32,10 @@ returns-clause-gives c =
     let h = head_view c.in_ok-head.head in
     let rest = c.in_ok-rest.rest.now in
     let n = length h.rest - length rest in
-    let f = view_front c.args.total c.args.depth c.args.bytes.now h rest (h.size / c.unit.result) c.saturating_sub.result n (λ i. omega (arith, c.type_inv.bytes i)) c.in_ok-head.ensures.gives c.in_ok-rest.ensures.gives (omega (arith, c.in_ok-rest.ensures.within)) (ap (λ (u : ℕ). h.size / u) c.unit.ensures) c.saturating_sub.ensures in
+    let f =
+    view_front c.args.total c.args.depth c.args.bytes.now h rest (h.size / c.unit.result) c.saturating_sub.result n
+    (λ i. omega (arith, c.type_inv.bytes i)) c.in_ok-head.ensures.gives c.in_ok-rest.ensures.gives (omega (arith, c.in_ok-rest.ensures.within))
+    (ap (λ (u : ℕ). h.size / u) c.unit.ensures) c.saturating_sub.ensures in
     f.read ∙ ap (λ (bs : List ℕ). Ok (item_in h.kind (h.size / c.unit.result) c.saturating_sub.result bs, rest)) (sym c.split_at.ensures.front)
 
 pub returns-clause-shown : goal.returns-clause-shown
@@ -38,6 +44,11 @@ returns-clause-shown c =
     let rest = c.in_ok-rest.rest.now in
     let n = length h.rest - length rest in
     let counted = ap (λ (u : ℕ). h.size / u) c.unit.ensures in
-    let f = view_front c.args.total c.args.depth c.args.bytes.now h rest (h.size / c.unit.result) c.saturating_sub.result n (λ i. omega (arith, c.type_inv.bytes i)) c.in_ok-head.ensures.gives c.in_ok-rest.ensures.gives (omega (arith, c.in_ok-rest.ensures.within)) counted c.saturating_sub.ensures in
-    let s = view_shows c.args.total c.args.depth c.args.bytes.now h rest (h.size / c.unit.result) c.saturating_sub.result (take n h.rest) (λ i. omega (arith, c.type_inv.bytes i)) c.in_ok-head.ensures.gives counted f in
+    let f =
+    view_front c.args.total c.args.depth c.args.bytes.now h rest (h.size / c.unit.result) c.saturating_sub.result n
+    (λ i. omega (arith, c.type_inv.bytes i)) c.in_ok-head.ensures.gives c.in_ok-rest.ensures.gives
+    (omega (arith, c.in_ok-rest.ensures.within)) counted c.saturating_sub.ensures in
+    let s =
+    view_shows c.args.total c.args.depth c.args.bytes.now h rest (h.size / c.unit.result) c.saturating_sub.result (take n h.rest)
+    (λ i. omega (arith, c.type_inv.bytes i)) c.in_ok-head.ensures.gives counted f in
     subst (λ (bs : List ℕ). ShowsFront c.args.bytes.now (shown_as h (h.size / c.unit.result) c.saturating_sub.result bs) rest) (sym c.split_at.ensures.front) s

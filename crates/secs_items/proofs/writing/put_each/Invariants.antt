@@ -1,7 +1,10 @@
 use Rattle.std.proofs.Common.{◌≡◌, ◌++◌, take}
-use Rattle.std.specs.List.{flat_map}
+use Rattle.std.specs.List.{flat_map, AllByRecursion}
 use Rattle.secs_items.proofs.writing.put_each.Given as goal
 
--- the elements so far are written
+-- the elements so far fit and are written
 abbrev pub invariant-loop-element : goal.invariant-loop-element
-invariant-loop-element g l = l.into ≡ l.initial.into ++ flat_map g.T.Element.bytes_of (take l.element-index l.elements)
+invariant-loop-element g l = record {
+  fit : AllByRecursion g.T.Element.fits (take l.element-index l.elements);
+  written : l.into ≡ l.initial.into ++ flat_map g.T.Element.bytes_of (take l.element-index l.elements);
+}

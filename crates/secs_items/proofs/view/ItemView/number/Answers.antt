@@ -1,4 +1,4 @@
-use Rattle.std.proofs.Common.{◌≡◌, ℕ, sym, ap, ◌∙◌}
+use Rattle.std.proofs.Common.{sym, ap, ◌∙◌}
 use Rattle.secs_items.specs.declared.item.Item.{out-Item}
 use Rattle.secs_items.specs.Views.{Viewed, item_in, number_of}
 use Rattle.secs_items.proofs.Viewing.{as_U1, as_U2, as_U4, as_U8, count_in, kind_in, no_number, other_kind}
