@@ -1,12 +1,12 @@
 //! Bytes from pairs of hex digits.
 
 ghost use Rattle.std.specs.Prelude.{◌≡◌, ◌<◌, IfErr, IfOk, IfSome, None};
-ghost use Rattle.hex.specs.Hex.{hex_digit_value};
 ghost use Rattle.gemline_app.specs.HexInput.{HexMeans, IsHexBreak, is_gap};
 ghost use Rattle.gemline_app.specs.HexReading.{Gives, TakesDigit, after_digit, digits_from};
 ghost use Rattle.gemline_app.specs.declared.hex_input.HexFault.TheVariants as faults;
 
 use gl_base::{NoMemory, Row};
+use short_text::digit_of;
 use std::alloc::Global;
 
 /// Why an input means no bytes.
@@ -73,17 +73,4 @@ fn is_gap(byte: u8) -> bool
     ensures { result ≡ is_gap byte }
 {
     byte == b' ' || byte == b'\n'
-}
-
-// What a hex digit stands for.
-fn digit_of(byte: u8) -> Option<u8>
-    ensures value { result ≡ hex_digit_value byte }
-    ensures small { IfSome result (λ digit. digit < 16) }
-{
-    match byte {
-        b'0'..=b'9' => Some(byte - b'0'),
-        b'A'..=b'F' => Some(byte - b'A' + 10),
-        b'a'..=b'f' => Some(byte - b'a' + 10),
-        _ => None,
-    }
 }

@@ -2,8 +2,9 @@ ghost use Rattle.std.specs.Prelude.{◌≡◌, ◌+◌, ◌++◌, ◌≤◌, cod
 ghost use Rattle.arrayvec.specs.ArrayVec.{array_vec_len};
 ghost use Rattle.gemline_app.specs.Outcome.{break_text};
 
-use line_show::{Break, Line, put, put_fault, put_hex, put_number};
+use line_show::{Break, Line, put_fault};
 use secs_items::ItemFault;
+use short_text::{put, put_hex, put_number};
 
 /// A file that `replay` reads.
 #[derive(Clone, Copy, Debug, PartialEq, Eq)]

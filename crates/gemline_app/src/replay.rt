@@ -2,7 +2,7 @@
 
 ghost use Rattle.std.specs.Prelude.{◌≡◌, List, Ok};
 ghost use Rattle.gemline_app.specs.Replay.{FileAnswers, ReplayComes, ScheduleComes, TextRuns, empty_plan, files_told, limit_of, outcome_of_end, schedule_refusal};
-ghost use Rattle.line_show.specs.Show.{sink_told};
+ghost use Rattle.gl_base.specs.Sink.{sink_told};
 
 use crate::outcome::{FileRole, Outcome};
 use gl_base::{FileAnswer, Files, Row, Sink};

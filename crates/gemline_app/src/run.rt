@@ -3,7 +3,7 @@ ghost use Rattle.gemline_app.specs.Gemline.{ComesFrom, ComesOnInput, IsRun, WasD
 ghost use Rattle.gemline_app.specs.Outcome.{file_of, line_of, name_in, shown_outcome, status_of};
 ghost use Rattle.gemline_app.specs.Replay.{files_told};
 ghost use Rattle.gemline_app.specs.Words.{asked_of, limit_of};
-ghost use Rattle.line_show.specs.Show.{sink_told};
+ghost use Rattle.gl_base.specs.Sink.{sink_told};
 
 use crate::outcome::{FileRole, Outcome};
 use crate::replay::replay;

@@ -2,7 +2,7 @@
 
 ghost use Rattle.std.specs.Prelude.{◌≡◌, ◌≤◌, ◌++◌, codes, length, string_bytes, IfErr, IfOk, None};
 ghost use Rattle.hex.specs.Hex.{encode_upper};
-ghost use Rattle.line_show.specs.Show.{sink_told};
+ghost use Rattle.gl_base.specs.Sink.{sink_told};
 ghost use Rattle.secs_items.specs.Encoding.{encode_fault};
 ghost use Rattle.gemline_app.specs.Gemline.{HexAnswers, ItemAnswers, SpellAnswers, WasPrinted, WasSpelled, WasWritten};
 ghost use Rattle.gemline_app.specs.Spelling.{refusal_of, spelled_line, text_line};

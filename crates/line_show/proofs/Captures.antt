@@ -20,7 +20,8 @@ no_fault : (bytes : List ℕ) (block : BlockView) (more : List ℕ) → IsFront 
 no_fault bytes block more front =
     ap (λ (all : List ℕ). fault_of (front_frame all)) front.whole ∙ ap fault_of (take-frame_bytes block more) ∙ fault_of-frame_bytes block front.stands
 
-faultless : (bytes : List ℕ) (fault : BlockFault) (block : BlockView) (more : List ℕ) → IsFront bytes (Framed block) more → fault_of (front_frame bytes) ≡ Some fault → ⊥
+faultless : (bytes : List ℕ) (fault : BlockFault) (block : BlockView) (more : List ℕ) → IsFront bytes (Framed block) more
+    → fault_of (front_frame bytes) ≡ Some fault → ⊥
 faultless bytes fault block more front broken = let none = no_fault bytes block more front in cc
 
 -- and it is something
@@ -40,7 +41,8 @@ not_long bytes came long = long_frame (front_frame bytes) came (within bytes) lo
     within all = omega (arith, length-take (get_or all 0 0 + 3) all, get_or-take (get_or all 0 0 + 3) all 0 0 (omega arith))
 
 -- one piece alone is in front
-pub one_piece : (bytes : List ℕ) (a b : Piece) (more_a more_b : List ℕ) → IsFront bytes a more_a → IsFront bytes b more_b → (a ≡ b) × (more_a ≡ more_b)
+pub one_piece : (bytes : List ℕ) (a b : Piece) (more_a more_b : List ℕ) → IsFront bytes a more_a → IsFront bytes b more_b
+    → (a ≡ b) × (more_a ≡ more_b)
 one_piece bytes (Character byte) (Character byte') more_a more_b in_a in_b =
     let both : byte ∷ more_a ≡ byte' ∷ more_b = sym in_a.whole ∙ in_b.whole in
     let same : byte ≡ byte' = cc in
@@ -53,7 +55,8 @@ one_piece bytes (Framed block) (Framed block') more_a more_b in_a in_b =
     (ap (λ b. Framed b) same.0, same.1)
 
 -- a piece in front can't end the reading
-pub not_ended : (place : ℕ) (bytes : List ℕ) (piece : Piece) (more : List ℕ) (ending : Ending) → IsFront bytes piece more → Ends place bytes ending → ⊥
+pub not_ended : (place : ℕ) (bytes : List ℕ) (piece : Piece) (more : List ℕ) (ending : Ending) → IsFront bytes piece more → Ends place bytes ending
+    → ⊥
 not_ended place bytes piece more Whole front ends = not_nothing bytes piece more front ends
 not_ended place bytes (Framed block) more (Broken named) front ends = faultless bytes ends.0 block more front ends.1.broken
 not_ended place bytes (Character byte) more (Broken named) front ends =

@@ -27,7 +27,8 @@ abbrev ReadBehind : List ℕ → Type 0
 ReadBehind bytes = (place : ℕ) → Read place bytes
 
 -- every fault but of a frame that is too long is a break
-break_named : (place end : ℕ) (found : BlockFault) → ((came : ℕ) → found ≡ fault.Long came → ⊥) → (named : Break) × (break_of place end found ≡ Some named)
+break_named : (place end : ℕ) (found : BlockFault) → ((came : ℕ) → found ≡ fault.Long came → ⊥)
+    → (named : Break) × (break_of place end found ≡ Some named)
 break_named place end (fault.Length n) short = (break.Length place n, refl)
 break_named place end (fault.Short came) short = (break.Short end, refl)
 break_named place end (fault.Long came) short = absurd (short came refl)
@@ -39,7 +40,8 @@ with_front place bytes more piece front behind =
     let rest = behind (place + length (piece_bytes piece)) in (piece ∷ rest.0, rest.1, (more, front, rest.2))
 
 -- where a fault is in front, a character stands there or a break ends the reading
-at_fault : (place n : ℕ) (bytes : List ℕ) (found : BlockFault) → fault_of (front_frame (n ∷ bytes)) ≡ Some found → ReadBehind bytes → Read place (n ∷ bytes)
+at_fault : (place n : ℕ) (bytes : List ℕ) (found : BlockFault) → fault_of (front_frame (n ∷ bytes)) ≡ Some found → ReadBehind bytes
+    → Read place (n ∷ bytes)
 at_fault place n bytes found broken behind = go (is_character n) refl
   where
     go : (character : Bool) → is_character n ≡ character → Read place (n ∷ bytes)

@@ -2,13 +2,13 @@
 use Rattle.std.proofs.Common.{◌≡◌, ℕ, ◌+◌, ◌<◌, ◌≤◌, List, [], ◌∷◌, ◌++◌, length, take, drop, Option, Some, None, Ok, Err, refl, sym, ap, subst, ◌∙◌, arith, append_assoc, append-nil, length-append, length-drop}
 use Rattle.std.proofs.Math.Seq.{take-append-add, take-length}
 use Rattle.std.proofs.lemmas.List.{take-append-le}
-use Rattle.gl_base.specs.Sink.{appended, SinkHealth, IsWrittenOn, WriteFault}
+use Rattle.gl_base.specs.Sink.{IsWrittenOn, SinkHealth, WriteFault, WrotePart, WroteText, appended, sink_told}
 use Rattle.gl_base.proofs.Copying.{appended-append}
 use Rattle.block_codec.specs.Block.{BlockView}
 use Rattle.line_show.specs.Capture.{Ends, IsFront, Reads, ReadsFrom, piece_bytes}
 use Rattle.line_show.specs.Lines.{lines_from, lines_of, piece_lines}
 use Rattle.line_show.specs.Messages.{HaveMet, with_piece}
-use Rattle.line_show.specs.Show.{Shows, WrotePart, WroteText, sink_told}
+use Rattle.line_show.specs.Show.{Shows}
 use Rattle.line_show.specs.declared.capture.Ending.{Ending}
 use Rattle.line_show.specs.declared.capture.Piece.{Piece}
 use Rattle.line_show.specs.declared.printer.Stop.TheVariants.{NoMemory, WriteFailed}
@@ -35,7 +35,8 @@ appended-nil : (received : Option (List ℕ)) → received ≡ appended received
 appended-nil None = refl
 appended-nil (Some bytes) = ap Some (sym (append-nil bytes))
 
-pub at_first : (capture : List ℕ) (receivers : Receivers) (page : List ℕ) (received : Option (List ℕ)) (health : SinkHealth) → HaveMet receivers [] → page ≡ [] →
+pub at_first : (capture : List ℕ) (receivers : Receivers) (page : List ℕ) (received : Option (List ℕ)) (health : SinkHealth) → HaveMet receivers []
+    → page ≡ [] →
     IsAt capture 0 receivers page received received health health
 at_first capture receivers page received health met empty = record {
   seen = [];
@@ -135,7 +136,8 @@ shown_whole capture at receivers page slice was now after health health_now heal
         in (
           one_end at (drop at capture) found ending ends reads,
           record {
-            received = went ∙ ap (appended now) is_page ∙ ap (λ (r : Option (List ℕ)). appended r page) here.received ∙ appended-append was here.sent page
+            received =
+                went ∙ ap (appended now) is_page ∙ ap (λ (r : Option (List ℕ)). appended r page) here.received ∙ appended-append was here.sent page
                 ∙ ap (appended was) (sym (lines ∙ append-nil (here.sent ++ page)));
             health = record {
               later = omega (arith, used.later, written.later);

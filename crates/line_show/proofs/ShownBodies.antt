@@ -25,7 +25,8 @@ same_fault total (Ok (item, b ∷ rest)) = refl
 
 first_fault_in : (bytes : List ℕ) → fault_in (item_of bytes) ≡ first_fault bytes
 unfolding first_fault
-first_fault_in bytes = same_fault (length bytes) (item_at (length bytes) 64 bytes) ∙ ap (fault_after (length bytes)) (sym (item_rest (length bytes) 64 bytes))
+first_fault_in bytes =
+    same_fault (length bytes) (item_at (length bytes) 64 bytes) ∙ ap (fault_after (length bytes)) (sym (item_rest (length bytes) 64 bytes))
 
 is_fault : (read : Result Item ItemFault) (fault : ItemFault) → fault_in read ≡ Some fault → read ≡ Err fault
 is_fault (Ok item) fault is = cc
@@ -56,7 +57,8 @@ some_spelled item body spelled nothing =
 pub body_text-item : (item : Item) (body : List ℕ) → Spells item body → body_text body ≡ text_of item
 body_text-item item body spelled = body_text-some body (some_spelled item body spelled) ∙ ap read_text (item_of-spelled item body spelled)
 
-pub body_text-fault : (body : List ℕ) (fault : ItemFault) → body ≢ [] → first_fault body ≡ Some fault → body_text body ≡ codes "bad " ++ fault_text fault
+pub body_text-fault : (body : List ℕ) (fault : ItemFault) → body ≢ [] → first_fault body ≡ Some fault
+    → body_text body ≡ codes "bad " ++ fault_text fault
 body_text-fault body fault some is = body_text-some body some ∙ ap read_text (item_of-fault body fault is)
 
 something : (body : List ℕ) → length body == 0 ≡ false → body ≢ []
@@ -66,5 +68,6 @@ something body some nothing = let none : length body == 0 ≡ true = ap (λ (all
 pub bad_shown : (body page page' : List ℕ) (found : ItemFault) (result : Result (Unit {0}) NoMemory) → length body == 0 ≡ false →
     (found ≢ fault.NoMemory → first_fault body ≡ Some found) → OnOk result (page' ≡ page ++ (codes "bad " ++ fault_text found)) →
     OnOk result (found ≢ fault.NoMemory) → OnOk result (page' ≡ page ++ body_text body)
-bad_shown body page page' found (Ok done) some first put named = put ∙ ap (λ (text : List ℕ). page ++ text) (sym (body_text-fault body found (something body some) (first named)))
+bad_shown body page page' found (Ok done) some first put named =
+    put ∙ ap (λ (text : List ℕ). page ++ text) (sym (body_text-fault body found (something body some) (first named)))
 bad_shown body page page' found (Err e) some first put named = tt

@@ -7,6 +7,7 @@ use Rattle.block_codec.specs.declared.header.Header.{Header}
 use Rattle.message_flow.specs.declared.flow.Flow.{Flow}
 use Rattle.message_flow.specs.declared.flow.Flow.TheVariants.{Part, Whole, Duplicate, Foreign, Unexpected, TooLong, Crowded}
 use Rattle.message_flow.specs.declared.message.Message.{Message}
+use Rattle.short_text.specs.Name.{flag, name_of}
 use Rattle.line_show.specs.Bodies.{body_text}
 use Rattle.line_show.specs.Capture.{piece_bytes}
 use Rattle.line_show.specs.Messages.{flow_in, with_piece}
@@ -16,14 +17,6 @@ use Rattle.line_show.specs.declared.capture.Piece.TheVariants.{Character, Framed
 -- from host to equipment, or the other way
 abbrev pub direction : Bool → List ℕ
 direction from_equipment = if from_equipment then codes "E>H" else codes "H>E"
-
--- a word that stands only where its bit is set
-abbrev pub flag : Bool → List ℕ → List ℕ
-flag bit word = if bit then word else []
-
--- the name of a message: stream, function, and W where a reply is awaited
-abbrev pub name_of : ℕ → ℕ → Bool → List ℕ
-name_of stream function wait = codes "S" ++ decimal stream ++ codes "F" ++ decimal function ++ flag wait (codes " W")
 
 -- the system bytes as eight digits
 abbrev pub system_of : ℕ → List ℕ

@@ -1,34 +1,13 @@
 -- What `show` writes of a capture (this profile).
-use Rattle.std.specs.Prelude.{◌≡◌, ◌≤◌, ℕ, List, length, take, Option, Result, Ok, Err}
+use Rattle.std.specs.Prelude.{◌≡◌, ◌≤◌, ℕ, List, length, Result, Ok, Err}
 use Rattle.gl_base.specs.Faults.{Rose}
-use Rattle.gl_base.specs.Sink.{appended, IsWrittenOn, SinkHealth, WriteFault}
+use Rattle.gl_base.specs.Sink.{SinkTold, WriteFault, WrotePart, WroteText}
 use Rattle.line_show.specs.declared.capture.Piece.{Piece}
 use Rattle.line_show.specs.Capture.{Reads}
 use Rattle.line_show.specs.Lines.{lines_of}
 use Rattle.line_show.specs.declared.capture.Ending.{Ending}
 use Rattle.line_show.specs.declared.printer.Stop.{Stop}
 use Rattle.line_show.specs.declared.printer.Stop.TheVariants.{NoMemory, WriteFailed}
-
--- what a sink told before a call and after it
-pub record SinkTold : Type 0 where
-  pub before : Option (List ℕ)
-  pub after : Option (List ℕ)
-  pub health : SinkHealth
-  pub health_after : SinkHealth
-
-abbrev pub sink_told : Option (List ℕ) → Option (List ℕ) → SinkHealth → SinkHealth → SinkTold
-sink_told before after health health_after = record { before = before; after = after; health = health; health_after = health_after }
-
--- a text went out, and the count of faults did not fall
-pub record WroteText (out : SinkTold) (text : List ℕ) : Type 0 where
-  pub received : out.after ≡ appended out.before text
-  pub health : IsWrittenOn out.health out.health_after (length text)
-
--- only so many bytes of a text from its front went out
-pub record WrotePart (out : SinkTold) (text : List ℕ) : Type 0 where
-  pub count : ℕ
-  pub received : out.after ≡ appended out.before (take count text)
-  pub later : out.health.faults ≤ out.health_after.faults
 
 -- the whole text and the ending, or a part of the text. A write fails only with a fault
 abbrev pub ShowsText : SinkTold → List ℕ → Ending → Result Ending Stop → Type 0

@@ -3,13 +3,14 @@ ghost use Rattle.arrayvec.specs.ArrayVec.{array_vec_len};
 ghost use Rattle.secs_items.specs.declared.item_fault.ItemFault.TheVariants as faults;
 ghost use Rattle.line_show.specs.Bodies.{body_text, fault_text};
 
-use crate::lines::{Line, put, put_number};
+use crate::lines::Line;
 use gl_base::{NoMemory, Row};
 use secs_items::{ItemFault, decode};
 use secs_text::print;
+use short_text::{put, put_number};
 use std::alloc::Global;
 
-/// Puts what is shown of a message's text at the end of the page. Where memory runs out the page is as before.
+/// Puts what is shown of a message's text at the end of the page. Where memory runs out it leaves the page as it was.
 pub(crate) fn put_body(alloc: Global, page: &mut Row<u8>, body: &[u8]) -> Result<(), NoMemory>
     ensures ok { OnOk result (page.new ≡ page.old ++ body_text body.now) }
     ensures err { OnErr result (page.new ≡ page.old) }

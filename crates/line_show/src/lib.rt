@@ -11,7 +11,7 @@ mod receivers;
 pub use bodies::put_fault;
 pub use capture::{Break, Ending, Piece};
 pub use laws::{bodies_are_shown, captures_read, captures_read_in_one_way};
-pub use lines::{Line, put, put_hex, put_number};
+pub use lines::Line;
 pub use printer::{Stop, show};
 pub(crate) use receivers::Receivers;
 

@@ -1,13 +1,12 @@
-ghost use Rattle.std.specs.Prelude.{◌≡◌, ◌+◌, ◌*◌, ◌++◌, ◌<◌, ◌≤◌, length, decimal, slice_index};
+ghost use Rattle.std.specs.Prelude.{◌≡◌, ◌+◌, ◌++◌, ◌≤◌, length, decimal};
 ghost use Rattle.arrayvec.specs.ArrayVec.{array_vec_len};
-ghost use Rattle.hex.specs.Hex.{encode_upper, upper_digits};
 ghost use Rattle.line_show.specs.Capture.{is_character};
-ghost use Rattle.line_show.specs.Lines.{block_text, character_name, character_text, direction, flag, message_head, name_of};
+ghost use Rattle.line_show.specs.Lines.{block_text, character_name, character_text, direction, message_head};
 
 use arrayvec::ArrayVec;
 use block_codec::Header;
-use itoa::Buffer;
 use message_flow::Message;
+use short_text::{put, put_flag, put_hex, put_name, put_number};
 
 /// Room for one line of text, but for a message's text.
 pub type Line = ArrayVec<u8, 256>;
@@ -75,36 +74,6 @@ pub(crate) fn place_line(place: usize, words: &[u8]) -> Line
     line
 }
 
-/// Puts bytes at the end of a line that has room for them.
-pub fn put(line: &mut Line, text: &[u8])
-    requires { array_vec_len line.old + length text.now ≤ 256 }
-    ensures items { line.new.items ≡ line.old.items ++ text.now }
-    ensures len { array_vec_len line.new ≡ array_vec_len line.old + length text.now }
-{
-    line.try_extend_from_slice(text).unwrap();
-}
-
-// Puts a word where its bit is set.
-fn put_flag(line: &mut Line, bit: bool, word: &[u8])
-    requires { array_vec_len line.old + length word.now ≤ 256 }
-    ensures items { line.new.items ≡ line.old.items ++ flag bit word.now }
-    ensures len { array_vec_len line.new ≤ array_vec_len line.old + length word.now }
-{
-    if bit {
-        put(line, word);
-    }
-}
-
-/// Puts a number in decimal digits at the end of a line that has room for 20 of them.
-pub fn put_number(line: &mut Line, number: u64)
-    requires { array_vec_len line.old + 20 ≤ 256 }
-    ensures items { line.new.items ≡ line.old.items ++ decimal number }
-    ensures len { array_vec_len line.new ≤ array_vec_len line.old + 20 }
-{
-    let mut buffer = Buffer::new();
-    put(line, buffer.format(number).as_bytes());
-}
-
 // Puts where a block goes from and to.
 fn put_direction(line: &mut Line, from_equipment: bool)
     requires { array_vec_len line.old + 3 ≤ 256 }
@@ -112,37 +81,4 @@ fn put_direction(line: &mut Line, from_equipment: bool)
     ensures len { array_vec_len line.new ≡ array_vec_len line.old + 3 }
 {
     put(line, if from_equipment { b"E>H" } else { b"H>E" });
-}
-
-// Puts a message's name.
-fn put_name(line: &mut Line, stream: u8, function: u8, wait: bool)
-    requires { array_vec_len line.old + 44 ≤ 256 }
-    ensures items { line.new.items ≡ line.old.items ++ name_of stream function wait }
-    ensures len { array_vec_len line.new ≤ array_vec_len line.old + 44 }
-{
-    put(line, b"S");
-    put_number(line, u64::from(stream));
-    put(line, b"F");
-    put_number(line, u64::from(function));
-    put_flag(line, wait, b" W");
-}
-
-/// Puts each byte as two upper-case hex digits at the end of a line that has room for them.
-pub fn put_hex(line: &mut Line, bytes: &[u8])
-    requires { array_vec_len line.old + 2 * length bytes.now ≤ 256 }
-    ensures items { line.new.items ≡ line.old.items ++ encode_upper bytes.now }
-    ensures len { array_vec_len line.new ≡ array_vec_len line.old + 2 * length bytes.now }
-{
-    for byte in bytes {
-        line.push(hex_digit(byte / 16));
-        line.push(hex_digit(byte % 16));
-    }
-}
-
-// An upper-case hex digit.
-fn hex_digit(value: u8) -> u8
-    requires { value < 16 }
-    ensures { result ≡ slice_index upper_digits value }
-{
-    b"0123456789ABCDEF"[value as usize]
 }

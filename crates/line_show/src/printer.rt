@@ -1,10 +1,11 @@
 ghost use Rattle.std.specs.Prelude.{◌≡◌, ◌++◌, ◌∷◌, [], List, OnErr, OnOk};
 ghost use Rattle.block_codec.specs.Block.{BlockView};
 ghost use Rattle.secs_text.specs.Printing.{Puts};
+ghost use Rattle.gl_base.specs.Sink.{sink_told};
 ghost use Rattle.line_show.specs.Lines.{block_lines, flow_text, message_text, piece_lines};
 ghost use Rattle.line_show.specs.Messages.{HaveMet, with_piece};
 ghost use Rattle.line_show.specs.declared.capture.Piece.TheVariants as pieces;
-ghost use Rattle.line_show.specs.Show.{HasStopCause, Shows, sink_told};
+ghost use Rattle.line_show.specs.Show.{HasStopCause, Shows};
 
 use crate::bodies::put_body;
 use crate::capture::{Ending, Piece, front_of};

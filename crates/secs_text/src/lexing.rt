@@ -9,6 +9,7 @@ ghost use Rattle.secs_text.specs.Reading.{Reads, after_blanks, after_byte, after
 
 use crate::text_fault::TextFault;
 use secs_items::Kind;
+use short_text::digit_of;
 
 /// What stands at a place in a run of elements.
 #[derive(Clone, Copy)]
@@ -126,13 +127,10 @@ pub(crate) fn hex_digit(bytes: &[u8], total: usize) -> Result<(u8, &[u8]), TextF
     let Some((digit, rest)) = bytes.split_first() else {
         return Err(TextFault::Syntax { at: total });
     };
-    let value = match *digit {
-        b'0'..=b'9' => *digit - b'0',
-        b'A'..=b'F' => *digit - b'A' + 10,
-        b'a'..=b'f' => *digit - b'a' + 10,
-        _ => return Err(syntax(bytes, total)),
-    };
-    Ok((value, rest))
+    match digit_of(*digit) {
+        Some(value) => Ok((value, rest)),
+        None => Err(syntax(bytes, total)),
+    }
 }
 
 /// `>` after any blanks, or an element after some.

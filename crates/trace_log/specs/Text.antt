@@ -1,8 +1,9 @@
 -- The lines of a log (this profile).
-use Rattle.std.specs.Prelude.{ℕ, Bool, List, [], ◌∷◌, ◌++◌, length, codes, decimal, Option, Some, None, if◌then◌else◌}
+use Rattle.std.specs.Prelude.{ℕ, List, [], ◌∷◌, ◌++◌, length, codes, decimal, Option, Some, None}
 use Rattle.std.specs.Int.{w32, to_be_bytes}
 use Rattle.hex.specs.Hex.{encode_upper}
 use Rattle.block_codec.specs.Header.{header_bytes}
+use Rattle.short_text.specs.Name.{name_of}
 use Rattle.gl_base.specs.declared.side.Side.{Side}
 use Rattle.gl_base.specs.declared.side.Side.TheVariants.{Equipment, Host}
 use Rattle.trace_log.specs.Log.{Entry, Happening, Message}
@@ -17,15 +18,10 @@ side_text Host = codes "H"
 abbrev pub head_text : ℕ → Side → List ℕ
 head_text moment side = decimal moment ++ codes " " ++ side_text side ++ codes " "
 
--- stream and function, and W where a reply is awaited
-abbrev pub name_text : ℕ → ℕ → Bool → List ℕ
-name_text stream function wait =
-    codes "S" ++ decimal stream ++ codes "F" ++ decimal function ++ (if wait then codes " W" else [])
-
 -- name and system bytes
 abbrev pub title_text : Message → List ℕ
 title_text message =
-    name_text message.stream message.function message.wait ++ codes " "
+    name_of message.stream message.function message.wait ++ codes " "
     ++ encode_upper (to_be_bytes w32 message.system)
 
 abbrev pub body_text : List ℕ → List ℕ

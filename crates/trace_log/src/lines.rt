@@ -1,19 +1,18 @@
-ghost use Rattle.std.specs.Prelude.{◌≡◌, ℕ, ◌+◌, ◌*◌, ◌++◌, ◌<◌, ◌≤◌, List, [], ◌∷◌, length, decimal, slice_index, Option, Some};
+ghost use Rattle.std.specs.Prelude.{◌≡◌, ℕ, ◌+◌, ◌++◌, ◌≤◌, List, [], ◌∷◌, length, Option, Some};
 ghost use Rattle.std.specs.Int.{w32, to_be_bytes};
 ghost use Rattle.arrayvec.specs.ArrayVec.{array_vec_len};
-ghost use Rattle.hex.specs.Hex.{encode_upper, upper_digits};
 ghost use Rattle.block_codec.specs.Block.{BlockView};
 ghost use Rattle.block_codec.specs.Header.{Fits};
 ghost use Rattle.trace_log.specs.Log.{Message, message_of};
 ghost use Rattle.trace_log.specs.Log.Entry.{Noted, Slipped, Ended};
 ghost use Rattle.trace_log.specs.Log.Happening.{EquipmentStarted, HostStarted, Sent, Received, Wrote, Duplicate, Failed};
-ghost use Rattle.trace_log.specs.Text.{body_text, entry_text, frame_text, head_text, message_text, name_text, side_text, title_text};
+ghost use Rattle.trace_log.specs.Text.{body_text, entry_text, frame_text, head_text, message_text, side_text, title_text};
 ghost use Rattle.gl_base.specs.declared.side.Side.TheVariants as sides;
 
 use arrayvec::ArrayVec;
 use block_codec::{Block, Header};
 use gl_base::Side;
-use itoa::Buffer;
+use short_text::{put, put_hex, put_name, put_number};
 
 /// Room for one line of a log: two digits for each of 1,024 characters, and what stands before them.
 pub type Line = ArrayVec<u8, 2304>;
@@ -161,13 +160,7 @@ fn put_title(line: &mut Line, header: &Header)
     ensures items { line.new.items ≡ line.old.items ++ title_text (message_of (record { header = header.now; body = [] })) }
     ensures len { array_vec_len line.new ≤ array_vec_len line.old + 53 }
 {
-    put(line, b"S");
-    put_number(line, u64::from(header.stream));
-    put(line, b"F");
-    put_number(line, u64::from(header.function));
-    if header.wait {
-        put(line, b" W");
-    }
+    put_name(line, header.stream, header.function, header.wait);
     put(line, b" ");
     put_hex(line, &header.system.to_be_bytes());
 }
@@ -196,43 +189,4 @@ fn put_frame(line: &mut Line, frame: Option<u64>)
         None => put(line, b"-"),
         Some(frame) => put_number(line, frame),
     }
-}
-
-// Puts bytes at the end of a line that has room for them.
-fn put(line: &mut Line, text: &[u8])
-    requires { array_vec_len line.old + length text.now ≤ 2304 }
-    ensures items { line.new.items ≡ line.old.items ++ text.now }
-    ensures len { array_vec_len line.new ≡ array_vec_len line.old + length text.now }
-{
-    line.try_extend_from_slice(text).unwrap();
-}
-
-// Puts a number in decimal digits at the end of a line that has room for 20 of them.
-fn put_number(line: &mut Line, number: u64)
-    requires { array_vec_len line.old + 20 ≤ 2304 }
-    ensures items { line.new.items ≡ line.old.items ++ decimal number }
-    ensures len { array_vec_len line.new ≤ array_vec_len line.old + 20 }
-{
-    let mut buffer = Buffer::new();
-    put(line, buffer.format(number).as_bytes());
-}
-
-// Puts each byte as two upper-case hex digits at the end of a line that has room for them.
-fn put_hex(line: &mut Line, bytes: &[u8])
-    requires { array_vec_len line.old + 2 * length bytes.now ≤ 2304 }
-    ensures items { line.new.items ≡ line.old.items ++ encode_upper bytes.now }
-    ensures len { array_vec_len line.new ≡ array_vec_len line.old + 2 * length bytes.now }
-{
-    for byte in bytes {
-        line.push(hex_digit(byte / 16));
-        line.push(hex_digit(byte % 16));
-    }
-}
-
-// An upper-case hex digit.
-fn hex_digit(value: u8) -> u8
-    requires { value < 16 }
-    ensures { result ≡ slice_index upper_digits value }
-{
-    b"0123456789ABCDEF"[value as usize]
 }

@@ -3,7 +3,8 @@ use Rattle.std.proofs.Common.{◌≡◌, ℕ, ◌+◌, ◌/◌, ◌%◌, ◌<◌
 use Rattle.std.proofs.lemmas.List.{drop_all}
 use Rattle.hex.specs.Hex.{encode_upper, encode_with, upper_digits}
 
-encode_upper-cons : (byte : ℕ) (bytes : List ℕ) → encode_upper (byte ∷ bytes) ≡ get_or upper_digits (byte / 16) 0 ∷ get_or upper_digits (byte % 16) 0 ∷ encode_upper bytes
+encode_upper-cons : (byte : ℕ) (bytes : List ℕ)
+    → encode_upper (byte ∷ bytes) ≡ get_or upper_digits (byte / 16) 0 ∷ get_or upper_digits (byte % 16) 0 ∷ encode_upper bytes
 unfolding encode_with
 encode_upper-cons byte bytes = refl
 
@@ -29,4 +30,6 @@ encode_upper-step line one two whole bytes i high low below is_high is_low is_on
     ∙ so_far
 
 pub encode_upper-done : (line bytes : List ℕ) (i : ℕ) → length bytes ≤ i → line ++ encode_upper (drop i bytes) ≡ line
-encode_upper-done line bytes i done = ap (λ (rest : List ℕ). line ++ encode_upper rest) (drop_all i bytes done) ∙ ap (λ (digits : List ℕ). line ++ digits) encode_upper-nil ∙ append-nil line
+encode_upper-done line bytes i done =
+    ap (λ (rest : List ℕ). line ++ encode_upper rest) (drop_all i bytes done) ∙ ap (λ (digits : List ℕ). line ++ digits) encode_upper-nil
+    ∙ append-nil line
