@@ -1,6 +1,7 @@
 -- What commands answer.
 use Rattle.std.proofs.Common.{◌≡◌, ℕ, List, None, Result, Ok, Err}
-use Rattle.line_show.specs.Show.{HasStopCause, Shows, SinkTold}
+use Rattle.gl_base.specs.Sink.{SinkTold}
+use Rattle.line_show.specs.Show.{HasStopCause, Shows}
 use Rattle.line_show.specs.declared.capture.Ending.{Ending}
 use Rattle.line_show.specs.declared.printer.Stop.{Stop}
 use Rattle.gemline_app.specs.Outcome.{shown_outcome}
@@ -36,7 +37,8 @@ hex_refuses digits bytes PlanNotBuilt means refuses = absurd refuses
 hex_refuses digits bytes (LineNotBuilt number) means refuses = absurd refuses
 
 -- what bytes give, their hex gives
-pub hex_answers : (digits bytes : List ℕ) (answer : Result (List ℕ) Outcome) → HexMeans bytes digits → ItemAnswers bytes answer → HexAnswers digits answer
+pub hex_answers : (digits bytes : List ℕ) (answer : Result (List ℕ) Outcome) → HexMeans bytes digits → ItemAnswers bytes answer
+    → HexAnswers digits answer
 hex_answers digits bytes (Ok line) means (item, spelled, is) = (item, (bytes, means, spelled), is)
 hex_answers digits bytes (Err refusal) means refuses = hex_refuses digits bytes refusal means refuses
 

@@ -1,12 +1,12 @@
 -- Which outcome is due, and when another one comes in its place.
 use Rattle.std.proofs.Common.{◌≡◌, ◌⊎◌, ◌≤◌, ℕ, true, List, length, Option, Some, Result, Ok, Err, refl, sym, ap, subst, ◌∙◌, inl, inr, arith}
 use Rattle.gl_base.specs.Input.{ReadsAll, ReadsAllOf}
-use Rattle.gl_base.specs.Sink.{appended}
+use Rattle.gl_base.specs.Sink.{SinkTold, appended}
 use Rattle.gl_base.specs.declared.input.Input.{Input}
 use Rattle.gl_base.specs.declared.input.Input.TheVariants as input
 use Rattle.line_show.specs.Capture.{Reads}
 use Rattle.line_show.specs.Lines.{lines_of}
-use Rattle.line_show.specs.Show.{HasStopCause, Shows, SinkTold}
+use Rattle.line_show.specs.Show.{HasStopCause, Shows}
 use Rattle.line_show.specs.declared.capture.Ending.{Ending}
 use Rattle.line_show.specs.declared.capture.Ending.TheVariants.{Whole, Broken}
 use Rattle.line_show.specs.declared.capture.Piece.{Piece}
@@ -17,9 +17,10 @@ use Rattle.secs_items.specs.Spelling.{Spells}
 use Rattle.secs_items.specs.declared.item.Item.{Item}
 use Rattle.secs_items.specs.declared.item_fault.ItemFault.{ItemFault}
 use Rattle.secs_items.proofs.SpellLaws.{spells_none}
-use Rattle.secs_text.specs.Reading.{first_text_fault}
+use Rattle.secs_text.specs.Faults.{HasFault}
 use Rattle.secs_text.specs.declared.text_fault.TextFault.{TextFault}
-use Rattle.secs_text.proofs.TextLaws.{no_fault}
+use Rattle.secs_text.proofs.FaultLaws.{no_fault_read}
+use Rattle.secs_text.proofs.FaultPlaces.{one_fault}
 use Rattle.gemline_app.specs.Gemline.{ComesFrom, HexRefuses, IsRun, SourceTold, TextRefuses, WasCarriedOut, WasDone, WasNotRead, WasRead, WasWritten}
 use Rattle.gemline_app.specs.HexInput.{HexMeans}
 use Rattle.gemline_app.specs.Laws.{Asks, HexAsks, Hinders, IsDue, TextAsks}
@@ -43,11 +44,14 @@ shown_due : (source : SourceTold) (files : FilesTold) (out : SinkTold) (capture 
     outcome ≡ shown_outcome result → Shows out capture result → HasStopCause out result → Reads capture pieces ending → due ≡ shown_outcome (Ok ending) → Comes source files out outcome due
 shown_due source files out capture pieces ending outcome due (Ok found) is shows cause reads is_due =
     inl (is ∙ ap (λ (e : Ending). shown_outcome (Ok e)) (shows pieces ending reads).0 ∙ sym is_due)
-shown_due source files out capture pieces ending outcome due (Err stop.NoMemory) is shows cause reads is_due = inr (subst (Hinders source files out) (sym is) tt)
-shown_due source files out capture pieces ending outcome due (Err stop.WriteFailed) is shows cause reads is_due = inr (subst (Hinders source files out) (sym is) cause.1)
+shown_due source files out capture pieces ending outcome due (Err stop.NoMemory) is shows cause reads is_due =
+    inr (subst (Hinders source files out) (sym is) tt)
+shown_due source files out capture pieces ending outcome due (Err stop.WriteFailed) is shows cause reads is_due =
+    inr (subst (Hinders source files out) (sym is) cause.1)
 
 -- a line was written, or a write failed
-written_due : (source : SourceTold) (files : FilesTold) (out : SinkTold) (line : List ℕ) (outcome : Outcome) → WasWritten line out outcome → Comes source files out outcome Done
+written_due : (source : SourceTold) (files : FilesTold) (out : SinkTold) (line : List ℕ) (outcome : Outcome) → WasWritten line out outcome
+    → Comes source files out outcome Done
 written_due source files out line Done written = inl refl
 written_due source files out line Usage written = absurd written
 written_due source files out line (BadFrame named) written = absurd written
@@ -68,7 +72,7 @@ written_due source files out line (LineNotBuilt number) written = absurd written
 
 -- what a text is refused for
 text_refused : (text : List ℕ) (refusal : Outcome) → TextRefuses text refusal →
-    (refusal ≡ NoMemory) ⊎ ((fault : TextFault) × (first_text_fault text ≡ Some fault) × (refusal ≡ BadText (text_place fault)))
+    (refusal ≡ NoMemory) ⊎ ((fault : TextFault) × HasFault text fault × (refusal ≡ BadText (text_place fault)))
 text_refused text Done refuses = absurd refuses
 text_refused text Usage refuses = absurd refuses
 text_refused text (BadFrame named) refuses = absurd refuses
@@ -110,14 +114,14 @@ hex_refused digits (LineNotBuilt number) refuses = absurd refuses
 -- a text asks for one outcome
 one_text : (text : List ℕ) (a b : Outcome) → TextAsks text a → TextAsks text b → a ≡ b
 one_text text a b (inl (item, reads, is)) (inl (item', reads', is')) = is ∙ sym is'
-one_text text a b (inl (item, reads, is)) (inr (fault, some, is')) = let none = no_fault text item reads in cc
-one_text text a b (inr (fault, some, is)) (inl (item, reads, is')) = let none = no_fault text item reads in cc
-one_text text a b (inr (fault, some, is)) (inr (fault', some', is')) =
-    let same : fault ≡ fault' = cc in
-    is ∙ ap (λ (f : TextFault). BadText (text_place f)) same ∙ sym is'
+one_text text a b (inl (item, reads, is)) (inr (fault, has, is')) = absurd (no_fault_read text item fault reads has)
+one_text text a b (inr (fault, has, is)) (inl (item, reads, is')) = absurd (no_fault_read text item fault reads has)
+one_text text a b (inr (fault, has, is)) (inr (fault', has', is')) =
+    is ∙ ap (λ (f : TextFault). BadText (text_place f)) (one_fault text fault fault' has has') ∙ sym is'
 
 abbrev BytesAsk : List ℕ → Outcome → Type 0
-BytesAsk bytes due = ((item : Item) × Spells item bytes × (due ≡ Done)) ⊎ ((fault : ItemFault) × (first_fault bytes ≡ Some fault) × (due ≡ BadItem fault))
+BytesAsk bytes due =
+    ((item : Item) × Spells item bytes × (due ≡ Done)) ⊎ ((fault : ItemFault) × (first_fault bytes ≡ Some fault) × (due ≡ BadItem fault))
 
 one_item : (bytes : List ℕ) (a b : Outcome) → BytesAsk bytes a → BytesAsk bytes b → a ≡ b
 one_item bytes a b (inl (item, spelled, is)) (inl (item', spelled', is')) = is ∙ sym is'
@@ -148,8 +152,10 @@ refused_due source files out outcome refusal due A is one (inr why) asks = inl (
 text_why : (text : List ℕ) (refusal : Outcome) → TextRefuses text refusal → (refusal ≡ NoMemory) ⊎ TextAsks text refusal
 text_why text refusal refuses = elim (text_refused text refusal refuses) [ inl memory ↦ inl memory | inr why ↦ inr (inr why) ]
 
-line_due : (source : SourceTold) (files : FilesTold) (out : SinkTold) (line : List ℕ) (outcome due : Outcome) → WasWritten line out outcome → due ≡ Done → Comes source files out outcome due
-line_due source files out line outcome due written is = subst (Comes source files out outcome) (sym is) (written_due source files out line outcome written)
+line_due : (source : SourceTold) (files : FilesTold) (out : SinkTold) (line : List ℕ) (outcome due : Outcome) → WasWritten line out outcome
+    → due ≡ Done → Comes source files out outcome due
+line_due source files out line outcome due written is =
+    subst (Comes source files out outcome) (sym is) (written_due source files out line outcome written)
 
 done_due : (command : Command) (bytes : List ℕ) (source : SourceTold) (files : FilesTold) (out : SinkTold) (outcome due : Outcome) →
     WasDone command bytes out outcome → Asks command bytes due → Comes source files out outcome due
@@ -172,7 +178,8 @@ read_of : (limit : ℕ) (source : SourceTold) (bytes : List ℕ) (answer : Input
 read_of limit source bytes answer told read = subst (λ (b : Option (List ℕ)). ReadsAll limit b source.after answer) told read.bytes
 
 -- what was not read
-unread_due : (command : Command) (source : SourceTold) (files : FilesTold) (out : SinkTold) (bytes : List ℕ) (outcome due : Outcome) → source.before ≡ Some bytes →
+unread_due : (command : Command) (source : SourceTold) (files : FilesTold) (out : SinkTold) (bytes : List ℕ) (outcome due : Outcome)
+    → source.before ≡ Some bytes →
     WasNotRead command source out outcome → IsDue (OnInput command) bytes due → Comes source files out outcome due
 unread_due command source files out bytes Longer due told (read, untouched) (inl (past, is)) = inl (sym is)
 unread_due command source files out bytes Longer due told (read, untouched) (inr (within, asks)) =
@@ -194,7 +201,8 @@ unread_due command source files out bytes Slipped due told was is_due = absurd w
 unread_due command source files out bytes PlanNotBuilt due told was is_due = absurd was
 unread_due command source files out bytes (LineNotBuilt number) due told was is_due = absurd was
 
-carried_due : (command : Command) (source : SourceTold) (files : FilesTold) (out : SinkTold) (bytes : List ℕ) (outcome due : Outcome) → source.before ≡ Some bytes →
+carried_due : (command : Command) (source : SourceTold) (files : FilesTold) (out : SinkTold) (bytes : List ℕ) (outcome due : Outcome)
+    → source.before ≡ Some bytes →
     WasCarriedOut command source out outcome → IsDue (OnInput command) bytes due → Comes source files out outcome due
 carried_due command source files out bytes outcome due told (whole, read, done) (inl (past, is)) =
     let within = (read_of (limit_of command) source bytes (input.Whole whole) told read).0 in absurd (omega arith)
@@ -202,7 +210,8 @@ carried_due command source files out bytes outcome due told (whole, read, done) 
     let same = (read_of (limit_of command) source bytes (input.Whole whole) told read).1 in
     done_due command bytes source files out outcome due (subst (λ (all : List ℕ). WasDone command all out outcome) same done) asks
 
-comes_due : (asked : Asked) (source : SourceTold) (files : FilesTold) (out : SinkTold) (bytes : List ℕ) (outcome due : Outcome) → source.before ≡ Some bytes →
+comes_due : (asked : Asked) (source : SourceTold) (files : FilesTold) (out : SinkTold) (bytes : List ℕ) (outcome due : Outcome)
+    → source.before ≡ Some bytes →
     ComesFrom asked source files out outcome → IsDue asked bytes due → Comes source files out outcome due
 comes_due Nothing source files out bytes outcome due told refused is = inl (refused.usage ∙ sym is)
 comes_due (OnInput command) source files out bytes outcome due told (files_unread, inl unread) is_due =
@@ -214,7 +223,8 @@ comes_due (Replays plan schedule) source files out bytes outcome due told comes 
 pub due_outcome : (words : List (List ℕ)) (source : SourceTold) (files : FilesTold) (out err : SinkTold) (status : ℕ) (bytes : List ℕ) (due : Outcome)
     → (run : IsRun words source files out err status) → source.before ≡ Some bytes → IsDue (asked_of words) bytes due
     → (run.outcome ≡ due) ⊎ Hinders source files out run.outcome
-due_outcome words source files out err status bytes due run told is_due = comes_due (asked_of words) source files out bytes run.outcome due told run.comes is_due
+due_outcome words source files out err status bytes due run told is_due =
+    comes_due (asked_of words) source files out bytes run.outcome due told run.comes is_due
 
 -- ---- over objects that do not fail
 

@@ -2,11 +2,10 @@
 use Rattle.std.proofs.Common.{◌≡◌, ◌⊎◌, ℕ, ◌≤◌, List, [], ◌∷◌, true, false, length, Some, refl, sym, ap, ◌∙◌, inl, inr, arith}
 use Rattle.std.specs.Fmt.{digits}
 use Rattle.hex.specs.Hex.{encode_with}
-use Rattle.gl_base.specs.Sink.{appended}
+use Rattle.gl_base.specs.Sink.{SinkTold, appended}
 use Rattle.block_codec.specs.Block.{BlockView, IsBlock}
 use Rattle.line_show.specs.Capture.{Reads}
 use Rattle.line_show.specs.Lines.{lines_of}
-use Rattle.line_show.specs.Show.{SinkTold}
 use Rattle.line_show.specs.declared.capture.Ending.TheVariants.{Whole}
 use Rattle.line_show.specs.declared.capture.Piece.TheVariants.{Framed}
 use Rattle.gemline_app.specs.FirstExchange.{first_lines}
@@ -48,7 +47,8 @@ first_ends words input files out err status received run shows told reliable emp
     elim (whole_capture words input files out err status first_frame (Framed first_block ∷ []) run shows told (omega arith) reliable first_reads (omega arith)) [
       | inl memory ↦ inl memory
       | inr done ↦
-          let all : Some received ≡ Some (lines_of (Framed first_block ∷ [])) = sym after ∙ done.1 ∙ ap (λ r. appended r (lines_of (Framed first_block ∷ []))) empty in
+          let all : Some received ≡ Some (lines_of (Framed first_block ∷ [])) =
+          sym after ∙ done.1 ∙ ap (λ r. appended r (lines_of (Framed first_block ∷ []))) empty in
           let same : received ≡ lines_of (Framed first_block ∷ []) = cc in
           inr (done.0, same ∙ first_text)
     ]

@@ -49,13 +49,15 @@ step : (high : Option ℕ) (c : ℕ) (next : Option ℕ) (put bytes rest : List 
     MeansFrom next bytes rest → MeansFrom high (put ++ bytes) (c ∷ rest)
 step high c next put bytes rest is means = go high (hex_digit_value c) (is_gap c) refl refl is
   where
-    shifted : (high' : Option ℕ) (next' : Option ℕ) (put' : List ℕ) → does next' put' ≡ does next put → MeansFrom high' (put' ++ bytes) (c ∷ rest) → MeansFrom high' (put ++ bytes) (c ∷ rest)
+    shifted : (high' : Option ℕ) (next' : Option ℕ) (put' : List ℕ) → does next' put' ≡ does next put → MeansFrom high' (put' ++ bytes) (c ∷ rest)
+        → MeansFrom high' (put ++ bytes) (c ∷ rest)
     shifted high' next' put' same means' = subst (λ (p : List ℕ). MeansFrom high' (p ++ bytes) (c ∷ rest)) (same_put next' next put' put same) means'
 
     moved : (next' : Option ℕ) (put' : List ℕ) → does next' put' ≡ does next put → MeansFrom next' bytes rest
     moved next' put' same = subst (λ (n : Option ℕ). MeansFrom n bytes rest) (sym (same_next next' next put' put same)) means
 
-    go : (first : Option ℕ) (value : Option ℕ) (gap : Bool) → hex_digit_value c ≡ value → is_gap c ≡ gap → after_digit first c ≡ does next put → MeansFrom first (put ++ bytes) (c ∷ rest)
+    go : (first : Option ℕ) (value : Option ℕ) (gap : Bool) → hex_digit_value c ≡ value → is_gap c ≡ gap → after_digit first c ≡ does next put
+        → MeansFrom first (put ++ bytes) (c ∷ rest)
     go (Some h) None gap value is_it after = let none : after_digit (Some h) c ≡ None = ap (option_map (λ low. (None, (16 * h + low) ∷ []))) value in cc
     go (Some h) (Some low) gap value is_it after =
         let some : does None ((16 * h + low) ∷ []) ≡ does next put = sym (ap (option_map (λ low. (None, (16 * h + low) ∷ []))) value) ∙ after in
@@ -80,7 +82,8 @@ record Back (high : Option ℕ) (c : ℕ) (bytes rest : List ℕ) : Type 0 where
 back_gaps : (c : ℕ) (bytes gaps rest : List ℕ) → is_gap c ≡ true → HexMeans bytes rest → Back None c bytes rest
 back_gaps c bytes gaps rest gap means = record { next = None; put = []; tail = bytes; after = rw gap refl; whole = refl; means = means }
 
-back_pair : (c b : ℕ) (bytes pair tail rest : List ℕ) → c ∷ rest ≡ pair ++ tail → IsHexByte b pair → HexMeans bytes tail → Back None c (b ∷ bytes) rest
+back_pair : (c b : ℕ) (bytes pair tail rest : List ℕ) → c ∷ rest ≡ pair ++ tail → IsHexByte b pair → HexMeans bytes tail
+    → Back None c (b ∷ bytes) rest
 back_pair c b bytes [] tail rest split is means = absurd is
 back_pair c b bytes (x ∷ []) tail rest split is means = absurd is
 back_pair c b bytes (x ∷ y ∷ []) tail rest split (h, l, is_h, is_l, is_b) means =
@@ -272,11 +275,14 @@ compare (x ∷ a) (y ∷ b) rest_a rest_b same = go (compare a b rest_a rest_b t
 
     go : Compared a b rest_a rest_b → Compared (x ∷ a) (y ∷ b) rest_a rest_b
     go (Same long) = Same (ap (λ n. suc n) long)
-    go (Further next tail later is whole) = Further next tail later is (ap (λ (all : List ℕ). y ∷ all) whole ∙ ap (λ (c : ℕ). c ∷ a ++ next ∷ later) (sym heads))
-    go (Shorter next tail later is whole) = Shorter next tail later is (ap (λ (all : List ℕ). x ∷ all) whole ∙ ap (λ (c : ℕ). c ∷ b ++ next ∷ later) heads)
+    go (Further next tail later is whole) =
+        Further next tail later is (ap (λ (all : List ℕ). y ∷ all) whole ∙ ap (λ (c : ℕ). c ∷ a ++ next ∷ later) (sym heads))
+    go (Shorter next tail later is whole) =
+        Shorter next tail later is (ap (λ (all : List ℕ). x ∷ all) whole ∙ ap (λ (c : ℕ). c ∷ b ++ next ∷ later) heads)
 
 -- what begins an input can't stand behind a break
-behind_break : (input : List ℕ) (at : ℕ) (broken : IsHexBreak input at) (next : ℕ) (tail later front more bytes : List ℕ) → broken.rest ≡ next ∷ tail →
+behind_break : (input : List ℕ) (at : ℕ) (broken : IsHexBreak input at) (next : ℕ) (tail later front more bytes : List ℕ)
+    → broken.rest ≡ next ∷ tail →
     front ≡ broken.front ++ next ∷ later → HexMeans bytes (front ++ more) → ⊥
 behind_break input at broken next tail later front more bytes is whole means =
     broken.ends next tail (later ++ more) bytes is
@@ -287,5 +293,6 @@ one_break input at at' one other = go (compare one.front other.front one.rest ot
   where
     go : Compared one.front other.front one.rest other.rest → at ≡ at'
     go (Same long) = one.placed ∙ long ∙ sym other.placed
-    go (Further next tail later is whole) = absurd (behind_break input at one next tail later other.front other.more other.bytes is whole other.begins)
+    go (Further next tail later is whole) =
+        absurd (behind_break input at one next tail later other.front other.more other.bytes is whole other.begins)
     go (Shorter next tail later is whole) = absurd (behind_break input at' other next tail later one.front one.more one.bytes is whole one.begins)

@@ -5,14 +5,14 @@ use Rattle.gl_base.specs.Files.{ReadsFile, ReadsFileOf, told_file}
 use Rattle.gl_base.specs.declared.files.FileAnswer.{FileAnswer}
 use Rattle.gl_base.specs.declared.files.FileAnswer.TheVariants as file
 use Rattle.gl_base.specs.declared.files.MemFile.{MemFile}
-use Rattle.line_show.specs.Show.{SinkTold}
+use Rattle.gl_base.specs.Sink.{SinkTold}
 use Rattle.line_world.specs.Run.{Runs, course_of, trace_text}
 use Rattle.line_world.specs.declared.course.Course.{Course}
 use Rattle.line_world.specs.declared.running.RunEnd.{RunEnd}
 use Rattle.line_world.specs.declared.running.RunEnd.TheVariants as end
 use Rattle.gemline_app.specs.Gemline.{ComesFrom, IsRun, SourceTold}
 use Rattle.gemline_app.specs.Laws.{Hinders, IsReplayDue, IsScheduleDue, ScheduleAsks, outcome_of_course}
-use Rattle.gemline_app.specs.Replay.{FileRefuses, FilesTold, ReplayComes, ScheduleComes, TextRuns, WasFile, as_told, empty_plan, files_told, limit_of, outcome_of_end}
+use Rattle.gemline_app.specs.Replay.{FileRefuses, FilesTold, ReplayComes, ScheduleComes, TextRuns, WasFile, empty_plan, files_told, limit_of, outcome_of_end}
 use Rattle.gemline_app.specs.Words.{Asked, asked_of}
 use Rattle.gemline_app.specs.Words.Asked.{Replays}
 use Rattle.gemline_app.specs.declared.outcome.FileRole.{FileRole}
@@ -81,14 +81,16 @@ failed source files out outcome found is rose = subst (Hinders source files out)
 -- ---- a schedule that was carried out
 
 ended_due : (source : SourceTold) (files : FilesTold) (out : SinkTold) (text : List ℕ) (course : Course) (ended : RunEnd) (outcome due : Outcome) →
-    outcome ≡ outcome_of_end ended → Runs (as_told out) text course ended → due ≡ outcome_of_course course → Comes source files out outcome due
+    outcome ≡ outcome_of_end ended → Runs out text course ended → due ≡ outcome_of_course course → Comes source files out outcome due
 ended_due source files out text course end.Whole outcome due is (at, wrote) is_due = inl (is ∙ sym (is_due ∙ ap outcome_of_course at))
 ended_due source files out text course end.Slip outcome due is (at, wrote) is_due = inl (is ∙ sym (is_due ∙ ap outcome_of_course at))
 ended_due source files out text course end.Turns outcome due is (at, wrote) is_due = inl (is ∙ sym (is_due ∙ ap outcome_of_course at))
 ended_due source files out text course end.NoMemory outcome due is part is_due = inr (hindered source files out outcome is)
-ended_due source files out text course end.WriteFailed outcome due is (part, fault) is_due = inr (subst (Hinders source files out) (sym is) fault.rose)
+ended_due source files out text course end.WriteFailed outcome due is (part, fault) is_due =
+    inr (subst (Hinders source files out) (sym is) fault.rose)
 
-text_due : (source : SourceTold) (files : FilesTold) (out : SinkTold) (text : List ℕ) (outcome due : Outcome) → TextRuns text out outcome → ScheduleAsks text due →
+text_due : (source : SourceTold) (files : FilesTold) (out : SinkTold) (text : List ℕ) (outcome due : Outcome) → TextRuns text out outcome
+    → ScheduleAsks text due →
     Comes source files out outcome due
 text_due source files out text outcome due runs (inl (schedule, is, is_due)) = elim (runs.only schedule is) [
   | inl was ↦ ended_due source files out (trace_text empty_plan schedule) (course_of empty_plan schedule) was.ended outcome due was.outcome_is was.wrote is_due
@@ -112,7 +114,8 @@ rose_since before mid now later rose = omega (arith, later, rose)
 schedule_due : (source : SourceTold) (files later : FilesTold) (out : SinkTold) (name text : List ℕ) (outcome due : Outcome) →
     files.health.faults ≤ later.health.faults → later.health_after ≡ files.health_after → told_file name later.told ≡ Some text →
     ScheduleComes name later out outcome → IsScheduleDue text due → Comes source files out outcome due
-schedule_due source files later out name text outcome due since same told (inl (refuses, untouched)) is_due = go (refused role.Schedule name text later outcome told refuses) is_due
+schedule_due source files later out name text outcome due since same told (inl (refuses, untouched)) is_due =
+    go (refused role.Schedule name text later outcome told refuses) is_due
   where
     go : Refused role.Schedule text later outcome → IsScheduleDue text due → Comes source files out outcome due
     go (inl (longer, past)) (inl (also, is)) = inl (longer ∙ sym is)
@@ -133,7 +136,8 @@ schedule_due source files later out name text outcome due since same told (inr (
 replay_due : (source : SourceTold) (files : FilesTold) (out : SinkTold) (plan schedule bytes : List ℕ) (outcome due : Outcome) →
     told_file plan files.told ≡ Some bytes → ReplayComes plan schedule files out outcome → IsReplayDue schedule files bytes due →
     Comes source files out outcome due
-replay_due source files out plan schedule bytes outcome due told (inl (refuses, untouched)) is_due = go (refused role.Plan plan bytes files outcome told refuses) is_due
+replay_due source files out plan schedule bytes outcome due told (inl (refuses, untouched)) is_due =
+    go (refused role.Plan plan bytes files outcome told refuses) is_due
   where
     go : Refused role.Plan bytes files outcome → IsReplayDue schedule files bytes due → Comes source files out outcome due
     go (inl (longer, past)) (inl (_, is)) = inl (longer ∙ sym is)

@@ -6,11 +6,11 @@ use Rattle.line_schedule.specs.declared.schedule.Schedule.{Schedule}
 use Rattle.line_schedule.specs.declared.schedule.ScheduleFault.{ScheduleFault}
 use Rattle.line_schedule.specs.declared.schedule.ScheduleFault.TheVariants as schedule_fault
 use Rattle.line_end.specs.declared.plan.LinePlan.{LinePlan}
-use Rattle.line_show.specs.Show.{SinkTold}
+use Rattle.gl_base.specs.Sink.{SinkTold}
 use Rattle.line_world.specs.Run.{Runs, course_of, log_of, trace_text}
 use Rattle.line_world.specs.declared.running.RunEnd.{RunEnd}
 use Rattle.trace_log.specs.Delivered.{Delivered}
-use Rattle.gemline_app.specs.Replay.{ComesOnly, ScheduleRefuses, TextRuns, WasReplayed, as_told, empty_plan, outcome_of_end, schedule_refusal}
+use Rattle.gemline_app.specs.Replay.{ComesOnly, ScheduleRefuses, TextRuns, WasReplayed, empty_plan, outcome_of_end, schedule_refusal}
 use Rattle.gemline_app.specs.Written.{IsUntouched}
 use Rattle.gemline_app.specs.declared.outcome.Outcome.{Outcome}
 
@@ -38,7 +38,8 @@ refuses text out (schedule_fault.Line number) reads untouched = (reads.line numb
 refuses text out (schedule_fault.NotBuilt number) reads untouched = (reads.not_built number refl, untouched)
 refuses text out schedule_fault.NoMemory reads untouched = untouched
 
-comes_only : (out : SinkTold) (fault named : ScheduleFault) → RefusesOnly named (Err fault) → IsUntouched out → ComesOnly (schedule_refusal named) out (schedule_refusal fault)
+comes_only : (out : SinkTold) (fault named : ScheduleFault) → RefusesOnly named (Err fault) → IsUntouched out
+    → ComesOnly (schedule_refusal named) out (schedule_refusal fault)
 comes_only out fault named (inl same) untouched = (inl (ap schedule_refusal same), untouched)
 comes_only out fault named (inr memory) untouched = (inr (ap schedule_refusal memory), untouched)
 
@@ -54,11 +55,11 @@ refuses_text text out fault outcome reads untouched is =
 
 -- what was carried out over the parameters of an empty plan
 pub replayed_over : (plan : LinePlan) (schedule : Schedule) (out : SinkTold) (ended : RunEnd) (outcome : Outcome) → plan ≡ empty_plan →
-    outcome ≡ outcome_of_end ended → Runs (as_told out) (trace_text plan schedule) (course_of plan schedule) ended → Delivered (log_of plan schedule) →
+    outcome ≡ outcome_of_end ended → Runs out (trace_text plan schedule) (course_of plan schedule) ended → Delivered (log_of plan schedule) →
     WasReplayed schedule out outcome
 replayed_over plan schedule out ended outcome same is wrote delivered = record {
   ended = ended;
   outcome_is = is;
-  wrote = subst (λ (p : LinePlan). Runs (as_told out) (trace_text p schedule) (course_of p schedule) ended) same wrote;
+  wrote = subst (λ (p : LinePlan). Runs out (trace_text p schedule) (course_of p schedule) ended) same wrote;
   delivered = subst (λ (p : LinePlan). Delivered (log_of p schedule)) same delivered;
 }

@@ -2,11 +2,10 @@
 use Rattle.std.proofs.Common.{◌≡◌, ℕ, ◌+◌, ◌<◌, ◌≤◌, List, ◌++◌, length, take, Option, sym, ap, ◌∙◌, arith, length-append}
 use Rattle.std.proofs.Math.Seq.{take-append-add}
 use Rattle.std.proofs.lemmas.List.{take-append-le}
-use Rattle.gl_base.specs.Sink.{Copies, HasCopyCause, IsWrittenOn, SinkHealth, WriteFault, appended}
+use Rattle.gl_base.specs.Sink.{Copies, HasCopyCause, IsWrittenOn, SinkHealth, WriteFault, appended, sink_told}
 use Rattle.gl_base.specs.declared.sink.SinkAnswer.{SinkAnswer}
 use Rattle.gl_base.specs.declared.sink.SinkAnswer.TheVariants as copy
 use Rattle.gl_base.proofs.Copying.{appended-append}
-use Rattle.line_show.specs.Show.{sink_told}
 use Rattle.gemline_app.specs.Gemline.{WereSent}
 
 module _ (first rest : List ℕ) (was mid now : Option (List ℕ)) (health health_mid health_now : SinkHealth) where

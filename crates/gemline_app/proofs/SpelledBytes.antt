@@ -92,7 +92,8 @@ unsigned_fit w limit = elements_fit (λ n. n < limit) (to_be_bytes w) (λ n fits
 raw_fit : (size : ℕ) (floats : List (List ℕ)) (content : List ℕ) → AreElements (IsRaw size) (λ bytes. bytes) floats content → Bytes content
 raw_fit size = elements_fit (IsRaw size) (λ bytes. bytes) (λ bytes raw. raw.each)
 
-content_fits : (Items : List Item → List ℕ → Type 0) → ((items : List Item) (content : List ℕ) → Items items content → Bytes content) → (x : Item-F Item) (content : List ℕ)
+content_fits : (Items : List Item → List ℕ → Type 0) → ((items : List Item) (content : List ℕ) → Items items content → Bytes content)
+    → (x : Item-F Item) (content : List ℕ)
     → HasContent Items x content → Bytes content
 content_fits Items fit (Item-F.L items) content has = fit items content has
 content_fits Items fit (Item-F.B bytes) content has = plain_fit bytes content has
@@ -112,12 +113,14 @@ content_fits Items fit (Item-F.F8 floats) content has = raw_fit 8 floats content
 
 -- ---- items
 
-layer_fits : (Items : List Item → List ℕ → Type 0) → ((items : List Item) (content : List ℕ) → Items items content → Bytes content) → (x : Item-F Item) (bytes : List ℕ)
+layer_fits : (Items : List Item → List ℕ → Type 0) → ((items : List Item) (content : List ℕ) → Items items content → Bytes content)
+    → (x : Item-F Item) (bytes : List ℕ)
     → IsSpelled Items x bytes → Bytes bytes
 layer_fits Items fit x bytes s =
     subst Bytes (sym s.placed) (both s.head s.content (head_fits (kind_of x) (length_of x) s.head s.begins) (content_fits Items fit x s.content s.holds))
 
-items_fit : (Spelled : Item → List ℕ → Type 0) → ((item : Item) (bytes : List ℕ) → Spelled item bytes → Bytes bytes) → (items : List Item) (content : List ℕ)
+items_fit : (Spelled : Item → List ℕ → Type 0) → ((item : Item) (bytes : List ℕ) → Spelled item bytes → Bytes bytes)
+    → (items : List Item) (content : List ℕ)
     → SpellsEach Spelled items content → Bytes content
 items_fit Spelled fit [] content s = subst Bytes (sym s) tt
 items_fit Spelled fit (item ∷ items) content s = subst Bytes (sym s.2) (both s.0 s.1 (fit item s.0 s.3) (items_fit Spelled fit items s.1 s.4))

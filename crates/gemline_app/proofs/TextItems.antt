@@ -1,39 +1,42 @@
 -- An item that a text of at most 1,048,576 bytes reads as can be encoded, and its elements are within the ranges of their kinds.
-use Rattle.std.proofs.Common.{◌≡◌, ◌≢◌, ℕ, zero, suc, ◌+◌, ◌*◌, ◌^◌, ◌<◌, ◌≤◌, lit≤, Bool, true, false, cond, ◌⊎◌, inl, inr, List, [], ◌∷◌, ◌++◌, map, length, Option, Some, None, refl, ap, subst, ◌∙◌, length-append, arith}
+use Rattle.std.proofs.Common.{◌≡◌, ◌≢◌, ℕ, zero, suc, ◌+◌, ◌*◌, ◌^◌, ◌<◌, ◌≤◌, lit≤, Bool, true, false, cond, ◌⊎◌, inl, inr, List, [], ◌∷◌, ◌++◌, length, Option, Some, None, refl, sym, ap, subst, ◌∙◌, length-append, arith}
 use Rattle.std.specs.Prelude.{FitsSigned}
 use Rattle.std.specs.Int.{w8, w16, w32, w64}
 use Rattle.std.specs.List.{AllByRecursion}
 use Rattle.std.specs.Option.{option_or}
 use Rattle.std.proofs.lemmas.Bool.{le-ltb}
 use Rattle.std.proofs.lemmas.Nat.{mul-le}
-use Rattle.hex.specs.Hex.{hex_digit_value}
 use Rattle.secs_items.specs.declared.encode_fault.EncodeFault.{EncodeFault}
 use Rattle.secs_items.specs.declared.encode_fault.EncodeFault.TheVariants as fault
 use Rattle.secs_items.specs.declared.item.Item.{Item, out-Item}
 use Rattle.secs_items.specs.declared.item.Item.TheOpen.{Item-F}
 use Rattle.secs_items.specs.declared.item.Item.TheViews.{roll-Item, roll-out-Item}
-use Rattle.secs_items.specs.declared.item.Item.TheFolds.{every_made-Item, map-Item}
 use Rattle.secs_items.specs.Elements.{IsByte, IsRaw}
 use Rattle.secs_items.specs.Encoding.{encode_fault, fault_within, first_of, long_fault}
 use Rattle.secs_items.specs.Kinds.{is_list}
 use Rattle.secs_items.specs.Layers.{items_of, kind_of, length_of}
 use Rattle.secs_items.specs.Ranges.{HasRanges, InRange}
 use Rattle.secs_items.specs.Spelling.{shortest_head, shortest_spelling}
-use Rattle.secs_text.specs.Grammar.{AfterBlanks, HasElements, InTurn, IsHexByte, IsHexBytes, IsItemText, IsQuoted, IsShown, IsSigned, IsText, IsUnsigned, ReadsAs, ReadsWithin}
+use Rattle.secs_items.proofs.RangeLaws.{layer_in_range}
+use Rattle.secs_text.specs.Grammar.{AfterBlanks, HasElements, InTurn, IsHexByte, IsHexBytes, IsItemText, IsQuoted, IsShown, IsSigned, IsText, IsUnsigned, Kept, ReadsAs, ReadsWithin}
 use Rattle.secs_text.specs.Names.{name_of, stands_for_itself}
+use Rattle.secs_text.proofs.Quotes.{digit_small}
 
 -- ---- values one after another
 
 -- each has what its text shows of it
-all_fit : {T : Type 0} (Is : T → List ℕ → Type 0) (Fits : T → Type 0) → ((x : T) (text : List ℕ) → Is x text → Fits x) → (xs : List T) (text : List ℕ) → InTurn Is xs text → AllByRecursion Fits xs
+all_fit : {T : Type 0} (Is : T → List ℕ → Type 0) (Fits : T → Type 0) → ((x : T) (text : List ℕ) → Is x text → Fits x) → (xs : List T) (text : List ℕ)
+    → InTurn Is xs text → AllByRecursion Fits xs
 all_fit Is Fits each [] text t = tt
 all_fit Is Fits each (x ∷ xs) text t = (each x t.0 t.3, all_fit Is Fits each xs t.1 t.4)
 
-spaced_fit : {T : Type 0} (Is : T → List ℕ → Type 0) (Fits : T → Type 0) → ((x : T) (text : List ℕ) → Is x text → Fits x) → (xs : List T) (text : List ℕ) → InTurn (AfterBlanks Is) xs text → AllByRecursion Fits xs
+spaced_fit : {T : Type 0} (Is : T → List ℕ → Type 0) (Fits : T → Type 0) → ((x : T) (text : List ℕ) → Is x text → Fits x)
+    → (xs : List T) (text : List ℕ) → InTurn (AfterBlanks Is) xs text → AllByRecursion Fits xs
 spaced_fit Is Fits each xs text t = all_fit (AfterBlanks Is) Fits (λ x s a. each x a.1 a.5) xs text t
 
 -- there are no more values than bytes, where none has an empty text
-fewer : {T : Type 0} (Is : T → List ℕ → Type 0) → ((x : T) (text : List ℕ) → Is x text → 0 < length text) → (xs : List T) (text : List ℕ) → InTurn Is xs text → length xs ≤ length text
+fewer : {T : Type 0} (Is : T → List ℕ → Type 0) → ((x : T) (text : List ℕ) → Is x text → 0 < length text) → (xs : List T) (text : List ℕ)
+    → InTurn Is xs text → length xs ≤ length text
 fewer Is some [] text t = omega arith
 fewer Is some (x ∷ xs) text t = omega (arith, some x t.0 t.3, fewer Is some xs t.1 t.4, ap length t.2, length-append t.0 t.1)
 
@@ -48,9 +51,6 @@ spaced_fewer : {T : Type 0} (Is : T → List ℕ → Type 0) (xs : List T) (text
 spaced_fewer Is xs text t = fewer (AfterBlanks Is) (after_some Is) xs text t
 
 -- ---- elements
-
-digit_small : (c v : ℕ) → hex_digit_value c ≡ Some v → v < 16
-digit_small c v e = grind (arith, e)
 
 hex_fits : (b : ℕ) (text : List ℕ) → IsHexByte b text → IsByte b
 hex_fits b [] is = absurd is
@@ -92,37 +92,57 @@ record IsLayer (Items : List Item → List ℕ → Type 0) (x : Item-F Item) (te
   holds : Holds Items x text
   ranges : InRange (roll-Item x)
 
-leaf : (Items : List Item → List ℕ → Type 0) (x : Item-F Item) (same : Item-F ((i : Item) × InRange i)) (text : List ℕ) → is_list (kind_of x) ≡ false → items_of x ≡ [] → map-Item ((i : Item) × InRange i) Item (λ e. e.0) same ≡ x → HasRanges x → length_of x ≤ 8 * length text → IsLayer Items x text
-leaf Items x same text simple none is ranges short = record { short = short; holds = inr (simple, none); ranges = every_made-Item HasRanges x same is ranges }
+leaf : (Items : List Item → List ℕ → Type 0) (x : Item-F Item) (text : List ℕ) → is_list (kind_of x) ≡ false → items_of x ≡ [] → HasRanges x
+    → length_of x ≤ 8 * length text → IsLayer Items x text
+leaf Items x text simple none ranges short =
+    record { short = short; holds = inr (simple, none); ranges = layer_in_range x ranges (subst (AllByRecursion InRange) (sym none) tt) }
 
-paired : (items : List Item) → AllByRecursion InRange items → List ((i : Item) × InRange i)
-paired [] all = []
-paired (i ∷ items) all = (i, all.0) ∷ paired items all.1
-
-paired_are : (items : List Item) (all : AllByRecursion InRange items) → map (λ (e : (i : Item) × InRange i). e.0) (paired items all) ≡ items
-unfolding paired
-paired_are [] all = refl
-paired_are (i ∷ items) all = ap (λ (is : List Item). i ∷ is) (paired_are items all.1)
-
-layer : (Items : List Item → List ℕ → Type 0) → ((items : List Item) (text : List ℕ) → Items items text → length items ≤ length text) → ((items : List Item) (text : List ℕ) → Items items text → AllByRecursion InRange items)
-    → (x : Item-F Item) (text : List ℕ) → HasElements Items x text → IsLayer Items x text
+layer : (Items : List Item → List ℕ → Type 0) → ((items : List Item) (text : List ℕ) → Items items text → length items ≤ length text)
+    → ((items : List Item) (text : List ℕ) → Items items text → AllByRecursion InRange items)
+    → (x : Item-F Item) (text : List ℕ) → HasElements Kept Items x text → IsLayer Items x text
 layer Items few fit (Item-F.L items) text has =
-    let all = fit items text has in
-    record { short = mul-le 1 (length items) 8 (length text) (lit≤ tt) (few items text has); holds = inl (refl, has); ranges = every_made-Item HasRanges (Item-F.L items) (Item-F.L (paired items all)) (ap (λ (is : List Item). Item-F.L is) (paired_are items all)) tt }
-layer Items few fit (Item-F.B ys) text has = leaf Items (Item-F.B ys) (Item-F.B ys) text refl refl refl (spaced_fit IsHexByte IsByte hex_fits ys text has) (mul-le 1 (length ys) 8 (length text) (lit≤ tt) (spaced_fewer IsHexByte ys text has))
-layer Items few fit (Item-F.Bool ys) text has = leaf Items (Item-F.Bool ys) (Item-F.Bool ys) text refl refl refl (spaced_fit IsHexByte IsByte hex_fits ys text has) (mul-le 1 (length ys) 8 (length text) (lit≤ tt) (spaced_fewer IsHexByte ys text has))
-layer Items few fit (Item-F.A ys) text has = leaf Items (Item-F.A ys) (Item-F.A ys) text refl refl refl (quoted_fits ys text has) (mul-le 1 (length ys) 8 (length text) (lit≤ tt) (quoted_fewer ys text has))
-layer Items few fit (Item-F.J ys) text has = leaf Items (Item-F.J ys) (Item-F.J ys) text refl refl refl (spaced_fit IsHexByte IsByte hex_fits ys text has) (mul-le 1 (length ys) 8 (length text) (lit≤ tt) (spaced_fewer IsHexByte ys text has))
-layer Items few fit (Item-F.I1 ys) text has = leaf Items (Item-F.I1 ys) (Item-F.I1 ys) text refl refl refl (spaced_fit (IsSigned w8) (FitsSigned w8) (λ z s is. is.0) ys text has) (mul-le 1 (length ys) 8 (length text) (lit≤ tt) (spaced_fewer (IsSigned w8) ys text has))
-layer Items few fit (Item-F.I2 ys) text has = leaf Items (Item-F.I2 ys) (Item-F.I2 ys) text refl refl refl (spaced_fit (IsSigned w16) (FitsSigned w16) (λ z s is. is.0) ys text has) (mul-le 2 (length ys) 8 (length text) (lit≤ tt) (spaced_fewer (IsSigned w16) ys text has))
-layer Items few fit (Item-F.I4 ys) text has = leaf Items (Item-F.I4 ys) (Item-F.I4 ys) text refl refl refl (spaced_fit (IsSigned w32) (FitsSigned w32) (λ z s is. is.0) ys text has) (mul-le 4 (length ys) 8 (length text) (lit≤ tt) (spaced_fewer (IsSigned w32) ys text has))
-layer Items few fit (Item-F.I8 ys) text has = leaf Items (Item-F.I8 ys) (Item-F.I8 ys) text refl refl refl (spaced_fit (IsSigned w64) (FitsSigned w64) (λ z s is. is.0) ys text has) (mul-le 8 (length ys) 8 (length text) (lit≤ tt) (spaced_fewer (IsSigned w64) ys text has))
-layer Items few fit (Item-F.U1 ys) text has = leaf Items (Item-F.U1 ys) (Item-F.U1 ys) text refl refl refl (spaced_fit (IsUnsigned (2 ^ 8)) (λ n. n < 2 ^ 8) (λ n s is. is.0) ys text has) (mul-le 1 (length ys) 8 (length text) (lit≤ tt) (spaced_fewer (IsUnsigned (2 ^ 8)) ys text has))
-layer Items few fit (Item-F.U2 ys) text has = leaf Items (Item-F.U2 ys) (Item-F.U2 ys) text refl refl refl (spaced_fit (IsUnsigned (2 ^ 16)) (λ n. n < 2 ^ 16) (λ n s is. is.0) ys text has) (mul-le 2 (length ys) 8 (length text) (lit≤ tt) (spaced_fewer (IsUnsigned (2 ^ 16)) ys text has))
-layer Items few fit (Item-F.U4 ys) text has = leaf Items (Item-F.U4 ys) (Item-F.U4 ys) text refl refl refl (spaced_fit (IsUnsigned (2 ^ 32)) (λ n. n < 2 ^ 32) (λ n s is. is.0) ys text has) (mul-le 4 (length ys) 8 (length text) (lit≤ tt) (spaced_fewer (IsUnsigned (2 ^ 32)) ys text has))
-layer Items few fit (Item-F.U8 ys) text has = leaf Items (Item-F.U8 ys) (Item-F.U8 ys) text refl refl refl (spaced_fit (IsUnsigned (2 ^ 64)) (λ n. n < 2 ^ 64) (λ n s is. is.0) ys text has) (mul-le 8 (length ys) 8 (length text) (lit≤ tt) (spaced_fewer (IsUnsigned (2 ^ 64)) ys text has))
-layer Items few fit (Item-F.F4 ys) text has = leaf Items (Item-F.F4 ys) (Item-F.F4 ys) text refl refl refl (spaced_fit (IsHexBytes 4) (IsRaw 4) (raw_fits 4) ys text has) (mul-le 4 (length ys) 8 (length text) (lit≤ tt) (spaced_fewer (IsHexBytes 4) ys text has))
-layer Items few fit (Item-F.F8 ys) text has = leaf Items (Item-F.F8 ys) (Item-F.F8 ys) text refl refl refl (spaced_fit (IsHexBytes 8) (IsRaw 8) (raw_fits 8) ys text has) (mul-le 8 (length ys) 8 (length text) (lit≤ tt) (spaced_fewer (IsHexBytes 8) ys text has))
+    record { short = mul-le 1 (length items) 8 (length text) (lit≤ tt) (few items text has); holds = inl (refl, has); ranges = layer_in_range (Item-F.L items) tt (fit items text has) }
+layer Items few fit (Item-F.B ys) text has =
+    leaf Items (Item-F.B ys) text refl refl (spaced_fit IsHexByte IsByte hex_fits ys text has)
+    (mul-le 1 (length ys) 8 (length text) (lit≤ tt) (spaced_fewer IsHexByte ys text has))
+layer Items few fit (Item-F.Bool ys) text has =
+    leaf Items (Item-F.Bool ys) text refl refl (spaced_fit IsHexByte IsByte hex_fits ys text has)
+    (mul-le 1 (length ys) 8 (length text) (lit≤ tt) (spaced_fewer IsHexByte ys text has))
+layer Items few fit (Item-F.A ys) text has =
+    leaf Items (Item-F.A ys) text refl refl (quoted_fits ys text has) (mul-le 1 (length ys) 8 (length text) (lit≤ tt) (quoted_fewer ys text has))
+layer Items few fit (Item-F.J ys) text has =
+    leaf Items (Item-F.J ys) text refl refl (spaced_fit IsHexByte IsByte hex_fits ys text has)
+    (mul-le 1 (length ys) 8 (length text) (lit≤ tt) (spaced_fewer IsHexByte ys text has))
+layer Items few fit (Item-F.I1 ys) text has =
+    leaf Items (Item-F.I1 ys) text refl refl (spaced_fit (IsSigned Kept w8) (FitsSigned w8) (λ z s is. is.0) ys text has)
+    (mul-le 1 (length ys) 8 (length text) (lit≤ tt) (spaced_fewer _ ys text has))
+layer Items few fit (Item-F.I2 ys) text has =
+    leaf Items (Item-F.I2 ys) text refl refl (spaced_fit (IsSigned Kept w16) (FitsSigned w16) (λ z s is. is.0) ys text has)
+    (mul-le 2 (length ys) 8 (length text) (lit≤ tt) (spaced_fewer _ ys text has))
+layer Items few fit (Item-F.I4 ys) text has =
+    leaf Items (Item-F.I4 ys) text refl refl (spaced_fit (IsSigned Kept w32) (FitsSigned w32) (λ z s is. is.0) ys text has)
+    (mul-le 4 (length ys) 8 (length text) (lit≤ tt) (spaced_fewer _ ys text has))
+layer Items few fit (Item-F.I8 ys) text has =
+    leaf Items (Item-F.I8 ys) text refl refl (spaced_fit (IsSigned Kept w64) (FitsSigned w64) (λ z s is. is.0) ys text has)
+    (mul-le 8 (length ys) 8 (length text) (lit≤ tt) (spaced_fewer _ ys text has))
+layer Items few fit (Item-F.U1 ys) text has =
+    leaf Items (Item-F.U1 ys) text refl refl (spaced_fit (IsUnsigned Kept (2 ^ 8)) (λ n. n < 2 ^ 8) (λ n s is. is.0) ys text has)
+    (mul-le 1 (length ys) 8 (length text) (lit≤ tt) (spaced_fewer _ ys text has))
+layer Items few fit (Item-F.U2 ys) text has =
+    leaf Items (Item-F.U2 ys) text refl refl (spaced_fit (IsUnsigned Kept (2 ^ 16)) (λ n. n < 2 ^ 16) (λ n s is. is.0) ys text has)
+    (mul-le 2 (length ys) 8 (length text) (lit≤ tt) (spaced_fewer _ ys text has))
+layer Items few fit (Item-F.U4 ys) text has =
+    leaf Items (Item-F.U4 ys) text refl refl (spaced_fit (IsUnsigned Kept (2 ^ 32)) (λ n. n < 2 ^ 32) (λ n s is. is.0) ys text has)
+    (mul-le 4 (length ys) 8 (length text) (lit≤ tt) (spaced_fewer _ ys text has))
+layer Items few fit (Item-F.U8 ys) text has =
+    leaf Items (Item-F.U8 ys) text refl refl (spaced_fit (IsUnsigned Kept (2 ^ 64)) (λ n. n < 2 ^ 64) (λ n s is. is.0) ys text has)
+    (mul-le 8 (length ys) 8 (length text) (lit≤ tt) (spaced_fewer _ ys text has))
+layer Items few fit (Item-F.F4 ys) text has =
+    leaf Items (Item-F.F4 ys) text refl refl (spaced_fit (IsHexBytes 4) (IsRaw 4) (raw_fits 4) ys text has)
+    (mul-le 4 (length ys) 8 (length text) (lit≤ tt) (spaced_fewer (IsHexBytes 4) ys text has))
+layer Items few fit (Item-F.F8 ys) text has =
+    leaf Items (Item-F.F8 ys) text refl refl (spaced_fit (IsHexBytes 8) (IsRaw 8) (raw_fits 8) ys text has)
+    (mul-le 8 (length ys) 8 (length text) (lit≤ tt) (spaced_fewer (IsHexBytes 8) ys text has))
 
 -- ---- items in items
 
@@ -132,7 +152,7 @@ record IsSound (depth : ℕ) (i : Item) (text : List ℕ) : Type 0 where
   ranges : InRange i
 
 abbrev AreSound : ℕ → Type 0
-AreSound depth = (i : Item) (text : List ℕ) → ReadsWithin depth i text → IsSound depth i text
+AreSound depth = (i : Item) (text : List ℕ) → ReadsWithin Kept depth i text → IsSound depth i text
 
 inside : (before inner after text : List ℕ) → text ≡ before ++ (inner ++ after) → length inner ≤ length text
 inside before inner after text e = omega (arith, ap length e, length-append before (inner ++ after), length-append inner after)
@@ -140,34 +160,41 @@ inside before inner after text e = omega (arith, ap length e, length-append befo
 no_long : (at n : ℕ) (text : List ℕ) → n ≤ 8 * length text → length text ≤ 1048576 → long_fault at n ≡ None
 no_long at n text short le = ap (λ (b : Bool). cond b (Some (fault.TooLong at)) None) (le-ltb 16777215 n (omega (arith, short, le)))
 
-no_first : (depth : ℕ) → AreSound depth → (at : ℕ) (items : List Item) (text : List ℕ) → InTurn (AfterBlanks (ReadsWithin depth)) items text → length text ≤ 1048576 → first_of (fault_within depth) at items ≡ None
+no_first : (depth : ℕ) → AreSound depth → (at : ℕ) (items : List Item) (text : List ℕ) → InTurn (AfterBlanks (ReadsWithin Kept depth)) items text
+    → length text ≤ 1048576 → first_of (fault_within depth) at items ≡ None
 no_first depth each at [] text t le = refl
 no_first depth each at (i ∷ items) text t le =
     let a = t.3 in
     let after = at + length (shortest_spelling i) in
-    let parts : length text ≡ length a.0 + length a.1 + length t.1 = omega (arith, ap length t.2, length-append t.0 t.1, ap length a.2, length-append a.0 a.1) in
+    let parts : length text ≡ length a.0 + length a.1 + length t.1 =
+    omega (arith, ap length t.2, length-append t.0 t.1, ap length a.2, length-append a.0 a.1) in
     let here : fault_within depth at i ≡ None = (each i a.1 a.5).encodes at (omega (arith, le, parts)) in
     ap (λ (f : Option EncodeFault). option_or f (first_of (fault_within depth) after items)) here ∙ no_first depth each after items t.1 t.4 (omega (arith, le, parts))
 
-no_deep : (at : ℕ) (x : Item-F Item) (text : List ℕ) → Holds (λ _ _. ⊥) x text → long_fault at (length_of x) ≡ None → cond (is_list (kind_of x)) (Some (fault.TooDeep at)) (long_fault at (length_of x)) ≡ None
+no_deep : (at : ℕ) (x : Item-F Item) (text : List ℕ) → Holds (λ _ _. ⊥) x text → long_fault at (length_of x) ≡ None
+    → cond (is_list (kind_of x)) (Some (fault.TooDeep at)) (long_fault at (length_of x)) ≡ None
 no_deep at x text (inl h) e = absurd h.1
 no_deep at x text (inr h) e = ap (λ (b : Bool). cond b (Some (fault.TooDeep at)) (long_fault at (length_of x))) h.0 ∙ e
 
-lowest : (i : Item) (text : List ℕ) → IsText (λ _ _. ⊥) (out-Item i) text → IsSound 0 i text
+lowest : (i : Item) (text : List ℕ) → IsText Kept (λ _ _. ⊥) (out-Item i) text → IsSound 0 i text
 lowest i text r =
     let x = out-Item i in
     let l = layer (λ _ _. ⊥) (λ items s none. absurd none) (λ items s none. absurd none) x r.elements r.holds in
     let part = inside (60 ∷ name_of (kind_of x)) r.elements (r.blanks ++ 62 ∷ []) text r.placed in
     record { encodes = λ at le. no_deep at x r.elements l.holds (no_long at (length_of x) r.elements l.short (omega (arith, part, le))); ranges = subst InRange (roll-out-Item i) l.ranges }
 
-no_held : (depth place : ℕ) (x : Item-F Item) (text : List ℕ) → AreSound depth → Holds (InTurn (AfterBlanks (ReadsWithin depth))) x text → length text ≤ 1048576 → first_of (fault_within depth) place (items_of x) ≡ None
+no_held : (depth place : ℕ) (x : Item-F Item) (text : List ℕ) → AreSound depth → Holds (InTurn (AfterBlanks (ReadsWithin Kept depth))) x text
+    → length text ≤ 1048576 → first_of (fault_within depth) place (items_of x) ≡ None
 no_held depth place x text each (inl h) le = no_first depth each place (items_of x) text h.1 le
 no_held depth place x text each (inr h) le = ap (first_of (fault_within depth) place) h.1
 
-higher : (depth : ℕ) → AreSound depth → (i : Item) (text : List ℕ) → IsText (InTurn (AfterBlanks (ReadsWithin depth))) (out-Item i) text → IsSound (suc depth) i text
+higher : (depth : ℕ) → AreSound depth → (i : Item) (text : List ℕ) → IsText Kept (InTurn (AfterBlanks (ReadsWithin Kept depth))) (out-Item i) text
+    → IsSound (suc depth) i text
 higher depth each i text r =
     let x = out-Item i in
-    let l = layer (InTurn (AfterBlanks (ReadsWithin depth))) (spaced_fewer (ReadsWithin depth)) (spaced_fit (ReadsWithin depth) InRange (λ j s t. (each j s t).ranges)) x r.elements r.holds in
+    let l =
+    layer (InTurn (AfterBlanks (ReadsWithin Kept depth))) (spaced_fewer (ReadsWithin Kept depth))
+    (spaced_fit (ReadsWithin Kept depth) InRange (λ j s t. (each j s t).ranges)) x r.elements r.holds in
     let part = inside (60 ∷ name_of (kind_of x)) r.elements (r.blanks ++ 62 ∷ []) text r.placed in
     record {
       encodes = λ at le.

@@ -2,18 +2,18 @@
 use Rattle.std.specs.Prelude.{◌≡◌, ◌⊎◌, ℕ, List, length, Option, Some, Result, Ok, Err}
 use Rattle.gl_base.specs.Input.{HasInputCause, ReadsAll}
 use Rattle.gl_base.specs.Source.{SourceHealth}
-use Rattle.gl_base.specs.Sink.{Copies, HasCopyCause, WriteFault}
+use Rattle.gl_base.specs.Sink.{Copies, HasCopyCause, SinkTold, WriteFault, WrotePart, WroteText}
 use Rattle.gl_base.specs.declared.input.Input.{Input}
 use Rattle.gl_base.specs.declared.input.Input.TheVariants as input
 use Rattle.gl_base.specs.declared.sink.SinkAnswer.{SinkAnswer}
-use Rattle.line_show.specs.Show.{HasStopCause, Shows, SinkTold, WrotePart, WroteText}
+use Rattle.line_show.specs.Show.{HasStopCause, Shows}
 use Rattle.line_show.specs.declared.capture.Ending.{Ending}
 use Rattle.line_show.specs.declared.printer.Stop.{Stop}
 use Rattle.secs_items.specs.Reading.{first_fault}
 use Rattle.secs_items.specs.declared.item.Item.{Item}
 use Rattle.secs_items.specs.Spelling.{Spells}
+use Rattle.secs_text.specs.Faults.{HasFault}
 use Rattle.secs_text.specs.Grammar.{ReadsAs}
-use Rattle.secs_text.specs.Reading.{first_text_fault}
 use Rattle.secs_text.specs.declared.text_fault.TextFault.{TextFault}
 use Rattle.gemline_app.specs.HexInput.{HexMeans, IsHexBreak}
 use Rattle.gemline_app.specs.Outcome.{file_of, line_of, shown_outcome, status_of}
@@ -65,7 +65,7 @@ pub record WasCutOff (out : SinkTold) (line : List ℕ) : Type 0 where
 
 -- why a text is refused: it has a fault, or memory ran out
 abbrev pub TextRefuses : List ℕ → Outcome → Type 0
-TextRefuses text (BadText at) = (fault : TextFault) × (first_text_fault text ≡ Some fault) × (at ≡ text_place fault)
+TextRefuses text (BadText at) = (fault : TextFault) × HasFault text fault × (at ≡ text_place fault)
 TextRefuses text NoMemory = Unit {0}
 TextRefuses text _ = ⊥
 

@@ -1,7 +1,7 @@
 -- What holds of all runs.
 use Rattle.std.specs.Prelude.{◌≡◌, ◌≢◌, ◌<◌, ◌≤◌, ◌⊎◌, ℕ, true, List, [], length, Some, Ok}
 use Rattle.gl_base.specs.Faults.{Rose}
-use Rattle.gl_base.specs.Sink.{appended}
+use Rattle.gl_base.specs.Sink.{SinkTold, appended}
 use Rattle.gl_base.specs.Files.{told_file}
 use Rattle.line_schedule.specs.Schedule.{IsSchedule, LaterAt, OutsideAt}
 use Rattle.line_schedule.specs.declared.schedule.Schedule.{Schedule}
@@ -10,7 +10,6 @@ use Rattle.line_world.specs.declared.course.Course.{Course}
 use Rattle.line_world.specs.declared.course.Course.TheVariants.{GoesOn, Slips, Turns}
 use Rattle.line_show.specs.Capture.{Reads}
 use Rattle.line_show.specs.Lines.{lines_of}
-use Rattle.line_show.specs.Show.{SinkTold}
 use Rattle.line_show.specs.declared.capture.Ending.{Ending}
 use Rattle.line_show.specs.declared.capture.Ending.TheVariants.{Whole}
 use Rattle.line_show.specs.declared.capture.Piece.{Piece}
@@ -18,8 +17,8 @@ use Rattle.secs_items.specs.Reading.{first_fault}
 use Rattle.secs_items.specs.declared.item.Item.{Item}
 use Rattle.secs_items.specs.Spelling.{Spells}
 use Rattle.secs_items.specs.declared.item_fault.ItemFault.{ItemFault}
+use Rattle.secs_text.specs.Faults.{HasFault}
 use Rattle.secs_text.specs.Grammar.{ReadsAs}
-use Rattle.secs_text.specs.Reading.{first_text_fault}
 use Rattle.secs_text.specs.declared.text_fault.TextFault.{TextFault}
 use Rattle.gemline_app.specs.Gemline.{IsRun, SourceTold}
 use Rattle.gemline_app.specs.HexInput.{HexMeans, IsHexBreak}
@@ -39,11 +38,11 @@ use Rattle.gemline_app.specs.declared.words.Command.TheVariants.{Show, Spell, Sp
 abbrev pub CaptureAsks : List ℕ → Outcome → Type 0
 CaptureAsks capture due = (pieces : List Piece) × (ending : Ending) × Reads capture pieces ending × (due ≡ shown_outcome (Ok ending))
 
--- what a text asks for: its item, or its first fault
+-- what a text asks for: its item, or its fault
 abbrev pub TextAsks : List ℕ → Outcome → Type 0
 TextAsks text due =
     ((item : Item) × ReadsAs text item × (due ≡ Done))
-    ⊎ ((fault : TextFault) × (first_text_fault text ≡ Some fault) × (due ≡ BadText (text_place fault)))
+    ⊎ ((fault : TextFault) × HasFault text fault × (due ≡ BadText (text_place fault)))
 
 -- what hex asks for: the item that its bytes spell, their first fault, or the break of the hex itself
 abbrev pub HexAsks : List ℕ → Outcome → Type 0

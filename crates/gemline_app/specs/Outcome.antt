@@ -43,7 +43,8 @@ status_of (LineNotBuilt number) = 79
 abbrev pub break_text : Break → List ℕ
 break_text (Length at n) = decimal at ++ codes ": length " ++ decimal n
 break_text (Short at) = decimal at ++ codes ": short"
-break_text (Sum at want found) = decimal at ++ codes ": sum " ++ encode_upper (to_be_bytes w16 want) ++ codes " found " ++ encode_upper (to_be_bytes w16 found)
+break_text (Sum at want found) =
+    decimal at ++ codes ": sum " ++ encode_upper (to_be_bytes w16 want) ++ codes " found " ++ encode_upper (to_be_bytes w16 found)
 
 -- the name of a file of `replay`, which is the second or the third word
 abbrev pub name_in : List (List ℕ) → FileRole → List ℕ

@@ -9,8 +9,7 @@ use Rattle.line_schedule.specs.Schedule.{IsSchedule, LaterAt, OutsideAt}
 use Rattle.line_schedule.specs.declared.schedule.Schedule.{Schedule}
 use Rattle.line_schedule.specs.declared.schedule.ScheduleFault.{ScheduleFault}
 use Rattle.line_schedule.specs.declared.schedule.ScheduleFault.TheVariants as schedule_fault
-use Rattle.line_show.specs.Show.{SinkTold}
-use Rattle.line_world.specs.Run as world
+use Rattle.gl_base.specs.Sink.{SinkTold}
 use Rattle.line_world.specs.Run.{Runs, course_of, log_of, trace_text}
 use Rattle.line_world.specs.declared.running.RunEnd.{RunEnd}
 use Rattle.line_world.specs.declared.running.RunEnd.TheVariants as end
@@ -64,10 +63,6 @@ abbrev pub FileAnswers : FileRole → List ℕ → FilesTold → Result (List �
 FileAnswers which name files (Ok bytes) = WasFile which name files (file.Whole bytes)
 FileAnswers which name files (Err refusal) = FileRefuses which name files refusal
 
--- what the sink told, as the world says it
-abbrev pub as_told : SinkTold → world.SinkTold
-as_told out = world.sink_told out.before out.after out.health out.health_after
-
 -- what the end of a run is an outcome of
 abbrev pub outcome_of_end : RunEnd → Outcome
 outcome_of_end end.Whole = Done
@@ -81,7 +76,7 @@ outcome_of_end end.WriteFailed = WriteFailed
 pub record WasReplayed (schedule : Schedule) (out : SinkTold) (outcome : Outcome) : Type 0 where
   pub ended : RunEnd
   pub outcome_is : outcome ≡ outcome_of_end ended
-  pub wrote : Runs (as_told out) (trace_text empty_plan schedule) (course_of empty_plan schedule) ended
+  pub wrote : Runs out (trace_text empty_plan schedule) (course_of empty_plan schedule) ended
   pub delivered : Delivered (log_of empty_plan schedule)
 
 -- the refusal of a schedule's text

@@ -63,7 +63,8 @@ after_there front text rest e = go (bytes_eq (take (length front) text) front) r
   go false same left = absurd cc
 
 pub after_again : (front rest : List ℕ) → after front (front ++ rest) ≡ Some rest
-after_again front rest = rw (take_at front rest (length front) refl, drop_at front rest (length front) refl, (bytes_eq-Decides front front).1 refl) refl
+after_again front rest =
+    rw (take_at front rest (length front) refl, drop_at front rest (length front) refl, (bytes_eq-Decides front front).1 refl) refl
 
 pub behind : {f : List ℕ → Bool} {P : List ℕ → Type 0} (front : List ℕ) → IsTestOf f P →
     IsTestOf (follows front f) (After front P)

@@ -200,7 +200,8 @@ event_again line (Wait ms) (rest, placed, is) =
 begins_later : (line front : List ℕ) (P : List ℕ → Type 0) → ((rest : List ℕ) → is_passed_over (front ++ rest) ≡ false) →
     ((rest : List ℕ) → event_in (front ++ rest) ≡ None) → is_later_line line ≡ true → After front P line →
     line_meaning line ≡ Some Later
-begins_later line front P solid other h (rest, placed, is) = comes_later line (ap is_passed_over placed ∙ solid rest) (ap event_in placed ∙ other rest) h
+begins_later line front P solid other h (rest, placed, is) =
+    comes_later line (ap is_passed_over placed ∙ solid rest) (ap event_in placed ∙ other rest) h
 
 later_again : (line : List ℕ) → IsLaterLine line → line_meaning line ≡ Some Later
 later_again line is = go is (later.again line is) where

@@ -52,13 +52,15 @@ place_none n most false e h = ltb-false n most e
 
 pub stands_at : (wanted : ℕ) (text : List ℕ) (at : ℕ) → position (λ b. eqb b wanted) text ≡ Some at → StandsAt wanted text at
 stands_at wanted text at e =
-    let p = place_some (position_or_len (λ b. eqb b wanted) text) (length text) at (nat_lt (position_or_len (λ b. eqb b wanted) text) (length text)) refl e in
+    let p =
+    place_some (position_or_len (λ b. eqb b wanted) text) (length text) at (nat_lt (position_or_len (λ b. eqb b wanted) text) (length text)) refl e in
     let same = first_is wanted text in
     subst (λ n. StandsAt wanted text n) (same ∙ p.1) (stands wanted text (rw same (p.0)))
 
 pub stands_nowhere : (wanted : ℕ) (text : List ℕ) → position (λ b. eqb b wanted) text ≡ None → Lacks wanted text
 stands_nowhere wanted text e =
-    let p = place_none (position_or_len (λ b. eqb b wanted) text) (length text) (nat_lt (position_or_len (λ b. eqb b wanted) text) (length text)) refl e in
+    let p =
+    place_none (position_or_len (λ b. eqb b wanted) text) (length text) (nat_lt (position_or_len (λ b. eqb b wanted) text) (length text)) refl e in
     lacks wanted text (rw (first_is wanted text) p)
 
 -- the first byte is no such byte, nor is one behind it

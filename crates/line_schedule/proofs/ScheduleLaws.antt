@@ -147,7 +147,8 @@ first_at n (line ∷ lines) f within h = go (fault_at (n + 1) line) refl h (firs
 tell_goes_on : (line : List ℕ) (lines : List (List ℕ)) (events : List Event) (number : ℕ) → number ≤ most_lines →
     Tell (line ∷ lines) events → GoesOn number line × ((others : List Event) × Tell lines others)
 tell_goes_on line lines events number within (inl (passed, tell)) = ((within, inl (meaning_again line PassedOver passed)), (events, tell))
-tell_goes_on line lines events number within (inr (e, others, same, tells, tell)) = ((within, inr (e, meaning_again line (Tells e) tells)), (others, tell))
+tell_goes_on line lines events number within (inr (e, others, same, tells, tell)) =
+    ((within, inr (e, meaning_again line (Tells e) tells)), (others, tell))
 
 skipped : (n : ℕ) (before : List (List ℕ)) (events : List Event) (rest : List (List ℕ)) → Tell before events →
     n + length before ≤ most_lines → first_fault n (before ++ rest) ≡ first_fault (n + length before) rest
@@ -161,7 +162,8 @@ skipped n (line ∷ before) events rest tell within =
 events_are : (lines : List (List ℕ)) (events : List Event) → Tell lines events → events_of lines ≡ events
 events_are [] events tell = sym tell
 events_are (line ∷ lines) events (inl (passed, tell)) = rw (meaning_again line PassedOver passed) (events_are lines events tell)
-events_are (line ∷ lines) events (inr (e, others, same, tells, tell)) = rw (meaning_again line (Tells e) tells) (ap (λ (s : List Event). e ∷ s) (events_are lines others tell) ∙ sym same)
+events_are (line ∷ lines) events (inr (e, others, same, tells, tell)) =
+    rw (meaning_again line (Tells e) tells) (ap (λ (s : List Event). e ∷ s) (events_are lines others tell) ∙ sym same)
 
 -- ---- answers
 

@@ -15,7 +15,9 @@ use Rattle.secs_items.specs.declared.item.Item.TheViews.{out-roll-Item, roll-Ite
 use Rattle.secs_items.specs.Layers.{kind_of}
 use Rattle.secs_text.specs.declared.text_fault.TextFault.{TextFault}
 use Rattle.secs_text.specs.Grammar.{ReadsAs}
-use Rattle.secs_text.specs.Reading.{read_text}
+use Rattle.secs_text.specs.Faults.{HasFault}
+use Rattle.secs_text.specs.Reading.{fault_of, read_text}
+use Rattle.secs_text.proofs.FaultLaws.{met_fault}
 use Rattle.secs_text.proofs.TextLaws.{as_read, reads_as}
 use Rattle.line_schedule.specs.Commands.{found, is_item, is_text, is_text_item, is_text_kind, item_in}
 use Rattle.line_schedule.specs.Grammar.{AfterAnySide, Any, AnyFromTo, AnyItem, AnyText, HexByte, IsNumber, letter_of}
@@ -84,7 +86,8 @@ hex_byte = record {
 
 digit_is_other : (wanted b : ℕ) → is_ascii_digit wanted ≡ false → is_ascii_digit b ≡ true → (t : Bool) → eqb b wanted ≡ t →
     not t ≡ true
-digit_is_other wanted b none digit true e = absurd (let same : b ≡ wanted = eqb-true b wanted e in let h : is_ascii_digit wanted ≡ true = ap is_ascii_digit (sym same) ∙ digit in cc)
+digit_is_other wanted b none digit true e =
+    absurd (let same : b ≡ wanted = eqb-true b wanted e in let h : is_ascii_digit wanted ≡ true = ap is_ascii_digit (sym same) ∙ digit in cc)
 digit_is_other wanted b none digit false e = refl
 
 digits_lack : (wanted : ℕ) → is_ascii_digit wanted ≡ false → (text : List ℕ) → list_all is_ascii_digit text ≡ true →
@@ -144,6 +147,14 @@ item_there text item e = item_found text item (read_text text) refl e
 
 pub item_again : (text : List ℕ) (item : Item) → ReadsAs text item → item_in text ≡ Some item
 item_again text item r = ap found (as_read text item r)
+
+no_item_by : (r : Result Item TextFault) (e : TextFault) → fault_of r ≡ Some e → found r ≡ None
+no_item_by (Ok item) e h = absurd cc
+no_item_by (Err f) e h = refl
+
+-- a text that has a fault reads as none
+pub no_item : (text : List ℕ) (e : TextFault) → HasFault text e → item_in text ≡ None
+no_item text e has = no_item_by (read_text text) e (met_fault text e has)
 
 pub any_item : IsTestOf is_item AnyItem
 any_item = record {

@@ -304,6 +304,7 @@ fn is_text(item: &Item) -> bool
 }
 
 /// The item that all of the text reads as.
+#[tactic(auto, using(crate::proofs::WordTests::no_item))]
 fn item_in(alloc: Global, text: &[u8]) -> Result<Option<Item>, NoMemory>
     ensures { IfOk result (λ item. item ≡ item_in text.now) }
 {

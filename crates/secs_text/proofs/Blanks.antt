@@ -40,7 +40,8 @@ pub byte_again : (wanted total : ℕ) (rest : List ℕ) → after_byte wanted to
 byte_again wanted total rest = rw (eq-eqb wanted wanted refl) refl
 
 -- a byte for which the table has a value
-pub in_table : {T : Type 0} (table : ℕ → Option T) (total : ℕ) (bytes : List ℕ) (x : T × List ℕ) → byte_in table total bytes ≡ Ok x → (b : ℕ) × (table b ≡ Some x.0) × (bytes ≡ b ∷ x.1)
+pub in_table : {T : Type 0} (table : ℕ → Option T) (total : ℕ) (bytes : List ℕ) (x : T × List ℕ) → byte_in table total bytes ≡ Ok x
+    → (b : ℕ) × (table b ≡ Some x.0) × (bytes ≡ b ∷ x.1)
 in_table table total [] x e = absurd cc
 in_table table total (b ∷ rest) x e =
     let a = bind_ok (ok_or (table b) (fault.Syntax (total - suc (length rest)))) (λ value. Ok (value, rest)) x e in
@@ -48,7 +49,8 @@ in_table table total (b ∷ rest) x e =
     let made : ◌≡◌ {A = _ × List ℕ} (a.0, rest) x = cc (a.2) in
     (b, ok_or_ok (table b) (fault.Syntax (total - suc (length rest))) a.0 a.1 ∙ ap (λ p. Some p.0) made, ap (λ p. b ∷ p.1) made)
 
-pub table_again : {T : Type 0} (table : ℕ → Option T) (total b : ℕ) (rest : List ℕ) (value : T) → table b ≡ Some value → byte_in table total (b ∷ rest) ≡ Ok (value, rest)
+pub table_again : {T : Type 0} (table : ℕ → Option T) (total b : ℕ) (rest : List ℕ) (value : T) → table b ≡ Some value
+    → byte_in table total (b ∷ rest) ≡ Ok (value, rest)
 table_again table total b rest value h = rw h refl
 
 -- ---- blanks
@@ -83,7 +85,9 @@ begins_there wanted (b ∷ rest) h = ap (λ (c : ℕ). c ∷ rest) (eqb-true b w
 abbrev Found : List ℕ → List ℕ → Next → Type 0
 Found bytes after n = ((after ≡ 62 ∷ drop 1 after) × (n ≡ Ends (drop 1 after))) ⊎ ((length after ≡ length bytes → ⊥) × (n ≡ Goes after))
 
-decided : (total : ℕ) (bytes after : List ℕ) (n : Next) → cond (begins 62 after) (Ok (Ends (drop 1 after))) (cond (eqb (length after) (length bytes)) (broken total bytes) (Ok (Goes after))) ≡ Ok n → Found bytes after n
+decided : (total : ℕ) (bytes after : List ℕ) (n : Next)
+    → cond (begins 62 after) (Ok (Ends (drop 1 after))) (cond (eqb (length after) (length bytes)) (broken total bytes) (Ok (Goes after))) ≡ Ok n
+    → Found bytes after n
 decided total bytes after n e =
     elim (chosen (begins 62 after) (Ok (Ends (drop 1 after))) (cond (eqb (length after) (length bytes)) (broken total bytes) (Ok (Goes after))) n e) [
       | inl h ↦ inl (begins_there 62 after h.0, cc (h.1))
@@ -97,7 +101,8 @@ next_found : (total : ℕ) (bytes : List ℕ) (n : Next) → element_next total 
 unfolding element_next
 next_found total bytes n e = decided total bytes (after_blanks bytes) n e
 
-pub next_ends : (total : ℕ) (bytes rest : List ℕ) → element_next total bytes ≡ Ok (Ends rest) → (blanks : List ℕ) × AreBlanks blanks × (bytes ≡ blanks ++ 62 ∷ rest)
+pub next_ends : (total : ℕ) (bytes rest : List ℕ) → element_next total bytes ≡ Ok (Ends rest)
+    → (blanks : List ℕ) × AreBlanks blanks × (bytes ≡ blanks ++ 62 ∷ rest)
 next_ends total bytes rest e =
     let f = blanks_found bytes in
     elim (next_found total bytes (Ends rest) e) [
@@ -105,7 +110,8 @@ next_ends total bytes rest e =
       | inr h ↦ absurd (cc (h.1))
     ]
 
-pub next_goes : (total : ℕ) (bytes after : List ℕ) → element_next total bytes ≡ Ok (Goes after) → (blanks : List ℕ) × AreBlanks blanks × (blanks ≢ []) × (bytes ≡ blanks ++ after)
+pub next_goes : (total : ℕ) (bytes after : List ℕ) → element_next total bytes ≡ Ok (Goes after)
+    → (blanks : List ℕ) × AreBlanks blanks × (blanks ≢ []) × (bytes ≡ blanks ++ after)
 next_goes total bytes after e =
     let f = blanks_found bytes in
     elim (next_found total bytes (Goes after) e) [
@@ -123,7 +129,8 @@ pub longer : (blanks s : List ℕ) → blanks ≢ [] → length s ≡ length (bl
 longer [] s some e = some refl
 longer (b ∷ blanks) s some e = absurd (omega (arith, e, length-append blanks s))
 
-pub goes_again : (total b : ℕ) (blanks more : List ℕ) → AreBlanks blanks → blanks ≢ [] → is_blank b ≡ false → eqb b 62 ≡ false → element_next total (blanks ++ b ∷ more) ≡ Ok (Goes (b ∷ more))
+pub goes_again : (total b : ℕ) (blanks more : List ℕ) → AreBlanks blanks → blanks ≢ [] → is_blank b ≡ false → eqb b 62 ≡ false
+    → element_next total (blanks ++ b ∷ more) ≡ Ok (Goes (b ∷ more))
 unfolding element_next
 goes_again total b blanks more h some solid other =
     let skipped : after_blanks (blanks ++ b ∷ more) ≡ b ∷ more = blanks_skipped blanks (b ∷ more) h ∙ stays b more solid in

@@ -52,9 +52,11 @@ stops_some (b ∷ blanks) rest h some = λ n. rw (low_no_digit b (blank_low b h.
 -- ---- many elements
 
 abbrev pub Ended : {T : Type 0} → (T → List ℕ → Type 0) → List T → List ℕ → List ℕ → Type 0
-Ended Is xs bytes rest = (elements : List ℕ) × (blanks : List ℕ) × InTurn (AfterBlanks Is) xs elements × AreBlanks blanks × (bytes ≡ elements ++ (blanks ++ 62 ∷ rest))
+Ended Is xs bytes rest =
+    (elements : List ℕ) × (blanks : List ℕ) × InTurn (AfterBlanks Is) xs elements × AreBlanks blanks × (bytes ≡ elements ++ (blanks ++ 62 ∷ rest))
 
-from_ends : {T : Type 0} (one : Reader T) (Is : T → List ℕ → Type 0) (total most : ℕ) (bytes after : List ℕ) (xs : List T × List ℕ) → element_next total bytes ≡ Ok (Ends after) → ◌≡◌ {A = Result (List T × List ℕ) TextFault} (Ok ([], after)) (Ok xs) → Ended Is xs.0 bytes xs.1
+from_ends : {T : Type 0} (one : Reader T) (Is : T → List ℕ → Type 0) (total most : ℕ) (bytes after : List ℕ) (xs : List T × List ℕ)
+    → element_next total bytes ≡ Ok (Ends after) → ◌≡◌ {A = Result (List T × List ℕ) TextFault} (Ok ([], after)) (Ok xs) → Ended Is xs.0 bytes xs.1
 from_ends {T} one Is total most bytes after xs found e =
     let made : ◌≡◌ {A = List T × List ℕ} ([], after) xs = cc in
     let n = next_ends total bytes after found in
@@ -63,40 +65,49 @@ from_ends {T} one Is total most bytes after xs found e =
 joined : (blanks front rest others end : List ℕ) → blanks ++ (front ++ (others ++ end)) ≡ ((blanks ++ front) ++ others) ++ end
 joined blanks front rest others end = simp append_assoc
 
-from_next : {T : Type 0} (one : Reader T) (Is : T → List ℕ → Type 0) → IsForm one Is → (most total : ℕ) → ((bytes : List ℕ) (xs : List T × List ℕ) → each_at element_next one most total bytes ≡ Ok xs → Ended Is xs.0 bytes xs.1)
-    → (bytes : List ℕ) (n : Next) (xs : List T × List ℕ) → element_next total bytes ≡ Ok n → each_from (each_at element_next one most total) (one total) n ≡ Ok xs → Ended Is xs.0 bytes xs.1
+from_next : {T : Type 0} (one : Reader T) (Is : T → List ℕ → Type 0) → IsForm one Is → (most total : ℕ)
+    → ((bytes : List ℕ) (xs : List T × List ℕ) → each_at element_next one most total bytes ≡ Ok xs → Ended Is xs.0 bytes xs.1)
+    → (bytes : List ℕ) (n : Next) (xs : List T × List ℕ) → element_next total bytes ≡ Ok n
+    → each_from (each_at element_next one most total) (one total) n ≡ Ok xs → Ended Is xs.0 bytes xs.1
 from_next one Is form most total others bytes (Ends after) xs found e = from_ends one Is total most bytes after xs found e
 from_next {T} one Is form most total others bytes (Goes after) xs found e =
-    let a = bind_ok (one total after) (λ (first : T × List ℕ). each_at element_next one most total first.1 >>= λ ys. Ok (first.0 ∷ ys.0, ys.1)) xs e in
+    let a =
+    bind_ok (one total after) (λ (first : T × List ℕ). each_at element_next one most total first.1 >>= λ ys. Ok (first.0 ∷ ys.0, ys.1)) xs e in
     let b = bind_ok (each_at element_next one most total a.0.1) (λ (ys : List T × List ℕ). Ok (a.0.0 ∷ ys.0, ys.1)) xs a.2 in
     let made : ◌≡◌ {A = List T × List ℕ} (a.0.0 ∷ b.0.0, b.0.1) xs = cc (b.2) in
     let g = next_goes total bytes after found in
     let f = form.takes total after a.0 a.1 in
     let o = others a.0.1 b.0 b.1 in
     let end = o.1 ++ 62 ∷ b.0.1 in
-    let whole : bytes ≡ ((g.0 ++ f.0) ++ o.0) ++ end = g.3 ∙ ap (λ (s : List ℕ). g.0 ++ s) (f.2 ∙ ap (λ (s : List ℕ). f.0 ++ s) o.4) ∙ joined g.0 f.0 [] o.0 end in
+    let whole : bytes ≡ ((g.0 ++ f.0) ++ o.0) ++ end =
+    g.3 ∙ ap (λ (s : List ℕ). g.0 ++ s) (f.2 ∙ ap (λ (s : List ℕ). f.0 ++ s) o.4) ∙ joined g.0 f.0 [] o.0 end in
     subst (λ (y : List T × List ℕ). Ended Is y.0 bytes y.1) made
     ((g.0 ++ f.0) ++ o.0, o.1, (g.0 ++ f.0, o.0, refl, (g.0, f.0, refl, g.1, g.2, f.1), o.2), o.3, whole)
 
-each_takes : {T : Type 0} (one : Reader T) (Is : T → List ℕ → Type 0) → IsForm one Is → (most total : ℕ) (bytes : List ℕ) (xs : List T × List ℕ) → each_at element_next one most total bytes ≡ Ok xs → Ended Is xs.0 bytes xs.1
+each_takes : {T : Type 0} (one : Reader T) (Is : T → List ℕ → Type 0) → IsForm one Is → (most total : ℕ) (bytes : List ℕ) (xs : List T × List ℕ)
+    → each_at element_next one most total bytes ≡ Ok xs → Ended Is xs.0 bytes xs.1
 each_takes one Is form zero total bytes xs e = absurd cc
 each_takes one Is form (suc most) total bytes xs e =
     let a = bind_ok (element_next total bytes) (each_from (each_at element_next one most total) (one total)) xs e in
     from_next one Is form most total (each_takes one Is form most total) bytes a.0 xs a.1 a.2
 
-pub elements_takes : {T : Type 0} (one : Reader T) (Is : T → List ℕ → Type 0) → IsForm one Is → (total : ℕ) (bytes : List ℕ) (xs : List T × List ℕ) → each_at element_next one (length bytes) total bytes ≡ Ok xs
+pub elements_takes : {T : Type 0} (one : Reader T) (Is : T → List ℕ → Type 0) → IsForm one Is → (total : ℕ) (bytes : List ℕ) (xs : List T × List ℕ)
+    → each_at element_next one (length bytes) total bytes ≡ Ok xs
     → (elements : List ℕ) × (blanks : List ℕ) × InTurn (AfterBlanks Is) xs.0 elements × AreBlanks blanks × (bytes ≡ elements ++ (blanks ++ 62 ∷ xs.1))
 elements_takes one Is form total bytes xs e = each_takes one Is form (length bytes) total bytes xs e
 
-stops_after : {T : Type 0} (Is : T → List ℕ → Type 0) (xs : List T) (elements blanks rest : List ℕ) → InTurn (AfterBlanks Is) xs elements → AreBlanks blanks → Stops (elements ++ (blanks ++ 62 ∷ rest))
+stops_after : {T : Type 0} (Is : T → List ℕ → Type 0) (xs : List T) (elements blanks rest : List ℕ) → InTurn (AfterBlanks Is) xs elements
+    → AreBlanks blanks → Stops (elements ++ (blanks ++ 62 ∷ rest))
 stops_after Is [] elements blanks rest t h = rw t (stops_blanks blanks (62 ∷ rest) h (stops_end rest))
 stops_after Is (x ∷ xs) elements blanks rest t h =
     let e = t.3 in
     let end = blanks ++ 62 ∷ rest in
-    let regrouped : elements ++ end ≡ e.0 ++ (e.1 ++ (t.1 ++ end)) = ap (λ (s : List ℕ). s ++ end) (t.2 ∙ ap (λ (s : List ℕ). s ++ t.1) e.2) ∙ simp append_assoc in
+    let regrouped : elements ++ end ≡ e.0 ++ (e.1 ++ (t.1 ++ end)) =
+    ap (λ (s : List ℕ). s ++ end) (t.2 ∙ ap (λ (s : List ℕ). s ++ t.1) e.2) ∙ simp append_assoc in
     subst Stops (sym regrouped) (stops_some e.0 (e.1 ++ (t.1 ++ end)) e.3 e.4)
 
-each_again : {T : Type 0} (one : Reader T) (Is : T → List ℕ → Type 0) → IsForm one Is → (most total : ℕ) (xs : List T) (elements blanks rest : List ℕ) → length elements < most → InTurn (AfterBlanks Is) xs elements → AreBlanks blanks
+each_again : {T : Type 0} (one : Reader T) (Is : T → List ℕ → Type 0) → IsForm one Is → (most total : ℕ) (xs : List T) (elements blanks rest : List ℕ)
+    → length elements < most → InTurn (AfterBlanks Is) xs elements → AreBlanks blanks
     → each_at element_next one most total (elements ++ (blanks ++ 62 ∷ rest)) ≡ Ok (xs, rest)
 each_again one Is form zero total xs elements blanks rest lt t h = absurd (omega arith)
 each_again one Is form (suc most) total [] elements blanks rest lt t h = rw (t, end_again total blanks rest h) refl
@@ -104,14 +115,19 @@ each_again {T} one Is form (suc most) total (x ∷ xs) elements blanks rest lt t
     let e = t.3 in
     let s = form.solid x e.1 e.5 in
     let end = blanks ++ 62 ∷ rest in
-    let regrouped : elements ++ end ≡ e.0 ++ (e.1 ++ (t.1 ++ end)) = ap (λ (s : List ℕ). s ++ end) (t.2 ∙ ap (λ (s : List ℕ). s ++ t.1) e.2) ∙ simp append_assoc in
+    let regrouped : elements ++ end ≡ e.0 ++ (e.1 ++ (t.1 ++ end)) =
+    ap (λ (s : List ℕ). s ++ end) (t.2 ∙ ap (λ (s : List ℕ). s ++ t.1) e.2) ∙ simp append_assoc in
     let opened : e.1 ++ (t.1 ++ end) ≡ s.0 ∷ (s.1 ++ (t.1 ++ end)) = ap (λ (f : List ℕ). f ++ (t.1 ++ end)) s.2 in
-    let goes : element_next total (e.0 ++ (e.1 ++ (t.1 ++ end))) ≡ Ok (Goes (e.1 ++ (t.1 ++ end))) = ap (λ (f : List ℕ). element_next total (e.0 ++ f)) opened ∙ goes_again total s.0 e.0 (s.1 ++ (t.1 ++ end)) e.3 e.4 s.3 s.4 ∙ ap (λ (f : List ℕ). Ok (Goes f)) (sym opened) in
-    let first : one total (e.1 ++ (t.1 ++ end)) ≡ Ok (x, t.1 ++ end) = form.again total x e.1 (t.1 ++ end) e.5 (stops_after Is xs t.1 blanks rest t.4 h) in
+    let goes : element_next total (e.0 ++ (e.1 ++ (t.1 ++ end))) ≡ Ok (Goes (e.1 ++ (t.1 ++ end))) =
+    ap (λ (f : List ℕ). element_next total (e.0 ++ f)) opened ∙ goes_again total s.0 e.0 (s.1 ++ (t.1 ++ end)) e.3 e.4 s.3 s.4
+    ∙ ap (λ (f : List ℕ). Ok (Goes f)) (sym opened) in
+    let first : one total (e.1 ++ (t.1 ++ end)) ≡ Ok (x, t.1 ++ end) =
+    form.again total x e.1 (t.1 ++ end) e.5 (stops_after Is xs t.1 blanks rest t.4 h) in
     let shorter : length t.1 < most = omega (arith, lt, ap length t.2, length-append t.0 t.1, ap length e.2, length-append e.0 e.1, ap length s.2) in
     ap (each_at element_next one (suc most) total) regrouped ∙ rw (goes, first, each_again one Is form most total xs t.1 blanks rest shorter t.4 h) refl
 
-pub elements_again : {T : Type 0} (one : Reader T) (Is : T → List ℕ → Type 0) → IsForm one Is → (total : ℕ) (xs : List T) (elements blanks rest : List ℕ) → InTurn (AfterBlanks Is) xs elements → AreBlanks blanks
+pub elements_again : {T : Type 0} (one : Reader T) (Is : T → List ℕ → Type 0) → IsForm one Is
+    → (total : ℕ) (xs : List T) (elements blanks rest : List ℕ) → InTurn (AfterBlanks Is) xs elements → AreBlanks blanks
     → each_at element_next one (length (elements ++ (blanks ++ 62 ∷ rest))) total (elements ++ (blanks ++ 62 ∷ rest)) ≡ Ok (xs, rest)
 elements_again one Is form total xs elements blanks rest t h =
     each_again one Is form (length (elements ++ (blanks ++ 62 ∷ rest))) total xs elements blanks rest (omega (arith, length-append elements (blanks ++ 62 ∷ rest), length-append blanks (62 ∷ rest))) t h
@@ -129,10 +145,13 @@ hex_solid : (c v : ℕ) (more : List ℕ) → hex_digit_value c ≡ Some v → S
 hex_solid c v more e =
     (c, more, refl, not_true (is_blank c) (λ (h : is_blank c ≡ true). let none : hex_digit_value c ≡ None = hex_low c (blank_low c h) in cc), ne_eqb c 62 (λ (h : c ≡ 62). let none : hex_digit_value c ≡ None = ap hex_digit_value h in cc))
 
-pub hex_byte_takes : (total : ℕ) (bytes : List ℕ) (x : ℕ × List ℕ) → hex_byte_at total bytes ≡ Ok x → (front : List ℕ) × IsHexByte x.0 front × (bytes ≡ front ++ x.1)
+pub hex_byte_takes : (total : ℕ) (bytes : List ℕ) (x : ℕ × List ℕ) → hex_byte_at total bytes ≡ Ok x
+    → (front : List ℕ) × IsHexByte x.0 front × (bytes ≡ front ++ x.1)
 unfolding hex_byte_at
 hex_byte_takes total bytes x e =
-    let a = bind_ok (byte_in hex_digit_value total bytes) (λ (high : ℕ × List ℕ). byte_in hex_digit_value total high.1 >>= λ low. Ok (16 * high.0 + low.0, low.1)) x e in
+    let a =
+    bind_ok (byte_in hex_digit_value total bytes)
+    (λ (high : ℕ × List ℕ). byte_in hex_digit_value total high.1 >>= λ low. Ok (16 * high.0 + low.0, low.1)) x e in
     let b = bind_ok (byte_in hex_digit_value total a.0.1) (λ (low : ℕ × List ℕ). Ok (16 * a.0.0 + low.0, low.1)) x a.2 in
     let made : ◌≡◌ {A = ℕ × List ℕ} (16 * a.0.0 + b.0.0, b.0.1) x = cc (b.2) in
     let h = in_table hex_digit_value total bytes a.0 a.1 in
@@ -159,7 +178,8 @@ hex_byte_form = record {
   solid = hex_byte_solid;
 }
 
-hex_bytes_takes : (size total : ℕ) (bytes : List ℕ) (x : List ℕ × List ℕ) → hex_bytes_at size total bytes ≡ Ok x → (front : List ℕ) × IsHexBytes size x.0 front × (bytes ≡ front ++ x.1)
+hex_bytes_takes : (size total : ℕ) (bytes : List ℕ) (x : List ℕ × List ℕ) → hex_bytes_at size total bytes ≡ Ok x
+    → (front : List ℕ) × IsHexBytes size x.0 front × (bytes ≡ front ++ x.1)
 hex_bytes_takes zero total bytes x e =
     let made : ◌≡◌ {A = List ℕ × List ℕ} ([], bytes) x = cc in
     subst (λ (y : List ℕ × List ℕ). (front : List ℕ) × IsHexBytes 0 y.0 front × (bytes ≡ front ++ y.1)) made ([], (refl, refl), refl)

@@ -67,12 +67,15 @@ word_there (b ∷ word) total bytes rest e =
 abbrev Named : List ℕ → Kind × List ℕ → Type 0
 Named bytes x = bytes ≡ name_of x.0 ++ x.1
 
-letter_alone : (c letter : ℕ) (rest : List ℕ) (k : Kind) (x : Kind × List ℕ) → name_of k ≡ letter ∷ [] → eqb c letter ≡ true → ◌≡◌ {A = Result (Kind × List ℕ) TextFault} (Ok (k, rest)) (Ok x) → Named (c ∷ rest) x
+letter_alone : (c letter : ℕ) (rest : List ℕ) (k : Kind) (x : Kind × List ℕ) → name_of k ≡ letter ∷ [] → eqb c letter ≡ true
+    → ◌≡◌ {A = Result (Kind × List ℕ) TextFault} (Ok (k, rest)) (Ok x) → Named (c ∷ rest) x
 letter_alone c letter rest k x named is e =
     let made : ◌≡◌ {A = Kind × List ℕ} (k, rest) x = cc in
     subst (Named (c ∷ rest)) made (ap (λ (b : ℕ). b ∷ rest) (eqb-true c letter is) ∙ ap (λ (s : List ℕ). s ++ rest) (sym named))
 
-by_digit : (c letter total : ℕ) (rest : List ℕ) (table : ℕ → Option Kind) (x : Kind × List ℕ) → ((b : ℕ) (k : Kind) → table b ≡ Some k → name_of k ≡ letter ∷ b ∷ []) → eqb c letter ≡ true → byte_in table total rest ≡ Ok x → Named (c ∷ rest) x
+by_digit : (c letter total : ℕ) (rest : List ℕ) (table : ℕ → Option Kind) (x : Kind × List ℕ)
+    → ((b : ℕ) (k : Kind) → table b ≡ Some k → name_of k ≡ letter ∷ b ∷ []) → eqb c letter ≡ true → byte_in table total rest ≡ Ok x
+    → Named (c ∷ rest) x
 by_digit c letter total rest table x names is e =
     let t = in_table table total rest x e in
     ap (λ (b : ℕ). b ∷ rest) (eqb-true c letter is) ∙ ap (λ (s : List ℕ). letter ∷ s) t.2 ∙ ap (λ (s : List ℕ). s ++ x.1) (sym (names t.0 x.0 t.1))

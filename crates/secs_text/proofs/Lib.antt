@@ -2,6 +2,8 @@ pub mod Blanks
 pub mod Each
 pub mod Elements
 pub mod FaultLaws
+pub mod FaultPlaces
+pub mod FreeNumbers
 pub mod FrontItems
 pub mod FrontWords
 pub mod Fronts
@@ -13,8 +15,12 @@ pub mod LocalRuns
 pub mod LocalItems
 pub mod LocalWords
 pub mod Locality
+pub mod Looser
+pub mod LooserItems
+pub mod LooserTexts
 pub mod Numerals
 pub mod PrintLaws
 pub mod Printed
 pub mod Quotes
+pub mod Shallow
 pub mod TextLaws

@@ -17,7 +17,8 @@ use Rattle.secs_text.proofs.Quotes.{next_shown, shown_some, shown_takes}
 
 -- a value and what stands before it take bytes
 abbrev pub Shortens : {T : Type 0} → Finder → Reader T → Type 0
-Shortens {T} next one = (total : ℕ) (bytes after : List ℕ) (x : T × List ℕ) → next total bytes ≡ Ok (Goes after) → one total after ≡ Ok x → length x.1 < length bytes
+Shortens {T} next one =
+    (total : ℕ) (bytes after : List ℕ) (x : T × List ℕ) → next total bytes ≡ Ok (Goes after) → one total after ≡ Ok x → length x.1 < length bytes
 
 abbrev Each : Type 0 → Type 0
 Each T = List ℕ → Result (List T × List ℕ) TextFault
@@ -25,15 +26,18 @@ Each T = List ℕ → Result (List T × List ℕ) TextFault
 from_value : {T : Type 0} (value : Result (T × List ℕ) TextFault) (each each' : Each T) → ((x : T × List ℕ) → value ≡ Ok x → each x.1 ≡ each' x.1)
     → ◌≡◌ {A = Result (List T × List ℕ) TextFault} (value >>= λ first. each first.1 >>= λ others. Ok (first.0 ∷ others.0, others.1)) (value >>= λ first. each' first.1 >>= λ others. Ok (first.0 ∷ others.0, others.1))
 from_value (Err e) each each' same = refl
-from_value {T} (Ok x) each each' same = ap (λ (result : Result (List T × List ℕ) TextFault). result >>= λ others. Ok (x.0 ∷ others.0, others.1)) (same x refl)
+from_value {T} (Ok x) each each' same =
+    ap (λ (result : Result (List T × List ℕ) TextFault). result >>= λ others. Ok (x.0 ∷ others.0, others.1)) (same x refl)
 
-from_same : {T : Type 0} (n : Result Next TextFault) (one : List ℕ → Result (T × List ℕ) TextFault) (each each' : Each T) → ((after : List ℕ) (x : T × List ℕ) → n ≡ Ok (Goes after) → one after ≡ Ok x → each x.1 ≡ each' x.1)
+from_same : {T : Type 0} (n : Result Next TextFault) (one : List ℕ → Result (T × List ℕ) TextFault) (each each' : Each T)
+    → ((after : List ℕ) (x : T × List ℕ) → n ≡ Ok (Goes after) → one after ≡ Ok x → each x.1 ≡ each' x.1)
     → (n >>= each_from each one) ≡ (n >>= each_from each' one)
 from_same (Err e) one each each' same = refl
 from_same (Ok (Ends rest)) one each each' same = refl
 from_same (Ok (Goes after)) one each each' same = from_value (one after) each each' (λ x e. same after x refl e)
 
-enough : {T : Type 0} (next : Finder) (one : Reader T) → AtEnd next one → Shortens next one → (most more total : ℕ) (bytes : List ℕ) → length bytes ≤ most → length bytes ≤ more → each_at next one most total bytes ≡ each_at next one more total bytes
+enough : {T : Type 0} (next : Finder) (one : Reader T) → AtEnd next one → Shortens next one → (most more total : ℕ) (bytes : List ℕ)
+    → length bytes ≤ most → length bytes ≤ more → each_at next one most total bytes ≡ each_at next one more total bytes
 enough next one ends shortens zero zero total bytes l m = refl
 enough next one ends shortens zero (suc more) total bytes l m =
     let none : bytes ≡ [] = nil_from_length bytes (omega arith) in
@@ -54,15 +58,18 @@ run next one total bytes = each_at next one (length bytes) total bytes
 step : {T : Type 0} → Finder → Reader T → Reader (List T) → Reader (List T)
 step next one each = behind (find next) (λ goes. cond goes (behind one (λ x. behind each (λ xs. pure (x ∷ xs)))) (pure []))
 
-step_same : {T : Type 0} (next : Finder) (one : Reader T) (each : Reader (List T)) (total : ℕ) (bytes : List ℕ) → (next total bytes >>= each_from (each total) (one total)) ≡ step next one each total bytes
+step_same : {T : Type 0} (next : Finder) (one : Reader T) (each : Reader (List T)) (total : ℕ) (bytes : List ℕ)
+    → (next total bytes >>= each_from (each total) (one total)) ≡ step next one each total bytes
 unfolding step behind pure
 step_same {T} next one each total bytes = of (next total bytes) where
-  of : (n : Result Next TextFault) → (n >>= each_from (each total) (one total)) ≡ ((n >>= λ n. Ok (found n)) >>= λ g. cond g.0 (behind one (λ x. behind each (λ xs. pure (x ∷ xs)))) (pure []) total g.1)
+  of : (n : Result Next TextFault)
+      → (n >>= each_from (each total) (one total)) ≡ ((n >>= λ n. Ok (found n)) >>= λ g. cond g.0 (behind one (λ x. behind each (λ xs. pure (x ∷ xs)))) (pure []) total g.1)
   of (Err e) = refl
   of (Ok (Ends rest)) = refl
   of (Ok (Goes rest)) = refl
 
-run_same : {T : Type 0} (next : Finder) (one : Reader T) → AtEnd next one → Shortens next one → (total : ℕ) (bytes : List ℕ) → run next one total bytes ≡ step next one (run next one) total bytes
+run_same : {T : Type 0} (next : Finder) (one : Reader T) → AtEnd next one → Shortens next one → (total : ℕ) (bytes : List ℕ)
+    → run next one total bytes ≡ step next one (run next one) total bytes
 unfolding run
 run_same next one ends shortens total bytes =
     enough next one ends shortens (length bytes) (suc (length bytes)) total bytes (omega arith) (omega arith)
@@ -84,7 +91,8 @@ goes_found (Ok (Goes after)) rest h =
     let same : after ≡ rest = ap (λ q. q.1) p in
     ap (λ (s : List ℕ). Ok (Goes s)) same
 
-run_step : {T : Type 0} (next : Finder) (one : Reader T) → AtEnd next one → Shortens next one → Local (find next) → Local one → (total : ℕ) (bytes : List ℕ) → ((rest : List ℕ) → length rest < length bytes → At (run next one) total rest) → At (run next one) total bytes
+run_step : {T : Type 0} (next : Finder) (one : Reader T) → AtEnd next one → Shortens next one → Local (find next) → Local one
+    → (total : ℕ) (bytes : List ℕ) → ((rest : List ℕ) → length rest < length bytes → At (run next one) total rest) → At (run next one) total bytes
 unfolding step
 run_step {T} next one ends shortens finds ones total bytes less =
     at_same (step next one (run next one)) (run next one) total bytes (run_same next one ends shortens)
@@ -102,11 +110,15 @@ run_step {T} next one ends shortens finds ones total bytes less =
           let shorter : length x.1 < length bytes = shortens total bytes rest x (goes_found (next total bytes) rest e) o in
           at_behind (run next one) (λ xs. pure (x.0 ∷ xs)) total x.1 (less x.1 shorter) (λ xs e. local_pure (x.0 ∷ xs.0) total xs.1))
 
-run_at : {T : Type 0} (next : Finder) (one : Reader T) → AtEnd next one → Shortens next one → Local (find next) → Local one → (most total : ℕ) (bytes : List ℕ) → length bytes < most → At (run next one) total bytes
+run_at : {T : Type 0} (next : Finder) (one : Reader T) → AtEnd next one → Shortens next one → Local (find next) → Local one
+    → (most total : ℕ) (bytes : List ℕ) → length bytes < most → At (run next one) total bytes
 run_at next one ends shortens finds ones zero total bytes lt = absurd (omega arith)
-run_at next one ends shortens finds ones (suc most) total bytes lt = run_step next one ends shortens finds ones total bytes (λ rest less. run_at next one ends shortens finds ones most total rest (omega (arith, less, lt)))
+run_at next one ends shortens finds ones (suc most) total bytes lt =
+    run_step next one ends shortens finds ones total bytes
+    (λ rest less. run_at next one ends shortens finds ones most total rest (omega (arith, less, lt)))
 
-pub local_run : {T : Type 0} (next : Finder) (one : Reader T) → AtEnd next one → Shortens next one → Local (find next) → Local one → Local (run next one)
+pub local_run : {T : Type 0} (next : Finder) (one : Reader T) → AtEnd next one → Shortens next one → Local (find next) → Local one
+    → Local (run next one)
 local_run next one ends shortens finds ones total bytes = run_at next one ends shortens finds ones (suc (length bytes)) total bytes (omega arith)
 
 -- ---- elements
@@ -123,7 +135,9 @@ shortens_elements one Is form total bytes after x n o =
 
 pub local_elements : {T : Type 0} (one : Reader T) (Is : T → List ℕ → Type 0) → IsForm one Is → Local one → Local (elements_at one)
 unfolding run
-local_elements one Is form ones total bytes = at_same (run element_next one) (elements_at one) total bytes (λ total bytes. refl) (local_run element_next one (elements_end one) (shortens_elements one Is form) local_element_next ones total bytes)
+local_elements one Is form ones total bytes =
+    at_same (run element_next one) (elements_at one) total bytes (λ total bytes. refl)
+    (local_run element_next one (elements_end one) (shortens_elements one Is form) local_element_next ones total bytes)
 
 -- ---- quotes
 
@@ -137,7 +151,9 @@ shortens_shown total bytes after x n o =
 
 pub local_quoted : Local quoted_at
 unfolding quoted_at run
-local_quoted = local_then (after_byte 34) (run shown_next shown_at) quoted_at (λ total bytes. refl) (local_after_byte 34) (local_run shown_next shown_at shown_end shortens_shown local_shown_next local_shown)
+local_quoted =
+    local_then (after_byte 34) (run shown_next shown_at) quoted_at (λ total bytes. refl) (local_after_byte 34)
+    (local_run shown_next shown_at shown_end shortens_shown local_shown_next local_shown)
 
 -- ---- blanks, and what stands behind them
 
@@ -146,9 +162,12 @@ space_at total [] [] h solid =
     let none : skip after_space total [] ≡ Err (fault.Syntax total) = ap (λ (n : ℕ). Err (fault.Syntax n)) (omega arith) in
     subst (Told (skip after_space) total []) (sym none) (inl refl)
 space_at total (b ∷ blanks) [] h solid =
-    let all : skip after_space total (b ∷ blanks) ≡ Ok (tt, []) = rw (blanks_alone (b ∷ blanks) h, ne_eqb 0 (suc (length blanks)) (λ (e : 0 ≡ suc (length blanks)). omega (arith, e))) refl in
+    let all : skip after_space total (b ∷ blanks) ≡ Ok (tt, []) =
+    rw (blanks_alone (b ∷ blanks) h, ne_eqb 0 (suc (length blanks)) (λ (e : 0 ≡ suc (length blanks)). omega (arith, e))) refl in
     subst (At (skip after_space) total) (sym (append-nil (b ∷ blanks))) (at_all (skip after_space) (b ∷ blanks) total tt all)
-space_at total [] (c ∷ rest) h solid = at_broken (skip after_space) c total rest (λ total rest. rw (after_split [] c rest h solid, eq-eqb (length (c ∷ rest)) (length (c ∷ rest)) refl) refl)
+space_at total [] (c ∷ rest) h solid =
+    at_broken (skip after_space) c total rest
+    (λ total rest. rw (after_split [] c rest h solid, eq-eqb (length (c ∷ rest)) (length (c ∷ rest)) refl) refl)
 space_at total (b ∷ blanks) (c ∷ rest) h solid =
     at_left (skip after_space) (b ∷ blanks) c total rest tt (λ total rest.
     rw (after_split (b ∷ blanks) c rest h solid, ne_eqb (length (c ∷ rest)) (length ((b ∷ blanks) ++ c ∷ rest)) (longer (b ∷ blanks) (c ∷ rest) (λ (e : b ∷ blanks ≡ []). cc))) refl)
@@ -179,7 +198,8 @@ local_ended text = local_then after_end (pure text) (ended text) (λ total bytes
 
 pub local_text : Local text_at
 unfolding text_at behind ended
-local_text = local_then after_space (behind quoted_at ended) text_at (λ total bytes. refl) local_space (local_behind quoted_at ended local_quoted local_ended)
+local_text =
+    local_then after_space (behind quoted_at ended) text_at (λ total bytes. refl) local_space (local_behind quoted_at ended local_quoted local_ended)
 
 -- ---- blanks at both ends of a text
 
@@ -200,7 +220,8 @@ local_leading total bytes = let s = blanks_split bytes in subst (At (skip leadin
 unfoldable pub trailing : {T : Type 0} → T → Reader T
 trailing v total bytes = cond (eqb (length (after_blanks bytes)) 0) (Ok (v, [])) (broken total (after_blanks bytes))
 
-trailing_at : {T : Type 0} (v : T) (total : ℕ) (blanks after : List ℕ) → AreBlanks blanks → Solid_front after → At (trailing v) total (blanks ++ after)
+trailing_at : {T : Type 0} (v : T) (total : ℕ) (blanks after : List ℕ) → AreBlanks blanks → Solid_front after
+    → At (trailing v) total (blanks ++ after)
 unfolding trailing
 trailing_at v total blanks [] h solid =
     let all : trailing v total blanks ≡ Ok (v, []) = rw (blanks_alone blanks h) refl in

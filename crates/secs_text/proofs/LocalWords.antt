@@ -30,7 +30,8 @@ skipped : {B : Type 0} (result : Result (List ℕ) TextFault) (f : List ℕ → 
 skipped (Ok rest) f = refl
 skipped (Err e) f = refl
 
-regrouped : {A B C : Type 0} (result : Result A TextFault) (f : A → Result B TextFault) (g : B → Result C TextFault) → ((result >>= f) >>= g) ≡ (result >>= λ x. f x >>= g)
+regrouped : {A B C : Type 0} (result : Result A TextFault) (f : A → Result B TextFault) (g : B → Result C TextFault)
+    → ((result >>= f) >>= g) ≡ (result >>= λ x. f x >>= g)
 regrouped (Ok x) f g = refl
 regrouped (Err e) f g = refl
 
@@ -38,7 +39,8 @@ then_same : {T : Type 0} (s : Skip) (r : Reader T) (total : ℕ) (bytes : List �
 unfolding behind
 then_same s r total bytes = skipped (s total bytes) (r total)
 
-pub local_then : {T : Type 0} (s : Skip) (r whole : Reader T) → ((total : ℕ) (bytes : List ℕ) → whole total bytes ≡ (s total bytes >>= r total)) → Local (skip s) → Local r → Local whole
+pub local_then : {T : Type 0} (s : Skip) (r whole : Reader T) → ((total : ℕ) (bytes : List ℕ) → whole total bytes ≡ (s total bytes >>= r total))
+    → Local (skip s) → Local r → Local whole
 local_then s r whole same first next total bytes =
     at_same (behind (skip s) (λ _. r)) whole total bytes (λ total bytes. same total bytes ∙ then_same s r total bytes) (local_behind (skip s) (λ _. r) first (λ _. next) total bytes)
 
@@ -46,7 +48,8 @@ local_then s r whole same first next total bytes =
 
 byte_cases : (wanted c total : ℕ) (rest : List ℕ) → (eqb c wanted ≡ true) ⊎ (eqb c wanted ≡ false) → At (skip (after_byte wanted)) total (c ∷ rest)
 unfolding pure
-byte_cases wanted c total rest (inl h) = at_after (skip (after_byte wanted)) (pure tt) c total rest (λ total rest. rw h refl) (local_pure tt total rest)
+byte_cases wanted c total rest (inl h) =
+    at_after (skip (after_byte wanted)) (pure tt) c total rest (λ total rest. rw h refl) (local_pure tt total rest)
 byte_cases wanted c total rest (inr h) = at_broken (skip (after_byte wanted)) c total rest (λ total rest. rw h refl)
 
 pub local_after_byte : (wanted : ℕ) → Local (skip (after_byte wanted))
@@ -66,7 +69,9 @@ oolean total bytes = after_word (79 ∷ 76 ∷ 69 ∷ 65 ∷ 78 ∷ []) total by
 
 local_oolean : Local oolean
 unfolding oolean pure
-local_oolean total bytes = local_then (after_word (79 ∷ 76 ∷ 69 ∷ 65 ∷ 78 ∷ [])) (pure kind.Bool) oolean (λ total bytes. refl) (local_word (79 ∷ 76 ∷ 69 ∷ 65 ∷ 78 ∷ [])) (local_pure kind.Bool) total bytes
+local_oolean total bytes =
+    local_then (after_word (79 ∷ 76 ∷ 69 ∷ 65 ∷ 78 ∷ [])) (pure kind.Bool) oolean (λ total bytes. refl) (local_word (79 ∷ 76 ∷ 69 ∷ 65 ∷ 78 ∷ []))
+    (local_pure kind.Bool) total bytes
 
 binary_cases : (c total : ℕ) (rest : List ℕ) → (eqb c 79 ≡ true) ⊎ (eqb c 79 ≡ false) → At binary_at total (c ∷ rest)
 unfolding binary_at oolean
@@ -141,7 +146,8 @@ abbrev pub with_low : ℕ → ℕ → List ℕ → ℕ × List ℕ → Result (�
 with_low h total rest low = cond (stands_for_itself (16 * h + low.0)) (broken total rest) (Ok (16 * h + low.0, low.1))
 
 abbrev pub with_high : ℕ → List ℕ → ℕ × List ℕ → Result (ℕ × List ℕ) TextFault
-with_high total bytes high = (cond (begins_escape high.0) (byte_in hex_digit_value total high.1) (broken total bytes)) >>= with_low high.0 total high.1
+with_high total bytes high =
+    (cond (begins_escape high.0) (byte_in hex_digit_value total high.1) (broken total bytes)) >>= with_low high.0 total high.1
 
 low_same : (h total : ℕ) (rest : List ℕ) → (byte_in hex_digit_value total rest >>= with_low h total rest) ≡ byte_in (low_digit h) total rest
 unfolding low_digit
@@ -154,7 +160,8 @@ low_same h total (d ∷ rest) = of (hex_digit_value d) where
   chosen_low true v = refl
   chosen_low false v = refl
 
-  of : (o : Option ℕ) → (taken rest (ok_or o e) >>= with_low h total (d ∷ rest)) ≡ taken rest (ok_or (option_and_then (λ l. cond (stands_for_itself (16 * h + l)) None (Some (16 * h + l))) o) e)
+  of : (o : Option ℕ)
+      → (taken rest (ok_or o e) >>= with_low h total (d ∷ rest)) ≡ taken rest (ok_or (option_and_then (λ l. cond (stands_for_itself (16 * h + l)) None (Some (16 * h + l))) o) e)
   of None = refl
   of (Some l) = chosen_low (stands_for_itself (16 * h + l)) (16 * h + l)
 
@@ -165,16 +172,20 @@ escape_same total (c ∷ rest) = of (hex_digit_value c) where
   e : TextFault
   e = fault.Syntax (total - suc (length rest))
 
-  chosen_high : (b : Bool) (h : ℕ) → ((cond b (byte_in hex_digit_value total rest) (broken total (c ∷ rest))) >>= with_low h total rest) ≡ (taken rest (ok_or (cond b (Some h) None) e) >>= λ x. byte_in (low_digit x.0) total x.1)
+  chosen_high : (b : Bool) (h : ℕ)
+      → ((cond b (byte_in hex_digit_value total rest) (broken total (c ∷ rest))) >>= with_low h total rest) ≡ (taken rest (ok_or (cond b (Some h) None) e) >>= λ x. byte_in (low_digit x.0) total x.1)
   chosen_high true h = low_same h total rest
   chosen_high false h = refl
 
-  of : (o : Option ℕ) → (taken rest (ok_or o e) >>= with_high total (c ∷ rest)) ≡ (taken rest (ok_or (option_and_then (λ h. cond (begins_escape h) (Some h) None) o) e) >>= λ x. byte_in (low_digit x.0) total x.1)
+  of : (o : Option ℕ)
+      → (taken rest (ok_or o e) >>= with_high total (c ∷ rest)) ≡ (taken rest (ok_or (option_and_then (λ h. cond (begins_escape h) (Some h) None) o) e) >>= λ x. byte_in (low_digit x.0) total x.1)
   of None = refl
   of (Some h) = chosen_high (begins_escape h) h
 
 local_escape : Local escape_at
-local_escape total bytes = at_same (behind (byte_in high_digit) (λ h. byte_in (low_digit h))) escape_at total bytes escape_same (local_behind (byte_in high_digit) (λ h. byte_in (low_digit h)) (local_byte high_digit) (λ h. local_byte (low_digit h)) total bytes)
+local_escape total bytes =
+    at_same (behind (byte_in high_digit) (λ h. byte_in (low_digit h))) escape_at total bytes escape_same
+    (local_behind (byte_in high_digit) (λ h. byte_in (low_digit h)) (local_byte high_digit) (λ h. local_byte (low_digit h)) total bytes)
 
 escaped : Reader ℕ
 escaped total bytes = after_byte 120 total bytes >>= escape_at total
@@ -218,7 +229,9 @@ abbrev pub Solid_front : List ℕ → Type 0
 Solid_front [] = Unit {0}
 Solid_front (b ∷ rest) = is_blank b ≡ false
 
-split_step : (b : ℕ) (rest : List ℕ) → (is_blank b ≡ true) ⊎ (is_blank b ≡ false) → (blanks : List ℕ) × (after : List ℕ) × AreBlanks blanks × (rest ≡ blanks ++ after) × Solid_front after → (blanks : List ℕ) × (after : List ℕ) × AreBlanks blanks × (b ∷ rest ≡ blanks ++ after) × Solid_front after
+split_step : (b : ℕ) (rest : List ℕ) → (is_blank b ≡ true) ⊎ (is_blank b ≡ false)
+    → (blanks : List ℕ) × (after : List ℕ) × AreBlanks blanks × (rest ≡ blanks ++ after) × Solid_front after
+    → (blanks : List ℕ) × (after : List ℕ) × AreBlanks blanks × (b ∷ rest ≡ blanks ++ after) × Solid_front after
 split_step b rest (inl h) s = (b ∷ s.0, s.1, (h, s.2), ap (λ (t : List ℕ). b ∷ t) s.3, s.4)
 split_step b rest (inr h) s = ([], b ∷ rest, tt, refl, h)
 
@@ -230,7 +243,8 @@ pub after_split : (blanks : List ℕ) (c : ℕ) (rest : List ℕ) → AreBlanks 
 after_split blanks c rest h solid = blanks_skipped blanks (c ∷ rest) h ∙ stays c rest solid
 
 -- neither blanks nor `>`
-next_broken : (c total : ℕ) (rest : List ℕ) → is_blank c ≡ false → eqb c 62 ≡ false → find element_next total (c ∷ rest) ≡ Err (fault.Syntax (total - suc (length rest)))
+next_broken : (c total : ℕ) (rest : List ℕ) → is_blank c ≡ false → eqb c 62 ≡ false
+    → find element_next total (c ∷ rest) ≡ Err (fault.Syntax (total - suc (length rest)))
 unfolding element_next
 next_broken c total rest solid other = rw (stays c rest solid, other, eq-eqb (length (c ∷ rest)) (length (c ∷ rest)) refl) refl
 
@@ -244,7 +258,9 @@ next_none total = ap (λ (n : ℕ). Err (fault.Syntax n)) (omega arith)
 
 next_at : (total : ℕ) (blanks after : List ℕ) → AreBlanks blanks → Solid_front after → At (find element_next) total (blanks ++ after)
 next_at total [] [] h solid = subst (Told (find element_next) total []) (sym (next_none total)) (inl refl)
-next_at total (b ∷ blanks) [] h solid = subst (At (find element_next) total) (sym (append-nil (b ∷ blanks))) (at_all (find element_next) (b ∷ blanks) total true (next_all b total blanks h))
+next_at total (b ∷ blanks) [] h solid =
+    subst (At (find element_next) total) (sym (append-nil (b ∷ blanks)))
+    (at_all (find element_next) (b ∷ blanks) total true (next_all b total blanks h))
 next_at total blanks (c ∷ rest) h solid =
     elim (cases_Bool (eqb c 62)) [
       | inl e ↦
@@ -252,9 +268,12 @@ next_at total blanks (c ∷ rest) h solid =
           (subst (At (find element_next) total) (append_assoc blanks (62 ∷ []) rest) (at_taken (find element_next) (blanks ++ 62 ∷ []) total rest false (λ total rest. ap (find element_next total) (append_assoc blanks (62 ∷ []) rest) ∙ ap (λ r. r >>= λ n. Ok (found n)) (end_again total blanks rest h))))
       | inr e ↦ some_at total blanks c rest h solid e
     ] where
-      some_at : (total : ℕ) (blanks : List ℕ) (c : ℕ) (rest : List ℕ) → AreBlanks blanks → is_blank c ≡ false → eqb c 62 ≡ false → At (find element_next) total (blanks ++ c ∷ rest)
+      some_at : (total : ℕ) (blanks : List ℕ) (c : ℕ) (rest : List ℕ) → AreBlanks blanks → is_blank c ≡ false → eqb c 62 ≡ false
+          → At (find element_next) total (blanks ++ c ∷ rest)
       some_at total [] c rest h solid other = at_broken (find element_next) c total rest (λ total rest. next_broken c total rest solid other)
-      some_at total (b ∷ blanks) c rest h solid other = at_left (find element_next) (b ∷ blanks) c total rest true (λ total rest. ap (λ r. r >>= λ n. Ok (found n)) (goes_again total c (b ∷ blanks) rest h (λ (e : b ∷ blanks ≡ []). cc) solid other))
+      some_at total (b ∷ blanks) c rest h solid other =
+          at_left (find element_next) (b ∷ blanks) c total rest true
+          (λ total rest. ap (λ r. r >>= λ n. Ok (found n)) (goes_again total c (b ∷ blanks) rest h (λ (e : b ∷ blanks ≡ []). cc) solid other))
 
 pub local_element_next : Local (find element_next)
 local_element_next total bytes = let s = blanks_split bytes in subst (At (find element_next) total) (sym s.3) (next_at total s.0 s.1 s.2 s.4)

@@ -7,7 +7,7 @@ use Rattle.secs_items.specs.declared.item.Item.TheVariants as item
 use Rattle.secs_items.specs.declared.item.Item.TheVariants.{rolls-L}
 use Rattle.secs_text.specs.Text.{spaced, text_layer, text_of}
 
-spaced-map : (items : List Item) → spaced (λ (text : List ℕ). text) (map text_of items) ≡ spaced text_of items
+pub spaced-map : (items : List Item) → spaced (λ (text : List ℕ). text) (map text_of items) ≡ spaced text_of items
 spaced-map [] = refl
 spaced-map (i ∷ items) = ap (λ (s : List ℕ). (32 ∷ text_of i) ++ s) (spaced-map items)
 

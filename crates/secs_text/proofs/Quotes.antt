@@ -10,12 +10,15 @@ use Rattle.secs_text.specs.Reading.{◌>>=◌, Next, Ends, Goes, after_blanks, a
 use Rattle.secs_text.proofs.Blanks.{bind_ok, blanks_found, blanks_skipped, begins_there, byte_again, byte_there, chosen, in_table, longer, stays}
 
 quote_no_self : (b : ℕ) → stands_for_itself b ≡ true → eqb b 34 ≡ false
-quote_no_self b h = not-true (eqb b 34) (and_parts (leb 32 b && leb b 126) (not (eqb b 34)) (and_parts (leb 32 b && leb b 126 && not (eqb b 34)) (not (eqb b 92)) h).0).1
+quote_no_self b h =
+    not-true (eqb b 34)
+    (and_parts (leb 32 b && leb b 126) (not (eqb b 34)) (and_parts (leb 32 b && leb b 126 && not (eqb b 34)) (not (eqb b 92)) h).0).1
 
 -- ---- the digits of an escape
 
 -- the byte of two digits, where it doesn't stand for itself
-escape_end : (total byte : ℕ) (rest after : List ℕ) (x : ℕ × List ℕ) → cond (stands_for_itself byte) (broken total rest) (Ok (byte, after)) ≡ Ok x → (stands_for_itself byte ≡ false) × (◌≡◌ {A = ℕ × List ℕ} (byte, after) x)
+escape_end : (total byte : ℕ) (rest after : List ℕ) (x : ℕ × List ℕ) → cond (stands_for_itself byte) (broken total rest) (Ok (byte, after)) ≡ Ok x
+    → (stands_for_itself byte ≡ false) × (◌≡◌ {A = ℕ × List ℕ} (byte, after) x)
 escape_end total byte rest after x e =
     elim (chosen (stands_for_itself byte) (broken total rest) (Ok (byte, after)) x e) [
       | inl h ↦ absurd (cc (h.1))
@@ -26,11 +29,16 @@ allowed : {A : Type 0} (b : Bool) (r : Result A TextFault) (total : ℕ) (bytes 
 allowed true r total bytes y e = e
 allowed false r total bytes y e = absurd cc
 
-escape_takes : (total : ℕ) (bytes : List ℕ) (x : ℕ × List ℕ) → escape_at total bytes ≡ Ok x → (digits : List ℕ) × (stands_for_itself x.0 ≡ false) × IsHexByte x.0 digits × (bytes ≡ digits ++ x.1)
+escape_takes : (total : ℕ) (bytes : List ℕ) (x : ℕ × List ℕ) → escape_at total bytes ≡ Ok x
+    → (digits : List ℕ) × (stands_for_itself x.0 ≡ false) × IsHexByte x.0 digits × (bytes ≡ digits ++ x.1)
 unfolding escape_at
 escape_takes total bytes x e =
-    let a = bind_ok (byte_in hex_digit_value total bytes) (λ (high : ℕ × List ℕ). (cond (begins_escape high.0) (byte_in hex_digit_value total high.1) (broken total bytes)) >>= λ low. cond (stands_for_itself (16 * high.0 + low.0)) (broken total high.1) (Ok (16 * high.0 + low.0, low.1))) x e in
-    let b = bind_ok (cond (begins_escape a.0.0) (byte_in hex_digit_value total a.0.1) (broken total bytes)) (λ (low : ℕ × List ℕ). cond (stands_for_itself (16 * a.0.0 + low.0)) (broken total a.0.1) (Ok (16 * a.0.0 + low.0, low.1))) x a.2 in
+    let a =
+    bind_ok (byte_in hex_digit_value total bytes)
+    (λ (high : ℕ × List ℕ). (cond (begins_escape high.0) (byte_in hex_digit_value total high.1) (broken total bytes)) >>= λ low. cond (stands_for_itself (16 * high.0 + low.0)) (broken total high.1) (Ok (16 * high.0 + low.0, low.1))) x e in
+    let b =
+    bind_ok (cond (begins_escape a.0.0) (byte_in hex_digit_value total a.0.1) (broken total bytes))
+    (λ (low : ℕ × List ℕ). cond (stands_for_itself (16 * a.0.0 + low.0)) (broken total a.0.1) (Ok (16 * a.0.0 + low.0, low.1))) x a.2 in
     let s = escape_end total (16 * a.0.0 + b.0.0) a.0.1 b.0.1 x b.2 in
     let h = in_table hex_digit_value total bytes a.0 a.1 in
     let l = in_table hex_digit_value total a.0.1 b.0 (allowed (begins_escape a.0.0) (byte_in hex_digit_value total a.0.1) total bytes b.0 b.1) in
@@ -57,7 +65,8 @@ escape_high h l small bad =
       ne_eqb h 6 (λ (e : h ≡ 6). stood (16 * h + l) bad (omega arith) (omega arith) (λ d. omega (arith, e, d, small))),
     ) refl
 
-escape_again : (total b : ℕ) (digits rest : List ℕ) → stands_for_itself b ≡ false → IsHexByte b digits → escape_at total (digits ++ rest) ≡ Ok (b, rest)
+escape_again : (total b : ℕ) (digits rest : List ℕ) → stands_for_itself b ≡ false → IsHexByte b digits
+    → escape_at total (digits ++ rest) ≡ Ok (b, rest)
 unfolding escape_at
 escape_again total b [] rest bad is = absurd is
 escape_again total b (c ∷ []) rest bad is = absurd is
@@ -69,7 +78,8 @@ escape_again total b (c ∷ d ∷ e ∷ digits) rest bad is = absurd is
 -- ---- one byte
 
 shown_cases : (total b : ℕ) (rest : List ℕ) (x : ℕ × List ℕ)
-    → cond (stands_for_itself b) (Ok (b, rest)) (cond (eqb b 92) (after_byte 120 total rest >>= escape_at total) (Err (fault.Syntax (total - suc (length rest))))) ≡ Ok x → (front : List ℕ) × IsShown x.0 front × (b ∷ rest ≡ front ++ x.1)
+    → cond (stands_for_itself b) (Ok (b, rest)) (cond (eqb b 92) (after_byte 120 total rest >>= escape_at total) (Err (fault.Syntax (total - suc (length rest))))) ≡ Ok x
+    → (front : List ℕ) × IsShown x.0 front × (b ∷ rest ≡ front ++ x.1)
 shown_cases total b rest x e =
     elim (chosen (stands_for_itself b) (Ok (b, rest)) (cond (eqb b 92) (after_byte 120 total rest >>= escape_at total) (Err (fault.Syntax (total - suc (length rest))))) x e) [
       | inl h ↦
@@ -84,12 +94,14 @@ shown_cases total b rest x e =
       ]
     ]
 
-pub shown_takes : (total : ℕ) (bytes : List ℕ) (x : ℕ × List ℕ) → shown_at total bytes ≡ Ok x → (front : List ℕ) × IsShown x.0 front × (bytes ≡ front ++ x.1)
+pub shown_takes : (total : ℕ) (bytes : List ℕ) (x : ℕ × List ℕ) → shown_at total bytes ≡ Ok x
+    → (front : List ℕ) × IsShown x.0 front × (bytes ≡ front ++ x.1)
 unfolding shown_at
 shown_takes total [] x e = absurd cc
 shown_takes total (b ∷ rest) x e = shown_cases total b rest x e
 
-shown_again : (total b : ℕ) (front rest : List ℕ) → IsShown b front → (shown_at total (front ++ rest) ≡ Ok (b, rest)) × (begins 34 (front ++ rest) ≡ false) × (0 < length front)
+shown_again : (total b : ℕ) (front rest : List ℕ) → IsShown b front
+    → (shown_at total (front ++ rest) ≡ Ok (b, rest)) × (begins 34 (front ++ rest) ≡ false) × (0 < length front)
 unfolding shown_at
 shown_again total b front rest (inl h) = rw h.1 (rw h.0 refl, quote_no_self b h.0, omega arith)
 shown_again total b front rest (inr h) = rw h.2 (escape_again total b h.1 rest h.0 h.3, refl, omega arith)
@@ -103,11 +115,14 @@ shown_some b front (inr h) = omega (arith, ap length h.2)
 abbrev Inner : List ℕ → List ℕ → List ℕ → Type 0
 Inner xs bytes rest = (inner : List ℕ) × InTurn IsShown xs inner × (bytes ≡ inner ++ 34 ∷ rest)
 
-closed : (bytes : List ℕ) (n : Next) (b : Bool) → begins 34 bytes ≡ b → ◌≡◌ {A = Result Next TextFault} (cond b (Ok (Ends (drop 1 bytes))) (Ok (Goes bytes))) (Ok n) → ((bytes ≡ 34 ∷ drop 1 bytes) × (n ≡ Ends (drop 1 bytes))) ⊎ (n ≡ Goes bytes)
+closed : (bytes : List ℕ) (n : Next) (b : Bool) → begins 34 bytes ≡ b
+    → ◌≡◌ {A = Result Next TextFault} (cond b (Ok (Ends (drop 1 bytes))) (Ok (Goes bytes))) (Ok n)
+    → ((bytes ≡ 34 ∷ drop 1 bytes) × (n ≡ Ends (drop 1 bytes))) ⊎ (n ≡ Goes bytes)
 closed bytes n true h e = inl (begins_there 34 bytes h, cc)
 closed bytes n false h e = inr cc
 
-pub next_shown : (total : ℕ) (bytes : List ℕ) (n : Next) → shown_next total bytes ≡ Ok n → ((bytes ≡ 34 ∷ drop 1 bytes) × (n ≡ Ends (drop 1 bytes))) ⊎ (n ≡ Goes bytes)
+pub next_shown : (total : ℕ) (bytes : List ℕ) (n : Next) → shown_next total bytes ≡ Ok n
+    → ((bytes ≡ 34 ∷ drop 1 bytes) × (n ≡ Ends (drop 1 bytes))) ⊎ (n ≡ Goes bytes)
 unfolding shown_next
 next_shown total bytes n e = closed bytes n (begins 34 bytes) refl e
 
@@ -115,7 +130,8 @@ abbrev Each : ℕ → ℕ → List ℕ → Result (List ℕ × List ℕ) TextFau
 Each most total bytes = each_at shown_next shown_at most total bytes
 
 from_shown : (most total : ℕ) → ((bytes : List ℕ) (xs : List ℕ × List ℕ) → Each most total bytes ≡ Ok xs → Inner xs.0 bytes xs.1)
-    → (bytes : List ℕ) (n : Next) (xs : List ℕ × List ℕ) → shown_next total bytes ≡ Ok n → each_from (each_at shown_next shown_at most total) (shown_at total) n ≡ Ok xs → Inner xs.0 bytes xs.1
+    → (bytes : List ℕ) (n : Next) (xs : List ℕ × List ℕ) → shown_next total bytes ≡ Ok n
+    → each_from (each_at shown_next shown_at most total) (shown_at total) n ≡ Ok xs → Inner xs.0 bytes xs.1
 from_shown most total others bytes (Ends after) xs found e =
     let made : ◌≡◌ {A = List ℕ × List ℕ} ([], after) xs = cc in
     elim (next_shown total bytes (Ends after) found) [
@@ -150,7 +166,8 @@ ends_shown : (total : ℕ) (rest : List ℕ) → shown_next total (34 ∷ rest) 
 unfolding shown_next
 ends_shown total rest = refl
 
-inner_again : (most total : ℕ) (xs inner rest : List ℕ) → length inner < most → InTurn IsShown xs inner → Each most total (inner ++ 34 ∷ rest) ≡ Ok (xs, rest)
+inner_again : (most total : ℕ) (xs inner rest : List ℕ) → length inner < most → InTurn IsShown xs inner
+    → Each most total (inner ++ 34 ∷ rest) ≡ Ok (xs, rest)
 inner_again zero total xs inner rest lt t = absurd (omega arith)
 inner_again (suc most) total [] inner rest lt t = rw (t, ends_shown total rest) refl
 inner_again (suc most) total (x ∷ xs) inner rest lt t =
@@ -160,7 +177,8 @@ inner_again (suc most) total (x ∷ xs) inner rest lt t =
     let shorter : length t.1 < most = omega (arith, lt, s.2, ap length t.2, length-append t.0 t.1) in
     ap (Each (suc most) total) regrouped ∙ rw (goes_shown total (t.0 ++ tail) s.1, s.0, inner_again most total xs t.1 rest shorter t.4) refl
 
-pub quoted_takes : (total : ℕ) (bytes : List ℕ) (x : List ℕ × List ℕ) → quoted_at total bytes ≡ Ok x → (front : List ℕ) × IsQuoted x.0 front × (bytes ≡ front ++ x.1)
+pub quoted_takes : (total : ℕ) (bytes : List ℕ) (x : List ℕ × List ℕ) → quoted_at total bytes ≡ Ok x
+    → (front : List ℕ) × IsQuoted x.0 front × (bytes ≡ front ++ x.1)
 unfolding quoted_at
 quoted_takes total bytes x e =
     let a = bind_ok (after_byte 34 total bytes) (λ inner. Each (length inner) total inner) x e in
@@ -171,12 +189,15 @@ quoted_again : (total : ℕ) (xs front rest : List ℕ) → IsQuoted xs front �
 unfolding quoted_at
 quoted_again total xs front rest is =
     let inner = is.0 in
-    let regrouped : front ++ rest ≡ 34 ∷ (inner ++ 34 ∷ rest) = ap (λ (s : List ℕ). s ++ rest) is.1 ∙ ap (λ (s : List ℕ). 34 ∷ s) (append_assoc inner (34 ∷ []) rest) in
+    let regrouped : front ++ rest ≡ 34 ∷ (inner ++ 34 ∷ rest) =
+    ap (λ (s : List ℕ). s ++ rest) is.1 ∙ ap (λ (s : List ℕ). 34 ∷ s) (append_assoc inner (34 ∷ []) rest) in
     rw regrouped (inner_again (length (inner ++ 34 ∷ rest)) total xs inner rest (omega (arith, length-append inner (34 ∷ rest))) is.2)
 
 -- ---- the one element of an A
 
-pub space_there : (total : ℕ) (bytes rest : List ℕ) (b : Bool) → eqb (length (after_blanks bytes)) (length bytes) ≡ b → cond b (broken total bytes) (Ok (after_blanks bytes)) ≡ Ok rest → (blanks : List ℕ) × AreBlanks blanks × (blanks ≢ []) × (bytes ≡ blanks ++ rest)
+pub space_there : (total : ℕ) (bytes rest : List ℕ) (b : Bool) → eqb (length (after_blanks bytes)) (length bytes) ≡ b
+    → cond b (broken total bytes) (Ok (after_blanks bytes)) ≡ Ok rest
+    → (blanks : List ℕ) × AreBlanks blanks × (blanks ≢ []) × (bytes ≡ blanks ++ rest)
 space_there total bytes rest true h e = absurd cc
 space_there total bytes rest false h e =
     let f = blanks_found bytes in
@@ -184,7 +205,8 @@ space_there total bytes rest false h e =
     (f.0, f.1, λ (none : f.0 ≡ []). eqb-false (length (after_blanks bytes)) (length bytes) h (ap length (sym (f.2 ∙ ap (λ (s : List ℕ). s ++ after_blanks bytes) none))), f.2 ∙ ap (λ (s : List ℕ). f.0 ++ s) left)
 
 -- an A's text and its end
-pub text_takes : (total : ℕ) (bytes : List ℕ) (x : List ℕ × List ℕ) → text_at total bytes ≡ Ok x → (elements : List ℕ) × (blanks : List ℕ) × AfterBlanks IsQuoted x.0 elements × AreBlanks blanks × (bytes ≡ elements ++ (blanks ++ 62 ∷ x.1))
+pub text_takes : (total : ℕ) (bytes : List ℕ) (x : List ℕ × List ℕ) → text_at total bytes ≡ Ok x
+    → (elements : List ℕ) × (blanks : List ℕ) × AfterBlanks IsQuoted x.0 elements × AreBlanks blanks × (bytes ≡ elements ++ (blanks ++ 62 ∷ x.1))
 unfolding text_at
 text_takes total bytes x e =
     let a = bind_ok (after_space total bytes) (λ front. quoted_at total front >>= λ text. after_end total text.1 >>= λ rest. Ok (text.0, rest)) x e in
@@ -198,7 +220,8 @@ text_takes total bytes x e =
     subst (λ (y : List ℕ × List ℕ). (elements : List ℕ) × (blanks : List ℕ) × AfterBlanks IsQuoted y.0 elements × AreBlanks blanks × (bytes ≡ elements ++ (blanks ++ 62 ∷ y.1))) made
     (s.0 ++ q.0, f.0, (s.0, q.0, refl, s.1, s.2, q.1), f.1, s.3 ∙ ap (λ (t : List ℕ). s.0 ++ t) (q.2 ∙ ap (λ (t : List ℕ). q.0 ++ t) (f.2 ∙ ap (λ (t : List ℕ). f.0 ++ t) end)) ∙ sym (append_assoc s.0 q.0 (f.0 ++ 62 ∷ c.0)))
 
-space_again : (total b : ℕ) (blanks more : List ℕ) → AreBlanks blanks → blanks ≢ [] → is_blank b ≡ false → after_space total (blanks ++ b ∷ more) ≡ Ok (b ∷ more)
+space_again : (total b : ℕ) (blanks more : List ℕ) → AreBlanks blanks → blanks ≢ [] → is_blank b ≡ false
+    → after_space total (blanks ++ b ∷ more) ≡ Ok (b ∷ more)
 space_again total b blanks more h some solid =
     let skipped : after_blanks (blanks ++ b ∷ more) ≡ b ∷ more = blanks_skipped blanks (b ∷ more) h ∙ stays b more solid in
     rw (skipped, ne_eqb (length (b ∷ more)) (length (blanks ++ b ∷ more)) (longer blanks (b ∷ more) some)) refl
@@ -206,12 +229,15 @@ space_again total b blanks more h some solid =
 pub end_there : (total : ℕ) (blanks rest : List ℕ) → AreBlanks blanks → after_end total (blanks ++ 62 ∷ rest) ≡ Ok rest
 end_there total blanks rest h = ap (after_byte 62 total) (blanks_skipped blanks (62 ∷ rest) h) ∙ byte_again 62 total rest
 
-pub text_again : (total : ℕ) (xs elements blanks rest : List ℕ) → AfterBlanks IsQuoted xs elements → AreBlanks blanks → text_at total (elements ++ (blanks ++ 62 ∷ rest)) ≡ Ok (xs, rest)
+pub text_again : (total : ℕ) (xs elements blanks rest : List ℕ) → AfterBlanks IsQuoted xs elements → AreBlanks blanks
+    → text_at total (elements ++ (blanks ++ 62 ∷ rest)) ≡ Ok (xs, rest)
 unfolding text_at
 text_again total xs elements blanks rest t h =
     let end = blanks ++ 62 ∷ rest in
     let inner = t.5.0 ++ 34 ∷ [] in
     let regrouped : elements ++ end ≡ t.0 ++ (t.1 ++ end) = ap (λ (s : List ℕ). s ++ end) t.2 ∙ append_assoc t.0 t.1 end in
     let opened : t.1 ++ end ≡ 34 ∷ (inner ++ end) = ap (λ (s : List ℕ). s ++ end) t.5.1 in
-    let space : after_space total (t.0 ++ (t.1 ++ end)) ≡ Ok (t.1 ++ end) = ap (λ (s : List ℕ). after_space total (t.0 ++ s)) opened ∙ space_again total 34 t.0 (inner ++ end) t.3 t.4 refl ∙ ap (λ (s : List ℕ). Ok s) (sym opened) in
+    let space : after_space total (t.0 ++ (t.1 ++ end)) ≡ Ok (t.1 ++ end) =
+    ap (λ (s : List ℕ). after_space total (t.0 ++ s)) opened ∙ space_again total 34 t.0 (inner ++ end) t.3 t.4 refl
+    ∙ ap (λ (s : List ℕ). Ok s) (sym opened) in
     rw (regrouped, space, quoted_again total xs t.1 end t.5, end_there total blanks rest h) refl

@@ -6,23 +6,11 @@ use Rattle.std.proofs.lemmas.List.{append-nil, nil_from_length}
 use Rattle.secs_items.specs.declared.item.Item.{Item}
 use Rattle.secs_text.specs.declared.text_fault.TextFault.{TextFault}
 use Rattle.secs_text.specs.declared.text_fault.TextFault.TheVariants as fault
-use Rattle.secs_text.specs.Grammar.{IsItemText, ReadsAs}
-use Rattle.secs_text.specs.Reading.{Gives, ReadsOnly, after_blanks, broken, digits_from, fault_of, first_text_fault, item_at, read_text, whole}
+use Rattle.secs_text.specs.Grammar.{Bounds, InBlanks, IsItemText, Kept, ReadsAs, ReadsWithin}
+use Rattle.secs_text.specs.Reading.{Gives, ReadsOnly, after_blanks, broken, fault_of, first_text_fault, item_at, read_text, read_within, whole}
 use Rattle.secs_text.proofs.Blanks.{bind_ok, blanks_alone, blanks_found, blanks_skipped, chosen, stays}
-use Rattle.secs_text.proofs.Elements.{Solid, stops_only}
+use Rattle.secs_text.proofs.Elements.{stops_only}
 use Rattle.secs_text.proofs.Items.{item_form}
-
-inner_takes : (total : ℕ) (bytes : List ℕ) (x : Item × List ℕ) → item_at 64 total bytes ≡ Ok x → (front : List ℕ) × IsItemText x.0 front × (bytes ≡ front ++ x.1)
-unfolding IsItemText
-inner_takes total bytes x e = (item_form 64).takes total bytes x e
-
-inner_again : (total : ℕ) (i : Item) (front rest : List ℕ) → IsItemText i front → ((n : ℕ) → digits_from n rest ≡ (n, rest)) → item_at 64 total (front ++ rest) ≡ Ok (i, rest)
-unfolding IsItemText
-inner_again total i front rest t stops = (item_form 64).again total i front rest t stops
-
-inner_solid : (i : Item) (front : List ℕ) → IsItemText i front → Solid front
-unfolding IsItemText
-inner_solid i front t = (item_form 64).solid i front t
 
 all_read : (total : ℕ) (x : Item × List ℕ) (item : Item) → whole total x ≡ Ok item → (x.0 ≡ item) × (after_blanks x.1 ≡ [])
 all_read total x item e =
@@ -31,11 +19,12 @@ all_read total x item e =
       | inr h ↦ absurd (cc (h.1))
     ]
 
-pub reads_as : (text : List ℕ) (item : Item) → read_text text ≡ Ok item → ReadsAs text item
-unfolding read_text
-reads_as text item e =
-    let a = bind_ok (item_at 64 (length text) (after_blanks text)) (whole (length text)) item e in
-    let f = inner_takes (length text) (after_blanks text) a.0 a.1 in
+pub reads_as_within : (bounds : Bounds) (depth : ℕ) (text : List ℕ) (item : Item) → read_within bounds depth text ≡ Ok item
+    → InBlanks (ReadsWithin bounds depth) text item
+unfolding read_within
+reads_as_within bounds depth text item e =
+    let a = bind_ok (item_at bounds depth (length text) (after_blanks text)) (whole (length text)) item e in
+    let f = (item_form bounds depth).takes (length text) (after_blanks text) a.0 a.1 in
     let w = all_read (length text) a.0 item a.2 in
     let before = blanks_found text in
     let after = blanks_found a.0.1 in
@@ -45,27 +34,39 @@ reads_as text item e =
       inner = f.0;
       after = after.0;
       begins = before.1;
-      reads = subst (λ (i : Item). IsItemText i f.0) w.0 f.1;
+      reads = subst (λ (i : Item). ReadsWithin bounds depth i f.0) w.0 f.1;
       ends = after.1;
       placed = before.2 ∙ ap (λ (s : List ℕ). before.0 ++ s) (f.2 ∙ ap (λ (s : List ℕ). f.0 ++ s) ended);
     }
 
-pub as_read : (text : List ℕ) (item : Item) → ReadsAs text item → read_text text ≡ Ok item
-unfolding read_text
-as_read text item r =
-    let s = inner_solid item r.inner r.reads in
+pub as_read_within : (bounds : Bounds) (depth : ℕ) (text : List ℕ) (item : Item) → InBlanks (ReadsWithin bounds depth) text item
+    → read_within bounds depth text ≡ Ok item
+unfolding read_within
+as_read_within bounds depth text item r =
+    let form = item_form bounds depth in
+    let s = form.solid item r.inner r.reads in
     let opened : r.inner ++ r.after ≡ s.0 ∷ (s.1 ++ r.after) = ap (λ (t : List ℕ). t ++ r.after) s.2 in
     let skipped : after_blanks text ≡ r.inner ++ r.after =
     ap after_blanks r.placed ∙ blanks_skipped r.before (r.inner ++ r.after) r.begins ∙ ap after_blanks opened ∙ stays s.0 (s.1 ++ r.after) s.3 ∙ sym opened in
-    let one : item_at 64 (length text) (after_blanks text) ≡ Ok (item, r.after) = ap (item_at 64 (length text)) skipped ∙ inner_again (length text) item r.inner r.after r.reads (stops_only r.after r.ends) in
+    let one : item_at bounds depth (length text) (after_blanks text) ≡ Ok (item, r.after) =
+    ap (item_at bounds depth (length text)) skipped ∙ form.again (length text) item r.inner r.after r.reads (stops_only r.after r.ends) in
     rw (one, blanks_alone r.after r.ends) refl
+
+pub reads_as : (text : List ℕ) (item : Item) → read_text text ≡ Ok item → ReadsAs text item
+unfolding IsItemText
+reads_as = reads_as_within Kept 64
+
+pub as_read : (text : List ℕ) (item : Item) → ReadsAs text item → read_text text ≡ Ok item
+unfolding IsItemText
+as_read = as_read_within Kept 64
 
 pub one_value : (text : List ℕ) (first second : Item) → ReadsAs text first → ReadsAs text second → first ≡ second
 one_value text first second r s = let e : ◌≡◌ {A = Result Item TextFault} (Ok first) (Ok second) = sym (as_read text first r) ∙ as_read text second s in cc
 
 -- ---- what reading answers
 
-pub answers_found : (text : List ℕ) (result : Result Item TextFault) → Gives (λ item. item) result (read_text text) → IfOk result (λ item. ReadsAs text item)
+pub answers_found : (text : List ℕ) (result : Result Item TextFault) → Gives (λ item. item) result (read_text text)
+    → IfOk result (λ item. ReadsAs text item)
 answers_found text (Ok item) gives = reads_as text item gives
 answers_found text (Err e) gives = tt
 
@@ -79,7 +80,8 @@ memory fault.NoMemory h = refl
 not_both : (item : Item) (e : TextFault) → ◌≡◌ {A = Result Item TextFault} (Ok item) (Err e) → ⊥
 not_both item e h = cc
 
-pub answers_only : (text : List ℕ) (result : Result Item TextFault) → Gives (λ item. item) result (read_text text) → (item : Item) → ReadsAs text item → ReadsOnly item result
+pub answers_only : (text : List ℕ) (result : Result Item TextFault) → Gives (λ item. item) result (read_text text) → (item : Item) → ReadsAs text item
+    → ReadsOnly item result
 answers_only text (Ok read) gives item r = one_value text read item (reads_as text read gives) r
 answers_only text (Err e) gives item r = memory e (λ named. not_both item e (sym (as_read text item r) ∙ gives named))
 
@@ -87,10 +89,3 @@ answers_only text (Err e) gives item r = memory e (λ named. not_both item e (sy
 
 pub no_fault : (text : List ℕ) (item : Item) → ReadsAs text item → first_text_fault text ≡ None
 no_fault text item r = ap fault_of (as_read text item r)
-
-item_there : (text : List ℕ) (read : Result Item TextFault) → read_text text ≡ read → fault_of read ≡ None → (item : Item) × ReadsAs text item
-item_there text (Ok item) e none = (item, reads_as text item e)
-item_there text (Err f) e none = absurd cc
-
-pub item_without_fault : (text : List ℕ) → first_text_fault text ≡ None → (item : Item) × ReadsAs text item
-item_without_fault text none = item_there text (read_text text) refl none

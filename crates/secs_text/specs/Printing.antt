@@ -1,9 +1,6 @@
 -- What a step of printing does.
 use Rattle.std.specs.Prelude.{◌≡◌, ℕ, List, ◌++◌, Result, Ok, Err}
-
--- the row has grown, if at all
-abbrev pub Grows : List ℕ → List ℕ → Type 0
-Grows old new = (more : List ℕ) × (new ≡ old ++ more)
+use Rattle.gl_base.specs.Rows.{Grows}
 
 -- What a step of printing has done: all was put at the end, or memory ran out and the row has grown.
 abbrev pub Puts : {E : Type 0} → List ℕ → List ℕ → List ℕ → Result (Unit {0}) E → Type 0

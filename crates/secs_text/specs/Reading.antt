@@ -1,5 +1,5 @@
 -- Reading from left to right: the value and the bytes after it, or the first fault that is met.
-use Rattle.std.specs.Prelude.{◌≡◌, ◌≢◌, ℕ, zero, suc, ◌+◌, ◌-◌, ◌*◌, ◌^◌, ℤ, pos, negsuc, neg_ℤ, Bool, true, false, not, ◌&&◌, ◌||◌, ◌==◌, nat_lt, nat_le, if◌then◌else◌, List, [], ◌∷◌, length, drop, codes, Option, Some, None, Result, Ok, Err}
+use Rattle.std.specs.Prelude.{◌≡◌, ◌≢◌, ℕ, zero, suc, ◌+◌, ◌-◌, ◌*◌, ◌^◌, ℤ, pos, negsuc, neg_ℤ, Bool, true, false, not, ◌&&◌, ◌||◌, ◌⊎◌, ◌==◌, nat_lt, nat_le, if◌then◌else◌, List, [], ◌∷◌, length, drop, codes, Option, Some, None, Result, Ok, Err}
 use Rattle.std.specs.Option.{ok_or, option_and_then, option_map}
 use Rattle.std.specs.Char.{is_ascii_digit}
 use Rattle.hex.specs.Hex.{hex_digit_value}
@@ -10,6 +10,7 @@ use Rattle.secs_items.specs.declared.kind.Kind.TheVariants as kind
 use Rattle.secs_items.specs.Kinds.{is_list}
 use Rattle.secs_text.specs.declared.text_fault.TextFault.{TextFault}
 use Rattle.secs_text.specs.declared.text_fault.TextFault.TheVariants as fault
+use Rattle.secs_text.specs.Grammar.{Bounds, Kept, Free}
 use Rattle.secs_text.specs.Names.{is_blank, stands_for_itself}
 
 infixl 10 ◌>>=◌
@@ -119,7 +120,8 @@ pub data Next : Type 0 where
   Ends : List ℕ → Next
   Goes : List ℕ → Next
 
-abbrev pub each_from : {T : Type 0} → (List ℕ → Result (List T × List ℕ) TextFault) → (List ℕ → Result (T × List ℕ) TextFault) → Next → Result (List T × List ℕ) TextFault
+abbrev pub each_from : {T : Type 0} → (List ℕ → Result (List T × List ℕ) TextFault) → (List ℕ → Result (T × List ℕ) TextFault) → Next
+    → Result (List T × List ℕ) TextFault
 each_from each one (Ends rest) = Ok ([], rest)
 each_from each one (Goes rest) = do
   first ← one rest
@@ -252,50 +254,64 @@ unsigned_at bits = within_at (as_unsigned (2 ^ bits))
 abbrev pub signed_at : ℕ → Reader ℤ
 signed_at bits = within_at (as_signed (2 ^ (bits - 1)))
 
+-- the same where bounds are kept, else any number, for which 0 is given
+abbrev pub unsigned_of : Bounds → ℕ → Reader ℕ
+unsigned_of Kept bits = unsigned_at bits
+unsigned_of Free bits = within_at (λ n. Some 0)
+
+abbrev pub signed_of : Bounds → ℕ → Reader ℤ
+signed_of Kept bits = signed_at bits
+signed_of Free bits = within_at (λ n. Some (pos 0))
+
 -- ---- items
 
 abbrev pub item_of : {T : Type 0} → (T → Item) → Result (T × List ℕ) TextFault → Result (Item × List ℕ) TextFault
 item_of make read = read >>= λ x. Ok (make x.0, x.1)
 
--- an item behind its name; a list's items are one's
-unfoldable pub elements_of : Reader Item → Kind → Reader Item
-elements_of one kind.L total bytes = item_of item.L (elements_at one total bytes)
-elements_of one kind.B total bytes = item_of item.B (elements_at hex_byte_at total bytes)
-elements_of one kind.Bool total bytes = item_of item.Bool (elements_at hex_byte_at total bytes)
-elements_of one kind.A total bytes = item_of item.A (text_at total bytes)
-elements_of one kind.J total bytes = item_of item.J (elements_at hex_byte_at total bytes)
-elements_of one kind.I1 total bytes = item_of item.I1 (elements_at (signed_at 8) total bytes)
-elements_of one kind.I2 total bytes = item_of item.I2 (elements_at (signed_at 16) total bytes)
-elements_of one kind.I4 total bytes = item_of item.I4 (elements_at (signed_at 32) total bytes)
-elements_of one kind.I8 total bytes = item_of item.I8 (elements_at (signed_at 64) total bytes)
-elements_of one kind.U1 total bytes = item_of item.U1 (elements_at (unsigned_at 8) total bytes)
-elements_of one kind.U2 total bytes = item_of item.U2 (elements_at (unsigned_at 16) total bytes)
-elements_of one kind.U4 total bytes = item_of item.U4 (elements_at (unsigned_at 32) total bytes)
-elements_of one kind.U8 total bytes = item_of item.U8 (elements_at (unsigned_at 64) total bytes)
-elements_of one kind.F4 total bytes = item_of item.F4 (elements_at (hex_bytes_at 4) total bytes)
-elements_of one kind.F8 total bytes = item_of item.F8 (elements_at (hex_bytes_at 8) total bytes)
+-- an item behind its name, where one reads each item of a list
+unfoldable pub elements_of : Bounds → Reader Item → Kind → Reader Item
+elements_of bounds one kind.L total bytes = item_of item.L (elements_at one total bytes)
+elements_of bounds one kind.B total bytes = item_of item.B (elements_at hex_byte_at total bytes)
+elements_of bounds one kind.Bool total bytes = item_of item.Bool (elements_at hex_byte_at total bytes)
+elements_of bounds one kind.A total bytes = item_of item.A (text_at total bytes)
+elements_of bounds one kind.J total bytes = item_of item.J (elements_at hex_byte_at total bytes)
+elements_of bounds one kind.I1 total bytes = item_of item.I1 (elements_at (signed_of bounds 8) total bytes)
+elements_of bounds one kind.I2 total bytes = item_of item.I2 (elements_at (signed_of bounds 16) total bytes)
+elements_of bounds one kind.I4 total bytes = item_of item.I4 (elements_at (signed_of bounds 32) total bytes)
+elements_of bounds one kind.I8 total bytes = item_of item.I8 (elements_at (signed_of bounds 64) total bytes)
+elements_of bounds one kind.U1 total bytes = item_of item.U1 (elements_at (unsigned_of bounds 8) total bytes)
+elements_of bounds one kind.U2 total bytes = item_of item.U2 (elements_at (unsigned_of bounds 16) total bytes)
+elements_of bounds one kind.U4 total bytes = item_of item.U4 (elements_at (unsigned_of bounds 32) total bytes)
+elements_of bounds one kind.U8 total bytes = item_of item.U8 (elements_at (unsigned_of bounds 64) total bytes)
+elements_of bounds one kind.F4 total bytes = item_of item.F4 (elements_at (hex_bytes_at 4) total bytes)
+elements_of bounds one kind.F8 total bytes = item_of item.F8 (elements_at (hex_bytes_at 8) total bytes)
 
 -- an item that begins at a place where no list may
-abbrev pub shallow_at : ℕ → List ℕ → Kind × List ℕ → Result (Item × List ℕ) TextFault
-shallow_at total bytes k = if is_list k.0 then Err (fault.TooDeep (total - length bytes)) else elements_of (λ total bytes. broken total bytes) k.0 total k.1
+abbrev pub shallow_at : Bounds → ℕ → List ℕ → Kind × List ℕ → Result (Item × List ℕ) TextFault
+shallow_at bounds total bytes k =
+    if is_list k.0 then Err (fault.TooDeep (total - length bytes)) else elements_of bounds (λ total bytes. broken total bytes) k.0 total k.1
 
 -- one item, in which lists may nest so deep
-unfoldable pub item_at : ℕ → Reader Item
-item_at zero total bytes = kind_at total bytes >>= shallow_at total bytes
-item_at (suc depth) total bytes = kind_at total bytes >>= λ k. elements_of (item_at depth) k.0 total k.1
+unfoldable pub item_at : Bounds → ℕ → Reader Item
+item_at bounds zero total bytes = kind_at total bytes >>= shallow_at bounds total bytes
+item_at bounds (suc depth) total bytes = kind_at total bytes >>= λ k. elements_of bounds (item_at bounds depth) k.0 total k.1
 
 abbrev pub whole : ℕ → Item × List ℕ → Result Item TextFault
 whole total x = if length (after_blanks x.1) == 0 then Ok x.0 else broken total (after_blanks x.1)
 
--- The one item that is all of the text, with any blanks at both ends. Lists nest at most 64 deep (this profile).
-unfoldable pub read_text : List ℕ → Result Item TextFault
-read_text text = item_at 64 (length text) (after_blanks text) >>= whole (length text)
+-- the one item that is all of the text, with any blanks at both ends
+unfoldable pub read_within : Bounds → ℕ → List ℕ → Result Item TextFault
+read_within bounds depth text = item_at bounds depth (length text) (after_blanks text) >>= whole (length text)
+
+-- the same where bounds are kept and no list stands in more than 63 others (this profile)
+abbrev pub read_text : List ℕ → Result Item TextFault
+read_text = read_within Kept 64
 
 abbrev pub fault_of : Result Item TextFault → Option TextFault
 fault_of (Ok item) = None
 fault_of (Err e) = Some e
 
--- the first fault of a text that reads as no item
+-- the fault that reading meets; HasFault says which it is by the grammar alone
 abbrev pub first_text_fault : List ℕ → Option TextFault
 first_text_fault text = fault_of (read_text text)
 
@@ -303,3 +319,8 @@ first_text_fault text = fault_of (read_text text)
 abbrev pub ReadsOnly : Item → Result Item TextFault → Type 0
 ReadsOnly item (Ok read) = read ≡ item
 ReadsOnly item (Err e) = e ≡ fault.NoMemory
+
+-- the fault that was named is this one, unless memory ran out
+abbrev pub FailsOnly : TextFault → Result Item TextFault → Type 0
+FailsOnly named (Ok read) = ⊥
+FailsOnly named (Err e) = (e ≡ named) ⊎ (e ≡ fault.NoMemory)

@@ -1,10 +1,13 @@
 //! Elements and their text.
 
-ghost use Rattle.std.specs.Prelude.{◌≡◌, ℕ, ◌-◌, ◌*◌, ◌+◌, ◌++◌, ◌<◌, ◌≤◌, ◌∷◌, List, Result, length, IfOk, OnErr, OnOk, decimal};
+ghost use Rattle.std.specs.Prelude.{◌≡◌, ℕ, ◌-◌, ◌*◌, ◌+◌, ◌++◌, ◌<◌, ◌≤◌, ◌^◌, ◌∷◌, List, Result, length, FitsSigned, IfOk, OnErr, OnOk, decimal};
 ghost use Rattle.std.specs.Fmt.{signed_decimal};
+ghost use Rattle.std.specs.Int.{w8, w16, w32, w64};
+ghost use Rattle.std.specs.List.{AllByRecursion};
+ghost use Rattle.gl_base.specs.Rows.{Grows};
+ghost use Rattle.secs_items.specs.Elements.{IsByte, IsRaw};
 ghost use Rattle.secs_text.specs.declared.text_fault.TextFault.{TextFault};
 ghost use Rattle.secs_text.specs.declared.text_fault.TextFault.TheVariants as fault;
-ghost use Rattle.secs_text.specs.Printing.{Grows};
 ghost use Rattle.secs_text.specs.Reading.{Reads, hex_byte_at, hex_bytes_at, signed_at, unsigned_at};
 ghost use Rattle.secs_text.specs.Text.{hex_byte, hex_bytes};
 
@@ -19,13 +22,17 @@ pub(crate) trait Form<T> {
     /// The text of an element.
     ghost text: { T → List ℕ };
 
+    /// That the element is a value of its kind: a number within its range, or an array of bytes, each below 256.
+    ghost fits: { T → Type 0 };
+
     /// The element at the front of what is left of so many bytes, and the bytes after it.
     ghost element_at: { ℕ → List ℕ → Result (T × List ℕ) TextFault };
 
     /// Puts the text of an element at the end.
     fn put(element: T, into: &mut Row<u8>) -> Result<(), NoMemory>
         ensures ok { OnOk result (into.new ≡ into.old ++ text element) }
-        ensures err { OnErr result (Grows into.old into.new) };
+        ensures err { OnErr result (Grows into.old into.new) }
+        ensures fit { fits element };
 
     /// The element at the front, and the bytes after it. `total` is the text's length.
     fn read(bytes: &[u8], total: usize) -> Result<(T, &[u8]), TextFault>
@@ -44,6 +51,8 @@ const DIGITS: &[u8; 16] = b"0123456789ABCDEF";
 
 impl Form<u8> for Hex {
     ghost text = { hex_byte };
+
+    ghost fits = { IsByte };
 
     ghost element_at = { hex_byte_at };
 
@@ -64,10 +73,12 @@ impl Form<u8> for Hex {
 impl Form<[u8; 4]> for Hex {
     ghost text = { hex_bytes };
 
+    ghost fits = { IsRaw 4 };
+
     ghost element_at = { hex_bytes_at 4 };
 
     fn put(element: [u8; 4], into: &mut Row<u8>) -> Result<(), NoMemory> {
-        put_hex(&element, into)
+        put_hex_array(&element, into)
     }
 
     fn read(bytes: &[u8], total: usize) -> Result<([u8; 4], &[u8]), TextFault> {
@@ -82,10 +93,12 @@ impl Form<[u8; 4]> for Hex {
 impl Form<[u8; 8]> for Hex {
     ghost text = { hex_bytes };
 
+    ghost fits = { IsRaw 8 };
+
     ghost element_at = { hex_bytes_at 8 };
 
     fn put(element: [u8; 8], into: &mut Row<u8>) -> Result<(), NoMemory> {
-        put_hex(&element, into)
+        put_hex_array(&element, into)
     }
 
     fn read(bytes: &[u8], total: usize) -> Result<([u8; 8], &[u8]), TextFault> {
@@ -109,10 +122,11 @@ fn hex_byte(bytes: &[u8], total: usize) -> Result<(u8, &[u8]), TextFault>
     <Hex as Form<u8>>::read(bytes, total)
 }
 
-/// Puts bytes in hex, one after another.
+/// Puts bytes in hex, one after another, and tells that each is below 256.
 fn put_hex(bytes: &[u8], into: &mut Row<u8>) -> Result<(), NoMemory>
     ensures ok { OnOk result (into.new ≡ into.old ++ hex_bytes bytes.now) }
     ensures err { OnErr result (Grows into.old into.new) }
+    ensures fit { AllByRecursion IsByte bytes.now }
 {
     for byte in bytes {
         <Hex as Form<u8>>::put(*byte, into)?;
@@ -120,8 +134,19 @@ fn put_hex(bytes: &[u8], into: &mut Row<u8>) -> Result<(), NoMemory>
     Ok(())
 }
 
+/// Puts so many bytes in hex, and tells the same.
+fn put_hex_array<const N: usize>(bytes: &[u8; N], into: &mut Row<u8>) -> Result<(), NoMemory>
+    ensures ok { OnOk result (into.new ≡ into.old ++ hex_bytes bytes.now) }
+    ensures err { OnErr result (Grows into.old into.new) }
+    ensures fit { IsRaw N bytes.now }
+{
+    put_hex(bytes, into)
+}
+
 impl Form<u8> for Decimal {
     ghost text = { decimal };
+
+    ghost fits = { IsByte };
 
     ghost element_at = { unsigned_at 8 };
 
@@ -141,6 +166,8 @@ impl Form<u8> for Decimal {
 impl Form<u16> for Decimal {
     ghost text = { decimal };
 
+    ghost fits = { λ n. n < 2 ^ 16 };
+
     ghost element_at = { unsigned_at 16 };
 
     fn put(element: u16, into: &mut Row<u8>) -> Result<(), NoMemory> {
@@ -158,6 +185,8 @@ impl Form<u16> for Decimal {
 
 impl Form<u32> for Decimal {
     ghost text = { decimal };
+
+    ghost fits = { λ n. n < 2 ^ 32 };
 
     ghost element_at = { unsigned_at 32 };
 
@@ -177,6 +206,8 @@ impl Form<u32> for Decimal {
 impl Form<u64> for Decimal {
     ghost text = { decimal };
 
+    ghost fits = { λ n. n < 2 ^ 64 };
+
     ghost element_at = { unsigned_at 64 };
 
     fn put(element: u64, into: &mut Row<u8>) -> Result<(), NoMemory> {
@@ -194,6 +225,8 @@ impl Form<u64> for Decimal {
 
 impl Form<i8> for Decimal {
     ghost text = { signed_decimal };
+
+    ghost fits = { FitsSigned w8 };
 
     ghost element_at = { signed_at 8 };
 
@@ -213,6 +246,8 @@ impl Form<i8> for Decimal {
 impl Form<i16> for Decimal {
     ghost text = { signed_decimal };
 
+    ghost fits = { FitsSigned w16 };
+
     ghost element_at = { signed_at 16 };
 
     fn put(element: i16, into: &mut Row<u8>) -> Result<(), NoMemory> {
@@ -231,6 +266,8 @@ impl Form<i16> for Decimal {
 impl Form<i32> for Decimal {
     ghost text = { signed_decimal };
 
+    ghost fits = { FitsSigned w32 };
+
     ghost element_at = { signed_at 32 };
 
     fn put(element: i32, into: &mut Row<u8>) -> Result<(), NoMemory> {
@@ -248,6 +285,8 @@ impl Form<i32> for Decimal {
 
 impl Form<i64> for Decimal {
     ghost text = { signed_decimal };
+
+    ghost fits = { FitsSigned w64 };
 
     ghost element_at = { signed_at 64 };
 

@@ -1,34 +1,34 @@
 //! Laws of items and their text.
 
-ghost use Rattle.std.specs.Prelude.{◌≡◌, ℕ, List, None, Some};
+ghost use Rattle.std.specs.Prelude.{◌≡◌, ◌⊎◌, ℕ, List, None, Some};
 ghost use Rattle.secs_items.specs.declared.item.Item.{Item};
-ghost use Rattle.secs_items.specs.Ranges.{InRange};
+ghost use Rattle.secs_items.specs.Spelling.{Spells};
 ghost use Rattle.secs_text.specs.declared.text_fault.TextFault.{TextFault};
 ghost use Rattle.secs_text.specs.Faults.{HasFault};
 ghost use Rattle.secs_text.specs.Grammar.{IsShallow, ReadsAs};
 ghost use Rattle.secs_text.specs.Reading.{first_text_fault};
-ghost use Rattle.secs_text.specs.Text.{text_of};
-
-/// What `print` appends reads as the item itself, for each item in which no list stands in 64 others and whose elements
-/// are within the ranges of their kinds.
-pub fn reads_what_it_prints()
-    ensures { (item : Item) → InRange item → IsShallow item → ReadsAs (text_of item) item }
-{}
 
 /// A text reads as one item at most.
 pub fn one_item_a_text()
     ensures { (text : List ℕ) (first second : Item) → ReadsAs text first → ReadsAs text second → first ≡ second }
 {}
 
-/// A text has a fault exactly where it reads as no item.
+/// A text reads as an item or has a fault, not both, and it has one fault at most.
 pub fn a_fault_or_an_item()
-    ensures none { (text : List ℕ) (item : Item) → ReadsAs text item → first_text_fault text ≡ None }
-    ensures item { (text : List ℕ) → first_text_fault text ≡ None → (item : Item) × ReadsAs text item }
+    ensures either { (text : List ℕ) → ((item : Item) × ReadsAs text item) ⊎ ((fault : TextFault) × HasFault text fault) }
+    ensures alone { (text : List ℕ) (item : Item) (fault : TextFault) → ReadsAs text item → HasFault text fault → ⊥ }
+    ensures once { (text : List ℕ) (first second : TextFault) → HasFault text first → HasFault text second → first ≡ second }
 {}
 
-/// What a fault says of its text, in the grammar's words. `Syntax`: what stands before the place can go on to a text, but
-/// for a minus at its end where a number may begin, and with the byte there it can't. `Range`: where 0 may stand there
-/// stands a number with which no text begins. `TooDeep`: there stands `<L` with which none does, and before it one can.
-pub fn no_text_goes_on_at_a_fault()
-    ensures { (text : List ℕ) (fault : TextFault) → first_text_fault text ≡ Some fault → HasFault text fault }
+/// The reading from left to right, a definition that computes, meets the fault that the grammar's words say, and none in a
+/// text that reads.
+pub fn reading_meets_the_fault()
+    ensures fault { (text : List ℕ) (fault : TextFault) → HasFault text fault → first_text_fault text ≡ Some fault }
+    ensures none { (text : List ℕ) (item : Item) → ReadsAs text item → first_text_fault text ≡ None }
+{}
+
+/// No list stands in 64 others in what a text reads as, or bytes spell: what was read can be printed and read again.
+pub fn what_was_read_is_shallow()
+    ensures text { (text : List ℕ) (item : Item) → ReadsAs text item → IsShallow item }
+    ensures bytes { (bytes : List ℕ) (item : Item) → Spells item bytes → IsShallow item }
 {}

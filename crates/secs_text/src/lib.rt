@@ -10,7 +10,7 @@ mod reading;
 mod text_fault;
 
 pub use laws::{
-    a_fault_or_an_item, no_text_goes_on_at_a_fault, one_item_a_text, reads_what_it_prints,
+    a_fault_or_an_item, one_item_a_text, reading_meets_the_fault, what_was_read_is_shallow,
 };
 pub use printing::print;
 pub use reading::read;

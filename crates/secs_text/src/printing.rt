@@ -1,8 +1,11 @@
 //! Items to text.
 
 ghost use Rattle.std.specs.Prelude.{◌≡◌, ℕ, ◌++◌, [], ◌∷◌, OnErr, OnOk};
-ghost use Rattle.std.specs.List.{flat_map};
-ghost use Rattle.secs_text.specs.Printing.{Grows, Puts};
+ghost use Rattle.std.specs.List.{flat_map, AllByRecursion};
+ghost use Rattle.secs_items.specs.Elements.{IsByte};
+ghost use Rattle.secs_items.specs.Ranges.{InRange};
+ghost use Rattle.secs_text.specs.Grammar.{IsShallow, ReadsAs};
+ghost use Rattle.secs_text.specs.Printing.{Puts};
 ghost use Rattle.secs_text.specs.Text.{quoted, shown, spaced, text_of};
 
 use crate::forms::{Decimal, Form, Hex};
@@ -10,9 +13,11 @@ use crate::lexing::stands_for_itself;
 use gl_base::{NoMemory, Row};
 use secs_items::Item;
 
-/// Puts the text of an item, on one line, at the end of the row. Where memory runs out the row is as before.
+/// Puts the text of an item, on one line, at the end of the row. Where memory runs out it leaves the row as it was.
 pub fn print(item: &Item, into: &mut Row<u8>) -> Result<(), NoMemory>
     ensures ok { OnOk result (into.new ≡ into.old ++ text_of item.now) }
+    // What was put reads as the item, where no list stands in 64 others.
+    ensures reads { OnOk result (IsShallow item.now → ReadsAs (text_of item.now) item.now) }
     ensures err { OnErr result (into.new ≡ into.old) }
 {
     let start = into.len();
@@ -25,7 +30,8 @@ pub fn print(item: &Item, into: &mut Row<u8>) -> Result<(), NoMemory>
 
 #[cycle(printing)]
 fn put_item(item: &Item, into: &mut Row<u8>) -> Result<(), NoMemory>
-    ensures { Puts (text_of item.now) into.old into.new result }
+    ensures puts { Puts (text_of item.now) into.old into.new result }
+    ensures ranges { OnOk result (InRange item.now) }
 {
     match item {
         Item::L(items) => put_list(items.as_slice(), into),
@@ -49,7 +55,8 @@ fn put_item(item: &Item, into: &mut Row<u8>) -> Result<(), NoMemory>
 /// Puts a list of items.
 #[cycle(printing)]
 fn put_list(items: &[Item], into: &mut Row<u8>) -> Result<(), NoMemory>
-    ensures { Puts (60 ∷ 76 ∷ [] ++ spaced text_of items.now ++ 62 ∷ []) into.old into.new result }
+    ensures puts { Puts (60 ∷ 76 ∷ [] ++ spaced text_of items.now ++ 62 ∷ []) into.old into.new result }
+    ensures ranges { OnOk result (AllByRecursion InRange items.now) }
 {
     into.extend(b"<L")?;
     for item in items {
@@ -65,7 +72,8 @@ fn put_elements<T: Copy, F: Form<T>>(
     elements: &Row<T>,
     into: &mut Row<u8>,
 ) -> Result<(), NoMemory>
-    ensures { Puts (opening.now ++ spaced F.text elements.now ++ 62 ∷ []) into.old into.new result }
+    ensures puts { Puts (opening.now ++ spaced F.text elements.now ++ 62 ∷ []) into.old into.new result }
+    ensures ranges { OnOk result (AllByRecursion F.fits elements.now) }
 {
     into.extend(opening)?;
     put_each::<T, F>(elements.as_slice(), into)?;
@@ -74,7 +82,8 @@ fn put_elements<T: Copy, F: Form<T>>(
 
 /// Puts each element after a space.
 fn put_each<T: Copy, F: Form<T>>(elements: &[T], into: &mut Row<u8>) -> Result<(), NoMemory>
-    ensures { Puts (spaced F.text elements.now) into.old into.new result }
+    ensures puts { Puts (spaced F.text elements.now) into.old into.new result }
+    ensures ranges { OnOk result (AllByRecursion F.fits elements.now) }
 {
     for element in elements {
         into.push(b' ')?;
@@ -85,7 +94,8 @@ fn put_each<T: Copy, F: Form<T>>(elements: &[T], into: &mut Row<u8>) -> Result<(
 
 /// Puts an A.
 fn put_text(bytes: &[u8], into: &mut Row<u8>) -> Result<(), NoMemory>
-    ensures { Puts (60 ∷ 65 ∷ 32 ∷ [] ++ quoted bytes.now ++ 62 ∷ []) into.old into.new result }
+    ensures puts { Puts (60 ∷ 65 ∷ 32 ∷ [] ++ quoted bytes.now ++ 62 ∷ []) into.old into.new result }
+    ensures ranges { OnOk result (AllByRecursion IsByte bytes.now) }
 {
     into.extend(b"<A \"")?;
     put_shown(bytes, into)?;

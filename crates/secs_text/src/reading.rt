@@ -1,12 +1,14 @@
 //! Text to items.
 
-ghost use Rattle.std.specs.Prelude.{◌≡◌, ◌≢◌, ◌-◌, ◌<◌, ◌≤◌, length, None, Some, IfErr, IfOk, OnOk};
+ghost use Rattle.std.specs.Prelude.{◌≡◌, ◌≢◌, ◌-◌, ◌<◌, ◌≤◌, length, IfErr, IfOk};
 ghost use Rattle.secs_items.specs.declared.item.Item.{Item};
+ghost use Rattle.secs_text.specs.declared.text_fault.TextFault.{TextFault};
 ghost use Rattle.secs_text.specs.declared.text_fault.TextFault.TheVariants as fault;
 ghost use Rattle.secs_items.specs.declared.kind.Kind.TheVariants as kinds;
-ghost use Rattle.secs_text.specs.Grammar.{ReadsAs};
+ghost use Rattle.secs_text.specs.Faults.{HasFault};
+ghost use Rattle.secs_text.specs.Grammar.{Kept, ReadsAs};
 ghost use Rattle.secs_text.specs.Nexts.{next_rest, next_view};
-ghost use Rattle.secs_text.specs.Reading.{Gives, Reader, Reads, ReadsOnly, each_at, elements_at, elements_of, escape_at, first_text_fault, item_at, quoted_at, read_text, shown_at, shown_next, text_at};
+ghost use Rattle.secs_text.specs.Reading.{FailsOnly, Gives, Reader, Reads, ReadsOnly, each_at, elements_at, elements_of, escape_at, item_at, quoted_at, read_text, shown_at, shown_next, text_at};
 
 use crate::forms::{Decimal, Form, Hex};
 use crate::lexing::{
@@ -27,16 +29,16 @@ pub fn read(alloc: Global, text: &[u8]) -> Result<Item, TextFault>
     ensures found { IfOk result (λ item. ReadsAs text.now item) }
     // What the text reads as is returned, unless memory runs out.
     ensures only { (item : Item) → ReadsAs text.now item → ReadsOnly item result }
-    // A refusal names the first fault, unless memory ran out.
-    ensures fault { IfErr result (λ e. e ≢ fault.NoMemory → first_text_fault text.now ≡ Some e) }
-    // What has a fault isn't read.
-    ensures none { OnOk result (first_text_fault text.now ≡ None) }
+    // A refusal names a fault of the text, unless memory ran out.
+    ensures fault { IfErr result (λ e. e ≢ fault.NoMemory → HasFault text.now e) }
+    // The fault of the text is named, unless memory runs out.
+    ensures named { (e : TextFault) → HasFault text.now e → FailsOnly e result }
 {
     read_item(alloc, text)
 }
 
 /// The one item that stands in all of the text.
-#[tactic(auto, unfolding(crate::specs::Reading::read_text))]
+#[tactic(auto, unfolding(crate::specs::Reading::read_within))]
 fn read_item(alloc: Global, text: &[u8]) -> Result<Item, TextFault>
     ensures { Gives (λ item. item) result (read_text text.now) }
 {
@@ -58,7 +60,7 @@ fn item_of(
     total: usize,
 ) -> Result<(Item, &[u8]), TextFault>
     requires { length bytes.now ≤ total }
-    ensures gives { Gives (λ x. (x.0, x.1.now)) result (item_at depth total bytes.now) }
+    ensures gives { Gives (λ x. (x.0, x.1.now)) result (item_at Kept depth total bytes.now) }
     ensures within { IfOk result (λ x. length x.1.now < length bytes.now) }
 {
     let (kind, rest) = kind_of(bytes, total)?;
@@ -83,7 +85,7 @@ fn items_of(
     total: usize,
 ) -> Result<(Row<Item>, &[u8]), TextFault>
     requires { length bytes.now ≤ total }
-    ensures gives { Gives (λ x. (x.0, x.1.now)) result (elements_at (item_at depth) total bytes.now) }
+    ensures gives { Gives (λ x. (x.0, x.1.now)) result (elements_at (item_at Kept depth) total bytes.now) }
     ensures within { IfOk result (λ x. length x.1.now < length bytes.now) }
 {
     let mut items = Row::new(alloc);
@@ -110,7 +112,7 @@ fn leaf_of(
 ) -> Result<(Item, &[u8]), TextFault>
     requires leaf { kind ≢ kinds.L }
     requires within { length bytes.now ≤ total }
-    ensures gives { (one : Reader Item) → Gives (λ x. (x.0, x.1.now)) result (elements_of one kind total bytes.now) }
+    ensures gives { (one : Reader Item) → Gives (λ x. (x.0, x.1.now)) result (elements_of Kept one kind total bytes.now) }
     ensures within { IfOk result (λ x. length x.1.now < length bytes.now) }
 {
     Ok(match kind {

@@ -1,3 +1,6 @@
+ghost use Rattle.std.specs.Prelude.{◌≡◌, IfSome};
+ghost use Rattle.secs_text.specs.Grammar.{IsShallow};
+
 use super::*;
 use gl_base::Row;
 use secs_items::Item;
@@ -17,7 +20,21 @@ fn prints(alloc: Global, text: &[u8], printed: &[u8]) -> Result<bool, TextFault>
     let item = read(alloc, text)?;
     let mut row = Row::new(alloc);
     print(&item, &mut row)?;
-    Ok(row.as_slice() == printed)
+    Ok(row.as_slice() == printed && comes_back(alloc, &item).is_some())
+}
+
+/// The item again, from its text.
+fn comes_back(alloc: Global, item: &Item) -> Option<Item>
+    ensures { IsShallow item.now → IfSome result (λ again. again ≡ item.now) }
+{
+    let mut text = Row::new(alloc);
+    let Ok(()) = print(item, &mut text) else {
+        return None;
+    };
+    match read(alloc, text.as_slice()) {
+        Ok(again) => Some(again),
+        Err(_) => None,
+    }
 }
 
 fn row(alloc: Global, bytes: &[u8]) -> Result<Row<u8>, TextFault> {
@@ -148,7 +165,7 @@ fn blanks_and_lower_case_are_read(rt: HostRuntime) -> Result<(), Fail> {
 
 #[test]
 fn faults_have_their_places(rt: HostRuntime) -> Result<(), Fail> {
-    let broken: [(&[u8], usize); 20] = [
+    let broken: [(&[u8], usize); 25] = [
         (b"", 0),
         (b"<U1 1", 5),
         (b"<UX 1>", 2),
@@ -167,16 +184,22 @@ fn faults_have_their_places(rt: HostRuntime) -> Result<(), Fail> {
         (b"<U1 -0>", 5),
         (b"<U1 01>", 5),
         (b"<U1 25x>", 6),
+        (b"<U1 ->", 5),
+        (b"<I1 -0>", 5),
+        (b"<U1 2-1>", 5),
+        (b"<U1 5<", 5),
+        (b"<A \" 256>", 9),
         (b"<F4 3F80000>", 11),
         (b"<L> x", 4),
     ];
     for (text, at) in broken {
         assert_eq!(rt; fault(rt.alloc(), text), Some(TextFault::Syntax { at }));
     }
-    let outside: [&[u8]; 10] = [
+    let outside: [&[u8]; 11] = [
         b"<U1 256>",
         b"<U1 256x>",
         b"<U1 256",
+        b"<U1 256 999>",
         b"<U1 -1>",
         b"<I1 128>",
         b"<I1 -129>",

@@ -6,5 +6,6 @@ use Rattle.gemline_app.proofs.laws.spelled_reads_back.Goals as goal
 
 pub returns : goal.returns
 returns c = λ text item reads within.
-    let spelled : Spells item (shortest_spelling item) = shortest_is_spelled item (text_in_range text item reads) (text_encodes text item reads within) in
+    let spelled : Spells item (shortest_spelling item) =
+    shortest_is_spelled item (text_in_range text item reads) (text_encodes text item reads within) in
     (shortest_spelling item, hex_means (shortest_spelling item) (spelled_bytes item (shortest_spelling item) spelled), spelled)

@@ -1,8 +1,12 @@
-use Rattle.secs_text.proofs.TextLaws.{item_without_fault, no_fault}
+use Rattle.secs_text.proofs.FaultLaws.{fault_or_item, no_fault_read}
+use Rattle.secs_text.proofs.FaultPlaces.{one_fault}
 use Rattle.secs_text.proofs.laws.a_fault_or_an_item.Goals as goal
 
-pub returns-clause-none : goal.returns-clause-none
-returns-clause-none c = no_fault
+pub returns-clause-either : goal.returns-clause-either
+returns-clause-either c = fault_or_item
 
-pub returns-clause-item : goal.returns-clause-item
-returns-clause-item c = item_without_fault
+pub returns-clause-alone : goal.returns-clause-alone
+returns-clause-alone c = no_fault_read
+
+pub returns-clause-once : goal.returns-clause-once
+returns-clause-once c = one_fault

@@ -17,7 +17,8 @@ elements-preserved g c =
     let all = elements_at one c.args.total c.args.bytes.now in
     let next = c.in_ok-after.ensures.reads ∙ ap (λ n. Ok (next_view n)) c.in-Element.is in
     let read = c.in_ok-element-in-Element in
-    let shorter : length read.after.now < length c.elements.rest.now = omega (arith, read.ensures.within, c.in_ok-after.ensures.within, ap (λ n. length (next_rest n)) c.in-Element.is) in
+    let shorter : length read.after.now < length c.elements.rest.now =
+    omega (arith, read.ensures.within, c.in_ok-after.ensures.within, ap (λ n. length (next_rest n)) c.in-Element.is) in
     record {
       so_far = rw c.in_ok-push-in-Element.ensures.ok (one_more element_next one c.args.total c.elements.elements c.elements.rest.now c.in-Element.front.now read.after.now read.element all (elements_end one) c.elements.invariant.so_far next read.ensures.reads shorter);
       within = omega (arith, shorter, c.elements.invariant.within);
