@@ -102,7 +102,8 @@ quiet_call plan side now call e log none same gives can good =
     (shows_by side _ _ (shows_called (map noise (taken_by call)) call (seen_from side line) (seen_from side e.line) seen))
     (given_call side call line same) (λ empty. empty)
     in
-    let quiet = notes_quiet plan side now (record { line = after; unsent = e.unsent; heard = e.heard }) told log (no_arrival (state_at side e) call none) went in
+    let quiet =
+    notes_quiet plan side now (record { line = after; unsent = e.unsent; heard = e.heard }) told log (no_arrival (state_at side e) call none) went in
     subst (λ (heard : Option (List ℕ)). IsGood plan (record { line = after; unsent = e.unsent; heard = heard }) (noted side now (notes_of side e.heard told) ++ log))
     (sym quiet.1) quiet.0
 
@@ -137,7 +138,8 @@ pub record IsGreeting (plan : LinePlan) (block : BlockView) (log : List Entry) :
   pub same : block ≡ greeting_block plan.device
   pub was : WasSent Equipment greeting log
 
-greeting_arrives : (law : BlocksArriveInOrder) → (judged : ArrivalsAreJudged) → (plan : LinePlan) → LinePlanFits plan → (now : ℕ) (e : Ends) (log : List Entry)
+greeting_arrives : (law : BlocksArriveInOrder) → (judged : ArrivalsAreJudged) → (plan : LinePlan) → LinePlanFits plan
+    → (now : ℕ) (e : Ends) (log : List Entry)
     (character : Character) (rest : List Character) (block : BlockView)
     → way_to Host e ≡ character ∷ rest → slips_now Host now e ≡ false
     → (line_step (state_at Host e) (Take character.byte now)).event ≡ event.Arrived block
@@ -221,7 +223,8 @@ host_hears plan now e log line block (Some first) is one go good =
     by_same false = went
 
 -- the host has taken a character
-host_took : (law : BlocksArriveInOrder) → (judged : ArrivalsAreJudged) → (plan : LinePlan) → LinePlanFits plan → (now : ℕ) (e : Ends) (log : List Entry)
+host_took : (law : BlocksArriveInOrder) → (judged : ArrivalsAreJudged) → (plan : LinePlan) → LinePlanFits plan
+    → (now : ℕ) (e : Ends) (log : List Entry)
     (character : Character) (rest : List Character) (told : LineEvent)
     → way_to Host e ≡ character ∷ rest → slips_now Host now e ≡ false
     → (line_step (state_at Host e) (Take character.byte now)).event ≡ told
@@ -234,7 +237,8 @@ host_took law judged plan fits now e log character rest (event.Arrived block) wa
 host_took law judged plan fits now e log character rest event.Nothing way no_slip is good = hand_moved plan Host now e log e.heard (λ none. none) good
 host_took law judged plan fits now e log character rest event.Sent way no_slip is good = hand_moved plan Host now e log e.heard (λ none. none) good
 host_took law judged plan fits now e log character rest event.Failed way no_slip is good = hand_moved plan Host now e log e.heard (λ none. none) good
-host_took law judged plan fits now e log character rest (event.Refused cause) way no_slip is good = hand_moved plan Host now e log e.heard (λ none. none) good
+host_took law judged plan fits now e log character rest (event.Refused cause) way no_slip is good =
+    hand_moved plan Host now e log e.heard (λ none. none) good
 
 equipment_took : (plan : LinePlan) (now : ℕ) (e : Ends) (log : List Entry) (told : LineEvent) → IsGood plan e log
     → IsGood plan (record { line = bare_after e.line (record { side = Equipment; act = Hand now }); unsent = e.unsent; heard = heard_of Equipment e.heard told }) (noted Equipment now (notes_of Equipment e.heard told) ++ log)
@@ -244,7 +248,8 @@ equipment_took plan now e log told good =
     (sym (heard_equipment e.heard told))
     (notes_equipment plan now (record { line = after; unsent = e.unsent; heard = e.heard }) told log (hand_moved plan Equipment now e log e.heard (λ none. none) good))
 
-pub hand_good : (law : BlocksArriveInOrder) → (judged : ArrivalsAreJudged) → (plan : LinePlan) → LinePlanFits plan → (side : Side) (now : ℕ) (e : Ends) (log : List Entry)
+pub hand_good : (law : BlocksArriveInOrder) → (judged : ArrivalsAreJudged) → (plan : LinePlan) → LinePlanFits plan
+    → (side : Side) (now : ℕ) (e : Ends) (log : List Entry)
     → slips_now side now e ≡ false → IsGood plan e log → GoodPart plan side now log (ends.handed side now e)
 hand_good law judged plan fits side now e log no_slip good = go side (way_to side e) refl no_slip
   where

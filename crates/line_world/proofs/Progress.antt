@@ -2,7 +2,7 @@
 use Rattle.std.proofs.Common.{◌≡◌, ℕ, ◌+◌, ◌*◌, ◌<◌, ◌≤◌, List, [], ◌∷◌, ◌++◌, length, take, drop, get_or, Option, Some, None, refl, sym, ap, subst, ◌∙◌, arith, append_assoc, append-nil, length-append, drop-cons, add-one}
 use Rattle.std.proofs.Math.Seq.{take-append-add}
 use Rattle.std.proofs.lemmas.List.{take-append-le, drop_all}
-use Rattle.gl_base.specs.Sink.{appended, SinkHealth, IsWrittenOn, WriteFault}
+use Rattle.gl_base.specs.Sink.{IsWrittenOn, SinkHealth, SinkTold, WriteFault, WrotePart, WroteText, appended, sink_told}
 use Rattle.gl_base.proofs.Copying.{appended-append}
 use Rattle.line_end.specs.declared.plan.LinePlan.{LinePlan}
 use Rattle.line_schedule.specs.declared.event.Event.{Event}
@@ -12,7 +12,7 @@ use Rattle.line_world.specs.declared.course.Course.{Course}
 use Rattle.line_world.specs.declared.course.Course.TheVariants.{GoesOn, Slips, Turns}
 use Rattle.line_world.specs.declared.running.RunEnd.{RunEnd}
 use Rattle.line_world.specs.declared.running.RunEnd.TheVariants as end
-use Rattle.line_world.specs.Run.{Runs, SinkTold, WrotePart, WroteText, course_of, end_of, end_text, piece_of, sink_told, trace_text, whole_log}
+use Rattle.line_world.specs.Run.{Runs, course_of, end_of, end_text, piece_of, trace_text, whole_log}
 use Rattle.line_world.specs.World.{Piece, World, after_event, after_events, begun}
 use Rattle.line_world.proofs.Texts.{IsLeft, left_done, left_further}
 
@@ -47,18 +47,19 @@ pub past_event : (plan : LinePlan) (schedule : Schedule) (i : ℕ) (event : Even
     → empty ≡ [] → world' ≡ (after_event event world).world → lines ≡ empty ++ text_of (after_event event world).entries
     → slice ≡ lines → page' ≡ page ++ slice → world'.moment ≤ world.moment + 1000000
     → IsAt plan schedule i world page was now health health_now → IsAt plan schedule (i + 1) world' page' was now health health_now
-past_event plan schedule i event world world' empty lines slice page page' was now health health_now is_event none is_world is_lines is_slice is_page moment here = record {
-  sent = here.sent;
-  received = here.received;
-  health_is = here.health_is;
-  left =
-      left_further (after_event event world) (after_events (drop (i + 1) schedule.events)) world' (here.sent ++ page) (here.sent ++ page') _ _ is_world
-      (ap (λ (t : List ℕ). here.sent ++ t)
-      (is_page ∙ ap (λ (t : List ℕ). page ++ t) (is_slice ∙ is_lines ∙ ap (λ (t : List ℕ). t ++ text_of (after_event event world).entries) none))
-      ∙ sym (append_assoc here.sent page (text_of (after_event event world).entries)))
-      (subst (λ (events : List Event). IsLeft (after_events events world) (here.sent ++ page) (piece_of plan schedule).world (text_of (piece_of plan schedule).entries)) is_event here.left);
-  moment = omega (arith, moment, here.moment);
-}
+past_event plan schedule i event world world' empty lines slice page page' was now health health_now is_event none is_world is_lines is_slice is_page moment here =
+    record {
+      sent = here.sent;
+      received = here.received;
+      health_is = here.health_is;
+      left =
+          left_further (after_event event world) (after_events (drop (i + 1) schedule.events)) world' (here.sent ++ page) (here.sent ++ page') _ _ is_world
+          (ap (λ (t : List ℕ). here.sent ++ t)
+          (is_page ∙ ap (λ (t : List ℕ). page ++ t) (is_slice ∙ is_lines ∙ ap (λ (t : List ℕ). t ++ text_of (after_event event world).entries) none))
+          ∙ sym (append_assoc here.sent page (text_of (after_event event world).entries)))
+          (subst (λ (events : List Event). IsLeft (after_events events world) (here.sent ++ page) (piece_of plan schedule).world (text_of (piece_of plan schedule).entries)) is_event here.left);
+      moment = omega (arith, moment, here.moment);
+    }
 
 -- the page went out
 pub past_page : (plan : LinePlan) (schedule : Schedule) (i : ℕ) (world : World) (page page' slice : List ℕ) (was now after : Option (List ℕ)) (health health_now health_after : SinkHealth)
@@ -85,7 +86,8 @@ past_page plan schedule i world page page' slice was now after health health_now
 whole_text : (piece : Piece) → text_of (whole_log piece) ≡ text_of piece.entries ++ end_text piece.world.course piece.world.moment
 whole_text piece = go piece.world.course refl
   where
-    go : (course : Course) → piece.world.course ≡ course → text_of (whole_log piece) ≡ text_of piece.entries ++ end_text piece.world.course piece.world.moment
+    go : (course : Course) → piece.world.course ≡ course
+        → text_of (whole_log piece) ≡ text_of piece.entries ++ end_text piece.world.course piece.world.moment
     go GoesOn is = rw is refl
     go Slips is = rw is (sym (append-nil (text_of piece.entries)))
     go Turns is = rw is (sym (append-nil (text_of piece.entries)))

@@ -133,7 +133,9 @@ sends_good plan fits now e log block is can good = by_sent good.sent
               (all-first (IsOne (greeting_block plan.device)) block line.equipment.given same (subst (λ (g : List BlockView). All (IsOne (greeting_block plan.device)) g) (sym empty) (all-none (IsOne (greeting_block plan.device)))))
               (record {
                 moment = now;
-                entry = subst (λ (m : Message). Contains (Noted now Equipment (Sent (message_of block)) ∷ log) (Noted now Equipment (Sent m))) (ap message_of same)
+                entry =
+                    subst (λ (m : Message). Contains (Noted now Equipment (Sent (message_of block)) ∷ log) (Noted now Equipment (Sent m)))
+                    (ap message_of same)
                     (contains-first (Noted now Equipment (Sent (message_of block))) log);
               });
           fresh = λ none. all-first NotHeard (Noted now Equipment (Sent (message_of block))) log refl (good.fresh none);
@@ -174,10 +176,12 @@ then_good plan side now log first second one two =
     ∙ ap (λ (l : List Entry). l ++ log) (sym (map-append (Noted now side) later first.notes)))
     (two (noted side now first.notes ++ log) one)
 
-tick_good : (plan : LinePlan) (side : Side) (now : ℕ) (e : Ends) (log : List Entry) → IsGood plan e log → GoodPart plan side now log (ticked side now e)
+tick_good : (plan : LinePlan) (side : Side) (now : ℕ) (e : Ends) (log : List Entry) → IsGood plan e log
+    → GoodPart plan side now log (ticked side now e)
 tick_good plan side now e log good = quiet_call plan side now (Tick now) e log refl (λ g. refl) (tt {0}) (λ s same. tt {0}) good
 
-took_good : (law : BlocksArriveInOrder) → (judged : ArrivalsAreJudged) → (plan : LinePlan) → LinePlanFits plan → (side : Side) (now : ℕ) (gives : Bool) (e : Ends) (log : List Entry)
+took_good : (law : BlocksArriveInOrder) → (judged : ArrivalsAreJudged) → (plan : LinePlan) → LinePlanFits plan
+    → (side : Side) (now : ℕ) (gives : Bool) (e : Ends) (log : List Entry)
     → (gives && slips_in side now e) ≡ false → IsGood plan e log → GoodPart plan side now log (took side now gives e)
 took_good law judged plan fits side now false e log whole good = tick_good plan side now e log good
 took_good law judged plan fits side now true e log whole good =
@@ -191,7 +195,8 @@ wrote_good plan side now e (byte ∷ bytes) log good =
     plain_more plan e (Noted now side (Wrote (byte ∷ bytes))) log (record { sends = refl; delivers = refl; goes_on = λ before. tt {0} }) good
 
 -- one step that is no slip
-step_good : (law : BlocksArriveInOrder) → (judged : ArrivalsAreJudged) → (plan : LinePlan) → LinePlanFits plan → (side : Side) (now : ℕ) (gives : Bool) (e : Ends) (log : List Entry)
+step_good : (law : BlocksArriveInOrder) → (judged : ArrivalsAreJudged) → (plan : LinePlan) → LinePlanFits plan
+    → (side : Side) (now : ℕ) (gives : Bool) (e : Ends) (log : List Entry)
     → (gives && slips_in side now e) ≡ false → IsGood plan e log
     → IsGood plan (step_of side now gives e).ends (entries_of side now (step_of side now gives e) ++ log)
 step_good law judged plan fits side now gives e log whole good =

@@ -70,7 +70,9 @@ pub both_pieces : (first : Piece) (rest : World → Piece) (world after : World)
     → after ≡ (rest world).world → page' ≡ mid ++ text_of (rest world).entries
     → (after ≡ (and_more first rest).world) × (page' ≡ page ++ text_of (and_more first rest).entries)
 both_pieces first rest world after page mid page' is_world is_mid is_after is_page =
-    let left = left_further first rest world page mid (and_more first rest).world (page ++ text_of (and_more first rest).entries) is_world is_mid (record { world = refl; text = refl }) in
+    let left =
+    left_further first rest world page mid (and_more first rest).world (page ++ text_of (and_more first rest).entries) is_world is_mid
+    (record { world = refl; text = refl }) in
     (is_after ∙ left.world, is_page ∙ left.text)
 
 -- ---- characters given one by one

@@ -1,5 +1,5 @@
 -- What holds of every run.
-use Rattle.std.specs.Prelude.{◌≡◌, ℕ, Bool}
+use Rattle.std.specs.Prelude.{◌≡◌, Bool}
 use Rattle.gl_base.specs.declared.side.Side.{Side}
 use Rattle.line_end.specs.declared.plan.LinePlan.{LinePlan}
 use Rattle.line_end.specs.Plan.{LinePlanFits}

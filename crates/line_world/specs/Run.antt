@@ -1,6 +1,6 @@
 -- The run of a schedule, and what it writes.
-use Rattle.std.specs.Prelude.{◌≡◌, ◌≤◌, ℕ, List, [], ◌∷◌, length, take, Option}
-use Rattle.gl_base.specs.Sink.{appended, IsWrittenOn, SinkHealth, WriteFault}
+use Rattle.std.specs.Prelude.{◌≡◌, ℕ, List, [], ◌∷◌, length}
+use Rattle.gl_base.specs.Sink.{SinkTold, WriteFault, WrotePart, WroteText}
 use Rattle.line_end.specs.declared.plan.LinePlan.{LinePlan}
 use Rattle.line_schedule.specs.declared.schedule.Schedule.{Schedule}
 use Rattle.trace_log.specs.Log.{Entry}
@@ -47,28 +47,6 @@ log_of plan schedule = whole_log (piece_of plan schedule)
 
 abbrev pub trace_text : LinePlan → Schedule → List ℕ
 trace_text plan schedule = text_of (log_of plan schedule)
-
--- what a sink told before a call and after it
-pub record SinkTold : Type 0 where
-  pub before : Option (List ℕ)
-  pub after : Option (List ℕ)
-  pub health : SinkHealth
-  pub health_after : SinkHealth
-
-abbrev pub sink_told : Option (List ℕ) → Option (List ℕ) → SinkHealth → SinkHealth → SinkTold
-sink_told before after health health_after =
-    record { before = before; after = after; health = health; health_after = health_after }
-
--- a text went out, and the count of faults did not fall
-pub record WroteText (out : SinkTold) (text : List ℕ) : Type 0 where
-  pub received : out.after ≡ appended out.before text
-  pub health : IsWrittenOn out.health out.health_after (length text)
-
--- only so many bytes of a text from its front went out
-pub record WrotePart (out : SinkTold) (text : List ℕ) : Type 0 where
-  pub count : ℕ
-  pub received : out.after ≡ appended out.before (take count text)
-  pub later : out.health.faults ≤ out.health_after.faults
 
 -- the whole text, and how the world went; or a part of the text. A write fails only with a fault
 abbrev pub Runs : SinkTold → List ℕ → Course → RunEnd → Type 0

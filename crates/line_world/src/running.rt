@@ -1,7 +1,8 @@
 ghost use Rattle.std.specs.Prelude.{◌≡◌, ◌++◌, ◌+◌, OnErr, OnOk};
 ghost use Rattle.line_end.specs.Plan.{LinePlanFits};
 ghost use Rattle.line_schedule.specs.Schedule.{Fits};
-ghost use Rattle.line_world.specs.Run.{Runs, course_of, end_of, end_text, log_of, sink_told, trace_text};
+ghost use Rattle.gl_base.specs.Sink.{sink_told};
+ghost use Rattle.line_world.specs.Run.{Runs, course_of, end_of, end_text, log_of, trace_text};
 ghost use Rattle.trace_log.specs.Delivered.{Delivered};
 
 use crate::course::Course;

@@ -84,7 +84,8 @@ distinct-partials partials block deadline Unexpected are = distinct-without_key 
 distinct-partials partials block deadline TooLong are = distinct-without_key block.header partials are
 distinct-partials partials block deadline Crowded are = are
 
-pub distinct-next : (receiver : Receiver) (kept : Kept) (entry : Entry) → AreDistinct kept.partials → AreDistinct (next_kept receiver kept entry).partials
+pub distinct-next : (receiver : Receiver) (kept : Kept) (entry : Entry) → AreDistinct kept.partials
+    → AreDistinct (next_kept receiver kept entry).partials
 distinct-next receiver kept (Given block now) are =
     distinct-partials kept.partials block (now + receiver.t4) (flow_of receiver kept.last kept.partials block) are
 distinct-next receiver kept (Dropped header now) are = distinct-without_key header kept.partials are

@@ -272,7 +272,8 @@ counted-same receiver header entries met block now Part same facts is =
   where
     step : IsFollowing (open_blocks header met) block → IsNextNumber (open_blocks header met) block
         → IsCounted receiver header (Given block now ∷ entries) (Arrived block now Part ∷ met)
-    step following (inl e) = counted-part receiver header entries met block now same (sym (foreign-same receiver block.header header same) ∙ facts.0) e is
+    step following (inl e) =
+        counted-part receiver header entries met block now same (sym (foreign-same receiver block.header header same) ∙ facts.0) e is
     step following (inr only) = absurd (both_ways _ facts.2 (following.last only.0))
 
     go : IsFollowing (open_blocks header met) block → IsCounted receiver header (Given block now ∷ entries) (Arrived block now Part ∷ met)

@@ -54,7 +54,8 @@ take-plus n m xs =
     ∙ ap (λ (ys : List ℕ). take n xs ++ ys) (drop-take n m xs)
 
 -- the next 244 bytes behind those of the blocks before
-pub take-block : (number : ℕ) (body : List ℕ) → take (244 * number) body ++ take 244 (drop (244 * (number + 1 - 1)) body) ≡ take (244 * (number + 1)) body
+pub take-block : (number : ℕ) (body : List ℕ)
+    → take (244 * number) body ++ take 244 (drop (244 * (number + 1 - 1)) body) ≡ take (244 * (number + 1)) body
 take-block number body =
     let e : number + 1 - 1 ≡ number = omega arith in
     let f : 244 * number + 244 ≡ 244 * (number + 1) = omega arith in

@@ -37,7 +37,8 @@ returns-in_default-put_end g c = record { text = stopped_by_memory _ _ _ _ _ _ _
 
 pub returns-in-Done-copy_out : goal.returns-in-Done-copy_out
 returns-in-Done-copy_out g c =
-    let past : length c.args.schedule.now.events ≤ c.events.event-index = omega (arith, c.events-test.false, ap length c.as_slice-event-items.ensures) in
+    let past : length c.args.schedule.now.events ≤ c.events.event-index =
+    omega (arith, c.events-test.false, ap length c.as_slice-event-items.ensures) in
     record {
       text =
           ran_whole _ _ _ _ _ _ _ _ _ _ _ _ c.as_slice-2.ensures c.in-Done-copy_out.ensures.bytes c.in-Done-copy_out.ensures.cause
@@ -47,7 +48,8 @@ returns-in-Done-copy_out g c =
 
 pub returns : goal.returns
 returns g c =
-    let past : length c.args.schedule.now.events ≤ c.events.event-index = omega (arith, c.events-test.false, ap length c.as_slice-event-items.ensures) in
+    let past : length c.args.schedule.now.events ≤ c.events.event-index =
+    omega (arith, c.events-test.false, ap length c.as_slice-event-items.ensures) in
     let went = c.in-Failed-copy_out.ensures.bytes in
     let cause = c.in-Failed-copy_out.ensures.cause in
     record {

@@ -16,7 +16,8 @@ returns-in-Some-clause-flow c =
     let b = c.args.block.now in
     let given : is_given s.last b.header ≡ false = rw (← c.header-header.ensures.value) (sym c.is_given.ensures ∙ c.if-is_given.false) in
     let foreign : is_foreign s.receiver b.header ≡ false = rw (← c.header-header.ensures.value) (sym c.is_foreign.ensures ∙ c.if-is_foreign.false) in
-    let e : position (has_key b.header) s.partials ≡ Some c.in-Some.place = rw (← c.header-header.ensures.value) (sym c.place_of.ensures ∙ c.in-Some.is) in
+    let e : position (has_key b.header) s.partials ≡ Some c.in-Some.place =
+    rw (← c.header-header.ensures.value) (sym c.place_of.ensures ∙ c.in-Some.is) in
     let at = position-some (has_key b.header) s.partials c.in-Some.place e in
     let p = get_or s.partials c.in-Some.place (new_partial b 0) in
     let is = get_or_default s.partials c.in-Some.place (new_partial b 0) p at.within in
@@ -29,7 +30,8 @@ pub returns-in-Some-clause-partials : goal.returns-in-Some-clause-partials
 returns-in-Some-clause-partials c =
     let s = c.args.self.now in
     let b = c.args.block.now in
-    let e : position (has_key b.header) s.partials ≡ Some c.in-Some.place = rw (← c.header-header.ensures.value) (sym c.place_of.ensures ∙ c.in-Some.is) in
+    let e : position (has_key b.header) s.partials ≡ Some c.in-Some.place =
+    rw (← c.header-header.ensures.value) (sym c.place_of.ensures ∙ c.in-Some.is) in
     let at = position-some (has_key b.header) s.partials c.in-Some.place e in
     let p = get_or s.partials c.in-Some.place (new_partial b 0) in
     let is = get_or_default s.partials c.in-Some.place (new_partial b 0) p at.within in
