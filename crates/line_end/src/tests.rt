@@ -505,6 +505,17 @@ fn the_slave_yields(rt: HostRuntime) -> Result<(), Fail> {
     Ok(())
 }
 
+// The deadline is looked at in a tick alone: a later character counts as long as none came.
+#[test]
+fn a_deadline_waits_for_its_tick(rt: HostRuntime) -> Result<(), Fail> {
+    let mut out = Chars::new();
+    let mut end = LineEnd::new(Side::Equipment, TIMES);
+    send(&mut end, 0, &mut out)?;
+    let _event = take_all(&mut end, &[EOT], 10_001, &mut out);
+    assert_eq!(rt; out.as_slice(), ARE_YOU_THERE.as_slice());
+    Ok(())
+}
+
 fn is_are_you_there(event: &LineEvent) -> bool {
     match event {
         LineEvent::Arrived(block) => frame_of(block).as_slice() == ARE_YOU_THERE.as_slice(),

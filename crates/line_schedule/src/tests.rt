@@ -136,6 +136,8 @@ fn lines_that_are_not_carried_out(rt: HostRuntime) -> Result<(), Fail> {
         b"host send S1F17 W -",
         b"host send S127F255 -",
         b"host send S01F001  <L>",
+        b"host send S01F003 W -",
+        b"host send S1F3 W <L>",
         b"host send S6F23 W <U1 0>",
     ] {
         assert!(rt; is_not_built(alloc, line));

@@ -195,12 +195,13 @@ fn faults_have_their_places(rt: HostRuntime) -> Result<(), Fail> {
     for (text, at) in broken {
         assert_eq!(rt; fault(rt.alloc(), text), Some(TextFault::Syntax { at }));
     }
-    let outside: [&[u8]; 11] = [
+    let outside: [&[u8]; 12] = [
         b"<U1 256>",
         b"<U1 256x>",
         b"<U1 256",
         b"<U1 256 999>",
         b"<U1 -1>",
+        b"<U1 -5x",
         b"<I1 128>",
         b"<I1 -129>",
         b"<I8 9223372036854775808>",
