@@ -24,9 +24,7 @@ impl Model for Block {
 }
 
 impl Block {
-    /// A block of this header and this body.
-    ///
-    /// `None` exactly where the header does not fit or the body has more than 244 bytes.
+    /// The block of this header and this body, if the header fits and the body is of 244 bytes or fewer. Else `None`.
     pub fn new(header: Header, body: &[u8]) -> Option<Block>
         ensures variant { IsSome result ↔ (Fits header × (length body.now ≤ 244)) }
         ensures some { IfSome result (λ block. (block.header ≡ header) × (block.body ≡ body.now)) }

@@ -41,9 +41,9 @@ pub fn frame_of(block: &Block) -> Frame
 
 /// The block whose frame these bytes are, all of them.
 ///
-/// Otherwise the first of these faults that holds, where n is the first byte: `Short` at 0 where nothing came; `Length`
-/// where n is outside 10 to 254; `Short` at the number of bytes where fewer than n + 3 came; `Long` at n + 3 where more
-/// came; `Sum` where the two last bytes are not the checksum of the n bytes before them.
+/// Else the first of these tests that fails names the fault. There is a first byte (`Short` at 0). Its value n is from
+/// 10 to 254 (`Length`). Exactly n + 2 bytes follow it: a missing one is `Short` at the place behind the last byte, the
+/// first that is too many is `Long` at its own place. The last two of them are the checksum of the n others (`Sum`).
 pub fn block_of(bytes: &[u8]) -> Result<Block, BlockFault>
     ensures ok { IfOk result (λ block. IsBlock block × (bytes.now ≡ frame_bytes block)) }
     ensures every { (block : BlockView) → IsBlock block → bytes.now ≡ frame_bytes block → result ≡ Ok block }

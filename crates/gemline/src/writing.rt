@@ -26,7 +26,7 @@ impl<W: Write> Sink for Writing<W> {
 
     ghost health = { λ s. record { faults = s.faults; room = 0 } };
 
-    // An object that takes nothing is a fault.
+    // Where the object takes no byte, a fault is counted, as at an error.
     fn write(&mut self, bytes: &[u8]) -> WriteAnswer
         requires { 0 < length bytes.now }
         ensures within { WritesWithin (length bytes.now) result }

@@ -16,8 +16,8 @@ HexMeans [] input = AreGaps input
 HexMeans (byte ∷ bytes) input =
     (gaps : List ℕ) × (pair : List ℕ) × (rest : List ℕ) × (input ≡ gaps ++ (pair ++ rest)) × AreGaps gaps × IsHexByte byte pair × HexMeans bytes rest
 
--- At this place stands the first byte that no such input has there, or the input ends there inside a pair: what stands before
--- it begins such an input, and no such input goes on with it.
+-- The input is good up to this place and no further: what stands before it begins an input that means bytes, and no
+-- such input goes on with the byte that stands here. Where no byte stands here, the input ends with half a pair.
 pub record IsHexBreak (input : List ℕ) (at : ℕ) : Type 0 where
   pub front : List ℕ
   pub rest : List ℕ

@@ -12,7 +12,7 @@ use std::alloc::Global;
 /// Why an input means no bytes.
 #[derive(Clone, Copy, Debug, PartialEq, Eq)]
 pub(crate) enum HexFault {
-    /// The first byte that no such input has there, or its end inside a pair.
+    /// Up to here the input is good, but the byte here can't follow, or the input ends here with half a pair.
     Break { at: usize },
     NoMemory,
 }

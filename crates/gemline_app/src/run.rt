@@ -15,10 +15,10 @@ use std::alloc::Global;
 
 /// Runs the command of the words, without the program's name, and answers the status to end with.
 ///
-/// `show` reads a capture from `input` and writes to `out` a line for each frame and each character of the handshake, and
-/// what each block brings: its message, or why there is none. `spell` reads an item's text and writes its shortest
-/// spelling in hex; `spell --hex` reads bytes in hex and writes the text of their item. `replay` reads a plan and a
-/// schedule from `files` and writes the trace of both ends of a line.
+/// The results go to `out`. From a capture on `input`, `show` makes a line for each frame and each character of the
+/// handshake, and tells what each block brings: its message, or why there is none. From an item's text on `input`,
+/// `spell` makes hex with as few length bytes as can be; `spell --hex` makes the text from hex on `input`. `replay`
+/// finds a plan and a schedule in `files`, lets both ends of a line run by them and tells what they do, as a trace.
 /// `err` gets one line where the status isn't 0.
 pub fn gemline<F: Files, R: Source, W: Sink, E: Sink>(
     alloc: Global,

@@ -15,7 +15,7 @@ use secs_items::{EncodeFault, Item, ItemFault, decode, encode_into};
 use secs_text::{TextFault, print, read};
 use std::alloc::Global;
 
-/// Writes the shortest spelling of the item that a text reads as, in hex, and a newline.
+/// Writes a line of hex for an item's text: the bytes of the item, with as few length bytes as can be.
 pub(crate) fn spell<W: Sink>(alloc: Global, text: &[u8], out: &mut W) -> Outcome
     requires { length text.now ≤ 1048576 }
     ensures { WasSpelled text.now
@@ -28,7 +28,7 @@ pub(crate) fn spell<W: Sink>(alloc: Global, text: &[u8], out: &mut W) -> Outcome
     }
 }
 
-/// Writes the text of the item that bytes in hex spell, and a newline.
+/// Writes a line of text for hex digits: the item that their bytes spell.
 pub(crate) fn spell_hex<W: Sink>(alloc: Global, digits: &[u8], out: &mut W) -> Outcome
     ensures { WasPrinted digits.now
         (sink_told (W.received out.old) (W.received out.new) (W.health out.old) (W.health out.new))

@@ -44,7 +44,7 @@ pub record FileFault (file : Option (List ℕ)) (before now : FilesHealth) : Typ
   pub rose : Rose before.faults now.faults
   pub lacking : before.reliable ≡ true → file ≡ None
 
--- the count of faults never falls, and files on which one can rely stay so
+-- a call takes back no counted fault, and files on which one can rely stay so
 pub record AreReadOn (before now : FilesHealth) : Type 0 where
   pub later : before.faults ≤ now.faults
   pub relied : before.reliable ≡ true → now.reliable ≡ true

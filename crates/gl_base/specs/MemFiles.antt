@@ -1,4 +1,5 @@
--- Files in memory, which fail exactly at the calls of their list and at a name that they don't hold (this profile).
+-- Files in memory: the calls whose numbers were given fail, and those for a name that no file has; no others do (this
+-- profile).
 use Rattle.std.specs.Prelude.{ℕ, nat_le, ◌||◌, List, length, Option, Some, None, is_none, if◌then◌else◌}
 use Rattle.gl_base.specs.Calls.{called, faulted, fails_next, is_safe}
 use Rattle.gl_base.specs.declared.calls.Calls.{Calls}

@@ -1,4 +1,5 @@
--- A sink in memory, which fails exactly at the calls of its list and past its room (this profile).
+-- A sink in memory: the calls whose numbers it was given fail, and those whose bytes have no room; no others do (this
+-- profile).
 use Rattle.std.specs.Prelude.{ℕ, ◌+◌, ◌-◌, Bool, ◌||◌, nat_lt, List, ◌++◌, length, if◌then◌else◌}
 use Rattle.gl_base.specs.Calls.{called, faulted, fails_next, is_safe}
 use Rattle.gl_base.specs.declared.calls.Calls.{Calls}

@@ -1,4 +1,4 @@
--- A source in memory, which fails exactly at the calls of its list (this profile).
+-- A source in memory: the calls whose numbers it was given fail, all of them and no others (this profile).
 use Rattle.std.specs.Prelude.{ℕ, ◌==◌, min, List, ◌++◌, length, drop, take, if◌then◌else◌}
 use Rattle.gl_base.specs.Calls.{called, faulted, fails_next, is_safe}
 use Rattle.gl_base.specs.declared.calls.Calls.{Calls}

@@ -31,7 +31,7 @@ pub record WriteFault (before now : SinkHealth) (size : ℕ) : Type 0 where
   pub rose : Rose before.faults now.faults
   pub crowded : before.room < size
 
--- the count of faults never falls, and n bytes use up no more than their room
+-- a call takes back no counted fault, and n bytes use up no more than their room
 pub record IsWrittenOn (before now : SinkHealth) (n : ℕ) : Type 0 where
   pub later : before.faults ≤ now.faults
   pub used : before.room ≤ now.room + n

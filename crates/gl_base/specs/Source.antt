@@ -30,7 +30,7 @@ pub record ReadFault (before now : SourceHealth) : Type 0 where
   pub rose : Rose before.faults now.faults
   pub unreliable : before.reliable ≡ false
 
--- the count of faults never falls, and a source on which one can rely stays so
+-- a call takes back no counted fault, and a source on which one can rely stays so
 pub record IsReadOn (before now : SourceHealth) : Type 0 where
   pub later : before.faults ≤ now.faults
   pub relied : before.reliable ≡ true → now.reliable ≡ true

@@ -30,10 +30,10 @@ pub trait Files {
     ghost told: { Self → Option (List MemFile) };
 
     /// How many faults were counted, and whether no reading of a file that is there can fail any more, which no
-    /// real object says. The count never falls, and at 2^64 - 1 it stands.
+    /// real object says. No call takes a counted fault back, and at 2^64 - 1 the count stands.
     ghost health: { Self → FilesHealth };
 
-    /// Reads the file of this name whole. `Longer` comes exactly where it has more than `limit` bytes.
+    /// `Whole` gives the file of this name, if it is no longer than `limit` bytes; `Longer` says that it is.
     fn read_file(&mut self, alloc: Global, name: &str, limit: usize) -> FileAnswer
         ensures bytes { ReadsFile limit name.now (told self.old) result }
         ensures same { told self.new ≡ told self.old }

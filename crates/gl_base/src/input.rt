@@ -19,8 +19,8 @@ pub enum Input {
 /// How many bytes one read asks for.
 const PIECE: usize = 65536;
 
-/// Reads to the end. `Longer` comes exactly where more than `limit` bytes came. On every answer but
-/// `Whole` a part from the front may have been taken.
+/// Takes what is left of the source. `Whole` gives all of it; `Longer` is the answer as soon as the bytes read pass
+/// `limit`, and at no other time. Each answer but `Whole` may have taken a part from the front.
 pub fn read_all<R: Source>(alloc: Global, source: &mut R, limit: usize) -> Input
     ensures bytes { ReadsAll limit (R.left source.old) (R.left source.new) result }
     ensures cause { HasInputCause (R.health source.old) (R.health source.new) result }

@@ -12,8 +12,8 @@ use crate::row::Row;
 use std::alloc::Global;
 use std::marker::Model;
 
-/// Files in memory, which fail exactly at the calls that they are told and at a name that they don't hold.
-/// Of two files of one name the first counts.
+/// Files in memory. The calls whose numbers were given fail, and those for a name that no file has; no others do. Of
+/// two files of one name the first counts.
 #[derive(Debug, Drop)]
 pub struct MemFiles {
     files: Row<MemFile>,
@@ -29,7 +29,7 @@ impl Model for MemFiles {
 }
 
 impl MemFiles {
-    /// Files that fail at a name that they don't hold alone.
+    /// Files of which a call fails only for a name that no file has.
     pub fn new(files: Row<MemFile>) -> MemFiles
         ensures { result ≡ record { files = files; calls = no_calls [] } }
     {

@@ -10,8 +10,8 @@ use crate::sink::{Sink, WriteAnswer};
 use std::alloc::Global;
 use std::marker::Model;
 
-/// A bounded piece of memory as a sink, which fails exactly at the calls that it is told and at a
-/// write that would pass its room. It takes all its memory when it is made.
+/// A bounded piece of memory as a sink. The calls whose numbers it was given fail, and those whose bytes have no
+/// room; no others do. It takes all its memory when it is made.
 #[derive(Debug, Drop)]
 pub struct MemSink {
     bytes: Vec<u8>,

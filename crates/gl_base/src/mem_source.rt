@@ -8,7 +8,7 @@ use crate::row::Row;
 use crate::source::{ReadAnswer, Source};
 use std::marker::Model;
 
-/// Bytes in memory as a source, which fails exactly at the calls that it is told.
+/// Bytes in memory as a source. The calls whose numbers it was given fail, all of them and no others.
 #[derive(Debug, Drop)]
 pub struct MemSource {
     bytes: Row<u8>,

@@ -16,7 +16,7 @@ pub trait Sink {
     ghost received: { Self → Option (List ℕ) };
 
     /// How many faults were counted, and for how many more bytes there is room for sure, 0 over a real
-    /// object. The count never falls, and at 2^64 - 1 it stands.
+    /// object. No call takes a counted fault back, and at 2^64 - 1 the count stands.
     ghost health: { Self → SinkHealth };
 
     /// Appends at least one byte.

@@ -13,9 +13,9 @@ use Rattle.line_end.specs.State.{CanSend, IsLineState, LineState, new_state}
 use Rattle.line_end.specs.Step.{eot, LineCall, line_step}
 use Rattle.line_end.specs.Step.LineCall.{Send}
 
--- a block of N header and body bytes is carried in N + 6 characters of both directions: ENQ, EOT, N + 3 of the frame,
--- ACK. It arrives unchanged, and both ends are as they were: idle, and what the receiver held it holds (SEMI E4, block
--- transfer)
+-- n + 6 characters, those of both directions together, bring over a block whose header and body are n bytes: ENQ, EOT,
+-- n + 3 of the frame, ACK. It arrives unchanged, and both ends are as they were: idle, and what the receiver held it
+-- holds (SEMI E4, block transfer)
 abbrev pub CleanExchange : Type 0
 CleanExchange =
     (sender receiver : LineState) (block : BlockView) (now : ℕ) (at : ℕ → ℕ)

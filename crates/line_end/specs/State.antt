@@ -8,8 +8,9 @@ use Rattle.line_end.specs.declared.event.Phase.TheVariants.{Idle, AwaitEot, Awai
 use Rattle.line_end.specs.declared.plan.Times.{Times}
 use Rattle.line_end.specs.Plan.{TimesFit}
 
--- what an end keeps: the block that it holds to send, the number of the present try, the characters of a frame so far,
--- why a frame will be refused, and the moment at which it acts by itself (SEMI E4, block transfer)
+-- the state of an end: held is the block that is still to go out, and its tries are numbered from 1; gathered is what
+-- has come of a frame; cause is the reason where a frame is to be refused; at the deadline the end acts by itself
+-- (SEMI E4, block transfer)
 pub record LineState : Type 0 where
   pub side : Side
   pub times : Times

@@ -22,9 +22,9 @@ pub type Chars = ArrayVec<u8, 1024>;
 
 /// One end of a line: it sends the block that it is given, and answers the other end, by the block transfer of SEMI E4.
 ///
-/// It keeps its phase, the block that it holds to send, the number of the present try, the characters of a frame that
-/// is under way, why such a frame will be refused, and the moment at which it next acts by itself. This is the state of
-/// the table of the block transfer, and each call is one step of that table.
+/// Between two calls it is in a state of the table of the block transfer, and each call is one step of that table. To
+/// the state belong the phase; a block to send, and which try of it runs; what has come of a frame so far; the
+/// reason, where a frame is to be refused; and when the end next acts by itself.
 #[derive(Drop, Debug)]
 pub struct LineEnd {
     side: Side,

@@ -14,8 +14,9 @@ ghost use Rattle.line_end.specs.Worked.{
   YieldsOnce,
 };
 
-/// Where no character is lost or late, a block with N header and body bytes is carried in N + 6 characters of both
-/// directions, arrives unchanged, and leaves both ends idle; a block that the receiver holds stays held.
+/// Where no character is lost or late, N + 6 characters, those of both directions together, bring over a block whose
+/// header and body are N bytes. It arrives unchanged. Both ends are idle then, and what the receiver held it still
+/// holds.
 pub fn clean_exchange()
     ensures { CleanExchange }
 {}

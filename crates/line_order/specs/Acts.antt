@@ -162,8 +162,8 @@ slips_in_hand now [] view = false
 slips_in_hand now (character ∷ rest) view =
     slips_in_call (character ∷ []) (Take character.byte now) (with_way rest view)
 
--- the act makes a block arrive whose characters aren't, in order and unchanged, all those of one frame that the other end
--- has written (this profile)
+-- the act makes a block arrive for which no frame of the other end was taken whole: of each frame a character is
+-- missing, changed or out of its place, or another stands among them (this profile)
 abbrev pub slips_here : Act → View → Bool
 slips_here (Hand now) view = slips_in_hand now view.there.under_way view
 slips_here Lose view = false

@@ -14,7 +14,8 @@ pub record IsNewer (newer older : Arrival) : Type 0 where
   pub place : older.frame.place ≤ newer.frame.place
   pub number : older.frame.number < newer.frame.number
 
--- it is the block that was given at its place; its frame was written since the last power loss (this profile)
+-- it is the block that was given at its place; no end lost power between the writing of its frame and its arrival (this
+-- profile)
 pub record IsGiven (given : List BlockView) (arrival : Arrival) : Type 0 where
   pub block : given_at arrival.frame.place given ≡ Some arrival.block
   pub since : arrival.lost ≤ arrival.frame.number

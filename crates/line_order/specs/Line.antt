@@ -89,7 +89,7 @@ given_at place (block ∷ before) =
 abbrev pub last_of : ℕ → List Character → List Character
 last_of n characters = drop (length characters - n) characters
 
--- these are all the characters of that frame, in order and unchanged
+-- the characters are that frame, whole: each stands at its place as it was written, and no other is there
 abbrev pub are_all_of : List Character → WrittenFrame → Bool
 are_all_of characters frame = are_framed_from frame.number 0 frame.bytes characters
 

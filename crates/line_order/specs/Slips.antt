@@ -8,7 +8,8 @@ use Rattle.line_order.specs.Acts.{called, received, slips_in_call}
 use Rattle.line_order.specs.Characters.{Character, framed_from}
 use Rattle.line_order.specs.Line.{View, WrittenFrame}
 
--- all characters of one of these frames, in order and unchanged (this profile)
+-- the characters are one of these frames, whole: each stands at its place as it was written, and no other is there
+-- (this profile)
 pub record AreWhole (characters : List Character) (frames : List WrittenFrame) (frame : WrittenFrame) : Type 0 where
   pub written : Contains frames frame
   pub same : characters ≡ framed_from frame.number 0 frame.bytes

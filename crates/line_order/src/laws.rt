@@ -14,8 +14,8 @@ pub fn blocks_arrive_in_order()
     ensures told { TellsArrivals }
 {}
 
-/// A block that arrives is noted with its frame, unless it is a slip: its characters aren't, in order and unchanged, all
-/// those of one frame that the other end has written.
+/// A block that arrives is noted with the frame of the other end that was taken whole for it. Where there is no such
+/// frame, since a character is missing, changed or out of its place, or another stands among them, the block is a slip.
 pub fn arrivals_are_judged()
     ensures { ArrivalsAreJudged }
 {}

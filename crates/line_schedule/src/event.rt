@@ -6,9 +6,10 @@ use gl_base::Side;
 /// What a line of a schedule has happen.
 #[derive(Clone, Copy, Debug, PartialEq, Eq)]
 pub enum Event {
-    /// Gives so many of the next characters to this end, fewer where fewer are there.
+    /// This end takes the next characters on their way to it: so many of them, or all if they are not as many.
     To(Side, u32),
-    /// Gives the next character to the equipment, else to the host, until none is left.
+    /// Both ends take characters, one at a time and 65,536 at most, as long as any is on its way. The host has its
+    /// turn only while none is on its way to the equipment.
     Settle,
     /// Moves the clock on by so many milliseconds.
     Wait(u32),

@@ -52,8 +52,9 @@ impl From<NoMemory> for ScheduleFault {
     }
 }
 
-/// The schedule that a text means, which fits. Each line ends with a line feed, which the last one may lack. Empty lines
-/// and lines that begin with `#` are passed over; `to X n`, `settle` and `wait ms` tell an event.
+/// The schedule that a text means, which fits. A line feed closes a line; at the end of the text it may be missing. A
+/// line tells an event where it is `to X n`, `settle` or `wait ms`, and nothing where it is empty or has a `#` in
+/// front.
 ///
 /// Otherwise the first line that does neither decides, by its number from 1: `Line` where it is outside the grammar or
 /// is the 131,073rd, `NotBuilt` where it is of the grammar. It takes memory for the events, and for an item as long as

@@ -12,8 +12,8 @@ use Rattle.line_show.specs.declared.capture.Piece.{Piece}
 use Rattle.line_show.specs.declared.capture.Piece.TheVariants.{Character, Framed}
 use Rattle.line_show.specs.declared.receivers.Receivers.{Receivers}
 
--- who receives what goes from the equipment, or from the host: of every device, with the longest texts. T4 never counts, since
--- all blocks of a capture stand at one moment (this profile)
+-- who receives what goes from the equipment, or from the host: of every device, with the longest texts. T4 never runs
+-- out: a capture has no clock, and each of its blocks comes at moment 0 (this profile)
 abbrev pub receiver_in : Bool → Receiver
 receiver_in from_equipment = record {
   side = if from_equipment then Host else Equipment;

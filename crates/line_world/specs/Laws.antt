@@ -9,12 +9,13 @@ use Rattle.line_world.specs.declared.course.Course.TheVariants.{GoesOn, Slips, T
 use Rattle.line_world.specs.Run.{log_of, whole_log}
 use Rattle.line_world.specs.World.{Piece, World, still, stepped}
 
--- each message delivered was sent, whole, and is delivered once in a start of its receiver (this profile)
+-- whatever a schedule does to a plan that fits: an end receives only what the other end has sent just so, and nothing a
+-- second time without a start of its own in between; each primary goes out with new system bytes (this profile)
 abbrev pub DeliveriesWereSent : Type 0
 DeliveriesWereSent = (plan : LinePlan) (schedule : Schedule) → LinePlanFits plan → Delivered (log_of plan schedule)
 
--- A step that is left after 4,000,000 of them ends the run and notes nothing, and a log that is cut short has no line of the
--- end (this profile).
+-- Step 4,000,001 is never made: in its place the run ends, and nothing is noted. A log that is cut short has no line
+-- of the end (this profile).
 pub record RunsAreBounded : Type 0 where
   pub turns :
       (side : Side) (gives : Bool) (world : World) → world.course ≡ GoesOn → world.steps ≡ 4000000

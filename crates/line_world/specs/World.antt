@@ -106,12 +106,12 @@ can_give side world = goes_on world.course && is_under_way (way_to side world.en
 abbrev pub given : Side → World → Piece
 given side world = if can_give side world then stepped side true world else still world
 
--- the next so many characters, one by one, fewer where fewer are there
+-- so many times one character for an end, as long as there is one
 abbrev pub given_times : ℕ → Side → World → Piece
 given_times zero side world = still world
 given_times (suc n) side world = and_more (given side world) (given_times n side)
 
--- the next character is given to the equipment, else to the host
+-- one character for the equipment where it can be given one, otherwise one for the host
 abbrev pub settled : World → Piece
 settled world = if can_give Equipment world then stepped Equipment true world else given Host world
 

@@ -107,7 +107,7 @@ impl World {
         }
     }
 
-    // Gives an end the next n characters on their way to it, fewer where fewer are there.
+    // Hands characters to one end: n of them, or as many as it can be given.
     fn give(
         &mut self,
         alloc: Global,
@@ -130,7 +130,7 @@ impl World {
         Ok(())
     }
 
-    // Gives the ends the next n characters, fewer where fewer are there.
+    // Hands characters to both ends: n in all, or as many as they can be given.
     fn settle(&mut self, alloc: Global, n: u32, page: &mut Row<u8>) -> Result<(), NoMemory>
         ensures world { OnOk result (self.new ≡ (settled_times n self.old).world) }
         ensures page { OnOk result (page.new ≡ page.old ++ text_of (settled_times n self.old).entries) }
@@ -146,7 +146,8 @@ impl World {
         Ok(())
     }
 
-    // Gives the next character to the equipment, else to the host. Answers whether there was one.
+    // Hands one character to the equipment where it can be given one, otherwise one to the host. `false` where
+    // neither can.
     fn settle_one(&mut self, alloc: Global, page: &mut Row<u8>) -> Result<bool, NoMemory>
         ensures settles { IfOk result (λ found. Settles self.old self.new page.old page.new found) }
         ensures now { OnOk result (self.new.moment ≡ self.old.moment) }

@@ -52,8 +52,8 @@ abbrev pub newest_of : List Met → Option Header → Option Header
 newest_of met None = None
 newest_of met (Some header) = newest_header (open_blocks header met)
 
--- the last block of the message that is dropped now: the one that was opened first among those on which T4 has run out
--- (SEMI E4, T4; that the first goes first is this profile's)
+-- T4 drops a message now: of all whose T4 has run out, the one that has been open longest. This is the header of the
+-- block that came last for it (SEMI E4, T4; that the oldest goes first is this profile's)
 abbrev pub dropped_after : Receiver → List Met → ℕ → Option Header
 dropped_after receiver met now =
     newest_of met (find (λ first. has_come now (deadline_of receiver first met)) (open_firsts met))

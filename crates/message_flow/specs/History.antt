@@ -41,7 +41,8 @@ is_part Unexpected = false
 is_part TooLong = false
 is_part Crowded = false
 
--- a cut of a header's key: a drop by T4 of it, or a block of it that ends its message (SEMI E4, T4 and receive)
+-- the entry is a cut for a header's key: T4 drops the message with that key, or a block with it ends the message (SEMI
+-- E4, T4 and receive)
 abbrev pub cuts : Header → Met → Bool
 cuts header (Arrived block now flow) = same_key block.header header && ends flow
 cuts header (TimedOut dropped now) = same_key dropped header
@@ -51,7 +52,8 @@ abbrev pub part_of : Header → Met → Option BlockView
 part_of header (Arrived block now flow) = if same_key block.header header && is_part flow then Some block else None
 part_of header (TimedOut dropped now) = None
 
--- the open blocks of a header's key: those that were parts after the last cut of the key, the newest first (SEMI E4, receive)
+-- the open blocks of a header's key, the newest first: the parts with that key that no cut for it follows (SEMI E4,
+-- receive)
 abbrev pub open_blocks : Header → List Met → List BlockView
 open_blocks header met = filter_map (part_of header) (before_first (cuts header) met)
 

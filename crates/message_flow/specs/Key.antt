@@ -3,7 +3,7 @@ use Rattle.std.specs.Prelude.{Bool, false, ◌==◌, ◌&&◌, Option, Some, Non
 use Rattle.std.specs.Bool.{beq}
 use Rattle.block_codec.specs.declared.header.Header.{Header}
 
--- two headers have the same key: R bit, device, stream, W bit, function and system bytes (SEMI E4, message identifier)
+-- two headers have the same key: only their E bits and block numbers may differ (SEMI E4, message identifier)
 abbrev pub same_key : Header → Header → Bool
 same_key a b =
     beq a.from_equipment b.from_equipment && (a.device == b.device) && (a.stream == b.stream) && beq a.wait b.wait

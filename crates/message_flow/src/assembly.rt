@@ -87,9 +87,10 @@ impl Assembly {
         Ok(flow)
     }
 
-    /// Drops the message that was opened first among those on which T4 has run out, and gives the header of its last block.
+    /// Gives up one message on which T4 has run out: of several, the one whose first block came first. The answer is
+    /// the header of the block that came last for it.
     ///
-    /// `None` exactly where T4 has run out on none. No memory is taken.
+    /// Where T4 has run out on no message, and only there, the answer is `None`. No memory is taken.
     pub fn tick(&mut self, now: u64) -> Option<Header>
         ensures answer { result ≡ header_so_far (find (is_due now) self.old.partials) }
         ensures dropped { (entries : List Entry) → StandsFor self.old entries → result ≡ dropped_at self.old.receiver entries now }
@@ -196,7 +197,7 @@ impl Assembly {
             .position(|partial| same_key(&partial.header, header))
     }
 
-    // The place of the message that was opened first among those on which T4 has run out.
+    // The first place, in the order of opening, at which a message stands whose T4 has run out.
     fn first_due(&self, now: u64) -> Option<usize>
         ensures { result ≡ position (is_due now) self.now.partials }
     {

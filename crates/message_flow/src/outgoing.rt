@@ -96,8 +96,8 @@ impl Outgoing {
         Some(block)
     }
 
-    /// Takes out the first waiting message that is a primary or not, as asked, and has these system bytes. Whether there was
-    /// one. No memory is taken.
+    /// Removes from the queue the first primary with these system bytes, or where `primary` is false the first
+    /// secondary with them. `true` says that one was found. No memory is taken.
     pub fn remove(&mut self, primary: bool, system: u32) -> bool
         ensures found { IsTrue result ↔ (position_or_len (is_named primary system) self.old.waiting < length self.old.waiting) }
         ensures rest { self.new ≡ record self.old { waiting = without_first (is_named primary system) self.old.waiting } }
@@ -108,9 +108,8 @@ impl Outgoing {
         }
     }
 
-    /// Takes out the first message and gives the header of its last block.
-    ///
-    /// `None` exactly where no message waits. No memory is taken.
+    /// Removes the message in front, of which some blocks may be gone already. The answer is the header of its block
+    /// with the E bit, or `None` where the queue is empty. No memory is taken.
     pub fn drop_front(&mut self) -> Option<Header>
         ensures header { result ≡ option_map (last_header self.old.side self.old.device) (slice_get self.old.waiting 0) }
         ensures rest { self.new ≡ record self.old { waiting = drop 1 self.old.waiting } }
@@ -119,10 +118,8 @@ impl Outgoing {
         Some(self.last_header(&first.message))
     }
 
-    /// The header of the last block of the first waiting message that is a primary or not, as asked, and has these system
-    /// bytes.
-    ///
-    /// `None` exactly where there is no such message.
+    /// Finds the message that `remove` with the same arguments would take out. The answer is the header of its block
+    /// with the E bit, or `None` where `remove` would find no message.
     pub fn waiting(&self, primary: bool, system: u32) -> Option<Header>
         ensures { result ≡ option_map (last_header self.now.side self.now.device) (find (is_named primary system) self.now.waiting) }
     {
@@ -151,7 +148,7 @@ impl Outgoing {
         self.waiting.len()
     }
 
-    // The place of the first waiting message of this parity and with these system bytes.
+    // Where in the queue the message stands that `remove` would take out.
     fn place_of(&self, primary: bool, system: u32) -> Option<usize>
         ensures { result ≡ position (is_named primary system) self.now.waiting }
     {

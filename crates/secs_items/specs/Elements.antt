@@ -11,7 +11,7 @@ pub record AreBytes (bytes content : List ℕ) : Type 0 where
   pub fit : AllByRecursion IsByte bytes
   pub placed : content ≡ bytes
 
--- the content is these elements, each within the range of its kind, one after another
+-- every element fits its kind, and the content is made of the bytes of the first, then of the second, and so on
 pub record AreElements {T : Type 0} (Fits : T → Type 0) (bytes_of : T → List ℕ) (elements : List T) (content : List ℕ) : Type 0 where
   pub fit : AllByRecursion Fits elements
   pub placed : content ≡ flat_map bytes_of elements

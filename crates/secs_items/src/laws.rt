@@ -7,7 +7,7 @@ ghost use Rattle.secs_items.specs.Elements.{IsByte};
 ghost use Rattle.secs_items.specs.Reading.{first_fault};
 ghost use Rattle.secs_items.specs.Spelling.{Spells};
 
-/// No spelling of an item is a proper prefix of a spelling of any item, and bytes spell one item at most.
+/// Where bytes spell an item, they spell no other one, and with one or more bytes behind them they spell none at all.
 pub fn no_spelling_begins_another()
     ensures whole { (first second : Item) (bytes more : List ℕ) → Spells first bytes → Spells second (bytes ++ more) → more ≡ [] }
     ensures alone { (first second : Item) (bytes : List ℕ) → Spells first bytes → Spells second bytes → first ≡ second }

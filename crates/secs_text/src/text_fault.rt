@@ -4,7 +4,7 @@ ghost use Rattle.secs_text.specs.declared.text_fault.TextFault.TheVariants as fa
 /// Why a text reads as no item: the first fault in it. `at` is a place in the text.
 #[derive(Clone, Copy, Debug, PartialEq, Eq)]
 pub enum TextFault {
-    /// With the byte there the text has no longer the form of an item's text, or it ends there and more is needed.
+    /// With the byte there it begins no text of the form any more, or it ends there and more is needed.
     Syntax { at: usize },
     /// The number that begins there is outside its kind.
     Range { at: usize },

@@ -24,7 +24,7 @@ abbrev pub since_start : Side → List Entry → List Entry
 since_start side [] = []
 since_start side (entry ∷ before) = if starts side entry then [] else entry ∷ since_start side before
 
--- they have the same system bytes and the same parity of their functions (SEMI E5, system bytes)
+-- their system bytes are equal, and their functions are both odd or both even (SEMI E5, system bytes)
 abbrev pub is_same_key : Message → Message → Bool
 is_same_key one other = one.system == other.system && one.function % 2 == other.function % 2
 
@@ -39,7 +39,7 @@ sends_like side message (Noted moment end (Sent other)) =
     is_same_side side end && is_primary other && message.system == other.system
 sends_like side message _ = false
 
--- the end has sent the message, of the same name, system bytes and text
+-- the end has noted the sending of this very message, equal in every field
 pub record WasSent (side : Side) (message : Message) (before : List Entry) : Type 0 where
   pub moment : ℕ
   pub entry : Contains before (Noted moment side (Sent message))
@@ -59,8 +59,8 @@ GoesOn (Noted moment side (Received message)) before = IsDelivery side message b
 GoesOn (Noted moment side (Sent message)) before = IsSending side message before
 GoesOn _ before = Unit {0}
 
--- each message delivered was sent, whole, and is delivered once in a start of its receiver: so it is in each part of the
--- log from its begin on (this profile)
+-- every entry agrees with all entries before it: a message comes in only where the other end has sent this very message
+-- and none with its key has come in since the receiver's start; a primary goes out with new system bytes (this profile)
 abbrev pub Delivered : List Entry → Type 0
 Delivered [] = Unit {0}
 Delivered (entry ∷ before) = GoesOn entry before × Delivered before

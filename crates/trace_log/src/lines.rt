@@ -39,7 +39,7 @@ pub fn host_start_line(moment: u64) -> Line
     line
 }
 
-/// The line of a message of one block that is given to the line's queue.
+/// The line of a message of one block that joins those waiting to be sent.
 pub fn sent_line(moment: u64, side: Side, block: &Block) -> Line
     ensures { result.items ≡ entry_text (Noted moment side (Sent (message_of block.now))) }
 {
