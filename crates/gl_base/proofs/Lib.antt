@@ -1,2 +1,3 @@
-pub mod Copying
+pub mod Appending
+pub mod Events
 pub mod Reading

@@ -1,10 +1,11 @@
 -- Counts of faults of outside objects (this profile).
-use Rattle.std.specs.Prelude.{ℕ, ◌+◌, ◌-◌, ◌^◌, ◌≤◌, min}
+use Rattle.std.specs.Prelude.{◌≡◌, ℕ, ◌+◌, ◌-◌, ◌^◌, ◌≤◌, min}
 
 -- a count with one more; it stands at its end, 2^64 - 1
-abbrev pub counted : ℕ → ℕ
-counted before = min (before + 1) (2 ^ 64 - 1)
+abbrev pub one_more : ℕ → ℕ
+one_more before = min (before + 1) (2 ^ 64 - 1)
 
--- the count rose in a call; where it stands at its end it counts as risen
-abbrev pub Rose : ℕ → ℕ → Type 0
-Rose before now = counted before ≤ now
+-- one fault more was counted, and none was taken back
+pub record Rose (before now : ℕ) : Type 0 where
+  pub by_one : now ≡ one_more before
+  pub later : before ≤ now

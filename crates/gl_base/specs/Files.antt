@@ -39,19 +39,20 @@ pub record FilesHealth : Type 0 where
   pub faults : ℕ
   pub reliable : Bool
 
--- the count of faults rose, at files that may fail or that don't tell of this one
+-- one fault was counted, at files that may fail or that don't tell of this one; and files on which one can rely stay so
 pub record FileFault (file : Option (List ℕ)) (before now : FilesHealth) : Type 0 where
   pub rose : Rose before.faults now.faults
   pub lacking : before.reliable ≡ true → file ≡ None
-
--- a call takes back no counted fault, and files on which one can rely stay so
-pub record AreReadOn (before now : FilesHealth) : Type 0 where
-  pub later : before.faults ≤ now.faults
   pub relied : before.reliable ≡ true → now.reliable ≡ true
 
--- a reading fails only with a fault
+-- the count of faults stands, and files on which one can rely stay so
+pub record AreReadOn (before now : FilesHealth) : Type 0 where
+  pub same : now.faults ≡ before.faults
+  pub relied : before.reliable ≡ true → now.reliable ≡ true
+
+-- a fault is counted where a reading fails, and nowhere else
 abbrev pub HasFileCause : Option (List ℕ) → FilesHealth → FilesHealth → FileAnswer → Type 0
-HasFileCause file before now Failed = AreReadOn before now × FileFault file before now
+HasFileCause file before now Failed = FileFault file before now
 HasFileCause file before now (Whole bytes) = AreReadOn before now
 HasFileCause file before now Longer = AreReadOn before now
 HasFileCause file before now NoMemory = AreReadOn before now

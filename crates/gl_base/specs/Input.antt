@@ -26,9 +26,9 @@ abbrev pub ReadsAll : ℕ → Option (List ℕ) → Option (List ℕ) → Input 
 ReadsAll limit None after answer = (after ≡ None) × IsWithin limit answer
 ReadsAll limit (Some bytes) after answer = ReadsAllOf limit bytes after answer
 
--- reading fails only with a fault
+-- a fault is counted where the reading fails, and nowhere else
 abbrev pub HasInputCause : SourceHealth → SourceHealth → Input → Type 0
-HasInputCause before now Failed = IsReadOn before now × ReadFault before now
+HasInputCause before now Failed = ReadFault before now
 HasInputCause before now (Whole all) = IsReadOn before now
 HasInputCause before now Longer = IsReadOn before now
 HasInputCause before now NoMemory = IsReadOn before now

@@ -1,11 +1,17 @@
 pub mod Calls
+pub mod Events
 pub mod Faults
 pub mod Files
 pub mod Input
+pub mod Link
 pub mod MemFiles
+pub mod MemLink
 pub mod MemSink
 pub mod MemSource
 pub mod Rows
+pub mod Sending
+pub mod Side
 pub mod Sink
 pub mod Source
+pub mod Told
 pub mod formers

@@ -1,7 +1,7 @@
 -- A sink in memory: the calls whose numbers it was given fail, and those whose bytes have no room; no others do (this
 -- profile).
 use Rattle.std.specs.Prelude.{ℕ, ◌+◌, ◌-◌, Bool, ◌||◌, nat_lt, List, ◌++◌, length, if◌then◌else◌}
-use Rattle.gl_base.specs.Calls.{called, faulted, fails_next, is_safe}
+use Rattle.gl_base.specs.Calls.{with_call, with_fault, fails_next, is_safe}
 use Rattle.gl_base.specs.declared.calls.Calls.{Calls}
 use Rattle.gl_base.specs.Sink.{SinkHealth}
 use Rattle.gl_base.specs.declared.sink.WriteAnswer.{WriteAnswer}
@@ -27,5 +27,5 @@ answer_to_write bytes s = if refuses bytes s then Failed else Took (length bytes
 -- and the sink after it
 abbrev pub after_write : List ℕ → SinkState → SinkState
 after_write bytes s =
-    if refuses bytes s then record s { calls = faulted (called s.calls) }
-    else record s { received = s.received ++ bytes; calls = called s.calls }
+    if refuses bytes s then record s { calls = with_fault (with_call s.calls) }
+    else record s { received = s.received ++ bytes; calls = with_call s.calls }

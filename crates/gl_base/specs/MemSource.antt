@@ -1,6 +1,6 @@
 -- A source in memory: the calls whose numbers it was given fail, all of them and no others (this profile).
 use Rattle.std.specs.Prelude.{ℕ, ◌==◌, min, List, ◌++◌, length, drop, take, if◌then◌else◌}
-use Rattle.gl_base.specs.Calls.{called, faulted, fails_next, is_safe}
+use Rattle.gl_base.specs.Calls.{with_call, with_fault, fails_next, is_safe}
 use Rattle.gl_base.specs.declared.calls.Calls.{Calls}
 use Rattle.gl_base.specs.Source.{SourceHealth}
 use Rattle.gl_base.specs.declared.source.ReadAnswer.{ReadAnswer}
@@ -20,13 +20,13 @@ answer_to_read room s =
     if fails_next s.calls then Failed else if length s.left == 0 then End else Took (min (length s.left) room)
 
 -- the buffer after a read: the bytes that were taken, and behind them what stood there
-abbrev pub filled : SourceState → List ℕ → ReadAnswer → List ℕ
-filled s into (Took n) = take n s.left ++ drop n into
-filled s into End = into
-filled s into Failed = into
+abbrev pub buffer_after : SourceState → List ℕ → ReadAnswer → List ℕ
+buffer_after s into (Took n) = take n s.left ++ drop n into
+buffer_after s into End = into
+buffer_after s into Failed = into
 
 -- and the source after it
 abbrev pub after_read : ℕ → SourceState → SourceState
 after_read room s =
-    if fails_next s.calls then record s { calls = faulted (called s.calls) }
-    else record { left = drop (min (length s.left) room) s.left; calls = called s.calls }
+    if fails_next s.calls then record s { calls = with_fault (with_call s.calls) }
+    else record { left = drop (min (length s.left) room) s.left; calls = with_call s.calls }

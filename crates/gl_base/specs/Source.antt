@@ -11,7 +11,8 @@ TakesWithin room End = Unit {0}
 TakesWithin room Failed = Unit {0}
 
 abbrev pub ReadsFrom : List ℕ → Option (List ℕ) → List ℕ → ReadAnswer → Type 0
-ReadsFrom before after into (Took n) = (n ≤ length before) × (take n into ≡ take n before) × (after ≡ Some (drop n before))
+ReadsFrom before after into (Took n) =
+    (n ≤ length before) × (take n into ≡ take n before) × (after ≡ Some (drop n before))
 ReadsFrom before after into End = (before ≡ []) × (after ≡ Some [])
 ReadsFrom before after into Failed = after ≡ Some before
 
@@ -25,18 +26,18 @@ pub record SourceHealth : Type 0 where
   pub faults : ℕ
   pub reliable : Bool
 
--- the count of faults rose, at a source that may fail
+-- one fault was counted, at a source that may fail
 pub record ReadFault (before now : SourceHealth) : Type 0 where
   pub rose : Rose before.faults now.faults
   pub unreliable : before.reliable ≡ false
 
--- a call takes back no counted fault, and a source on which one can rely stays so
+-- the count of faults stands, and a source on which one can rely stays so
 pub record IsReadOn (before now : SourceHealth) : Type 0 where
-  pub later : before.faults ≤ now.faults
+  pub same : now.faults ≡ before.faults
   pub relied : before.reliable ≡ true → now.reliable ≡ true
 
--- a read fails only with a fault
+-- a fault is counted where a read fails, and nowhere else
 abbrev pub HasReadCause : SourceHealth → SourceHealth → ReadAnswer → Type 0
-HasReadCause before now Failed = IsReadOn before now × ReadFault before now
+HasReadCause before now Failed = ReadFault before now
 HasReadCause before now (Took n) = IsReadOn before now
 HasReadCause before now End = IsReadOn before now

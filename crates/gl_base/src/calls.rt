@@ -11,7 +11,8 @@ pub struct Calls {
 }
 
 impl Calls {
-    ghost use Rattle.gl_base.specs.Calls.{called, fails_next, faulted, is_safe, no_calls};
+    ghost use Rattle.gl_base.specs.Calls.{fails_next, is_safe, no_calls, with_call, with_fault};
+    ghost use Rattle.gl_base.specs.Faults.{Rose};
 
     /// No call yet.
     pub fn new(fails: Row<u32>) -> Calls
@@ -28,7 +29,7 @@ impl Calls {
     pub fn begin(&mut self) -> bool
         ensures fails { result ≡ fails_next self.old }
         ensures safe { is_safe self.old ≡ true → result ≡ false }
-        ensures counted { self.new ≡ called self.old }
+        ensures counted { self.new ≡ with_call self.old }
     {
         self.count = self.count.saturating_add(1);
         let call = self.count;
@@ -40,8 +41,8 @@ impl Calls {
 
     /// Counts a fault.
     pub fn fail(&mut self)
-        ensures counted { self.new ≡ faulted self.old }
-        ensures later { self.old.faults ≤ self.new.faults }
+        ensures counted { self.new ≡ with_fault self.old }
+        ensures rose { Rose self.old.faults self.new.faults }
     {
         self.faults = self.faults.saturating_add(1);
     }

@@ -30,7 +30,7 @@ pub trait Files {
     ghost told: { Self → Option (List MemFile) };
 
     /// How many faults were counted, and whether no reading of a file that is there can fail any more, which no
-    /// real object says. No call takes a counted fault back, and at 2^64 - 1 the count stands.
+    /// real object says. The count rises by one where a call fails, and stands at every other call and at 2^64 - 1.
     ghost health: { Self → FilesHealth };
 
     /// `Whole` gives the file of this name, if it is no longer than `limit` bytes; `Longer` says that it is.

@@ -3,7 +3,7 @@ ghost use Rattle.std.specs.List.{find};
 ghost use Rattle.std.specs.Option.{option_copied};
 ghost use Rattle.gl_base.specs.Calls.{no_calls};
 ghost use Rattle.gl_base.specs.Files.{HasFileCause, ReadsFile, file_named};
-ghost use Rattle.gl_base.specs.MemFiles.{after_reading, answer_to_reading, files_health, up_to};
+ghost use Rattle.gl_base.specs.MemFiles.{after_reading, answer_to_reading, files_health, answer_up_to};
 
 use crate::calls::Calls;
 use crate::files::{FileAnswer, Files, MemFile};
@@ -56,7 +56,11 @@ impl Files for MemFiles {
     fn read_file(&mut self, alloc: Global, name: &str, limit: usize) -> FileAnswer
         ensures bytes { ReadsFile limit name.now (Some self.old.files) result }
         ensures same { Some self.new.files ≡ Some self.old.files }
-        ensures cause { HasFileCause (file_named name.now self.old.files) (files_health self.old) (files_health self.new) result }
+        ensures cause { HasFileCause
+            (file_named name.now self.old.files)
+            (files_health self.old)
+            (files_health self.new)
+            result }
         ensures answer { result ≢ FileAnswer.NoMemory → result ≡ answer_to_reading limit name.now self.old }
         ensures state { self.new ≡ after_reading name.now self.old }
     {
@@ -80,14 +84,13 @@ fn file_named<'a>(files: &'a [MemFile], name: &[u8]) -> Option<&'a MemFile>
 
 // A copy of a file's bytes, where they keep to the limit.
 fn copy_up_to(alloc: Global, bytes: &[u8], limit: usize) -> FileAnswer
-    ensures { result ≢ FileAnswer.NoMemory → result ≡ up_to limit (Some bytes.now) }
+    ensures { result ≢ FileAnswer.NoMemory → result ≡ answer_up_to limit (Some bytes.now) }
 {
     if bytes.len() > limit {
         return FileAnswer::Longer;
     }
-    let mut copy = Row::new(alloc);
-    match copy.extend(bytes) {
-        Ok(()) => FileAnswer::Whole(copy),
+    match Row::of(alloc, bytes) {
+        Ok(copy) => FileAnswer::Whole(copy),
         Err(NoMemory) => FileAnswer::NoMemory,
     }
 }

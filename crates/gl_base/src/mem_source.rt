@@ -1,7 +1,7 @@
 ghost use Rattle.std.specs.Prelude.{◌≡◌, ◌<◌, [], length, Some};
 ghost use Rattle.gl_base.specs.Calls.{no_calls};
 ghost use Rattle.gl_base.specs.Source.{HasReadCause, Reads, TakesWithin};
-ghost use Rattle.gl_base.specs.MemSource.{after_read, answer_to_read, filled, source_health};
+ghost use Rattle.gl_base.specs.MemSource.{after_read, answer_to_read, buffer_after, source_health};
 
 use crate::calls::Calls;
 use crate::row::Row;
@@ -59,7 +59,7 @@ impl Source for MemSource {
         ensures bytes { Reads (Some self.old.left) (Some self.new.left) into.new result }
         ensures cause { HasReadCause (source_health self.old) (source_health self.new) result }
         ensures answer { result ≡ answer_to_read (length into.old) self.old }
-        ensures buffer { into.new ≡ filled self.old into.old result }
+        ensures buffer { into.new ≡ buffer_after self.old into.old result }
         ensures state { self.new ≡ after_read (length into.old) self.old }
     {
         if self.calls.begin() {

@@ -1,4 +1,4 @@
-ghost use Rattle.std.specs.Prelude.{◌≡◌, ◌↔◌, [], ◌∷◌, ◌++◌, length, take, IsTrue, OnErr, OnOk};
+ghost use Rattle.std.specs.Prelude.{◌≡◌, ◌↔◌, [], ◌∷◌, ◌++◌, length, take, IfOk, IsTrue, OnErr, OnOk};
 
 use crate::no_memory::NoMemory;
 use std::alloc::Global;
@@ -76,6 +76,15 @@ impl<T: Drop> Row<T> {
 }
 
 impl<T: Copy> Row<T> {
+    /// A row of copies of these elements.
+    pub fn of(alloc: Global, from: &[T]) -> Result<Row<T>, NoMemory>
+        ensures { IfOk result (λ row. row ≡ from.now) }
+    {
+        let mut row = Row::new(alloc);
+        row.extend(from)?;
+        Ok(row)
+    }
+
     /// Puts copies of the elements at the end. Where memory runs out the row stays as it was.
     pub fn extend(&mut self, from: &[T]) -> Result<(), NoMemory>
         ensures ok { OnOk result (self.new ≡ self.old ++ from.now) }

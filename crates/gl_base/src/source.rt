@@ -18,7 +18,7 @@ pub trait Source {
     ghost left: { Self → Option (List ℕ) };
 
     /// How many faults were counted, and whether no read can fail any more, which no real object says.
-    /// No call takes a counted fault back, and at 2^64 - 1 the count stands.
+    /// The count rises by one where a call fails, and stands at every other call and at 2^64 - 1.
     ghost health: { Self → SourceHealth };
 
     /// Takes at least one byte where one is left, and at most as many as `into` has.
