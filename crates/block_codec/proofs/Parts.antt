@@ -11,7 +11,7 @@ use Rattle.std.proofs.lemmas.Nat.{be_bytes_2, be_bytes_4}
 use Rattle.block_codec.specs.Block.{BlockView, IsBlock}
 use Rattle.block_codec.specs.Fault.{fault_of, sum_fault}
 use Rattle.block_codec.specs.Frame.{IsSplit, checksum, counted_block, counted_bytes, frame_bytes}
-use Rattle.block_codec.specs.Header.{IsHeader, flagged, header_bytes, header_in}
+use Rattle.block_codec.specs.Header.{IsHeader, flag_byte, header_bytes, header_in}
 use Rattle.block_codec.proofs.Frames.{fault_of-split, frame_bytes-from_split}
 
 -- an element of a list of bytes is a byte, and so is the 0 past its end
@@ -23,15 +23,15 @@ byte-at bytes small i =
     ]
 
 -- a byte is a flag and a number
-pub flagged-byte : (b : ℕ) → b < 256 → flagged (nat_le 128 b) (b % 128) ≡ b
-flagged-byte b below = grind (arith, nat_tests)
+pub flag_byte-byte : (b : ℕ) → b < 256 → flag_byte (nat_le 128 b) (b % 128) ≡ b
+flag_byte-byte b below = grind (arith, nat_tests)
 
 -- the high byte of a flag and 15 bits
-pub flagged-high :
-    (b low : ℕ) → b < 256 → low < 256 → flagged (nat_le 128 b) (((b % 128) * 256 + low) / 256) ≡ b
-flagged-high b low below low_below =
+pub flag_byte-high :
+    (b low : ℕ) → b < 256 → low < 256 → flag_byte (nat_le 128 b) (((b % 128) * 256 + low) / 256) ≡ b
+flag_byte-high b low below low_below =
     let high : ((b % 128) * 256 + low) / 256 ≡ b % 128 = omega arith in
-    rw high (flagged-byte b below)
+    rw high (flag_byte-byte b below)
 
 -- the low byte
 pub low-byte : (high low : ℕ) → low < 256 → (high * 256 + low) % 256 ≡ low
@@ -74,10 +74,10 @@ header_bytes-header_in bytes long small =
     let at = byte-at bytes small in
     let four = All-drop (λ (byte : ℕ). byte < 256) 6 bytes small in
     let four_long : length (drop 6 bytes) ≡ 4 = simp length-drop (omega arith) in
-    let first = flagged-high (get_or bytes 0 0) (get_or bytes 1 0) (at 0) (at 1) in
+    let first = flag_byte-high (get_or bytes 0 0) (get_or bytes 1 0) (at 0) (at 1) in
     let second = low-byte (get_or bytes 0 0 % 128) (get_or bytes 1 0) (at 1) in
-    let third = flagged-byte (get_or bytes 2 0) (at 2) in
-    let fifth = flagged-high (get_or bytes 4 0) (get_or bytes 5 0) (at 4) (at 5) in
+    let third = flag_byte-byte (get_or bytes 2 0) (at 2) in
+    let fifth = flag_byte-high (get_or bytes 4 0) (get_or bytes 5 0) (at 4) (at 5) in
     let sixth = low-byte (get_or bytes 4 0 % 128) (get_or bytes 5 0) (at 5) in
     let number = from_be_bytes w32 (drop 6 bytes) in
     let rest = be_bytes_4 (drop 6 bytes) number four_long (byte-at (drop 6 bytes) four) refl in

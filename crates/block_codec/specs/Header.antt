@@ -4,15 +4,15 @@ use Rattle.std.specs.Int.{w32, from_be_bytes, to_be_bytes}
 use Rattle.block_codec.specs.declared.header.Header.{Header}
 
 -- a byte whose highest bit is a flag and whose other seven are a number (SEMI E4, header)
-abbrev pub flagged : Bool → ℕ → ℕ
-flagged flag low = (if flag then 128 else 0) + low
+abbrev pub flag_byte : Bool → ℕ → ℕ
+flag_byte flag low = (if flag then 128 else 0) + low
 
 -- R bit and device, W bit and stream, function, E bit and block number, four system bytes (SEMI E4, header)
 abbrev pub header_bytes : Header → List ℕ
 header_bytes header =
-    flagged header.from_equipment (header.device / 256) ∷ header.device % 256
-    ∷ flagged header.wait header.stream ∷ header.function
-    ∷ flagged header.last (header.number / 256) ∷ header.number % 256
+    flag_byte header.from_equipment (header.device / 256) ∷ header.device % 256
+    ∷ flag_byte header.wait header.stream ∷ header.function
+    ∷ flag_byte header.last (header.number / 256) ∷ header.number % 256
     ∷ to_be_bytes w32 header.system
 
 -- the header whose parts stand at their places in ten bytes (SEMI E4, header)

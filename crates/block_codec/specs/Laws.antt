@@ -5,6 +5,7 @@ use Rattle.block_codec.specs.Block.{BlockView, IsBlock}
 use Rattle.block_codec.specs.Fault.{fault_of}
 use Rattle.block_codec.specs.Frame.{frame_bytes}
 use Rattle.block_codec.specs.Header.{IsHeader, header_bytes}
+use Rattle.block_codec.specs.Protocol.{shortest_frame}
 
 -- a frame has no fault (SEMI E4, block)
 abbrev pub FramesHaveNoFault : Type 0
@@ -23,7 +24,7 @@ HeadersAreDistinct =
 
 -- a frame is 13 bytes longer than its body (SEMI E4, block)
 abbrev pub FramesAreLonger : Type 0
-FramesAreLonger = (block : BlockView) → length (frame_bytes block) ≡ 13 + length block.body
+FramesAreLonger = (block : BlockView) → length (frame_bytes block) ≡ shortest_frame + length block.body
 
 -- where a frame is in front, its first byte and 3 are how many bytes it has (SEMI E4, block)
 abbrev pub LengthByteTells : Type 0

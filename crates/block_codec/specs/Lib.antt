@@ -3,3 +3,4 @@ pub mod Fault
 pub mod Frame
 pub mod Header
 pub mod Laws
+pub mod Protocol

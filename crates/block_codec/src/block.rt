@@ -1,8 +1,10 @@
 ghost use Rattle.std.specs.Prelude.{◌≡◌, ◌≤◌, ◌↔◌, length, IsSome, IfSome};
 ghost use Rattle.block_codec.specs.Block.{IsBlock};
 ghost use Rattle.block_codec.specs.Header.{Fits};
+ghost use Rattle.block_codec.specs.Protocol.{longest_body};
 
 use crate::Header;
+use crate::protocol::LONGEST_BODY;
 use arrayvec::ArrayVec;
 use std::marker::Model;
 
@@ -10,7 +12,7 @@ use std::marker::Model;
 #[derive(Drop, Debug)]
 pub struct Block {
     header: Header,
-    body: ArrayVec<u8, 244>,
+    body: ArrayVec<u8, LONGEST_BODY>,
 }
 
 impl Model for Block {
@@ -26,7 +28,7 @@ impl Model for Block {
 impl Block {
     /// The block of this header and this body, if the header fits and the body is of 244 bytes or fewer. Else `None`.
     pub fn new(header: Header, body: &[u8]) -> Option<Block>
-        ensures variant { IsSome result ↔ (Fits header × (length body.now ≤ 244)) }
+        ensures variant { IsSome result ↔ (Fits header × (length body.now ≤ longest_body)) }
         ensures some { IfSome result (λ block. (block.header ≡ header) × (block.body ≡ body.now)) }
         ensures is_block { IfSome result (λ block. IsBlock block) }
     {

@@ -3,13 +3,15 @@ ghost use Rattle.std.specs.Int.{w16, from_be_bytes, to_be_bytes};
 ghost use Rattle.block_codec.specs.Block.{BlockView, IsBlock};
 ghost use Rattle.block_codec.specs.Fault.{fault_of};
 ghost use Rattle.block_codec.specs.Frame.{IsSplit, checksum, counted_bytes, frame_bytes};
+ghost use Rattle.block_codec.specs.Protocol.{header_length, longest_frame, most_counted};
 ghost use Rattle.block_codec.specs.declared.frame.BlockFault.{BlockFault};
 
+use crate::protocol::{HEADER_LENGTH, LONGEST_FRAME, MOST_COUNTED};
 use crate::{Block, Header};
 use arrayvec::ArrayVec;
 
 /// The bytes of a block on the line, from the length byte to the checksum.
-pub type Frame = ArrayVec<u8, 257>;
+pub type Frame = ArrayVec<u8, LONGEST_FRAME>;
 
 /// Why bytes are no frame.
 #[derive(Clone, Copy, Debug, PartialEq, Eq)]
@@ -31,7 +33,7 @@ pub fn frame_of(block: &Block) -> Frame
     let header = block.header().to_bytes();
     let body = block.body();
     let mut frame = Frame::new();
-    frame.push(10 + body.len() as u8);
+    frame.push((HEADER_LENGTH + body.len()) as u8);
     frame.try_extend_from_slice(&header).unwrap();
     frame.try_extend_from_slice(body).unwrap();
     let sum = sum_of(&frame.as_slice()[1..]);
@@ -68,23 +70,24 @@ fn parts_of(bytes: &[u8]) -> Result<(&[u8], &[u8]), BlockFault>
     let Some((&length, rest)) = bytes.split_first() else {
         return Err(BlockFault::Short { at: 0 });
     };
-    if !(10..=254).contains(&length) {
+    let counted = length as usize;
+    if !(HEADER_LENGTH..=MOST_COUNTED).contains(&counted) {
         return Err(BlockFault::Length(length));
     }
-    let end = length as usize + 2;
+    let end = counted + 2;
     if rest.len() < end {
         return Err(BlockFault::Short { at: bytes.len() });
     }
     if rest.len() > end {
         return Err(BlockFault::Long { at: end + 1 });
     }
-    Ok(rest.split_at(length as usize))
+    Ok(rest.split_at(counted))
 }
 
 // The block of a header's ten bytes and the body behind them.
 fn block_from(counted: &[u8]) -> Block
-    requires header { 10 ≤ length counted.now }
-    requires body { length counted.now ≤ 254 }
+    requires header { header_length ≤ length counted.now }
+    requires body { length counted.now ≤ most_counted }
     ensures is_block { IsBlock result }
     ensures counted { counted_bytes result ≡ counted.now }
 {
@@ -94,7 +97,7 @@ fn block_from(counted: &[u8]) -> Block
 
 // The checksum of these bytes: 257 bytes, as many as a frame has, do not yet sum up to 65,536.
 fn sum_of(bytes: &[u8]) -> u16
-    requires { length bytes.now ≤ 257 }
+    requires { length bytes.now ≤ longest_frame }
     ensures { result ≡ checksum bytes.now }
 {
     bytes.iter().map(|byte| u16::from(*byte)).sum()

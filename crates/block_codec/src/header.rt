@@ -1,5 +1,7 @@
 ghost use Rattle.std.specs.Prelude.{◌≡◌, ◌<◌, ◌↔◌, IsTrue};
-ghost use Rattle.block_codec.specs.Header.{Fits, IsHeader, flagged, header_bytes};
+ghost use Rattle.block_codec.specs.Header.{Fits, IsHeader, flag_byte, header_bytes};
+
+use crate::protocol::HEADER_LENGTH;
 
 /// The header of a block.
 #[derive(Clone, Copy, Debug, PartialEq, Eq)]
@@ -31,7 +33,7 @@ impl Header {
     }
 
     /// The ten bytes of a header that fits.
-    pub fn to_bytes(&self) -> [u8; 10]
+    pub fn to_bytes(&self) -> [u8; HEADER_LENGTH]
         requires { Fits self.now }
         ensures { result ≡ header_bytes self.now }
     {
@@ -53,7 +55,7 @@ impl Header {
     }
 
     /// The header whose bytes these are. Every ten bytes are those of one header, and it fits.
-    pub fn from_bytes(bytes: &[u8; 10]) -> Header
+    pub fn from_bytes(bytes: &[u8; HEADER_LENGTH]) -> Header
         ensures is_header { IsHeader result }
         ensures bytes { header_bytes result ≡ bytes.now }
     {
@@ -76,7 +78,7 @@ impl Header {
 // A byte whose highest bit is `flag`, above a number of seven bits.
 fn with_flag(flag: bool, low: u8) -> u8
     requires { low < 128 }
-    ensures { result ≡ flagged flag low }
+    ensures { result ≡ flag_byte flag low }
 {
     if flag { low | 0x80 } else { low }
 }
@@ -84,7 +86,7 @@ fn with_flag(flag: bool, low: u8) -> u8
 // The highest bit of a byte, and the number in the seven below it.
 fn split_flag(byte: u8) -> (bool, u8)
     ensures low { result.1 < 128 }
-    ensures whole { flagged result.0 result.1 ≡ byte }
+    ensures whole { flag_byte result.0 result.1 ≡ byte }
 {
     (byte & 0x80 != 0, byte & 0x7f)
 }
