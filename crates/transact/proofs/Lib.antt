@@ -1,0 +1,5 @@
+mod Draws
+mod Firsts
+mod History
+mod Kept
+mod Places

@@ -1,0 +1,5 @@
+pub mod History
+pub mod Laws
+pub mod Matching
+pub mod Numbers
+pub mod Transactions
