@@ -103,6 +103,8 @@ pub record StepFacts (s : LineState) (call : LineCall) : Type 0 where
   pub arrived : (block : BlockView) → (line_step s call).event ≡ Arrived block → IsArrived s call block
   pub written : IsOwn s.held (line_step s call).written
   pub held : IsHeld s.held call (line_step s call).next.held
+  pub side : (line_step s call).next.side ≡ s.side
+  pub times : (line_step s call).next.times ≡ s.times
 
 -- any call changes little
 abbrev pub StepsAreSmall : Type 0

@@ -169,6 +169,10 @@ line_row Settling (Character byte) s now =
     quietly (record s { deadline = within_t1 s now })
 line_row Settling Deadline s now = refuses_at_last s.cause s
 
+-- what a character brings in a phase
+abbrev pub character_in : Phase → LineState → ℕ → ℕ → Outcome
+character_in phase s byte now = line_row phase (Character byte) s now
+
 -- the deadline has come: the moment is not before it (SEMI E4, timers)
 abbrev pub is_due : Option ℕ → ℕ → Bool
 is_due None now = false

@@ -1,11 +1,12 @@
 ghost use Rattle.std.specs.Prelude.{◌≡◌, ◌<◌, ◌≤◌, ◌+◌, ◌^◌, ◌++◌, ◌↔◌, true, false, IsTrue, IfOk, IfErr, IsSome, IsNone, Some, None, [], ◌∷◌, length, slice_index};
 ghost use Rattle.arrayvec.specs.ArrayVec.{array_vec_len};
+ghost use Rattle.std.specs.Option.{option_map};
 ghost use Rattle.line_end.specs.Frames.{block_in, is_frame, sum_cause};
 ghost use Rattle.line_end.specs.Plan.{TimesFit};
 
 use crate::{LineCause, LineEvent, Phase, Times};
 use arrayvec::ArrayVec;
-use block_codec::{Block, BlockFault, Frame, block_of, frame_of};
+use block_codec::{Block, BlockFault, Frame, Header, block_of, frame_of};
 use gl_base::Side;
 use std::marker::Model;
 
@@ -52,9 +53,8 @@ impl Model for LineEnd {
 
 impl LineEnd {
     ghost use Rattle.line_end.specs.State.{AwaitsAnswer, CanSend, HoldsIdle, IsLineState, IsNotReceiving, new_state};
-    ghost use Rattle.line_end.specs.Step.{line_row, line_step, asks, fails_try, gathers, grants, refuses, sends_frame, within_t1, without_block};
+    ghost use Rattle.line_end.specs.Step.{line_step, asks, character_in, fails_try, gathers, grants, refuses, sends_frame, within_t1, without_block};
     ghost use Rattle.line_end.specs.Step.LineCall.{Send, Resume, Cancel, Take, Tick};
-    ghost use Rattle.line_end.specs.Step.LineInput.{Character};
 
     /// An idle end that holds no block. The times must fit.
     pub fn new(side: Side, times: Times) -> LineEnd
@@ -79,6 +79,13 @@ impl LineEnd {
         ensures is_state { IsLineState self.now }
     {
         self.phase
+    }
+
+    /// The header of the block that it holds to send. `Sent` and `Failed` don't say of which block they tell.
+    pub fn held(&self) -> Option<Header>
+        ensures { result ≡ option_map (λ block. block.header) self.now.held }
+    {
+        self.held.as_ref().map(|block| block.header())
     }
 
     /// Whether it holds a block to send.
@@ -196,10 +203,10 @@ impl LineEnd {
         requires phase { self.old.phase ≡ Phase.Idle }
         requires now { now < 2 ^ 62 }
         requires room { array_vec_len out.old < 1024 }
-        ensures next { self.new ≡ (line_row Phase.Idle (Character byte) self.old now).next }
-        ensures written { out.new.items ≡ out.old.items ++ (line_row Phase.Idle (Character byte) self.old now).written }
+        ensures next { self.new ≡ (character_in Phase.Idle self.old byte now).next }
+        ensures written { out.new.items ≡ out.old.items ++ (character_in Phase.Idle self.old byte now).written }
         ensures at_most { array_vec_len out.new ≤ array_vec_len out.old + 1 }
-        ensures event { result ≡ (line_row Phase.Idle (Character byte) self.old now).event }
+        ensures event { result ≡ (character_in Phase.Idle self.old byte now).event }
     {
         if byte == ENQ {
             self.grant(now, out)
@@ -213,10 +220,10 @@ impl LineEnd {
         requires phase { self.old.phase ≡ Phase.AwaitEot }
         requires now { now < 2 ^ 62 }
         requires room { array_vec_len out.old + 257 ≤ 1024 }
-        ensures next { self.new ≡ (line_row Phase.AwaitEot (Character byte) self.old now).next }
-        ensures written { out.new.items ≡ out.old.items ++ (line_row Phase.AwaitEot (Character byte) self.old now).written }
+        ensures next { self.new ≡ (character_in Phase.AwaitEot self.old byte now).next }
+        ensures written { out.new.items ≡ out.old.items ++ (character_in Phase.AwaitEot self.old byte now).written }
         ensures at_most { array_vec_len out.new ≤ array_vec_len out.old + 257 }
-        ensures event { result ≡ (line_row Phase.AwaitEot (Character byte) self.old now).event }
+        ensures event { result ≡ (character_in Phase.AwaitEot self.old byte now).event }
     {
         match (byte, self.side) {
             (EOT, _) => self.send_frame(now, out),
@@ -230,10 +237,10 @@ impl LineEnd {
         requires phase { self.old.phase ≡ Phase.AwaitAck }
         requires now { now < 2 ^ 62 }
         requires room { array_vec_len out.old < 1024 }
-        ensures next { self.new ≡ (line_row Phase.AwaitAck (Character byte) self.old now).next }
-        ensures written { out.new.items ≡ out.old.items ++ (line_row Phase.AwaitAck (Character byte) self.old now).written }
+        ensures next { self.new ≡ (character_in Phase.AwaitAck self.old byte now).next }
+        ensures written { out.new.items ≡ out.old.items ++ (character_in Phase.AwaitAck self.old byte now).written }
         ensures at_most { array_vec_len out.new ≤ array_vec_len out.old + 1 }
-        ensures event { result ≡ (line_row Phase.AwaitAck (Character byte) self.old now).event }
+        ensures event { result ≡ (character_in Phase.AwaitAck self.old byte now).event }
     {
         if byte == ACK {
             self.let_go(LineEvent::Sent)
@@ -246,9 +253,9 @@ impl LineEnd {
     fn take_await_length(&mut self, byte: u8, now: u64) -> LineEvent
         requires phase { self.old.phase ≡ Phase.AwaitLength }
         requires now { now < 2 ^ 62 }
-        ensures next { self.new ≡ (line_row Phase.AwaitLength (Character byte) self.old now).next }
-        ensures written { (line_row Phase.AwaitLength (Character byte) self.old now).written ≡ [] }
-        ensures event { result ≡ (line_row Phase.AwaitLength (Character byte) self.old now).event }
+        ensures next { self.new ≡ (character_in Phase.AwaitLength self.old byte now).next }
+        ensures written { (character_in Phase.AwaitLength self.old byte now).written ≡ [] }
+        ensures event { result ≡ (character_in Phase.AwaitLength self.old byte now).event }
     {
         if (10..=254).contains(&byte) {
             self.phase = Phase::Gathering;
@@ -266,10 +273,10 @@ impl LineEnd {
         requires phase { self.old.phase ≡ Phase.Gathering }
         requires now { now < 2 ^ 62 }
         requires room { array_vec_len out.old < 1024 }
-        ensures next { self.new ≡ (line_row Phase.Gathering (Character byte) self.old now).next }
-        ensures written { out.new.items ≡ out.old.items ++ (line_row Phase.Gathering (Character byte) self.old now).written }
+        ensures next { self.new ≡ (character_in Phase.Gathering self.old byte now).next }
+        ensures written { out.new.items ≡ out.old.items ++ (character_in Phase.Gathering self.old byte now).written }
         ensures at_most { array_vec_len out.new ≤ array_vec_len out.old + 1 }
-        ensures event { result ≡ (line_row Phase.Gathering (Character byte) self.old now).event }
+        ensures event { result ≡ (character_in Phase.Gathering self.old byte now).event }
     {
         self.gathered.push(byte);
         let frame = self.gathered.as_slice();

@@ -42,8 +42,9 @@ pub fn states_are_kept()
     ensures { StatesAreKept }
 {}
 
-/// Any one call keeps the gathered characters, drops them, begins with the character that it takes or goes on with it; a
-/// block that arrives is what was gathered with that character; a held block stays, is dropped, or is the one given.
+/// Any one call keeps the gathered characters, drops them, begins with the character that it takes or goes on with it;
+/// a block that arrives is what was gathered with that character; a held block stays, is dropped, or is the one given;
+/// what is written is the frame of the held block or at most one character; the side and the times stay.
 pub fn steps_are_small()
     ensures { StepsAreSmall }
 {}

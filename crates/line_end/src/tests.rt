@@ -1,10 +1,11 @@
 ghost use Rattle.std.specs.Prelude.{◌<◌, ◌^◌};
 
 use super::*;
+use Call::{Cancel, Resume, Send, Take, Tick};
+use Writes::{Frame, One, Quiet};
 use block_codec::{block_of, frame_of};
 use gl_base::Side;
 use std::process::Abort;
-use std::test::Fail;
 
 const T1: u64 = 500;
 
@@ -51,7 +52,7 @@ enum Ends {
 // What it writes.
 #[derive(Clone, Copy, Debug, PartialEq, Eq)]
 enum Writes {
-    Nothing,
+    Quiet,
     One(u8),
     Frame,
 }
@@ -64,7 +65,7 @@ enum Waits {
     For(u64),
 }
 
-// What it tells, without the block and the numbers.
+// What it tells: that the block of S1F1 arrived, length 9, the sums 0x0105 and 0x0104; `Other` where these differ.
 #[derive(Clone, Copy, Debug, PartialEq, Eq)]
 enum Tells {
     Nothing,
@@ -75,6 +76,7 @@ enum Tells {
     Sum,
     T1,
     T2,
+    Other,
 }
 
 type Row = (Case, Ends, (u8, u8), Writes, Phase, Waits, Tells);
@@ -85,7 +87,7 @@ const CHARACTERS: [Row; 13] = [
         Case::Idle,
         Ends::Both,
         (0x05, 0x05),
-        Writes::One(0x04),
+        One(0x04),
         Phase::AwaitLength,
         Waits::For(T2),
         Tells::Nothing,
@@ -94,7 +96,7 @@ const CHARACTERS: [Row; 13] = [
         Case::Idle,
         Ends::Both,
         (0x00, 0xFF),
-        Writes::Nothing,
+        Quiet,
         Phase::Idle,
         Waits::Never,
         Tells::Nothing,
@@ -103,7 +105,7 @@ const CHARACTERS: [Row; 13] = [
         Case::AwaitEot,
         Ends::Both,
         (0x04, 0x04),
-        Writes::Frame,
+        Frame,
         Phase::AwaitAck,
         Waits::For(T2),
         Tells::Nothing,
@@ -112,7 +114,7 @@ const CHARACTERS: [Row; 13] = [
         Case::AwaitEot,
         Ends::Slave,
         (0x05, 0x05),
-        Writes::One(0x04),
+        One(0x04),
         Phase::AwaitLength,
         Waits::For(T2),
         Tells::Nothing,
@@ -121,7 +123,7 @@ const CHARACTERS: [Row; 13] = [
         Case::AwaitEot,
         Ends::Both,
         (0x00, 0xFF),
-        Writes::Nothing,
+        Quiet,
         Phase::AwaitEot,
         Waits::AsBefore,
         Tells::Nothing,
@@ -130,7 +132,7 @@ const CHARACTERS: [Row; 13] = [
         Case::AwaitAck,
         Ends::Both,
         (0x06, 0x06),
-        Writes::Nothing,
+        Quiet,
         Phase::Idle,
         Waits::Never,
         Tells::Sent,
@@ -139,7 +141,7 @@ const CHARACTERS: [Row; 13] = [
         Case::AwaitAck,
         Ends::Both,
         (0x00, 0xFF),
-        Writes::One(0x05),
+        One(0x05),
         Phase::AwaitEot,
         Waits::For(T2),
         Tells::Nothing,
@@ -148,7 +150,7 @@ const CHARACTERS: [Row; 13] = [
         Case::AwaitLength,
         Ends::Both,
         (0x0A, 0xFE),
-        Writes::Nothing,
+        Quiet,
         Phase::Gathering,
         Waits::For(T1),
         Tells::Nothing,
@@ -157,7 +159,7 @@ const CHARACTERS: [Row; 13] = [
         Case::AwaitLength,
         Ends::Both,
         (0x00, 0xFF),
-        Writes::Nothing,
+        Quiet,
         Phase::Settling,
         Waits::For(T1),
         Tells::Nothing,
@@ -166,7 +168,7 @@ const CHARACTERS: [Row; 13] = [
         Case::Gathering,
         Ends::Both,
         (0x00, 0xFF),
-        Writes::Nothing,
+        Quiet,
         Phase::Gathering,
         Waits::For(T1),
         Tells::Nothing,
@@ -175,7 +177,7 @@ const CHARACTERS: [Row; 13] = [
         Case::Last,
         Ends::Both,
         (0x04, 0x04),
-        Writes::One(0x06),
+        One(0x06),
         Phase::Idle,
         Waits::Never,
         Tells::Arrived,
@@ -184,7 +186,7 @@ const CHARACTERS: [Row; 13] = [
         Case::Last,
         Ends::Both,
         (0x00, 0xFF),
-        Writes::Nothing,
+        Quiet,
         Phase::Settling,
         Waits::For(T1),
         Tells::Nothing,
@@ -193,59 +195,61 @@ const CHARACTERS: [Row; 13] = [
         Case::Settling,
         Ends::Both,
         (0x00, 0xFF),
-        Writes::Nothing,
+        Quiet,
         Phase::Settling,
         Waits::For(T1),
         Tells::Nothing,
     ),
 ];
 
-// What the deadline does, and after how long it comes.
-const DEADLINES: [(Case, u64, Writes, Phase, Waits, Tells); 6] = [
+// What the deadline does, and when it comes.
+type Deadline = (Case, u32, Writes, Phase, Waits, Tells);
+
+const DEADLINES: [Deadline; 6] = [
     (
         Case::AwaitEot,
-        10_000,
-        Writes::One(0x05),
+        11_000,
+        One(0x05),
         Phase::AwaitEot,
         Waits::For(T2),
         Tells::Nothing,
     ),
     (
         Case::AwaitAck,
-        10_000,
-        Writes::One(0x05),
+        11_000,
+        One(0x05),
         Phase::AwaitEot,
         Waits::For(T2),
         Tells::Nothing,
     ),
     (
         Case::AwaitLength,
-        10_000,
-        Writes::One(0x15),
+        11_000,
+        One(0x15),
         Phase::Idle,
         Waits::Never,
         Tells::T2,
     ),
     (
         Case::Gathering,
-        500,
-        Writes::One(0x15),
+        1_500,
+        One(0x15),
         Phase::Idle,
         Waits::Never,
         Tells::T1,
     ),
     (
         Case::Last,
-        500,
-        Writes::One(0x15),
+        1_500,
+        One(0x15),
         Phase::Idle,
         Waits::Never,
         Tells::T1,
     ),
     (
         Case::Settling,
-        500,
-        Writes::One(0x15),
+        1_500,
+        One(0x15),
         Phase::Idle,
         Waits::Never,
         Tells::Length,
@@ -257,11 +261,18 @@ const SIDES: [Side; 2] = [Side::Equipment, Side::Host];
 fn told_by(event: &LineEvent) -> Tells {
     match event {
         LineEvent::Nothing => Tells::Nothing,
-        LineEvent::Arrived(_) => Tells::Arrived,
+        LineEvent::Arrived(block) if frame_of(block).as_slice() == ARE_YOU_THERE.as_slice() => {
+            Tells::Arrived
+        }
+        LineEvent::Arrived(_) => Tells::Other,
         LineEvent::Sent => Tells::Sent,
         LineEvent::Failed => Tells::Failed,
-        LineEvent::Refused(LineCause::Length(_)) => Tells::Length,
-        LineEvent::Refused(LineCause::Sum { .. }) => Tells::Sum,
+        LineEvent::Refused(LineCause::Length(9)) => Tells::Length,
+        LineEvent::Refused(LineCause::Length(_)) => Tells::Other,
+        LineEvent::Refused(LineCause::Sum { got, want }) if *got == 0x0105 && *want == 0x0104 => {
+            Tells::Sum
+        }
+        LineEvent::Refused(LineCause::Sum { .. }) => Tells::Other,
         LineEvent::Refused(LineCause::T1) => Tells::T1,
         LineEvent::Refused(LineCause::T2) => Tells::T2,
     }
@@ -270,55 +281,94 @@ fn told_by(event: &LineEvent) -> Tells {
 // Whether these are the characters that a row says.
 fn is_written(out: &[u8], writes: Writes) -> bool {
     match writes {
-        Writes::Nothing => out.is_empty(),
-        Writes::One(byte) => out == [byte].as_slice(),
-        Writes::Frame => out == ARE_YOU_THERE.as_slice(),
+        Quiet => out.is_empty(),
+        One(byte) => out == [byte].as_slice(),
+        Frame => out == ARE_YOU_THERE.as_slice(),
     }
 }
 
-// Takes the bytes one after the other, and answers what the last one told. `out` has what the last one made it write.
-fn take_all(end: &mut LineEnd, bytes: &[u8], now: u64, out: &mut Chars) -> LineEvent
-    requires { now < 2 ^ 62 }
-{
-    let mut event = LineEvent::Nothing;
-    for byte in bytes {
-        out.clear();
-        event = end.take(*byte, now, out);
-    }
-    event
+#[derive(Clone, Copy, Debug)]
+enum Call {
+    Send,
+    Resume,
+    Cancel,
+    Take(u8),
+    Tick,
 }
 
-fn send(end: &mut LineEnd, now: u64, out: &mut Chars) -> Result<(), Fail>
-    requires { now < 2 ^ 62 }
+// A call at its moment, and what it leaves.
+type Step = (u32, Call, Writes, Phase, Tells);
+
+// Makes the call where it may be made; `out` has what it made the end write.
+fn make(end: &mut LineEnd, call: Call, now: u64, out: &mut Chars) -> LineEvent
+    requires { now < 2 ^ 32 }
 {
-    if !end.can_send() {
-        return Err(Fail::from("it cannot send"));
-    }
     out.clear();
-    end.send(block_of(&ARE_YOU_THERE)?, now, out);
-    Ok(())
+    match call {
+        Send if end.can_send() => {
+            if let Ok(block) = block_of(&ARE_YOU_THERE) {
+                end.send(block, now, out);
+            }
+            LineEvent::Nothing
+        }
+        Resume if end.phase() == Phase::Idle && end.holds() => {
+            end.resume(now, out);
+            LineEvent::Nothing
+        }
+        Cancel if end.phase() == Phase::Idle && end.holds() => {
+            end.cancel();
+            LineEvent::Nothing
+        }
+        Take(byte) => end.take(byte, now, out),
+        Tick => end.tick(now, out),
+        Send | Resume | Cancel => LineEvent::Failed,
+    }
+}
+
+// Whether the call leaves what the step says.
+fn goes(end: &mut LineEnd, step: &Step) -> bool {
+    let mut out = Chars::new();
+    let event = make(end, step.1, u64::from(step.0), &mut out);
+    is_written(out.as_slice(), step.2) && end.phase() == step.3 && told_by(&event) == step.4
+}
+
+// The first step that goes otherwise.
+fn first_wrong(end: &mut LineEnd, steps: &[Step]) -> Option<Step> {
+    for step in steps {
+        if !goes(end, step) {
+            return Some(*step);
+        }
+    }
+    None
+}
+
+fn take_all(end: &mut LineEnd, bytes: &[u8], now: u32) {
+    let mut out = Chars::new();
+    for byte in bytes {
+        let _event = make(end, Take(*byte), u64::from(now), &mut out);
+    }
 }
 
 // An end that came into a case at moment 1,000.
-fn end_at(side: Side, case: Case) -> Result<LineEnd, Fail> {
+fn end_at(side: Side, case: Case) -> LineEnd {
     let mut end = LineEnd::new(side, TIMES);
     let mut out = Chars::new();
     if case == Case::AwaitEot || case == Case::AwaitAck {
-        send(&mut end, 1_000, &mut out)?;
+        let _event = make(&mut end, Send, 1_000, &mut out);
     }
     let bytes = match case {
         Case::Idle | Case::AwaitEot => [].as_slice(),
-        Case::AwaitAck => [0x04].as_slice(),
-        Case::AwaitLength => [0x05].as_slice(),
-        Case::Gathering => [0x05, 0x0A, 0x00].as_slice(),
+        Case::AwaitAck => [EOT].as_slice(),
+        Case::AwaitLength => [ENQ].as_slice(),
+        Case::Gathering => [ENQ, 0x0A, 0x00].as_slice(),
         Case::Last => [
-            0x05, 0x0A, 0x00, 0x00, 0x81, 0x01, 0x80, 0x01, 0x00, 0x00, 0x00, 0x01, 0x01,
+            ENQ, 0x0A, 0x00, 0x00, 0x81, 0x01, 0x80, 0x01, 0x00, 0x00, 0x00, 0x01, 0x01,
         ]
         .as_slice(),
-        Case::Settling => [0x05, 0x09].as_slice(),
+        Case::Settling => [ENQ, 0x09].as_slice(),
     };
-    let _event = take_all(&mut end, bytes, 1_000, &mut out);
-    Ok(end)
+    take_all(&mut end, bytes, 1_000);
+    end
 }
 
 fn row_of(side: Side, case: Case, byte: u8) -> Option<Row> {
@@ -330,38 +380,27 @@ fn row_of(side: Side, case: Case, byte: u8) -> Option<Row> {
     })
 }
 
-fn deadline_of(waits: Waits, before: Option<u64>, now: u64) -> Option<u64>
-    requires { now < 2 ^ 62 }
-{
+fn deadline_of(waits: Waits, before: Option<u64>, now: u32) -> Option<u64> {
     match waits {
         Waits::Never => None,
         Waits::AsBefore => before,
-        Waits::For(time) => now.checked_add(time),
+        Waits::For(time) => u64::from(now).checked_add(time),
     }
 }
 
-fn check_character(rt: &impl Abort, side: Side, case: Case, byte: u8) -> Result<(), Fail> {
-    let (_, _, _, writes, phase, waits, told) = row_of(side, case, byte).ok_or("a row")?;
-    let mut end = end_at(side, case)?;
+// Whether the end does in this case, at moment 2,000, what the row of the character says.
+fn follows_its_row(side: Side, case: Case, byte: u8) -> bool {
+    let Some((_, _, _, writes, phase, waits, told)) = row_of(side, case, byte) else {
+        return false;
+    };
+    let mut end = end_at(side, case);
     let before = end.deadline();
-    let mut out = Chars::new();
-    let event = end.take(byte, 2_000, &mut out);
-    assert!(rt;
-        is_written(out.as_slice(), writes),
-        "{side:?} {case:?} {byte} wrote {out:?}"
-    );
-    assert_eq!(rt; end.phase(), phase, "{side:?} {case:?} {byte}");
-    assert_eq!(rt;
-        end.deadline(),
-        deadline_of(waits, before, 2_000),
-        "{side:?} {case:?} {byte}"
-    );
-    assert_eq!(rt; told_by(&event), told, "{side:?} {case:?} {byte}");
-    Ok(())
+    goes(&mut end, &(2_000, Take(byte), writes, phase, told))
+        && end.deadline() == deadline_of(waits, before, 2_000)
 }
 
 #[test]
-fn each_character_in_each_phase(rt: HostRuntime) -> Result<(), Fail> {
+fn each_character_in_each_phase(rt: HostRuntime) {
     let cases = [
         Case::Idle,
         Case::AwaitEot,
@@ -374,90 +413,56 @@ fn each_character_in_each_phase(rt: HostRuntime) -> Result<(), Fail> {
     for side in SIDES {
         for case in cases {
             for byte in 0..=255u8 {
-                check_character(&rt, side, case, byte)?;
+                assert!(rt;
+                    follows_its_row(side, case, byte),
+                    "{side:?} {case:?} {byte}"
+                );
             }
         }
     }
-    Ok(())
 }
 
-fn check_deadline(rt: &impl Abort, side: Side, row: usize) -> Result<(), Fail> {
-    let (case, time, writes, phase, waits, told) = DEADLINES.get(row).copied().ok_or("a row")?;
-    let mut end = end_at(side, case)?;
-    let mut out = Chars::new();
-    let due = 1_000u64.checked_add(time).ok_or("a moment")?;
-    assert_eq!(rt; end.deadline(), Some(due), "{side:?} {case:?}");
+// Whether the end does nothing before its deadline, and at it what the row says.
+fn waits_for_its_deadline(side: Side, row: &Deadline) -> bool {
+    let (case, due, writes, phase, waits, told) = *row;
+    let mut end = end_at(side, case);
+    let before = end.phase();
     for early in [0, 1_000, due.saturating_sub(1)] {
-        if early < 1 << 61 {
-            out.clear();
-            let before = end.phase();
-            let event = end.tick(early, &mut out);
-            assert_eq!(rt; told_by(&event), Tells::Nothing, "{side:?} {case:?}");
-            assert!(rt;
-                out.is_empty() && end.phase() == before && end.deadline() == Some(due),
-                "{side:?} {case:?}"
-            );
+        if !goes(&mut end, &(early, Tick, Quiet, before, Tells::Nothing)) {
+            return false;
         }
     }
-    if due < 1 << 61 {
-        out.clear();
-        let event = end.tick(due, &mut out);
-        assert!(rt;
-            is_written(out.as_slice(), writes),
-            "{side:?} {case:?} wrote {out:?}"
-        );
-        assert_eq!(rt; end.phase(), phase, "{side:?} {case:?}");
-        assert_eq!(rt;
-            end.deadline(),
-            deadline_of(waits, None, due),
-            "{side:?} {case:?}"
-        );
-        assert_eq!(rt; told_by(&event), told, "{side:?} {case:?}");
-    }
-    Ok(())
+    end.deadline() == Some(u64::from(due))
+        && goes(&mut end, &(due, Tick, writes, phase, told))
+        && end.deadline() == deadline_of(waits, None, due)
 }
 
 #[test]
-fn each_deadline_in_each_phase(rt: HostRuntime) -> Result<(), Fail> {
+fn each_deadline_in_each_phase(rt: HostRuntime) {
+    let idle = (1_000_000, Tick, Quiet, Phase::Idle, Tells::Nothing);
     for side in SIDES {
-        for row in 0..DEADLINES.len() {
-            check_deadline(&rt, side, row)?;
+        for row in &DEADLINES {
+            assert!(rt; waits_for_its_deadline(side, row), "{side:?} {row:?}");
         }
-        let mut idle = LineEnd::new(side, TIMES);
-        let mut out = Chars::new();
-        let event = idle.tick(1_000_000, &mut out);
-        assert_eq!(rt; told_by(&event), Tells::Nothing);
-        assert!(rt; out.is_empty() && idle.phase() == Phase::Idle && idle.deadline().is_none());
+        assert!(rt; goes(&mut LineEnd::new(side, TIMES), &idle));
     }
-    Ok(())
 }
 
+// A wrong sum, and a length byte out of range: told when the line has been quiet for T1.
 #[test]
-fn names_why_a_frame_is_refused(rt: HostRuntime) -> Result<(), Fail> {
-    let mut out = Chars::new();
-    let mut end = end_at(Side::Equipment, Case::Last)?;
-    let _event = take_all(&mut end, &[0x05], 2_000, &mut out);
-    let event = take_all(&mut end, &[0x05, 0x0A, 0x06], 2_400, &mut out);
-    assert_eq!(rt; told_by(&event), Tells::Nothing);
-    assert!(rt; out.is_empty());
-    out.clear();
-    let early = end.tick(2_899, &mut out);
-    assert_eq!(rt; told_by(&early), Tells::Nothing);
-    out.clear();
-    let sum = end.tick(2_900, &mut out);
-    let want = LineCause::Sum {
-        got: 0x0105,
-        want: 0x0104,
-    };
-    assert!(rt;
-        matches!(sum, LineEvent::Refused(cause) if cause == want),
-        "{sum:?}"
-    );
-    assert_eq!(rt; out.as_slice(), [NAK].as_slice());
-    for length in [0, 9, 255] {
-        let mut end = end_at(Side::Host, Case::AwaitLength)?;
-        let _event = take_all(&mut end, &[length, 0x55], 2_000, &mut out);
-        out.clear();
+fn names_why_a_frame_is_refused(rt: HostRuntime) {
+    let quiet = [
+        (2_400, Take(0x05), Quiet, Phase::Settling, Tells::Nothing),
+        (2_899, Tick, Quiet, Phase::Settling, Tells::Nothing),
+        (2_900, Tick, One(NAK), Phase::Idle, Tells::Sum),
+    ];
+    let mut end = end_at(Side::Equipment, Case::Last);
+    let wrong = first_wrong(&mut end, &quiet);
+    assert!(rt; wrong.is_none(), "{wrong:?}");
+    for length in [0, 255] {
+        let mut end = end_at(Side::Host, Case::AwaitLength);
+        take_all(&mut end, &[length, 0x55], 2_000);
+        let mut out = Chars::new();
         let event = end.tick(2_500, &mut out);
         let cause = LineCause::Length(length);
         assert!(rt;
@@ -465,114 +470,147 @@ fn names_why_a_frame_is_refused(rt: HostRuntime) -> Result<(), Fail> {
             "{event:?}"
         );
     }
-    Ok(())
 }
 
-// Both ends ask at moment 0: the slave yields, takes the master's block, and asks again.
+// Both ends ask at moment 0: the slave yields, takes the master's block, and asks again. The master passes over the
+// slave's ENQ.
 #[test]
-fn the_slave_yields(rt: HostRuntime) -> Result<(), Fail> {
-    let mut out = Chars::new();
-    let mut equipment = LineEnd::new(Side::Equipment, TIMES);
+fn the_slave_yields(rt: HostRuntime) {
+    let yields = [
+        (0, Send, One(ENQ), Phase::AwaitEot, Tells::Nothing),
+        (0, Take(ENQ), One(EOT), Phase::AwaitLength, Tells::Nothing),
+    ];
+    let asks_again = [
+        (0, Take(0x04), One(ACK), Phase::Idle, Tells::Arrived),
+        (0, Resume, One(ENQ), Phase::AwaitEot, Tells::Nothing),
+        (9_999, Tick, Quiet, Phase::AwaitEot, Tells::Nothing),
+        (10_000, Tick, One(ENQ), Phase::AwaitEot, Tells::Nothing),
+    ];
+    let master = [
+        (0, Send, One(ENQ), Phase::AwaitEot, Tells::Nothing),
+        (0, Take(ENQ), Quiet, Phase::AwaitEot, Tells::Nothing),
+        (0, Take(EOT), Frame, Phase::AwaitAck, Tells::Nothing),
+        (0, Take(ACK), Quiet, Phase::Idle, Tells::Sent),
+    ];
     let mut host = LineEnd::new(Side::Host, TIMES);
-    send(&mut equipment, 0, &mut out)?;
-    assert_eq!(rt; out.as_slice(), [ENQ].as_slice());
-    send(&mut host, 0, &mut out)?;
-    assert_eq!(rt; out.as_slice(), [ENQ].as_slice());
-    let _event = take_all(&mut host, &[ENQ], 0, &mut out);
-    assert_eq!(rt; out.as_slice(), [EOT].as_slice());
-    assert!(rt; host.phase() == Phase::AwaitLength && host.holds() && !host.can_send());
-    let _event = take_all(&mut equipment, &[ENQ], 0, &mut out);
-    assert!(rt; out.is_empty());
-    let _event = take_all(&mut equipment, &[EOT], 0, &mut out);
-    assert_eq!(rt; out.as_slice(), ARE_YOU_THERE.as_slice());
-    let event = take_all(&mut host, &ARE_YOU_THERE, 0, &mut out);
-    assert_eq!(rt; out.as_slice(), [ACK].as_slice());
-    assert!(rt; is_are_you_there(&event), "{event:?}");
-    assert!(rt; host.phase() == Phase::Idle && host.holds() && host.deadline().is_none());
-    let event = take_all(&mut equipment, &[ACK], 0, &mut out);
-    assert_eq!(rt; told_by(&event), Tells::Sent);
-    assert!(rt; equipment.can_send() && !equipment.holds());
-    out.clear();
-    host.resume(0, &mut out);
-    assert_eq!(rt; out.as_slice(), [ENQ].as_slice());
-    assert_eq!(rt; host.phase(), Phase::AwaitEot);
-    out.clear();
-    let early = host.tick(9_999, &mut out);
-    assert!(rt; told_by(&early) == Tells::Nothing && out.is_empty());
-    let due = host.tick(10_000, &mut out);
-    assert_eq!(rt; told_by(&due), Tells::Nothing);
-    assert_eq!(rt; out.as_slice(), [ENQ].as_slice());
-    Ok(())
+    let wrong = first_wrong(&mut host, &yields);
+    assert!(rt;
+        wrong.is_none() && host.holds() && !host.can_send(),
+        "{wrong:?}"
+    );
+    take_all(&mut host, &ARE_YOU_THERE[..12], 0);
+    let wrong = first_wrong(&mut host, &asks_again);
+    assert!(rt; wrong.is_none() && host.holds(), "{wrong:?}");
+    let mut equipment = LineEnd::new(Side::Equipment, TIMES);
+    let wrong = first_wrong(&mut equipment, &master);
+    assert!(rt;
+        wrong.is_none() && equipment.can_send() && !equipment.holds(),
+        "{wrong:?}"
+    );
 }
 
 // The deadline is looked at in a tick alone: a later character counts as long as none came.
 #[test]
-fn a_deadline_waits_for_its_tick(rt: HostRuntime) -> Result<(), Fail> {
-    let mut out = Chars::new();
-    let mut end = LineEnd::new(Side::Equipment, TIMES);
-    send(&mut end, 0, &mut out)?;
-    let _event = take_all(&mut end, &[EOT], 10_001, &mut out);
-    assert_eq!(rt; out.as_slice(), ARE_YOU_THERE.as_slice());
-    Ok(())
+fn a_deadline_waits_for_its_tick(rt: HostRuntime) {
+    let steps = [
+        (0, Send, One(ENQ), Phase::AwaitEot, Tells::Nothing),
+        (10_001, Take(EOT), Frame, Phase::AwaitAck, Tells::Nothing),
+    ];
+    let wrong = first_wrong(&mut LineEnd::new(Side::Equipment, TIMES), &steps);
+    assert!(rt; wrong.is_none(), "{wrong:?}");
 }
 
-fn is_are_you_there(event: &LineEvent) -> bool {
-    match event {
-        LineEvent::Arrived(block) => frame_of(block).as_slice() == ARE_YOU_THERE.as_slice(),
-        _ => false,
+// Whether so many tries after the first begin with ENQ, where each frame is answered by NAK, or nothing is answered.
+fn tries_again(end: &mut LineEnd, tries: u8, is_answered: bool) -> bool {
+    for failed in 0..tries {
+        if !fails(
+            end,
+            failed,
+            is_answered,
+            One(ENQ),
+            Phase::AwaitEot,
+            Tells::Nothing,
+        ) {
+            return false;
+        }
+    }
+    true
+}
+
+// Whether a try fails so.
+fn fails(
+    end: &mut LineEnd,
+    failed: u8,
+    is_answered: bool,
+    writes: Writes,
+    phase: Phase,
+    told: Tells,
+) -> bool {
+    let now = u32::from(failed) * 10_000;
+    if is_answered {
+        goes(
+            end,
+            &(now, Take(EOT), Frame, Phase::AwaitAck, Tells::Nothing),
+        ) && goes(end, &(now, Take(NAK), writes, phase, told))
+    } else {
+        goes(end, &(now + 10_000, Tick, writes, phase, told))
     }
 }
 
-// With RTY r the block is tried r + 1 times: each frame is answered by NAK, or nothing is answered at all.
-fn check_tries(rt: &impl Abort, rty: u8, answer: &[u8]) -> Result<(), Fail>
+// With RTY r the block is tried r + 1 times.
+fn gives_up(rty: u8, is_answered: bool) -> bool
     requires { rty < 32 }
 {
-    let mut out = Chars::new();
     let mut end = LineEnd::new(Side::Host, Times { rty, ..TIMES });
-    send(&mut end, 0, &mut out)?;
-    for failed in 0..=rty {
-        assert_eq!(rt; out.as_slice(), [ENQ].as_slice(), "try {failed}");
-        assert!(rt; end.holds() && end.phase() == Phase::AwaitEot);
-        let now = u64::from(failed) * 10_000;
-        let event = take_all(&mut end, answer, now, &mut out);
-        let event = if answer.is_empty() {
-            out.clear();
-            end.tick(now + 10_000, &mut out)
-        } else {
-            event
-        };
-        let told = if failed == rty {
-            Tells::Failed
-        } else {
-            Tells::Nothing
-        };
-        assert_eq!(rt; told_by(&event), told, "try {failed} of {rty}");
-    }
-    assert!(rt; out.is_empty() && end.can_send() && end.deadline().is_none());
-    Ok(())
+    goes(
+        &mut end,
+        &(0, Send, One(ENQ), Phase::AwaitEot, Tells::Nothing),
+    ) && tries_again(&mut end, rty, is_answered)
+        && fails(
+            &mut end,
+            rty,
+            is_answered,
+            Quiet,
+            Phase::Idle,
+            Tells::Failed,
+        )
+        && end.can_send()
+        && end.deadline().is_none()
 }
 
 #[test]
-fn gives_up_after_the_last_try(rt: HostRuntime) -> Result<(), Fail> {
+fn gives_up_after_the_last_try(rt: HostRuntime) {
     for rty in [0, 3, 31] {
-        check_tries(&rt, rty, &[])?;
-        check_tries(&rt, rty, &[EOT, NAK])?;
+        assert!(rt; gives_up(rty, false) && gives_up(rty, true), "{rty}");
     }
-    Ok(())
 }
 
 #[test]
-fn a_yielded_block_may_be_dropped(rt: HostRuntime) -> Result<(), Fail> {
-    let mut out = Chars::new();
-    let mut host = end_at(Side::Host, Case::AwaitEot)?;
-    let _event = take_all(&mut host, &[ENQ], 1_000, &mut out);
-    out.clear();
-    let event = host.tick(11_000, &mut out);
-    assert_eq!(rt; told_by(&event), Tells::T2);
-    assert!(rt; host.phase() == Phase::Idle && host.holds());
-    host.cancel();
-    assert!(rt; host.can_send() && !host.holds());
-    Ok(())
+fn a_yielded_block_may_be_dropped(rt: HostRuntime) {
+    let yields = [
+        (
+            1_000,
+            Take(ENQ),
+            One(EOT),
+            Phase::AwaitLength,
+            Tells::Nothing,
+        ),
+        (11_000, Tick, One(NAK), Phase::Idle, Tells::T2),
+    ];
+    let mut host = end_at(Side::Host, Case::AwaitEot);
+    let wrong = first_wrong(&mut host, &yields);
+    assert!(rt; wrong.is_none() && host.holds(), "{wrong:?}");
+    assert!(rt;
+        host.held()
+            .is_some_and(|header| header.stream == 1 && header.function == 1)
+    );
+    assert!(rt;
+        goes(
+            &mut host,
+            &(11_000, Cancel, Quiet, Phase::Idle, Tells::Nothing)
+        )
+    );
+    assert!(rt; host.can_send() && !host.holds() && host.held().is_none());
 }
 
 #[test]
