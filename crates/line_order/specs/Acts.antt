@@ -12,9 +12,9 @@ use Rattle.line_end.specs.Step.LineCall.{Send, Resume, Cancel, Take, Tick}
 use Rattle.line_order.specs.Characters.{Character, writes_frame, noise, written_as}
 use Rattle.line_order.specs.Line.{Arrival, Line, Station, View, WrittenFrame, whole_frame, last_of, seen_by, seen_from}
 
--- what happens at an end: the next character on its way to it is handed to it, or is lost; the one at a place, from 0 for
--- the next one, becomes another byte; a character is added in front of them; the layer above makes a call (a tick, or its
--- decision to send, resume or cancel; a character that it gives is noise); the end loses its power
+-- what happens at an end: the next character on its way to it is handed to it, or is lost; the one at a place, from 0
+-- for the next one, becomes another byte; a character is added in front of them; the layer above makes a call (a tick,
+-- or its decision to send, resume or cancel; a character that it gives is noise); the end loses its power
 pub data Act : Type 0 where
   Hand : (now : ℕ) → Act
   Lose : Act
@@ -59,7 +59,8 @@ arrived_after lost (Refused cause) frame arrived = arrived
 abbrev pub received : Station → List Character → List Character
 received station taken = station.gathered ++ taken
 
--- the end here after a call that gives it these characters: what it has gathered are the last of them (SEMI E4, receive)
+-- the end here after a call that gives it these characters: what it has gathered are the last of them (SEMI E4,
+-- receive)
 abbrev pub station_after : View → List Character → LineCall → Outcome → Station
 station_after view taken call outcome = record {
   state = outcome.next;

@@ -1,8 +1,8 @@
 -- Characters on their way over the line, and where they come from.
 use Rattle.std.specs.Prelude.{ℕ, Bool, true, false, ◌+◌, ◌==◌, ◌&&◌, nat_lt, List, [], ◌∷◌, length, map, if◌then◌else◌}
 
--- it stands at a place, from 0, of the frame with a number; or it is what an end has written that is no frame; or no end
--- has written it (this profile)
+-- it stands at a place, from 0, of the frame with a number; or it is what an end has written that is no frame; or no
+-- end has written it (this profile)
 pub data Origin : Type 0 where
   Framed : (frame place : ℕ) → Origin
   Control : Origin

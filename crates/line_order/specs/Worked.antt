@@ -174,9 +174,8 @@ abbrev pub changed_back : List Deed
 changed_back =
     equipment_takes 13 3 ++ at_equipment (Change 0 10) ∷ at_equipment (Change 0 9) ∷ granted are_you_there
 
--- one character that is changed, lost or added can make a false block arrive, and each of these is a slip. So is a true
--- block of which a character was replaced by an equal one, for that one isn't the frame's; a character that was changed
--- back is
+-- one character that is changed, lost or added can make a slip arrive. A block of which a character was replaced by an
+-- equal one is a slip too, for that one isn't the frame's; where a character was changed and changed back it is none
 pub record SlipsAreFound : Type 0 where
   pub changed : Slips (block_with 0 126 []) one_changed
   pub lost : Slips after_loss one_lost

@@ -6,9 +6,9 @@ ghost use Rattle.line_order.specs.Worked.{ArrivesTwice, OutlivesPowerLoss, Slips
 /// two arrivals the newer one never has a lower place among them, and each block is, unchanged, the one at its place.
 ///
 /// This holds for any layer above (its calls are a part of what happens), with contention and retries, whatever
-/// characters are lost, changed or added, and whenever an end loses its power. It asks only that the times fit, that the
-/// calls of an end are made on their conditions, and that what is given is a block. It speaks of the blocks that arrive
-/// in whole frames; up to the first slip these are all blocks that an end tells as arrived.
+/// characters are lost, changed or added, and whenever an end loses its power. It asks only that the times fit, that
+/// the calls of an end are made on their conditions, and that what is given is a block. It speaks of the blocks that
+/// arrive in whole frames; up to the first slip these are all blocks that an end tells as arrived.
 pub fn blocks_arrive_in_order()
     ensures order { BlocksArriveInOrder }
     ensures told { TellsArrivals }
