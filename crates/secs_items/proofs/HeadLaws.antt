@@ -61,7 +61,7 @@ kind_again kind.F8 = refl
 
 -- ---- the length
 
-holds : (lengths : List ℕ) → (length lengths ≡ 0 → ⊥) → length lengths ≤ 3 → IsBytes lengths → HoldsLength (number_from lengths) lengths
+pub holds : (lengths : List ℕ) → (length lengths ≡ 0 → ⊥) → length lengths ≤ 3 → IsBytes lengths → HoldsLength (number_from lengths) lengths
 holds [] some few fits = absurd (some refl)
 holds (a ∷ []) some few fits = (fits 0, omega arith)
 holds (a ∷ b ∷ []) some few fits = (fits 0, fits 1, omega arith)
@@ -95,13 +95,13 @@ not_false : (b : Bool) → not b ≡ false → b ≡ true
 not_false true e = refl
 not_false false e = absurd cc
 
-record TakesFormat (depth format : ℕ) (x : Kind × ℕ) : Type 0 where
-  placed : format ≡ 4 * code_of x.0 + x.1
-  some : x.1 ≡ 0 → ⊥
-  few : x.1 < 4
-  deep : is_list x.0 ≡ true → 0 < depth
+pub record TakesFormat (depth format : ℕ) (x : Kind × ℕ) : Type 0 where
+  pub placed : format ≡ 4 * code_of x.0 + x.1
+  pub some : x.1 ≡ 0 → ⊥
+  pub few : x.1 < 4
+  pub deep : is_list x.0 ≡ true → 0 < depth
 
-format_takes : (at depth format : ℕ) (x : Kind × ℕ) → format_at at depth format ≡ Ok x → TakesFormat depth format x
+pub format_takes : (at depth format : ℕ) (x : Kind × ℕ) → format_at at depth format ≡ Ok x → TakesFormat depth format x
 unfolding format_at
 format_takes at depth format x e =
     let k =
@@ -202,7 +202,7 @@ head_takes total depth (format ∷ bytes) h fits e =
 
 -- ---- and back
 
-format_again : (at depth : ℕ) (kind : Kind) (n : ℕ) → 0 < n → n < 4 → (is_list kind ≡ true → 0 < depth)
+pub format_again : (at depth : ℕ) (kind : Kind) (n : ℕ) → 0 < n → n < 4 → (is_list kind ≡ true → 0 < depth)
     → format_at at depth (4 * code_of kind + n) ≡ Ok (kind, n)
 unfolding format_at
 format_again at depth kind n some few deep =

@@ -1,15 +1,21 @@
 mod ElementLoop
+mod FaultPlaces
 pub mod Faults
 mod HeadLaws
+mod HeadStops
 mod ItemLaws
 mod ItemLoop
 mod ItemSteps
 mod Layers
+mod Least
 mod Leaves
+mod Lengths
 mod Numbers
 pub mod RangeLaws
+pub mod Rows
 mod Shortest
 pub mod SpellLaws
+mod Stops
 mod ViewSteps
 mod Viewing
 mod Written

@@ -8,7 +8,7 @@ use Rattle.secs_items.specs.declared.item_fault.ItemFault.TheVariants as fault
 use Rattle.std.specs.Prelude.{IfErr, IfOk, OnOk}
 use Rattle.std.specs.List.{AllByRecursion}
 use Rattle.secs_items.specs.Elements.{IsByte}
-use Rattle.secs_items.specs.Encoding.{Puts, encode_fault, fault_within}
+use Rattle.secs_items.specs.Encoding.{Encodes, encode_fault, fault_within}
 use Rattle.secs_items.specs.Ranges.{InRange}
 use Rattle.secs_items.specs.Reading.{ReadsOnly, first_fault, item_at}
 use Rattle.secs_items.specs.Spelling.{Spells, SpellsWithin, shortest_spelling}
@@ -59,7 +59,7 @@ shortest_is_spelled item ranges none = shortest_spells 64 0 item ranges none
 
 -- what writing has shown of the item
 pub spells_so : (r : Result (Unit {0}) EncodeFault) (item : Item) (at : ℕ) (old new : List ℕ)
-    → Puts (shortest_spelling item) (fault_within 64 at item) old new r → OnOk r (InRange item) → OnOk r (Spells item (shortest_spelling item))
+    → Encodes (shortest_spelling item) (fault_within 64 at item) old new r → OnOk r (InRange item) → OnOk r (Spells item (shortest_spelling item))
 unfolding Spells
 spells_so (Ok u) item at old new puts ranges = shortest_spells 64 at item ranges puts.1
 spells_so (Err e) item at old new puts ranges = tt

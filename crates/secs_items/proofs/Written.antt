@@ -14,7 +14,7 @@ use Rattle.secs_items.specs.declared.item.Item.TheFolds.{fold-roll-Item, map-Ite
 use Rattle.secs_items.specs.declared.item.Item.TheVariants as item
 use Rattle.secs_items.specs.declared.item.Item.TheVariants.{rolls-L}
 use Rattle.secs_items.specs.declared.kind.Kind.TheVariants as kind
-use Rattle.secs_items.specs.Encoding.{Puts, fault_within, first_of, long_fault}
+use Rattle.secs_items.specs.Encoding.{Encodes, fault_within, first_of, long_fault}
 use Rattle.secs_items.specs.Kinds.{is_list}
 use Rattle.secs_items.specs.Layers.{kind_of, length_of, items_of}
 use Rattle.secs_items.specs.Ranges.{HasRanges, InRange}
@@ -50,16 +50,16 @@ layer_L items =
 spelling_L : (items : List Item) → shortest_spelling (item.L items) ≡ shortest_head kind.L (1 * length items) ++ flat_map shortest_spelling items
 spelling_L items = ap shortest_spelling (sym (rolls-L items)) ∙ fold-roll-Item (List ℕ) shortest_layer (Item-F.L items) ∙ layer_L items
 
-puts_as : (s s' : List ℕ) (f f' : Option EncodeFault) (old new : List ℕ) (r : Result (Unit {0}) EncodeFault) → s' ≡ s → f' ≡ f → Puts s f old new r
-    → Puts s' f' old new r
+puts_as : (s s' : List ℕ) (f f' : Option EncodeFault) (old new : List ℕ) (r : Result (Unit {0}) EncodeFault) → s' ≡ s → f' ≡ f → Encodes s f old new r
+    → Encodes s' f' old new r
 puts_as s s' f f' old new r same_s same_f puts = rw (same_s, same_f) puts
 
 -- an item that is no list is written as its head and its content, which fits
 pub puts_leaf : (x : Item-F Item) (i : Item) (s : List ℕ) (depth n start : ℕ) (old new : List ℕ) (r : Result (Unit {0}) EncodeFault)
     → roll-Item x ≡ i → is_list (kind_of x) ≡ false → items_of x ≡ [] → shortest_layer (map-Item Item (List ℕ) shortest_spelling x) ≡ s
     → n ≡ length old
-    → record { puts : Puts s (long_fault (n - start) (length_of x)) old new r; ranges : OnOk r (HasRanges x) }
-    → record { puts : Puts (shortest_spelling i) (fault_within depth (length old - start) i) old new r; ranges : OnOk r (InRange i) }
+    → record { puts : Encodes s (long_fault (n - start) (length_of x)) old new r; ranges : OnOk r (HasRanges x) }
+    → record { puts : Encodes (shortest_spelling i) (fault_within depth (length old - start) i) old new r; ranges : OnOk r (InRange i) }
 puts_leaf x i s depth n start old new r rolls leaf none spelled len put = record {
   puts =
       puts_as s (shortest_spelling i) (long_fault (n - start) (length_of x)) (fault_within depth (length old - start) i) old new r
@@ -72,7 +72,7 @@ puts_leaf x i s depth n start old new r rolls leaf none spelled len put = record
 -- the head of a list was refused
 pub puts_no_head : (items : List Item) (depth at : ℕ) (old new : List ℕ) (e : EncodeFault) → (depth ≡ 0 → ⊥)
     → Grows old new × (e ≢ fault.NoMemory → long_fault at (1 * length items) ≡ Some e)
-    → Puts (shortest_spelling (item.L items)) (fault_within depth at (item.L items)) old new (Err e)
+    → Encodes (shortest_spelling (item.L items)) (fault_within depth at (item.L items)) old new (Err e)
 puts_no_head items zero at old new e deep refused = absurd (deep refl)
 puts_no_head items (suc depth) at old new e deep refused =
     (refused.0, λ named. list_fault depth at items ∙ ap (λ (o : Option EncodeFault). option_or o (first_of (fault_within depth) (at + length (shortest_head kind.L (1 * length items))) items)) (refused.1 named))
@@ -83,8 +83,8 @@ grows_on old mid new more e g = (more ++ g.0, g.1 ∙ ap (λ (s : List ℕ). s +
 then_items : (items : List Item) (depth at : ℕ) (old mid new : List ℕ) (r : Result (Unit {0}) EncodeFault)
     → mid ≡ old ++ shortest_head kind.L (1 * length items)
     → fault_within (suc depth) at (item.L items) ≡ first_of (fault_within depth) (at + length (shortest_head kind.L (1 * length items))) items
-    → Puts (flat_map shortest_spelling items) (first_of (fault_within depth) (at + length (shortest_head kind.L (1 * length items))) items) mid new r
-    → Puts (shortest_spelling (item.L items)) (fault_within (suc depth) at (item.L items)) old new r
+    → Encodes (flat_map shortest_spelling items) (first_of (fault_within depth) (at + length (shortest_head kind.L (1 * length items))) items) mid new r
+    → Encodes (shortest_spelling (item.L items)) (fault_within (suc depth) at (item.L items)) old new r
 then_items items depth at old mid new (Ok u) e same puts =
     let head = shortest_head kind.L (1 * length items) in
     (puts.0 ∙ ap (λ (s : List ℕ). s ++ flat_map shortest_spelling items) e ∙ append_assoc old head (flat_map shortest_spelling items) ∙ ap (λ (s : List ℕ). old ++ s) (sym (spelling_L items)), same ∙ puts.1)
@@ -94,8 +94,8 @@ then_items items depth at old mid new (Err f) e same puts =
 -- the head of a list was written, and then its items
 pub puts_list : (items : List Item) (depth start n : ℕ) (old mid new : List ℕ) (r : Result (Unit {0}) EncodeFault) → (depth ≡ 0 → ⊥)
     → start ≤ length old → n ≡ length old → mid ≡ old ++ shortest_head kind.L (1 * length items) → long_fault (n - start) (1 * length items) ≡ None
-    → Puts (flat_map shortest_spelling items) (first_of (fault_within (depth - 1)) (length mid - start) items) mid new r
-    → Puts (shortest_spelling (item.L items)) (fault_within depth (length old - start) (item.L items)) old new r
+    → Encodes (flat_map shortest_spelling items) (first_of (fault_within (depth - 1)) (length mid - start) items) mid new r
+    → Encodes (shortest_spelling (item.L items)) (fault_within depth (length old - start) (item.L items)) old new r
 puts_list items zero start n old mid new r deep within len e fits puts = absurd (deep refl)
 puts_list items (suc depth) start n old mid new r deep within len e fits puts =
     let head = shortest_head kind.L (1 * length items) in
@@ -104,6 +104,6 @@ puts_list items (suc depth) start n old mid new r deep within len e fits puts =
     list_fault depth (length old - start) items ∙ ap (λ (o : Option EncodeFault). option_or o (first_of (fault_within depth) ((length old - start) + length head) items)) (ap (λ (k : ℕ). long_fault (k - start) (1 * length items)) (sym len) ∙ fits) in
     let less : suc depth - 1 ≡ depth = omega arith in
     let deep_puts =
-    subst (λ (d : ℕ). Puts (flat_map shortest_spelling items) (first_of (fault_within d) (length mid - start) items) mid new r) less puts in
+    subst (λ (d : ℕ). Encodes (flat_map shortest_spelling items) (first_of (fault_within d) (length mid - start) items) mid new r) less puts in
     then_items items depth (length old - start) old mid new r e same
-    (subst (λ (k : ℕ). Puts (flat_map shortest_spelling items) (first_of (fault_within depth) k items) mid new r) at deep_puts)
+    (subst (λ (k : ℕ). Encodes (flat_map shortest_spelling items) (first_of (fault_within depth) k items) mid new r) at deep_puts)

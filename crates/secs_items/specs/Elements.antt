@@ -6,6 +6,9 @@ use Rattle.std.specs.List.{flat_map, AllByRecursion}
 abbrev pub IsByte : ℕ → Type 0
 IsByte b = b < 256
 
+abbrev pub AllBytes : List ℕ → Type 0
+AllBytes = AllByRecursion IsByte
+
 -- the content is these bytes
 pub record AreBytes (bytes content : List ℕ) : Type 0 where
   pub fit : AllByRecursion IsByte bytes

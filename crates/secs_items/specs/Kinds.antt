@@ -42,7 +42,8 @@ unit_of kind.F8 = 8
 -- all of them, by their codes
 abbrev pub kinds : List Kind
 kinds =
-    kind.L ∷ kind.B ∷ kind.Bool ∷ kind.A ∷ kind.J ∷ kind.I8 ∷ kind.I1 ∷ kind.I2 ∷ kind.I4 ∷ kind.F8 ∷ kind.F4 ∷ kind.U8 ∷ kind.U1 ∷ kind.U2 ∷ kind.U4 ∷ []
+    kind.L ∷ kind.B ∷ kind.Bool ∷ kind.A ∷ kind.J ∷ kind.I8 ∷ kind.I1 ∷ kind.I2 ∷ kind.I4 ∷ kind.F8 ∷ kind.F4
+    ∷ kind.U8 ∷ kind.U1 ∷ kind.U2 ∷ kind.U4 ∷ []
 
 -- the kind that has a code
 abbrev pub kind_with : ℕ → Option Kind

@@ -52,7 +52,8 @@ abbrev pub items_of : {A : Type 0} → Item-F A → List A
 items_of (Item-F.L items) = items
 items_of _ = []
 
--- The content: for a list what stands in its items' places, one after another, for another kind its elements, high byte first.
+-- The content: for a list what stands in its items' places, one after another, for another kind its elements, high
+-- byte first.
 abbrev pub content_of : Item-F (List ℕ) → List ℕ
 content_of (Item-F.L spellings) = flat_map (λ spelling. spelling) spellings
 content_of (Item-F.B bytes) = bytes

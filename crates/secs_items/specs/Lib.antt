@@ -1,8 +1,11 @@
 pub mod Elements
 pub mod Encoding
+pub mod Faults
 pub mod Heads
 pub mod Kinds
 pub mod Layers
+pub mod Limits
+pub mod Measures
 pub mod Ranges
 pub mod Reading
 pub mod Spelling

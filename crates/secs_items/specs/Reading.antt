@@ -10,6 +10,7 @@ use Rattle.secs_items.specs.declared.kind.Kind.{Kind}
 use Rattle.secs_items.specs.declared.kind.Kind.TheVariants as kind
 use Rattle.secs_items.specs.Elements.{elements_at, signed_at}
 use Rattle.secs_items.specs.Kinds.{kind_with, unit_of, is_list}
+use Rattle.secs_items.specs.Limits.{max_depth}
 
 infixl 10 ◌>>=◌
 abbrev pub ◌>>=◌ : {A B : Type 0} → Result A ItemFault → (A → Result B ItemFault) → Result B ItemFault
@@ -65,20 +66,25 @@ after_each after (suc count) bytes = after bytes >>= after_each after count
 abbrev pub after_content : (List ℕ → Result (List ℕ) ItemFault) → Head → Result (List ℕ) ItemFault
 after_content after h = if is_list h.kind then after_each after h.size h.rest else Ok (drop h.size h.rest)
 
--- What is left after one item, in which lists may nest so deep, of the total bytes. No head of a list is read where none
--- may stand.
+-- What is left after one item, in which lists may nest so deep, of the total bytes. No head of a list is read where
+-- none may stand.
 unfoldable pub after_item : ℕ → ℕ → List ℕ → Result (List ℕ) ItemFault
 after_item total zero bytes = head_at total zero bytes >>= λ h. Ok (drop h.size h.rest)
 after_item total (suc depth) bytes = head_at total (suc depth) bytes >>= after_content (after_item total depth)
+
+-- what is left after the content behind a head, where lists may nest so deep with the item itself
+abbrev pub after_behind : ℕ → ℕ → Head → Result (List ℕ) ItemFault
+after_behind total depth = after_content (after_item total (depth - 1))
 
 abbrev pub fault_after : ℕ → Result (List ℕ) ItemFault → Option ItemFault
 fault_after total (Err e) = Some e
 fault_after total (Ok []) = None
 fault_after total (Ok (b ∷ rest)) = Some (fault.Trailing (total - suc (length rest)))
 
--- The first fault of bytes that are to be one item, if they have one. No list stands in more than 63 others (this profile).
+-- The first fault of bytes that are to be one item, if they have one. No list stands in more than 63 others (this
+-- profile).
 unfoldable pub first_fault : List ℕ → Option ItemFault
-first_fault bytes = fault_after (length bytes) (after_item (length bytes) 64 bytes)
+first_fault bytes = fault_after (length bytes) (after_item (length bytes) max_depth bytes)
 
 -- An item that is no list, from its content. There is no such list.
 abbrev pub leaf_of : Kind → List ℕ → Item

@@ -8,6 +8,7 @@ use Rattle.secs_items.specs.declared.item.Item.TheFolds.{fold-Item}
 use Rattle.secs_items.specs.Kinds.{code_of}
 use Rattle.secs_items.specs.Elements.{IsByte, AreBytes, IsRaw, AreElements, signed_bytes}
 use Rattle.secs_items.specs.Layers.{kind_of, length_of, content_of}
+use Rattle.secs_items.specs.Limits.{max_depth}
 
 -- 1 to 3 bytes that hold the length, high byte first
 abbrev pub HoldsLength : ℕ → List ℕ → Type 0
@@ -61,7 +62,7 @@ SpellsWithin (suc depth) item = IsSpelled (SpellsEach (SpellsWithin depth)) (out
 
 -- The bytes spell the item, in which no list stands in more than 63 others (this profile).
 unfoldable pub Spells : Item → List ℕ → Type 0
-Spells = SpellsWithin 64
+Spells = SpellsWithin max_depth
 
 -- the fewest bytes that hold a length, for lengths that 3 bytes hold
 abbrev pub shortest_lengths : ℕ → List ℕ

@@ -1,5 +1,5 @@
 -- What a view of checked bytes shows.
-use Rattle.std.specs.Prelude.{◌≡◌, ℕ, ◌*◌, true, false, if◌then◌else◌, List, [], ◌∷◌, ◌++◌, length, take, Option, Some, None, Result, Ok, Err}
+use Rattle.std.specs.Prelude.{◌≡◌, ℕ, ◌*◌, true, false, if◌then◌else◌, List, [], ◌∷◌, ◌++◌, length, take, slice_get, Option, Some, None, Result, Ok, Err}
 use Rattle.secs_items.specs.declared.item.Item.{Item, out-Item}
 use Rattle.secs_items.specs.declared.item.Item.TheOpen.{Item-F}
 use Rattle.secs_items.specs.declared.item.Item.TheVariants as item
@@ -21,7 +21,9 @@ items_read (Ok x) = x.0
 items_read (Err e) = []
 
 abbrev pub item_in : Kind → ℕ → ℕ → List ℕ → Item
-item_in kind count depth content = if is_list kind then item.L (items_read (items_at (item_at 0 depth) count content)) else leaf_of kind content
+item_in kind count depth content =
+    if is_list kind then item.L (items_read (items_at (item_at 0 depth) count content))
+    else leaf_of kind content
 
 -- Such content is whole: so many items, or as many bytes as so many elements have.
 pub record IsWhole (kind : Kind) (count depth : ℕ) (content : List ℕ) : Type 0 where
@@ -42,6 +44,10 @@ pub record ShowsChild (parent : Viewed) (place : ℕ) (child : Viewed) : Type 0 
   pub items_before : (depth : ℕ) × SpellsEach (SpellsWithin depth) (take place (items_of (out-Item parent.item))) before
   pub shown : ShowsFront front child after
   pub parts : parent.content ≡ before ++ front
+
+-- the item at a place of the viewed list
+abbrev pub child_in : Viewed → ℕ → Option Item
+child_in v place = slice_get (items_of (out-Item v.item)) place
 
 -- the number that is the one element of U1, U2, U4 or U8
 abbrev pub number_of : {A : Type 0} → Item-F A → Option ℕ

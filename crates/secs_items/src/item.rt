@@ -3,6 +3,9 @@ ghost use Rattle.std.specs.Prelude.{◌≡◌, IfOk};
 use gl_base::{NoMemory, Row};
 use std::alloc::Global;
 
+/// How deep lists may nest (this profile).
+pub const MAX_DEPTH: usize = 64;
+
 /// An item of SECS-II: a list of items, or elements of one kind (SEMI E5).
 #[derive(Debug, Drop)]
 pub enum Item {

@@ -3,20 +3,24 @@
 
 mod element;
 mod encode_fault;
+mod equality;
 mod head;
 mod item;
 mod item_fault;
 mod kind;
 mod laws;
+mod measures;
 mod reading;
 mod view;
 mod writing;
 
 pub use encode_fault::EncodeFault;
-pub use item::Item;
+pub use item::{Item, MAX_DEPTH};
 pub use item_fault::ItemFault;
 pub use kind::Kind;
-pub use laws::{no_fault_exactly_in_a_spelling, no_spelling_begins_another};
+pub use laws::{
+    no_fault_exactly_in_a_spelling, no_spelling_begins_another, where_each_fault_stands,
+};
 pub use reading::decode;
 pub use view::{ItemView, check};
 pub use writing::encode_into;

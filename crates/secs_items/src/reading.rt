@@ -10,14 +10,13 @@ ghost use Rattle.secs_items.specs.Spelling.{Spells};
 
 use crate::element::Element;
 use crate::head::head_of;
-use crate::item::Item;
+use crate::item::{Item, MAX_DEPTH};
 use crate::item_fault::ItemFault;
 use crate::kind::Kind;
-use crate::writing::MAX_DEPTH;
 use gl_base::{NoMemory, Row};
 use std::alloc::Global;
 
-/// The item that the bytes spell. It takes memory for what it returns alone, whatever length the bytes claim.
+/// The item that the bytes spell. A length that they claim reserves no memory.
 pub fn decode(alloc: Global, bytes: &[u8]) -> Result<Item, ItemFault>
     // What is read is spelled so.
     ensures found { IfOk result (λ item. Spells item bytes.now) }

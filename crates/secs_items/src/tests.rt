@@ -1,11 +1,8 @@
 //! Bytes and values side by side, written by hand from the format table of SEMI E5.
 
-ghost use Rattle.std.specs.Prelude.{◌≡◌, IfSome};
-
 use super::*;
 use gl_base::{NoMemory, Row};
 use std::alloc::Global;
-use std::process::Abort;
 use std::test::Fail;
 
 fn row<T: Copy>(alloc: Global, from: &[T]) -> Result<Row<T>, NoMemory> {
@@ -14,398 +11,295 @@ fn row<T: Copy>(alloc: Global, from: &[T]) -> Result<Row<T>, NoMemory> {
     Ok(row)
 }
 
-/// The spelling with `more` length bytes above those that it has.
-fn longer(alloc: Global, bytes: &[u8], more: u8) -> Result<Row<u8>, NoMemory> {
-    let mut spelled = Row::new(alloc);
-    let (format, rest) = bytes.split_at(bytes.len().min(1));
-    for byte in format {
-        spelled.push(byte.wrapping_add(more))?;
-    }
-    for _ in 0..more {
-        spelled.push(0)?;
-    }
-    spelled.extend(rest)?;
-    Ok(spelled)
+/// How many items `sample` has.
+const SAMPLES: usize = 20;
+
+/// An item: of each kind one of two elements, a few of none or one, and two whose heads differ in length.
+fn sample(alloc: Global, place: usize) -> Result<Item, NoMemory> {
+    Ok(match place {
+        0 => Item::L(Row::new(alloc)),
+        1 => Item::L(list(alloc)?),
+        2 => Item::A(Row::new(alloc)),
+        3 => Item::A(row(alloc, b"AB")?),
+        4 => Item::B(row(alloc, &[0, 0xFF])?),
+        5 => Item::Bool(row(alloc, &[2, 0])?),
+        6 => Item::J(row(alloc, &[0xB1, 0xB2])?),
+        7 => Item::I1(row(alloc, &[-128, 127])?),
+        8 => Item::I2(row(alloc, &[-32768, 258])?),
+        9 => Item::I4(row(alloc, &[-2147483648, 0x01020304])?),
+        10 => Item::I8(row(alloc, &[-2, 0x0102030405060708])?),
+        11 => Item::U1(row(alloc, &[0, 255])?),
+        12 => Item::U2(row(alloc, &[0xFFFF, 258])?),
+        13 => Item::U4(row(alloc, &[5])?),
+        14 => Item::U4(row(alloc, &[0x01020304, u32::MAX])?),
+        15 => Item::U8(row(alloc, &[9, u64::MAX])?),
+        16 => Item::F4(row(alloc, &[*b"abcd", *b"efgh"])?),
+        17 => Item::F8(row(alloc, &[*b"abcdefgh", *b"ijklmnop"])?),
+        18 => Item::B(row(alloc, &[7; 255])?),
+        _ => Item::B(row(alloc, &[7; 256])?),
+    })
 }
 
-fn spelling(alloc: Global, item: &Item) -> Result<Row<u8>, EncodeFault> {
-    let mut bytes = Row::new(alloc);
-    encode_into(item, &mut bytes)?;
-    Ok(bytes)
+/// U1 of 7 and an empty list.
+fn list(alloc: Global) -> Result<Row<Item>, NoMemory> {
+    let mut items = Row::new(alloc);
+    items.push(Item::U1(row(alloc, &[7])?))?;
+    items.push(Item::L(Row::new(alloc)))?;
+    Ok(items)
 }
 
-/// The item again, from its bytes.
-fn comes_back(alloc: Global, item: &Item) -> Option<Item>
-    ensures { IfSome result (λ again. again ≡ item.now) }
-{
-    let mut bytes = Row::new(alloc);
-    let Ok(()) = encode_into(item, &mut bytes) else {
-        return None;
-    };
-    match decode(alloc, bytes.as_slice()) {
-        Ok(again) => Some(again),
-        Err(_) => None,
-    }
-}
+/// The spellings of the first of them.
+const SPELLINGS: [&[u8]; 18] = [
+    &[0x01, 0],
+    &[0x01, 2, 0xA5, 1, 7, 0x01, 0],
+    &[0x41, 0],
+    &[0x41, 2, 0x41, 0x42],
+    &[0x21, 2, 0, 0xFF],
+    &[0x25, 2, 2, 0],
+    &[0x45, 2, 0xB1, 0xB2],
+    &[0x65, 2, 0x80, 0x7F],
+    &[0x69, 4, 0x80, 0, 1, 2],
+    b"\x71\x08\x80\0\0\0\x01\x02\x03\x04",
+    b"\x61\x10\xFF\xFF\xFF\xFF\xFF\xFF\xFF\xFE\x01\x02\x03\x04\x05\x06\x07\x08",
+    &[0xA5, 2, 0, 255],
+    &[0xA9, 4, 0xFF, 0xFF, 1, 2],
+    &[0xB1, 4, 0, 0, 0, 5],
+    b"\xB1\x08\x01\x02\x03\x04\xFF\xFF\xFF\xFF",
+    b"\xA1\x10\0\0\0\0\0\0\0\x09\xFF\xFF\xFF\xFF\xFF\xFF\xFF\xFF",
+    b"\x91\x08abcdefgh",
+    b"\x81\x10abcdefghijklmnop",
+];
 
 fn is_spelled(alloc: Global, item: &Item, bytes: &[u8]) -> bool {
     let mut row = Row::new(alloc);
     encode_into(item, &mut row).is_ok() && row.as_slice() == bytes
 }
 
-fn is_copied(alloc: Global, item: &Item, bytes: &[u8]) -> bool {
+fn is_read(alloc: Global, bytes: &[u8], item: &Item) -> bool {
+    match decode(alloc, bytes) {
+        Ok(read) => read.equals(item),
+        Err(_) => false,
+    }
+}
+
+fn is_copied(alloc: Global, item: &Item) -> bool {
     match item.copy(alloc) {
-        Ok(copy) => is_spelled(alloc, &copy, bytes),
+        Ok(copy) => copy.equals(item),
         Err(_) => false,
     }
 }
 
-fn is_read(alloc: Global, spelled: &[u8], bytes: &[u8]) -> bool {
-    match decode(alloc, spelled) {
-        Ok(item) => is_spelled(alloc, &item, bytes),
+/// The view has the item's content, which is the bytes behind the head's two.
+fn is_viewed(bytes: &[u8]) -> bool {
+    match check(bytes) {
+        Ok(view) => view.bytes().len() + 2 == bytes.len(),
         Err(_) => false,
     }
 }
 
-fn is_viewed(spelled: &[u8], content: &[u8]) -> bool {
-    match check(spelled) {
-        Ok(view) => view.bytes() == content,
+/// Whether the sample at the place has these bytes, and comes back from them.
+fn agrees(alloc: Global, place: usize, bytes: &[u8]) -> bool {
+    match sample(alloc, place) {
+        Ok(item) => {
+            is_spelled(alloc, &item, bytes)
+                && is_read(alloc, bytes, &item)
+                && is_copied(alloc, &item)
+                && is_viewed(bytes)
+                && item.spelled_len() == bytes.len()
+        }
         Err(_) => false,
     }
 }
 
-/// The bytes are the item's, with one, two and three length bytes.
-fn spells(rt: &impl Abort, alloc: Global, item: Item, bytes: &[u8]) -> Result<(), NoMemory> {
-    let content = &bytes[bytes.len().min(2)..];
-    assert!(rt; is_spelled(alloc, &item, bytes));
-    assert!(rt; comes_back(alloc, &item).is_some());
-    assert!(rt; is_copied(alloc, &item, bytes));
-    for more in 0..3 {
-        let spelled = longer(alloc, bytes, more)?;
-        assert!(rt; is_read(alloc, spelled.as_slice(), bytes));
-        assert!(rt; is_viewed(spelled.as_slice(), content));
+fn all_agree(alloc: Global) -> bool {
+    for place in 0..SPELLINGS.len() {
+        if !agrees(alloc, place, SPELLINGS[place]) {
+            return false;
+        }
     }
-    Ok(())
-}
-
-/// What `decode` and `check` both refuse the bytes for.
-fn fault(rt: &impl Abort, alloc: Global, bytes: &[u8]) -> Option<ItemFault> {
-    let decoded = match decode(alloc, bytes) {
-        Ok(_) => None,
-        Err(fault) => Some(fault),
-    };
-    let checked = match check(bytes) {
-        Ok(_) => None,
-        Err(fault) => Some(fault),
-    };
-    assert_eq!(rt; decoded, checked);
-    decoded
-}
-
-/// The item that `make` gives of these elements has these bytes.
-fn reads<T: Copy, F: FnOnce(Row<T>) -> Item>(
-    rt: &impl Abort,
-    alloc: Global,
-    make: F,
-    elements: &[T],
-    bytes: &[u8],
-) -> Result<(), NoMemory>
-    requires { F.IsAlwaysCallable make }
-{
-    spells(rt, alloc, make(row(alloc, elements)?), bytes)
+    true
 }
 
 #[test]
-fn empty_list(rt: HostRuntime) -> Result<(), Fail> {
-    let alloc = rt.alloc();
-    spells(&rt, alloc, Item::L(Row::new(alloc)), &[0x01, 0])?;
-    Ok(())
+fn every_kind(rt: HostRuntime) {
+    assert!(rt; all_agree(rt.alloc()));
+}
+
+/// Whether two samples are equal exactly where they are the same one.
+fn are_told_apart(alloc: Global, first: usize, second: usize) -> bool {
+    match (sample(alloc, first), sample(alloc, second)) {
+        (Ok(one), Ok(other)) => one.equals(&other) == (first == second),
+        _ => false,
+    }
+}
+
+fn all_told_apart(alloc: Global) -> bool {
+    for pair in 0..SAMPLES * SAMPLES {
+        if !are_told_apart(alloc, pair / SAMPLES, pair % SAMPLES) {
+            return false;
+        }
+    }
+    true
 }
 
 #[test]
-fn list_of_one(rt: HostRuntime) -> Result<(), Fail> {
-    let alloc = rt.alloc();
-    let mut one = Row::new(alloc);
-    one.push(Item::A(row(alloc, b"a")?))?;
-    spells(&rt, alloc, Item::L(one), &[0x01, 1, 0x41, 1, b'a'])?;
-    Ok(())
+fn equal_to_itself_alone(rt: HostRuntime) {
+    assert!(rt; all_told_apart(rt.alloc()));
+}
+
+/// Spellings with more length bytes than they need.
+const LONGER: [(&[u8], &[u8]); 6] = [
+    (&[0x02, 0, 1, 0xA7, 0, 0, 1, 7], &[0x01, 1, 0xA5, 1, 7]),
+    (&[0x42, 0, 0], &[0x41, 0]),
+    (&[0x43, 0, 0, 1, 0x41], &[0x41, 1, 0x41]),
+    (&[0xB2, 0, 4, 0, 0, 0, 5], &[0xB1, 4, 0, 0, 0, 5]),
+    (b"\x93\0\0\x04abcd", b"\x91\x04abcd"),
+    (b"\x6B\0\0\x02\xFF\xFE", b"\x69\x02\xFF\xFE"),
+];
+
+/// Whether the bytes are read as an item with this shortest spelling.
+fn is_shortened(alloc: Global, bytes: &[u8], shortest: &[u8]) -> bool {
+    match decode(alloc, bytes) {
+        Ok(item) => is_spelled(alloc, &item, shortest),
+        Err(_) => false,
+    }
+}
+
+fn all_shortened(alloc: Global) -> bool {
+    for (bytes, shortest) in LONGER {
+        if !is_shortened(alloc, bytes, shortest) {
+            return false;
+        }
+    }
+    true
 }
 
 #[test]
-fn list_of_two(rt: HostRuntime) -> Result<(), Fail> {
-    let alloc = rt.alloc();
-    let mut two = Row::new(alloc);
-    two.push(Item::U1(row(alloc, &[7])?))?;
-    two.push(Item::L(Row::new(alloc)))?;
-    spells(&rt, alloc, Item::L(two), &[0x01, 2, 0xA5, 1, 7, 0x01, 0])?;
-    Ok(())
+fn any_length_bytes(rt: HostRuntime) {
+    assert!(rt; all_shortened(rt.alloc()));
 }
 
-#[test]
-fn binary(rt: HostRuntime) -> Result<(), Fail> {
-    let alloc = rt.alloc();
-    reads(&rt, alloc, Item::B, &[], &[0x21, 0])?;
-    reads(&rt, alloc, Item::B, &[0xFF], &[0x21, 1, 0xFF])?;
-    reads(&rt, alloc, Item::B, &[0, 1], &[0x21, 2, 0, 1])?;
-    Ok(())
+/// Bytes and their first fault.
+const FAULTS: [(&[u8], ItemFault); 8] = [
+    (&[], ItemFault::Short { at: 0 }),
+    (&[0xB0], ItemFault::NoLengthBytes { at: 0 }),
+    (&[0xB1, 3, 0, 0, 0], ItemFault::Uneven { at: 0 }),
+    (&[0x41, 2, 0x41], ItemFault::Short { at: 3 }),
+    (&[0x43, 0, 0], ItemFault::Short { at: 3 }),
+    (&[0x49, 0], ItemFault::BadCode { at: 0 }),
+    (&[0x01, 0, 0], ItemFault::Trailing { at: 2 }),
+    (
+        &[0x03, 0xFF, 0xFF, 0xFF, 0],
+        ItemFault::NoLengthBytes { at: 4 },
+    ),
+];
+
+/// Whether the bytes are refused for this, read and viewed.
+fn is_refused(alloc: Global, bytes: &[u8], fault: ItemFault) -> bool {
+    decode(alloc, bytes).err() == Some(fault) && check(bytes).err() == Some(fault)
 }
 
-#[test]
-fn boolean(rt: HostRuntime) -> Result<(), Fail> {
-    let alloc = rt.alloc();
-    reads(&rt, alloc, Item::Bool, &[], &[0x25, 0])?;
-    reads(&rt, alloc, Item::Bool, &[2], &[0x25, 1, 2])?;
-    reads(&rt, alloc, Item::Bool, &[0, 0xFF], &[0x25, 2, 0, 0xFF])?;
-    Ok(())
-}
-
-#[test]
-fn ascii(rt: HostRuntime) -> Result<(), Fail> {
-    let alloc = rt.alloc();
-    reads(&rt, alloc, Item::A, &[], &[0x41, 0])?;
-    reads(&rt, alloc, Item::A, b"A", &[0x41, 1, 0x41])?;
-    reads(&rt, alloc, Item::A, b"AB", &[0x41, 2, 0x41, 0x42])?;
-    Ok(())
-}
-
-#[test]
-fn jis8(rt: HostRuntime) -> Result<(), Fail> {
-    let alloc = rt.alloc();
-    reads(&rt, alloc, Item::J, &[], &[0x45, 0])?;
-    reads(&rt, alloc, Item::J, &[0xB1], &[0x45, 1, 0xB1])?;
-    reads(&rt, alloc, Item::J, &[0xB1, 0xB2], &[0x45, 2, 0xB1, 0xB2])?;
-    Ok(())
-}
-
-#[test]
-fn signed_1(rt: HostRuntime) -> Result<(), Fail> {
-    let alloc = rt.alloc();
-    reads(&rt, alloc, Item::I1, &[], &[0x65, 0])?;
-    reads(&rt, alloc, Item::I1, &[-1], &[0x65, 1, 0xFF])?;
-    reads(&rt, alloc, Item::I1, &[-128, 127], &[0x65, 2, 0x80, 0x7F])?;
-    Ok(())
-}
-
-#[test]
-fn signed_2(rt: HostRuntime) -> Result<(), Fail> {
-    let alloc = rt.alloc();
-    reads(&rt, alloc, Item::I2, &[], &[0x69, 0])?;
-    reads(&rt, alloc, Item::I2, &[-2], &[0x69, 2, 0xFF, 0xFE])?;
-    reads(
-        &rt,
-        alloc,
-        Item::I2,
-        &[-32768, 258],
-        &[0x69, 4, 0x80, 0, 1, 2],
-    )?;
-    Ok(())
-}
-
-#[test]
-fn signed_4(rt: HostRuntime) -> Result<(), Fail> {
-    let alloc = rt.alloc();
-    reads(&rt, alloc, Item::I4, &[], &[0x71, 0])?;
-    reads(
-        &rt,
-        alloc,
-        Item::I4,
-        &[-5],
-        &[0x71, 4, 0xFF, 0xFF, 0xFF, 0xFB],
-    )?;
-    reads(
-        &rt,
-        alloc,
-        Item::I4,
-        &[-2147483648, 0x01020304],
-        b"\x71\x08\x80\0\0\0\x01\x02\x03\x04",
-    )?;
-    Ok(())
-}
-
-#[test]
-fn signed_8(rt: HostRuntime) -> Result<(), Fail> {
-    let alloc = rt.alloc();
-    reads(&rt, alloc, Item::I8, &[], &[0x61, 0])?;
-    reads(
-        &rt,
-        alloc,
-        Item::I8,
-        &[-2],
-        b"\x61\x08\xFF\xFF\xFF\xFF\xFF\xFF\xFF\xFE",
-    )?;
-    reads(
-        &rt,
-        alloc,
-        Item::I8,
-        &[i64::MIN, 0x0102030405060708],
-        b"\x61\x10\x80\0\0\0\0\0\0\0\x01\x02\x03\x04\x05\x06\x07\x08",
-    )?;
-    Ok(())
-}
-
-#[test]
-fn unsigned_1(rt: HostRuntime) -> Result<(), Fail> {
-    let alloc = rt.alloc();
-    reads(&rt, alloc, Item::U1, &[], &[0xA5, 0])?;
-    reads(&rt, alloc, Item::U1, &[200], &[0xA5, 1, 200])?;
-    reads(&rt, alloc, Item::U1, &[0, 255], &[0xA5, 2, 0, 255])?;
-    Ok(())
-}
-
-#[test]
-fn unsigned_2(rt: HostRuntime) -> Result<(), Fail> {
-    let alloc = rt.alloc();
-    reads(&rt, alloc, Item::U2, &[], &[0xA9, 0])?;
-    reads(&rt, alloc, Item::U2, &[258], &[0xA9, 2, 1, 2])?;
-    reads(
-        &rt,
-        alloc,
-        Item::U2,
-        &[0xFFFF, 1],
-        &[0xA9, 4, 0xFF, 0xFF, 0, 1],
-    )?;
-    Ok(())
-}
-
-#[test]
-fn unsigned_4(rt: HostRuntime) -> Result<(), Fail> {
-    let alloc = rt.alloc();
-    reads(&rt, alloc, Item::U4, &[], &[0xB1, 0])?;
-    reads(&rt, alloc, Item::U4, &[5], &[0xB1, 4, 0, 0, 0, 5])?;
-    reads(
-        &rt,
-        alloc,
-        Item::U4,
-        &[0x01020304, u32::MAX],
-        b"\xB1\x08\x01\x02\x03\x04\xFF\xFF\xFF\xFF",
-    )?;
-    Ok(())
-}
-
-#[test]
-fn unsigned_8(rt: HostRuntime) -> Result<(), Fail> {
-    let alloc = rt.alloc();
-    reads(&rt, alloc, Item::U8, &[], &[0xA1, 0])?;
-    reads(
-        &rt,
-        alloc,
-        Item::U8,
-        &[0x0102030405060708],
-        b"\xA1\x08\x01\x02\x03\x04\x05\x06\x07\x08",
-    )?;
-    reads(
-        &rt,
-        alloc,
-        Item::U8,
-        &[9, u64::MAX],
-        b"\xA1\x10\0\0\0\0\0\0\0\x09\xFF\xFF\xFF\xFF\xFF\xFF\xFF\xFF",
-    )?;
-    Ok(())
-}
-
-#[test]
-fn float_4(rt: HostRuntime) -> Result<(), Fail> {
-    let alloc = rt.alloc();
-    reads(&rt, alloc, Item::F4, &[], &[0x91, 0])?;
-    reads(&rt, alloc, Item::F4, &[*b"abcd"], b"\x91\x04abcd")?;
-    reads(
-        &rt,
-        alloc,
-        Item::F4,
-        &[*b"abcd", *b"efgh"],
-        b"\x91\x08abcdefgh",
-    )?;
-    Ok(())
-}
-
-#[test]
-fn float_8(rt: HostRuntime) -> Result<(), Fail> {
-    let alloc = rt.alloc();
-    reads(&rt, alloc, Item::F8, &[], &[0x81, 0])?;
-    reads(&rt, alloc, Item::F8, &[*b"abcdefgh"], b"\x81\x08abcdefgh")?;
-    reads(
-        &rt,
-        alloc,
-        Item::F8,
-        &[*b"abcdefgh", *b"ijklmnop"],
-        b"\x81\x10abcdefghijklmnop",
-    )?;
-    Ok(())
+fn all_refused(alloc: Global) -> bool {
+    for (bytes, fault) in FAULTS {
+        if !is_refused(alloc, bytes, fault) {
+            return false;
+        }
+    }
+    true
 }
 
 #[test]
 fn faults(rt: HostRuntime) {
-    let alloc = rt.alloc();
-    assert_eq!(rt; fault(&rt, alloc, &[]), Some(ItemFault::Short { at: 0 }));
-    assert_eq!(rt;
-        fault(&rt, alloc, &[0xB0]),
-        Some(ItemFault::NoLengthBytes { at: 0 })
-    );
-    assert_eq!(rt;
-        fault(&rt, alloc, &[0xB1, 3, 0, 0, 0]),
-        Some(ItemFault::Uneven { at: 0 })
-    );
-    assert_eq!(rt;
-        fault(&rt, alloc, &[0x41, 2, 0x41]),
-        Some(ItemFault::Short { at: 3 })
-    );
-    assert_eq!(rt;
-        fault(&rt, alloc, &[0x49, 0]),
-        Some(ItemFault::BadCode { at: 0 })
-    );
-    assert_eq!(rt;
-        fault(&rt, alloc, &[0x01, 0, 0]),
-        Some(ItemFault::Trailing { at: 2 })
-    );
-    let claims = [0x03, 0xFF, 0xFF, 0xFF, 0x00];
-    assert_eq!(rt;
-        fault(&rt, alloc, &claims),
-        Some(ItemFault::NoLengthBytes { at: 4 })
-    );
+    assert!(rt; all_refused(rt.alloc()));
 }
 
-/// A list in so many others, the innermost empty.
-fn nested(alloc: Global, others: usize) -> Result<Row<u8>, NoMemory> {
+/// So many heads of lists, one in another, each with three length bytes of this.
+fn nested(alloc: Global, lists: usize, length: u8) -> Result<Row<u8>, NoMemory> {
     let mut bytes = Row::new(alloc);
-    for _ in 0..others {
-        bytes.extend(&[0x01, 1])?;
+    for _ in 0..lists {
+        bytes.extend(&[0x03, length, length, length.max(1)])?;
     }
-    bytes.extend(&[0x01, 0])?;
     Ok(bytes)
 }
 
-#[test]
-fn depth(rt: HostRuntime) -> Result<(), Fail> {
-    let alloc = rt.alloc();
-    let most = nested(alloc, 63)?;
-    assert_eq!(rt; fault(&rt, alloc, most.as_slice()), None);
-    let item = decode(alloc, most.as_slice())?;
-    assert_eq!(rt; spelling(alloc, &item)?.as_slice(), most.as_slice());
-    let deep = nested(alloc, 64)?;
-    assert_eq!(rt;
-        fault(&rt, alloc, deep.as_slice()),
-        Some(ItemFault::TooDeep { at: 128 })
-    );
+/// Whether 64 lists one in another, the innermost empty, are read, and 65 are not.
+fn ends_at_64(alloc: Global) -> bool {
+    let (Ok(mut most), Ok(mut deep)) = (nested(alloc, 63, 0), nested(alloc, 64, 0)) else {
+        return false;
+    };
+    most.push(0x01).is_ok()
+        && most.push(0).is_ok()
+        && deep.push(0x01).is_ok()
+        && deep.push(0).is_ok()
+        && is_as_deep(alloc, most.as_slice())
+        && is_refused(alloc, deep.as_slice(), ItemFault::TooDeep { at: 256 })
+}
+
+fn is_as_deep(alloc: Global, bytes: &[u8]) -> bool {
+    match decode(alloc, bytes) {
+        Ok(item) => item.depth() == MAX_DEPTH && is_too_deep_in_a_list(alloc, item),
+        Err(_) => false,
+    }
+}
+
+/// Whether a list around the item has no spelling, and leaves the row as it was.
+fn is_too_deep_in_a_list(alloc: Global, item: Item) -> bool {
     let mut around = Row::new(alloc);
-    around.push(item)?;
-    let mut into = row(alloc, b"as before")?;
-    let refused = encode_into(&Item::L(around), &mut into);
-    assert_eq!(rt; refused.err(), Some(EncodeFault::TooDeep { at: 128 }));
-    assert_eq!(rt; into.as_slice(), b"as before".as_slice());
-    Ok(())
+    if around.push(item).is_err() {
+        return false;
+    }
+    let item = Item::L(around);
+    item.depth() == MAX_DEPTH + 1 && is_not_put(alloc, &item, EncodeFault::TooDeep { at: 128 })
+}
+
+fn is_not_put(alloc: Global, item: &Item, fault: EncodeFault) -> bool {
+    let mut into = Row::new(alloc);
+    into.push(9).is_ok()
+        && encode_into(item, &mut into).err() == Some(fault)
+        && into.as_slice() == [9].as_slice()
 }
 
 #[test]
-fn too_long(rt: HostRuntime) -> Result<(), Fail> {
-    let alloc = rt.alloc();
+fn depth(rt: HostRuntime) {
+    assert!(rt; ends_at_64(rt.alloc()));
+}
+
+/// Whether 64 lists that claim 16,777,215 items each are refused where the bytes end. Room for what they claim would be
+/// some 30 GB.
+fn reserves_nothing(alloc: Global) -> bool {
+    match nested(alloc, 64, 0xFF) {
+        Ok(claims) => is_refused(alloc, claims.as_slice(), ItemFault::Short { at: 256 }),
+        Err(_) => false,
+    }
+}
+
+#[test]
+fn claims_take_no_memory(rt: HostRuntime) {
+    assert!(rt; reserves_nothing(rt.alloc()));
+}
+
+/// Whether 16,777,216 bytes are one too many.
+fn ends_at_16_777_215(alloc: Global) -> bool {
     let mut bytes = Row::new(alloc);
     for _ in 0..4096 {
-        bytes.extend(&[0; 4096])?;
+        if bytes.extend(&[0; 4096]).is_err() {
+            return false;
+        }
     }
-    let mut into = row(alloc, b"as before")?;
-    let refused = encode_into(&Item::B(bytes), &mut into);
-    assert_eq!(rt; refused.err(), Some(EncodeFault::TooLong { at: 0 }));
-    assert_eq!(rt; into.as_slice(), b"as before".as_slice());
+    is_not_put(alloc, &Item::B(bytes), EncodeFault::TooLong { at: 0 })
+}
+
+#[test]
+fn too_long(rt: HostRuntime) {
+    assert!(rt; ends_at_16_777_215(rt.alloc()));
+}
+
+/// Lengths of shortest spellings where the head grows.
+#[test]
+fn longer_heads(rt: HostRuntime) -> Result<(), Fail> {
+    let alloc = rt.alloc();
+    assert_eq!(rt; sample(alloc, 18)?.spelled_len(), 257);
+    assert_eq!(rt; sample(alloc, 19)?.spelled_len(), 259);
     Ok(())
 }
 
@@ -418,15 +312,10 @@ fn views(rt: HostRuntime) -> Result<(), Fail> {
     assert_eq!(rt; list.kind(), Kind::L);
     assert_eq!(rt; list.len(), 3);
     assert_eq!(rt; list.bytes(), &bytes[3..]);
-    assert_eq!(rt; list.number(), None);
     assert!(rt; list.child(3).is_none());
     let number = list.child(0).ok_or("the first")?;
-    assert_eq!(rt; number.kind(), Kind::U4);
     assert_eq!(rt; number.number(), Some(258));
     assert!(rt; number.child(0).is_none());
-    let text = list.child(1).ok_or("the second")?;
-    assert_eq!(rt; text.bytes(), b"x".as_slice());
-    assert_eq!(rt; text.number(), None);
     let both = list.child(2).ok_or("the third")?;
     assert_eq!(rt; both.len(), 2);
     assert_eq!(rt; both.number(), None);

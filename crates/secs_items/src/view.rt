@@ -1,20 +1,21 @@
 //! Items in their bytes, with no memory taken.
 
-ghost use Rattle.std.specs.Prelude.{◌≡◌, ◌≢◌, ◌-◌, ◌<◌, ◌≤◌, false, true, [], length, slice_get, IfErr, IfOk, IfSome, MatchOption, None, OnOk, Some};
+ghost use Rattle.std.specs.Prelude.{◌≡◌, ◌≢◌, ◌-◌, ◌<◌, ◌≤◌, false, true, [], length, IfErr, IfOk, IfSome, None, OnOk, Some};
+ghost use Rattle.std.specs.Option.{option_map};
 ghost use Rattle.secs_items.specs.declared.item.Item.{Item, out-Item};
 ghost use Rattle.secs_items.specs.declared.item_fault.ItemFault.TheVariants as fault;
 ghost use Rattle.secs_items.specs.Heads.{head_view};
 ghost use Rattle.secs_items.specs.Kinds.{is_list};
 ghost use Rattle.secs_items.specs.Layers.{count_of, items_of, kind_of};
-ghost use Rattle.secs_items.specs.Reading.{Gives, after_content, after_each, after_item, first_fault, item_at};
+ghost use Rattle.secs_items.specs.Reading.{Gives, after_behind, after_each, after_item, first_fault, item_at};
 ghost use Rattle.secs_items.specs.Spelling.{Spells};
-ghost use Rattle.secs_items.specs.Views.{ChecksOnly, ShowsChild, ShowsFront, number_of};
+ghost use Rattle.secs_items.specs.Views.{ChecksOnly, ShowsChild, ShowsFront, child_in, number_of};
 
 use crate::element::Element;
 use crate::head::{Head, head_of};
+use crate::item::MAX_DEPTH;
 use crate::item_fault::ItemFault;
 use crate::kind::Kind;
-use crate::writing::MAX_DEPTH;
 use std::marker::Model;
 
 /// An item in its bytes, which were checked.
@@ -35,7 +36,12 @@ impl<'a> Model for ItemView<'a> {
 
     ghost Value = { Viewed };
 
-    ghost coded = { code_by (Item × List ℕ) (coded× item.the_row.coded (coded_list coded_ℕ)) (λ v. (v.item, v.content)) (λ p. record { item = p.0; content = p.1 }) (λ _. refl) };
+    ghost coded = { code_by
+        (Item × List ℕ)
+        (coded× item.the_row.coded (coded_list coded_ℕ))
+        (λ v. (v.item, v.content))
+        (λ p. record { item = p.0; content = p.1 })
+        (λ _. refl) };
 
     ghost view = { λ v. record { item = item_in v.kind v.count v.depth v.content.now; content = v.content.now } };
 
@@ -99,7 +105,7 @@ impl<'a> ItemView<'a> {
 
     /// The item at a place of a list: `None` where this is no list or has no such place.
     pub fn child(&self, place: usize) -> Option<ItemView<'a>>
-        ensures item { MatchOption result (slice_get (items_of (out-Item self.now.item)) place ≡ None) (λ view. slice_get (items_of (out-Item self.now.item)) place ≡ Some view.item) }
+        ensures item { child_in self.now place ≡ option_map (λ view. view.item) result }
         ensures shown { IfSome result (λ view. ShowsChild self.now place view) }
     {
         if !self.kind.is_list() || place >= self.count {
@@ -112,7 +118,7 @@ impl<'a> ItemView<'a> {
     fn child_at(&self, content: &'a [u8], place: usize) -> ItemView<'a>
         requires same { content.now ≡ self.now.content }
         requires within { place < length (items_of (out-Item self.now.item)) }
-        ensures item { slice_get (items_of (out-Item self.now.item)) place ≡ Some result.item }
+        ensures item { child_in self.now place ≡ Some result.item }
         ensures shown { ShowsChild self.now place result }
     {
         let Ok(rest) = skip_items(content, place, self.depth, content.len()) else {
@@ -180,7 +186,7 @@ fn skip_content<'a>(head: Head<'a>, depth: usize, total: usize) -> Result<&'a [u
     requires deep { is_list head.kind ≡ true → 0 < depth }
     requires whole { is_list head.kind ≡ false → head.size ≤ length head.rest.now }
     requires within { length head.rest.now ≤ total }
-    ensures gives { Gives (λ rest. rest.now) result (after_content (after_item total (depth - 1)) (head_view head.entry)) }
+    ensures gives { Gives (λ rest. rest.now) result (after_behind total depth (head_view head.entry)) }
     ensures named { IfErr result (λ e. e ≢ fault.NoMemory) }
     ensures within { IfOk result (λ rest. length rest.now ≤ length head.entry.rest.now) }
 {

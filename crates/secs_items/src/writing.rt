@@ -5,24 +5,22 @@ ghost use Rattle.std.specs.List.{flat_map, AllByRecursion};
 ghost use Rattle.gl_base.specs.Rows.{Grows};
 ghost use Rattle.secs_items.specs.declared.encode_fault.EncodeFault.TheVariants as fault;
 ghost use Rattle.secs_items.specs.Elements.{IsByte};
-ghost use Rattle.secs_items.specs.Encoding.{Puts, encode_fault, fault_within, first_of, long_fault};
+ghost use Rattle.secs_items.specs.Encoding.{EncodesElements, EncodesHead, EncodesItem, EncodesItems, EncodesLeaf, encode_fault};
 ghost use Rattle.secs_items.specs.Kinds.{unit_of};
 ghost use Rattle.secs_items.specs.Ranges.{InRange};
 ghost use Rattle.secs_items.specs.Spelling.{Spells, shortest_head, shortest_spelling};
 
 use crate::element::{Element, put_slice};
 use crate::encode_fault::EncodeFault;
-use crate::item::Item;
+use crate::item::{Item, MAX_DEPTH};
 use crate::kind::Kind;
 use gl_base::{NoMemory, Row};
-
-/// How deep lists may nest.
-pub(crate) const MAX_DEPTH: usize = 64;
 
 /// What three length bytes hold.
 const MAX_LENGTH: usize = 0xFF_FFFF;
 
-/// Puts the item's spelling, in as few length bytes as it can have, at the end of the row. A refusal leaves the row as it was.
+/// Puts the item's spelling, in as few length bytes as it can have, at the end of the row. A refusal leaves the row as
+/// it was.
 #[tactic(auto, unfolding(crate::specs::Encoding::encode_fault))]
 pub fn encode_into(item: &Item, into: &mut Row<u8>) -> Result<(), EncodeFault>
     ensures ok { OnOk result (into.new ≡ into.old ++ shortest_spelling item.now) }
@@ -44,7 +42,7 @@ pub fn encode_into(item: &Item, into: &mut Row<u8>) -> Result<(), EncodeFault>
 #[cycle(writing)]
 fn put_item(item: &Item, depth: usize, start: usize, into: &mut Row<u8>) -> Result<(), EncodeFault>
     requires { start ≤ length into.old }
-    ensures puts { Puts (shortest_spelling item.now) (fault_within depth (length into.old - start) item.now) into.old into.new result }
+    ensures puts { EncodesItem item.now depth start into.old into.new result }
     ensures ranges { OnOk result (InRange item.now) }
 {
     let at = into.len() - start;
@@ -82,7 +80,7 @@ fn put_items(
     into: &mut Row<u8>,
 ) -> Result<(), EncodeFault>
     requires { start ≤ length into.old }
-    ensures puts { Puts (flat_map shortest_spelling items.now) (first_of (fault_within depth) (length into.old - start) items.now) into.old into.new result }
+    ensures puts { EncodesItems items.now depth start into.old into.new result }
     ensures ranges { OnOk result (AllByRecursion InRange items.now) }
 {
     for item in items {
@@ -93,7 +91,7 @@ fn put_items(
 
 /// Puts the head of `count` items or elements, before which stand `at` bytes.
 fn put_head(kind: Kind, count: usize, at: usize, into: &mut Row<u8>) -> Result<(), EncodeFault>
-    ensures { Puts (shortest_head kind (unit_of kind * count)) (long_fault at (unit_of kind * count)) into.old into.new result }
+    ensures { EncodesHead kind count at into.old into.new result }
 {
     let unit = kind.unit();
     if count > MAX_LENGTH / unit {
@@ -115,7 +113,7 @@ fn put_head(kind: Kind, count: usize, at: usize, into: &mut Row<u8>) -> Result<(
 
 /// Puts an item whose elements are bytes.
 fn put_bytes(kind: Kind, bytes: &Row<u8>, at: usize, into: &mut Row<u8>) -> Result<(), EncodeFault>
-    ensures puts { Puts (shortest_head kind (unit_of kind * length bytes.now) ++ bytes.now) (long_fault at (unit_of kind * length bytes.now)) into.old into.new result }
+    ensures puts { EncodesLeaf kind (length bytes.now) bytes.now at into.old into.new result }
     ensures ranges { OnOk result (AllByRecursion IsByte bytes.now) }
 {
     put_head(kind, bytes.len(), at, into)?;
@@ -130,7 +128,7 @@ fn put_elements<T: Element>(
     at: usize,
     into: &mut Row<u8>,
 ) -> Result<(), EncodeFault>
-    ensures puts { Puts (shortest_head kind (unit_of kind * length elements.now) ++ flat_map T.bytes_of elements.now) (long_fault at (unit_of kind * length elements.now)) into.old into.new result }
+    ensures puts { EncodesElements T.bytes_of kind elements.now at into.old into.new result }
     ensures ranges { OnOk result (AllByRecursion T.fits elements.now) }
 {
     put_head(kind, elements.len(), at, into)?;
