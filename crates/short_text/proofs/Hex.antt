@@ -1,7 +1,9 @@
 -- Hex digits, byte by byte.
 use Rattle.std.proofs.Common.{◌≡◌, ℕ, ◌+◌, ◌/◌, ◌%◌, ◌<◌, ◌≤◌, List, [], ◌∷◌, ◌++◌, length, drop, get_or, refl, sym, ap, ◌∙◌, append_assoc, add-one, append-nil, drop-cons}
 use Rattle.std.proofs.lemmas.List.{drop_all}
+use Rattle.std.specs.List.{flat_map}
 use Rattle.hex.specs.Hex.{encode_upper, encode_with, upper_digits}
+use Rattle.short_text.specs.Shown.{hex_byte}
 
 encode_upper-cons : (byte : ℕ) (bytes : List ℕ)
     → encode_upper (byte ∷ bytes) ≡ get_or upper_digits (byte / 16) 0 ∷ get_or upper_digits (byte % 16) 0 ∷ encode_upper bytes
@@ -33,3 +35,9 @@ pub encode_upper-done : (line bytes : List ℕ) (i : ℕ) → length bytes ≤ i
 encode_upper-done line bytes i done =
     ap (λ (rest : List ℕ). line ++ encode_upper rest) (drop_all i bytes done) ∙ ap (λ (digits : List ℕ). line ++ digits) encode_upper-nil
     ∙ append-nil line
+
+-- the hex of bytes is that of each, one after another
+pub each_in_hex : (bytes : List ℕ) → flat_map hex_byte bytes ≡ encode_upper bytes
+unfolding encode_with
+each_in_hex [] = refl
+each_in_hex (byte ∷ bytes) = ap (λ (rest : List ℕ). hex_byte byte ++ rest) (each_in_hex bytes)

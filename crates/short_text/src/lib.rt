@@ -5,6 +5,7 @@ ghost use Rattle.std.specs.Prelude.{◌≡◌, ◌+◌, ◌*◌, ◌++◌, ◌<�
 ghost use Rattle.arrayvec.specs.ArrayVec.{array_vec_len};
 ghost use Rattle.hex.specs.Hex.{encode_upper, hex_digit_value, upper_digits};
 ghost use Rattle.short_text.specs.Name.{flag, name_of};
+ghost use Rattle.short_text.specs.Shown.{hex_byte, shown_text, stands_for_itself};
 
 use arrayvec::ArrayVec;
 use itoa::Buffer;
@@ -64,6 +65,35 @@ pub fn put_hex<const N: usize>(line: &mut ArrayVec<u8, N>, bytes: &[u8])
     for byte in bytes {
         line.push(hex_digit(byte / 16));
         line.push(hex_digit(byte % 16));
+    }
+}
+
+/// A byte as two upper-case hex digits.
+pub fn hex_byte(byte: u8) -> [u8; 2]
+    ensures { result ≡ hex_byte byte }
+{
+    [hex_digit(byte / 16), hex_digit(byte % 16)]
+}
+
+// Whether a byte stands for itself where a text is shown: printable ASCII but the quote and the backslash.
+fn stands_for_itself(byte: u8) -> bool
+    ensures { result ≡ stands_for_itself byte }
+{
+    matches!(byte, b' '..=b'~') && byte != b'"' && byte != b'\\'
+}
+
+/// Puts a byte of a text as it is, or a backslash, x and two hex digits, at the end of a line that has room for 4
+/// bytes.
+pub fn put_shown<const N: usize>(line: &mut ArrayVec<u8, N>, byte: u8)
+    requires { array_vec_len line.old + 4 ≤ N }
+    ensures items { line.new.items ≡ line.old.items ++ shown_text byte }
+    ensures len { array_vec_len line.new ≤ array_vec_len line.old + 4 }
+{
+    if stands_for_itself(byte) {
+        line.push(byte);
+    } else {
+        put(line, b"\\x");
+        put(line, &hex_byte(byte));
     }
 }
 

@@ -54,3 +54,17 @@ fn reads_hex_digits_in_either_case(rt: HostRuntime) -> Result<(), Fail> {
     assert!(rt; digit_of(b'g').is_none());
     Ok(())
 }
+
+fn shows(byte: u8, text: &[u8]) -> bool {
+    let mut line = Line::new();
+    put_shown(&mut line, byte);
+    line.as_slice() == text
+}
+
+#[test]
+fn shows_bytes_of_a_text(rt: HostRuntime) -> Result<(), Fail> {
+    assert!(rt; shows(b' ', b" ") && shows(b'~', b"~"));
+    assert!(rt; shows(b'"', b"\\x22") && shows(b'\\', b"\\x5C"));
+    assert!(rt; shows(0x0A, b"\\x0A") && shows(0x7F, b"\\x7F"));
+    Ok(())
+}
