@@ -6,7 +6,7 @@ use Rattle.secs_text.specs.declared.text_fault.TextFault.{TextFault}
 use Rattle.secs_text.specs.declared.text_fault.TextFault.TheVariants as fault
 use Rattle.secs_text.specs.Grammar.{AreBlanks}
 use Rattle.secs_text.specs.Names.{is_blank}
-use Rattle.secs_text.specs.Reading.{◌>>=◌, Next, Ends, Goes, after_blanks, after_byte, begins, broken, byte_in, element_next}
+use Rattle.secs_text.specs.Reading.{◌>>=◌, Next, Ends, Goes, after_blanks, after_byte, begins, syntax_fault, byte_in, element_next}
 
 -- ---- steps that did not fail
 
@@ -86,12 +86,12 @@ abbrev Found : List ℕ → List ℕ → Next → Type 0
 Found bytes after n = ((after ≡ 62 ∷ drop 1 after) × (n ≡ Ends (drop 1 after))) ⊎ ((length after ≡ length bytes → ⊥) × (n ≡ Goes after))
 
 decided : (total : ℕ) (bytes after : List ℕ) (n : Next)
-    → cond (begins 62 after) (Ok (Ends (drop 1 after))) (cond (eqb (length after) (length bytes)) (broken total bytes) (Ok (Goes after))) ≡ Ok n
+    → cond (begins 62 after) (Ok (Ends (drop 1 after))) (cond (eqb (length after) (length bytes)) (syntax_fault total bytes) (Ok (Goes after))) ≡ Ok n
     → Found bytes after n
 decided total bytes after n e =
-    elim (chosen (begins 62 after) (Ok (Ends (drop 1 after))) (cond (eqb (length after) (length bytes)) (broken total bytes) (Ok (Goes after))) n e) [
+    elim (chosen (begins 62 after) (Ok (Ends (drop 1 after))) (cond (eqb (length after) (length bytes)) (syntax_fault total bytes) (Ok (Goes after))) n e) [
       | inl h ↦ inl (begins_there 62 after h.0, cc (h.1))
-      | inr h ↦ elim (chosen (eqb (length after) (length bytes)) (broken total bytes) (Ok (Goes after)) n h.1) [
+      | inr h ↦ elim (chosen (eqb (length after) (length bytes)) (syntax_fault total bytes) (Ok (Goes after)) n h.1) [
         | inl g ↦ absurd (cc (g.1))
         | inr g ↦ inr (eqb-false (length after) (length bytes) g.0, cc (g.1))
       ]

@@ -3,7 +3,7 @@ use Rattle.std.proofs.Common.{◌≡◌, ℕ, zero, suc, ◌≤◌, ◌<◌, Lis
 use Rattle.std.proofs.lemmas.List.{append-nil, nil_from_length}
 use Rattle.secs_text.specs.declared.text_fault.TextFault.{TextFault}
 use Rattle.secs_text.specs.declared.text_fault.TextFault.TheVariants as fault
-use Rattle.secs_text.specs.Reading.{◌>>=◌, Next, Ends, Goes, Reader, begins, broken, each_at, each_from, element_next, shown_at, shown_next}
+use Rattle.secs_text.specs.Reading.{◌>>=◌, Next, Ends, Goes, Reader, begins, syntax_fault, each_at, each_from, element_next, shown_at, shown_next}
 
 abbrev pub Finder : Type 0
 Finder = ℕ → List ℕ → Result Next TextFault
@@ -11,7 +11,7 @@ Finder = ℕ → List ℕ → Result Next TextFault
 -- at the input's end something is missing
 abbrev pub AtEnd : {T : Type 0} → Finder → Reader T → Type 0
 AtEnd {T} next one =
-    (total : ℕ) (each : List ℕ → Result (List T × List ℕ) TextFault) → (next total [] >>= each_from each (one total)) ≡ broken total []
+    (total : ℕ) (each : List ℕ → Result (List T × List ℕ) TextFault) → (next total [] >>= each_from each (one total)) ≡ syntax_fault total []
 
 -- what was read before, and what is still read
 abbrev pub with_front : {T : Type 0} → List T → Result (List T × List ℕ) TextFault → Result (List T × List ℕ) TextFault
@@ -42,7 +42,7 @@ unroll : {T : Type 0} (next : Finder) (one : Reader T) (total most : ℕ) (front
     → with_front front (each_at next one most total rest) ≡ all → InSight next one total front rest all
 unroll next one total zero front rest all ends enough goes =
     let none : rest ≡ [] = nil_from_length rest (omega arith) in
-    record { less = 0; enough = omega arith; goes = ap (λ (bs : List ℕ). with_front front (next total bs >>= each_from (each_at next one 0 total) (one total))) none ∙ ap (with_front front) (ends total (each_at next one 0 total)) ∙ ap (λ (bs : List ℕ). with_front front (broken total bs)) (sym none) ∙ goes }
+    record { less = 0; enough = omega arith; goes = ap (λ (bs : List ℕ). with_front front (next total bs >>= each_from (each_at next one 0 total) (one total))) none ∙ ap (with_front front) (ends total (each_at next one 0 total)) ∙ ap (λ (bs : List ℕ). with_front front (syntax_fault total bs)) (sym none) ∙ goes }
 unroll next one total (suc most) front rest all ends enough goes = record { less = most; enough = enough; goes = goes }
 
 sight : {T : Type 0} (next : Finder) (one : Reader T) (total : ℕ) (front : List T) (rest : List ℕ) (all : Result (List T × List ℕ) TextFault)

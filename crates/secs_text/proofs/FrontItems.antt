@@ -17,7 +17,7 @@ use Rattle.secs_text.specs.declared.text_fault.TextFault.TheVariants as fault
 use Rattle.secs_text.specs.Faults.{Begins, EndsInBlank}
 use Rattle.secs_text.specs.Grammar.{AfterBlanks, AreBlanks, Bounds, Kept, Free, HasElements, InBlanks, InTurn, IsHexByte, IsHexBytes, IsItemText, IsSigned, IsText, IsUnsigned, ReadsWithin}
 use Rattle.secs_text.specs.Names.{name_of}
-use Rattle.secs_text.specs.Reading.{◌>>=◌, Next, Ends, Goes, Reader, after_blanks, after_byte, after_word, begins, binary_at, broken, byte_in, each_at, each_from, element_next, elements_at, elements_of, float_kind, hex_byte_at, hex_bytes_at, integer_kind, item_at, item_of, kind_at, name_at, read_text, read_within, shallow_at, signed_of, text_at, unsigned_kind, unsigned_of, whole}
+use Rattle.secs_text.specs.Reading.{◌>>=◌, Next, Ends, Goes, Reader, after_blanks, after_byte, after_word, begins, binary_at, syntax_fault, byte_in, each_at, each_from, element_next, elements_at, elements_of, float_kind, hex_byte_at, hex_bytes_at, integer_kind, item_at, item_of, kind_at, name_at, read_text, read_within, shallow_at, signed_of, text_at, unsigned_kind, unsigned_of, whole}
 use Rattle.secs_text.proofs.Blanks.{blanks_found, byte_there, next_goes}
 use Rattle.secs_text.proofs.Elements.{Ended, IsForm, hex_byte_form, hex_bytes_form}
 use Rattle.secs_text.proofs.FrontWords.{TextEnd, hex_byte_fronts, hex_bytes_fronts, past_number, signed_fronts, text_fronts, unsigned_fronts}
@@ -38,9 +38,9 @@ pub next_err : (total : ℕ) (bytes : List ℕ) (e : TextFault) → element_next
 unfolding element_next
 next_err total bytes e h =
     let after = after_blanks bytes in
-    elim (chosen_err (begins 62 after) (Ok (Ends (drop 1 after))) (cond (eqb (length after) (length bytes)) (broken total bytes) (Ok (Goes after))) e h) [
+    elim (chosen_err (begins 62 after) (Ok (Ends (drop 1 after))) (cond (eqb (length after) (length bytes)) (syntax_fault total bytes) (Ok (Goes after))) e h) [
       | inl g ↦ absurd (fine (Ends (drop 1 after)) e g.1)
-      | inr g ↦ elim (chosen_err (eqb (length after) (length bytes)) (broken total bytes) (Ok (Goes after)) e g.1) [
+      | inr g ↦ elim (chosen_err (eqb (length after) (length bytes)) (syntax_fault total bytes) (Ok (Goes after)) e g.1) [
         | inl k ↦ failed (fault.Syntax (total - length bytes)) e k.1
         | inr k ↦ absurd (fine (Goes after) e k.1)
       ]
@@ -368,13 +368,13 @@ leaf_fronts bounds total bytes e h =
     fronts_map (Texts bounds no_items) (Leads (ReadsWithin bounds 0)) (past_of bounds) (past_of bounds) total bytes e (rolled bounds no_items) (λ l f past. past)
     (elim (bind_err (kind_at total bytes) (shallow_at bounds total bytes) e h) [
       | inl g ↦ plain_past (Texts bounds no_items) (past_of bounds) total bytes e (kind_fronts bounds no_items total bytes e g)
-      | inr g ↦ elim (chosen_err (is_list g.0.0) (Err (fault.TooDeep (total - length bytes))) (elements_of bounds (λ total bytes. broken total bytes) g.0.0 total g.0.1) e g.2) [
+      | inr g ↦ elim (chosen_err (is_list g.0.0) (Err (fault.TooDeep (total - length bytes))) (elements_of bounds (λ total bytes. syntax_fault total bytes) g.0.0 total g.0.1) e g.2) [
         | inl k ↦
             subst (Fronts (Texts bounds no_items) (past_of bounds) total bytes) (sym (failed (fault.TooDeep (total - length bytes)) e k.1))
             (record { front = []; tail = bytes; placed = refl; there = refl; stands = (empty_there bounds no_items [] (any_name bounds no_items), past_deep bounds []) })
         | inr k ↦
             behind_name bounds no_items total bytes g.0 e g.1
-            (elements_of_fronts bounds no_items (λ total bytes. broken total bytes) g.0.0 (λ _ _. ⊥) (λ y text no. absurd no) (λ (listed : is_list g.0.0 ≡ true). absurd (cc (listed, k.0))) total g.0.1 e k.1)
+            (elements_of_fronts bounds no_items (λ total bytes. syntax_fault total bytes) g.0.0 (λ _ _. ⊥) (λ y text no. absurd no) (λ (listed : is_list g.0.0 ≡ true). absurd (cc (listed, k.0))) total g.0.1 e k.1)
       ]
     ])
 
@@ -426,7 +426,7 @@ text_front bounds depth text e h =
           let x = (item_form bounds depth).takes total (after_blanks text) g.0 g.1 in
           let after = blanks_found g.0.1 in
           let pre = before.0 ++ (x.0 ++ after.0) in
-          elim (chosen_err (eqb (length (after_blanks g.0.1)) 0) (Ok g.0.0) (broken total (after_blanks g.0.1)) e g.2) [
+          elim (chosen_err (eqb (length (after_blanks g.0.1)) 0) (Ok g.0.0) (syntax_fault total (after_blanks g.0.1)) e g.2) [
             | inl k ↦ absurd (fine g.0.0 e k.1)
             | inr k ↦
                 fronts_behind (λ f. Starts bounds depth (pre ++ f)) (Starts bounds depth) none (past_of bounds) total pre text (after_blanks g.0.1) e (before.2 ∙ ap (λ (s : List ℕ). before.0 ++ s) (x.2 ∙ ap (λ (s : List ℕ). x.0 ++ s) after.2) ∙ grouped before.0 x.0 after.0 (after_blanks g.0.1)) (λ f may. may) (λ l f past. absurd past)

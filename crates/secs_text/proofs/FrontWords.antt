@@ -11,8 +11,8 @@ use Rattle.hex.specs.Hex.{hex_digit_value}
 use Rattle.secs_text.specs.declared.text_fault.TextFault.{TextFault}
 use Rattle.secs_text.specs.declared.text_fault.TextFault.TheVariants as fault
 use Rattle.secs_text.specs.Grammar.{AfterBlanks, AreBlanks, Bounds, Kept, Free, InTurn, IsHexByte, IsHexBytes, IsNumber, IsQuoted, IsShown, IsSigned, IsUnsigned}
-use Rattle.secs_text.specs.Names.{stands_for_itself}
-use Rattle.secs_text.specs.Reading.{◌>>=◌, Next, Ends, Goes, after_blanks, after_byte, after_end, after_space, as_signed, as_unsigned, begins, begins_escape, broken, byte_in, each_at, each_from, escape_at, hex_byte_at, hex_bytes_at, magnitude_at, number_at, quoted_at, shown_at, shown_next, signed_of, text_at, unsigned_of, within_at}
+use Rattle.short_text.specs.Shown.{stands_for_itself}
+use Rattle.secs_text.specs.Reading.{◌>>=◌, Next, Ends, Goes, after_blanks, after_byte, after_end, after_space, as_signed, as_unsigned, begins, begins_escape, syntax_fault, byte_in, each_at, each_from, escape_at, hex_byte_at, hex_bytes_at, magnitude_at, number_at, quoted_at, shown_at, shown_next, signed_of, text_at, unsigned_of, within_at}
 use Rattle.secs_text.proofs.Blanks.{begins_there, blanks_found, byte_there, in_table}
 use Rattle.secs_text.proofs.Elements.{hex_byte_takes}
 use Rattle.secs_text.proofs.Fronts.{Fronts, HasFronts, Leads, Limit, Sign, Size, Depth, Stands, bind_err, byte_err, chosen_err, failed, fine, fronts_here, grouped, none, none_left, ok_or_err, plain_behind, plain_here, plain_map, table_err}
@@ -115,7 +115,7 @@ escape_fronts total bytes e h =
           let high = in_table hex_digit_value total bytes g.0 g.1 in
           elim (cases_Bool (begins_escape g.0.0)) [
             | inr b ↦
-                let chosen : ◌≡◌ {A = Result (ℕ × List ℕ) TextFault} (broken total bytes) (Err e) = sym (rw b refl) ∙ g.2 in
+                let chosen : ◌≡◌ {A = Result (ℕ × List ℕ) TextFault} (syntax_fault total bytes) (Err e) = sym (rw b refl) ∙ g.2 in
                 plain_here (Leads IsEscape) total bytes e (failed (fault.Syntax (total - length bytes)) e chosen) zero_there
             | inl b ↦
                 let l = low_of g.0.0 b in
@@ -129,7 +129,7 @@ escape_fronts total bytes e h =
       low_err total h rest e g =
           elim (bind_err (byte_in hex_digit_value total rest) (with_low h total rest) e g) [
             | inl t ↦ table_err hex_digit_value total rest e t
-            | inr t ↦ elim (chosen_err (stands_for_itself (16 * h + t.0.0)) (broken total rest) (Ok (16 * h + t.0.0, t.0.1)) e t.2) [
+            | inr t ↦ elim (chosen_err (stands_for_itself (16 * h + t.0.0)) (syntax_fault total rest) (Ok (16 * h + t.0.0, t.0.1)) e t.2) [
               | inl s ↦ failed (fault.Syntax (total - length rest)) e s.1
               | inr s ↦ absurd (fine (16 * h + t.0.0, t.0.1) e s.1)
             ]
@@ -228,7 +228,7 @@ TextEnd xs text =
 
 space_err : (total : ℕ) (bytes : List ℕ) (e : TextFault) → after_space total bytes ≡ Err e → e ≡ fault.Syntax (total - length bytes)
 space_err total bytes e h =
-    elim (chosen_err (eqb (length (after_blanks bytes)) (length bytes)) (broken total bytes) (Ok (after_blanks bytes)) e h) [
+    elim (chosen_err (eqb (length (after_blanks bytes)) (length bytes)) (syntax_fault total bytes) (Ok (after_blanks bytes)) e h) [
       | inl g ↦ failed (fault.Syntax (total - length bytes)) e g.1
       | inr g ↦ absurd (fine (after_blanks bytes) e g.1)
     ]

@@ -8,7 +8,7 @@ use Rattle.secs_items.specs.Kinds.{is_list}
 use Rattle.secs_text.specs.declared.text_fault.TextFault.{TextFault}
 use Rattle.secs_text.specs.declared.text_fault.TextFault.TheVariants as fault
 use Rattle.secs_text.specs.Grammar.{Kept}
-use Rattle.secs_text.specs.Reading.{Gives, Reader, broken, elements_at, elements_of, item_at, item_of, kind_at}
+use Rattle.secs_text.specs.Reading.{Gives, Reader, syntax_fault, elements_at, elements_of, item_at, item_of, kind_at}
 
 pub item_no_kind : (depth total : ℕ) (bytes : List ℕ) (e : TextFault) → kind_at total bytes ≡ Err e → item_at Kept depth total bytes ≡ Err e
 unfolding item_at
@@ -48,7 +48,7 @@ not_list kind.F8 other = refl
 
 -- the reader of items in a list, where lists may still nest so deep
 abbrev inner : ℕ → Reader Item
-inner zero = λ total bytes. broken total bytes
+inner zero = λ total bytes. syntax_fault total bytes
 inner (suc depth) = item_at Kept depth
 
 leaf_step : (depth total : ℕ) (bytes : List ℕ) (k : Kind) (rest : List ℕ) → kind_at total bytes ≡ Ok (k, rest) → (k ≡ kind.L → ⊥)

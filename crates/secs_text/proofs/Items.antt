@@ -18,7 +18,7 @@ use Rattle.secs_text.specs.declared.text_fault.TextFault.{TextFault}
 use Rattle.secs_text.specs.declared.text_fault.TextFault.TheVariants as fault
 use Rattle.secs_text.specs.Grammar.{Bounds, Kept, Free, AfterBlanks, AreBlanks, HasElements, InTurn, IsHexByte, IsHexBytes, IsQuoted, IsSigned, IsText, IsUnsigned, ReadsWithin}
 use Rattle.secs_text.specs.Names.{is_blank, name_of}
-use Rattle.secs_text.specs.Reading.{Reader, begins, broken, elements_at, elements_of, hex_byte_at, hex_bytes_at, is_within, item_at, item_of, kind_at, shallow_at, signed_at, signed_of, text_at, unsigned_at, unsigned_of}
+use Rattle.secs_text.specs.Reading.{Reader, begins, syntax_fault, elements_at, elements_of, hex_byte_at, hex_bytes_at, is_within, item_at, item_of, kind_at, shallow_at, signed_at, signed_of, text_at, unsigned_at, unsigned_of}
 use Rattle.secs_text.proofs.Blanks.{bind_ok}
 use Rattle.secs_text.proofs.Elements.{IsForm, Solid, blank_low, elements_again, elements_takes, hex_byte_form, hex_bytes_form}
 use Rattle.secs_text.proofs.FreeNumbers.{digit_solid, free_form}
@@ -280,11 +280,11 @@ front_solid bounds Items x front t = (60, name_of (kind_of x) ++ (t.elements ++ 
 
 -- where no list may stand
 shallow_takes : (bounds : Bounds) (total : ℕ) (bytes : List ℕ) (k : Kind × List ℕ) (x : Item × List ℕ) (b : Bool) → is_list k.0 ≡ b
-    → cond b (Err (fault.TooDeep (total - length bytes))) (elements_of bounds (λ total bytes. broken total bytes) k.0 total k.1) ≡ Ok x
+    → cond b (Err (fault.TooDeep (total - length bytes))) (elements_of bounds (λ total bytes. syntax_fault total bytes) k.0 total k.1) ≡ Ok x
     → IsItem bounds (λ _ _. ⊥) k.0 k.1 x
 shallow_takes bounds total bytes k x true h e = absurd cc
 shallow_takes bounds total bytes k x false h e =
-    behind_takes bounds (λ _ _. ⊥) (λ total bytes. broken total bytes) k.0 total k.1 x (λ (listed : is_list k.0 ≡ true). absurd (cc)) e
+    behind_takes bounds (λ _ _. ⊥) (λ total bytes. syntax_fault total bytes) k.0 total k.1 x (λ (listed : is_list k.0 ≡ true). absurd (cc)) e
 
 no_list : (bounds : Bounds) (x : Item-F Item) (elements : List ℕ) → HasElements bounds (λ _ _. ⊥) x elements → is_list (kind_of x) ≡ false
 no_list bounds (Item-F.L ys) elements has = absurd has
@@ -310,7 +310,7 @@ leaf_form bounds = record {
       let a = bind_ok (kind_at total bytes) (shallow_at bounds total bytes) x e in
       front_takes bounds (λ _ _. ⊥) total bytes a.0 x a.1 (shallow_takes bounds total bytes a.0 x (is_list a.0.0) refl a.2);
   again = λ total i front rest t stops.
-      let r = front_again bounds (λ _ _. ⊥) (λ total bytes. broken total bytes) total i front rest t (λ ys no. absurd no) (λ ys no. absurd no) in
+      let r = front_again bounds (λ _ _. ⊥) (λ total bytes. syntax_fault total bytes) total i front rest t (λ ys no. absurd no) (λ ys no. absurd no) in
       rw (r.0, no_list bounds (out-Item i) t.elements t.holds) r.1;
   solid = λ i front t. front_solid bounds (λ _ _. ⊥) (out-Item i) front t;
 }

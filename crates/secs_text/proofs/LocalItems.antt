@@ -10,7 +10,7 @@ use Rattle.secs_text.specs.declared.text_fault.TextFault.{TextFault}
 use Rattle.secs_text.specs.declared.text_fault.TextFault.TheVariants as fault
 use Rattle.secs_text.specs.Grammar.{Bounds, IsHexByte, ReadsWithin}
 use Rattle.secs_text.specs.Names.{name_of}
-use Rattle.secs_text.specs.Reading.{◌>>=◌, Reader, broken, elements_at, elements_of, hex_byte_at, hex_bytes_at, item_at, item_of, kind_at, name_at, shallow_at, text_at}
+use Rattle.secs_text.specs.Reading.{◌>>=◌, Reader, syntax_fault, elements_at, elements_of, hex_byte_at, hex_bytes_at, item_at, item_of, kind_at, name_at, shallow_at, text_at}
 use Rattle.secs_text.proofs.Blanks.{not_ok}
 use Rattle.secs_text.proofs.Elements.{hex_byte_form, hex_bytes_form}
 use Rattle.secs_text.proofs.Items.{item_form, signed_form_8, signed_form_16, signed_form_32, signed_form_64, unsigned_form_8, unsigned_form_16, unsigned_form_32, unsigned_form_64}
@@ -58,7 +58,7 @@ deep : Reader Item
 deep total rest = Err (fault.TooDeep (total - length (60 ∷ 76 ∷ rest)))
 
 no_items : Reader Item
-no_items total bytes = broken total bytes
+no_items total bytes = syntax_fault total bytes
 
 shallow : Bounds → Kind → Reader Item
 shallow bounds k = cond (is_list k) deep (elements_of bounds no_items k)

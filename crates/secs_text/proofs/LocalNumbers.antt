@@ -8,7 +8,7 @@ use Rattle.secs_text.specs.declared.text_fault.TextFault.{TextFault}
 use Rattle.secs_text.specs.declared.text_fault.TextFault.TheVariants as fault
 use Rattle.secs_text.specs.Faults.{digit_first}
 use Rattle.secs_text.specs.Grammar.{ArePositive, Bounds, Free, IsNumeral, Kept}
-use Rattle.secs_text.specs.Reading.{◌>>=◌, Reader, as_signed, as_unsigned, digits_from, held, magnitude_at, number_at, signed_of, unsigned_of, value_of, with_sign, within_at}
+use Rattle.secs_text.specs.Reading.{◌>>=◌, Reader, as_signed, as_unsigned, digits_from, as_u64, magnitude_at, number_at, signed_of, unsigned_of, value_of, with_sign, within_at}
 use Rattle.secs_text.proofs.Blanks.{not_ok}
 use Rattle.secs_text.proofs.Locality.{Alike, At, Local, Told, at_after, at_broken, local_pure, more_seen, pure}
 use Rattle.secs_text.proofs.Numerals.{AreDigits, Run, Stops, digits_again, digits_run, read_on}
@@ -48,10 +48,10 @@ stops_alike rest other alike h = ap digit_first alike.4 ∙ sym (ap digit_first 
 
 -- where a kind lacks a number, it lacks the larger ones of this sign
 abbrev pub Grows : {T : Type 0} → (Option ℤ → Option T) → Type 0
-Grows fits = (negative : Bool) (n m : ℕ) → n ≤ m → fits (value_of negative (held n)) ≡ None → fits (value_of negative (held m)) ≡ None
+Grows fits = (negative : Bool) (n m : ℕ) → n ≤ m → fits (value_of negative (as_u64 n)) ≡ None → fits (value_of negative (as_u64 m)) ≡ None
 
-held_is : (n : ℕ) → n < 2 ^ 64 → held n ≡ Some n
-held_is n small = rw (lt-ltb n (2 ^ 64) small) refl
+as_u64_is : (n : ℕ) → n < 2 ^ 64 → as_u64 n ≡ Some n
+as_u64_is n small = rw (lt-ltb n (2 ^ 64) small) refl
 
 grows_by : {T : Type 0} (fits : Option ℤ → Option T) → fits None ≡ None
     → ((negative : Bool) (n m : ℕ) → n ≤ m → fits (Some (with_sign negative n)) ≡ None → fits (Some (with_sign negative m)) ≡ None) → Grows fits
@@ -59,7 +59,7 @@ grows_by fits none small negative n m le e =
     elim (cases_Bool (ltb m (2 ^ 64))) [
       | inl h ↦
           let less : m < 2 ^ 64 = ltb-true m (2 ^ 64) h in
-          ap (λ o. fits (value_of negative o)) (held_is m less) ∙ small negative n m le (sym (ap (λ o. fits (value_of negative o)) (held_is n (omega (arith, le, less)))) ∙ e)
+          ap (λ o. fits (value_of negative o)) (as_u64_is m less) ∙ small negative n m le (sym (ap (λ o. fits (value_of negative o)) (as_u64_is n (omega (arith, le, less)))) ∙ e)
       | inr h ↦ rw h none
     ]
 
@@ -109,14 +109,14 @@ numeral_of sign ds (inr e) p = subst (λ (s : List ℕ). IsNumeral (s ++ ds)) (s
 
 -- the number that digits behind this one go on to
 abbrev number_from : Bool → ℕ → List ℕ → Option ℤ × List ℕ
-number_from negative d rest = (value_of negative (held (digits_from (d - 48) rest).0), (digits_from (d - 48) rest).1)
+number_from negative d rest = (value_of negative (as_u64 (digits_from (d - 48) rest).0), (digits_from (d - 48) rest).1)
 
 positive_at : {T : Type 0} (fits : Option ℤ → Option T) (r : Reader T) (negative : Bool) (sign : List ℕ) (d : ℕ) → Grows fits → IsSign sign → 49 ≤ d
     → d ≤ 57
     → ((total : ℕ) (rest : List ℕ) → r total (sign ++ d ∷ rest) ≡ pick fits (total - length (sign ++ d ∷ rest)) (number_from negative d rest))
     → (total : ℕ) (ds : List ℕ) → At r total (sign ++ d ∷ ds)
 positive_at {T} fits r negative sign d grows is low high same total ds =
-    subst (Told r total (sign ++ d ∷ ds)) (sym (same total ds)) (by_fit (fits (value_of negative (held (digits_from (d - 48) ds).0))) refl) where
+    subst (Told r total (sign ++ d ∷ ds)) (sym (same total ds)) (by_fit (fits (value_of negative (as_u64 (digits_from (d - 48) ds).0))) refl) where
       left : List ℕ
       left = (digits_from (d - 48) ds).1
 
@@ -132,7 +132,7 @@ positive_at {T} fits r negative sign d grows is low high same total ds =
       placed : sign ++ d ∷ ds ≡ front ++ left
       placed = ap (λ (s : List ℕ). sign ++ d ∷ s) run.2 ∙ sym (regroup left)
 
-      by_fit : (o : Option T) → fits (value_of negative (held (digits_from (d - 48) ds).0)) ≡ o
+      by_fit : (o : Option T) → fits (value_of negative (as_u64 (digits_from (d - 48) ds).0)) ≡ o
           → Told r total (sign ++ d ∷ ds) (ok_or o (fault.Range (total - length (sign ++ d ∷ ds))) >>= λ value. Ok (value, left))
       by_fit (Some v) e = record {
         front = front;
@@ -140,8 +140,8 @@ positive_at {T} fits r negative sign d grows is low high same total ds =
         again = λ total' rest' alike.
             let digits : digits_from (d - 48) (run.0 ++ rest') ≡ (read_on (d - 48) run.0, rest') =
             digits_again (d - 48) run.0 rest' run.1 (stops_from rest' (stops_alike left rest' alike (digits_stop (d - 48) ds))) in
-            let fit : fits (value_of negative (held (read_on (d - 48) run.0))) ≡ Some v =
-            sym (ap (λ (n : ℕ). fits (value_of negative (held n))) run.3) ∙ e in
+            let fit : fits (value_of negative (as_u64 (read_on (d - 48) run.0))) ≡ Some v =
+            sym (ap (λ (n : ℕ). fits (value_of negative (as_u64 n))) run.3) ∙ e in
             ap (r total') (regroup rest') ∙ same total' (run.0 ++ rest') ∙ rw (digits, fit) refl;
       }
       by_fit None e = inr (record {
@@ -153,9 +153,9 @@ positive_at {T} fits r negative sign d grows is low high same total ds =
         never = λ total' tail' x read.
             let more : read_on (d - 48) run.0 ≤ (digits_from (d - 48) (run.0 ++ tail')).0 =
             subst (λ p. read_on (d - 48) run.0 ≤ p.0) (sym (digits_on (d - 48) run.0 tail' run.1)) (digits_more (read_on (d - 48) run.0) tail') in
-            let none : fits (value_of negative (held (digits_from (d - 48) (run.0 ++ tail')).0)) ≡ None =
+            let none : fits (value_of negative (as_u64 (digits_from (d - 48) (run.0 ++ tail')).0)) ≡ None =
             grows negative (read_on (d - 48) run.0) (digits_from (d - 48) (run.0 ++ tail')).0 more
-            (sym (ap (λ (n : ℕ). fits (value_of negative (held n))) run.3) ∙ e) in
+            (sym (ap (λ (n : ℕ). fits (value_of negative (as_u64 n))) run.3) ∙ e) in
             no_pick fits (total' - length (sign ++ d ∷ (run.0 ++ tail'))) (number_from negative d (run.0 ++ tail')) x none (sym (same total' (run.0 ++ tail')) ∙ sym (ap (r total') (regroup tail')) ∙ read);
       })
 

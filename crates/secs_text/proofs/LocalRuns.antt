@@ -5,7 +5,7 @@ use Rattle.std.proofs.lemmas.List.{append-nil, nil_from_length}
 use Rattle.secs_text.specs.declared.text_fault.TextFault.{TextFault}
 use Rattle.secs_text.specs.declared.text_fault.TextFault.TheVariants as fault
 use Rattle.secs_text.specs.Grammar.{AreBlanks}
-use Rattle.secs_text.specs.Reading.{◌>>=◌, Next, Ends, Goes, Reader, after_blanks, after_byte, after_end, after_space, broken, each_at, each_from, element_next, elements_at, quoted_at, shown_at, shown_next, text_at}
+use Rattle.secs_text.specs.Reading.{◌>>=◌, Next, Ends, Goes, Reader, after_blanks, after_byte, after_end, after_space, syntax_fault, each_at, each_from, element_next, elements_at, quoted_at, shown_at, shown_next, text_at}
 use Rattle.secs_text.proofs.Blanks.{blanks_alone, longer, next_goes}
 use Rattle.secs_text.proofs.Each.{AtEnd, Finder, elements_end, shown_end}
 use Rattle.secs_text.proofs.Elements.{IsForm}
@@ -218,7 +218,7 @@ local_leading total bytes = let s = blanks_split bytes in subst (At (skip leadin
 
 -- nothing but blanks is left
 unfoldable pub trailing : {T : Type 0} → T → Reader T
-trailing v total bytes = cond (eqb (length (after_blanks bytes)) 0) (Ok (v, [])) (broken total (after_blanks bytes))
+trailing v total bytes = cond (eqb (length (after_blanks bytes)) 0) (Ok (v, [])) (syntax_fault total (after_blanks bytes))
 
 trailing_at : {T : Type 0} (v : T) (total : ℕ) (blanks after : List ℕ) → AreBlanks blanks → Solid_front after
     → At (trailing v) total (blanks ++ after)

@@ -9,8 +9,9 @@ use Rattle.secs_items.specs.declared.kind.Kind.TheVariants as kind
 use Rattle.secs_text.specs.declared.text_fault.TextFault.{TextFault}
 use Rattle.secs_text.specs.declared.text_fault.TextFault.TheVariants as fault
 use Rattle.secs_text.specs.Grammar.{AreBlanks}
-use Rattle.secs_text.specs.Names.{is_blank, stands_for_itself}
-use Rattle.secs_text.specs.Reading.{◌>>=◌, Next, Ends, Goes, Reader, after_blanks, after_byte, after_word, begins_escape, binary_at, broken, byte_in, element_next, escape_at, float_kind, hex_byte_at, hex_bytes_at, integer_kind, kind_at, name_at, shown_at, shown_next, unsigned_kind}
+use Rattle.secs_text.specs.Names.{is_blank}
+use Rattle.short_text.specs.Shown.{stands_for_itself}
+use Rattle.secs_text.specs.Reading.{◌>>=◌, Next, Ends, Goes, Reader, after_blanks, after_byte, after_word, begins_escape, binary_at, syntax_fault, byte_in, element_next, escape_at, float_kind, hex_byte_at, hex_bytes_at, integer_kind, kind_at, name_at, shown_at, shown_next, unsigned_kind}
 use Rattle.secs_text.proofs.Blanks.{blanks_alone, blanks_skipped, end_again, goes_again, stays}
 use Rattle.secs_text.proofs.Each.{Finder}
 use Rattle.secs_text.proofs.Locality.{At, Local, Told, at_after, at_all, at_broken, at_left, at_same, at_taken, behind, local_behind, local_byte, local_pure, pure}
@@ -143,11 +144,11 @@ taken rest result = result >>= λ value. Ok (value, rest)
 
 -- the byte of two digits, where it doesn't stand for itself
 abbrev pub with_low : ℕ → ℕ → List ℕ → ℕ × List ℕ → Result (ℕ × List ℕ) TextFault
-with_low h total rest low = cond (stands_for_itself (16 * h + low.0)) (broken total rest) (Ok (16 * h + low.0, low.1))
+with_low h total rest low = cond (stands_for_itself (16 * h + low.0)) (syntax_fault total rest) (Ok (16 * h + low.0, low.1))
 
 abbrev pub with_high : ℕ → List ℕ → ℕ × List ℕ → Result (ℕ × List ℕ) TextFault
 with_high total bytes high =
-    (cond (begins_escape high.0) (byte_in hex_digit_value total high.1) (broken total bytes)) >>= with_low high.0 total high.1
+    (cond (begins_escape high.0) (byte_in hex_digit_value total high.1) (syntax_fault total bytes)) >>= with_low high.0 total high.1
 
 low_same : (h total : ℕ) (rest : List ℕ) → (byte_in hex_digit_value total rest >>= with_low h total rest) ≡ byte_in (low_digit h) total rest
 unfolding low_digit
@@ -156,7 +157,7 @@ low_same h total (d ∷ rest) = of (hex_digit_value d) where
   e : TextFault
   e = fault.Syntax (total - suc (length rest))
 
-  chosen_low : (b : Bool) (v : ℕ) → cond b (broken {A = ℕ × List ℕ} total (d ∷ rest)) (Ok (v, rest)) ≡ taken rest (ok_or (cond b None (Some v)) e)
+  chosen_low : (b : Bool) (v : ℕ) → cond b (syntax_fault {A = ℕ × List ℕ} total (d ∷ rest)) (Ok (v, rest)) ≡ taken rest (ok_or (cond b None (Some v)) e)
   chosen_low true v = refl
   chosen_low false v = refl
 
@@ -173,7 +174,7 @@ escape_same total (c ∷ rest) = of (hex_digit_value c) where
   e = fault.Syntax (total - suc (length rest))
 
   chosen_high : (b : Bool) (h : ℕ)
-      → ((cond b (byte_in hex_digit_value total rest) (broken total (c ∷ rest))) >>= with_low h total rest) ≡ (taken rest (ok_or (cond b (Some h) None) e) >>= λ x. byte_in (low_digit x.0) total x.1)
+      → ((cond b (byte_in hex_digit_value total rest) (syntax_fault total (c ∷ rest))) >>= with_low h total rest) ≡ (taken rest (ok_or (cond b (Some h) None) e) >>= λ x. byte_in (low_digit x.0) total x.1)
   chosen_high true h = low_same h total rest
   chosen_high false h = refl
 

@@ -13,7 +13,7 @@ use Rattle.secs_text.specs.declared.text_fault.TextFault.TheVariants as fault
 use Rattle.secs_text.specs.Faults.{digit_first}
 use Rattle.secs_text.specs.Grammar.{Kept, Free, IsHexByte, IsHexBytes, IsSigned, IsUnsigned, ReadsWithin}
 use Rattle.secs_text.specs.Names.{name_of}
-use Rattle.secs_text.specs.Reading.{◌>>=◌, Reader, as_signed, as_unsigned, begins, broken, digits_from, elements_at, elements_of, held, hex_byte_at, hex_bytes_at, item_at, item_of, kind_at, magnitude_at, number_at, shallow_at, signed_of, text_at, unsigned_of, value_of, within_at}
+use Rattle.secs_text.specs.Reading.{◌>>=◌, Reader, as_signed, as_unsigned, begins, syntax_fault, digits_from, elements_at, elements_of, as_u64, hex_byte_at, hex_bytes_at, item_at, item_of, kind_at, magnitude_at, number_at, shallow_at, signed_of, text_at, unsigned_of, value_of, within_at}
 use Rattle.secs_text.proofs.Blanks.{chosen}
 use Rattle.secs_text.proofs.Elements.{IsForm, hex_byte_form, hex_bytes_form}
 use Rattle.secs_text.proofs.FreeNumbers.{numeral}
@@ -35,8 +35,8 @@ magnitude_syntax : (negative : Bool) (total : ℕ) (bytes : List ℕ) (e : TextF
 unfolding magnitude_at
 magnitude_syntax negative total [] e h = (total, failed (fault.Syntax total) e h)
 magnitude_syntax negative total (b ∷ rest) e h =
-    elim (chosen_err (leb 49 b && leb b 57) (Ok (value_of negative (held (digits_from (b - 48) rest).0), (digits_from (b - 48) rest).1)) (Err (fault.Syntax (total - suc (length rest)))) e h) [
-      | inl g ↦ absurd (fine (value_of negative (held (digits_from (b - 48) rest).0), (digits_from (b - 48) rest).1) e g.1)
+    elim (chosen_err (leb 49 b && leb b 57) (Ok (value_of negative (as_u64 (digits_from (b - 48) rest).0), (digits_from (b - 48) rest).1)) (Err (fault.Syntax (total - suc (length rest)))) e h) [
+      | inl g ↦ absurd (fine (value_of negative (as_u64 (digits_from (b - 48) rest).0), (digits_from (b - 48) rest).1) e g.1)
       | inr g ↦ (total - suc (length rest), failed (fault.Syntax (total - suc (length rest))) e g.1)
     ]
 
@@ -56,9 +56,9 @@ magnitude_left : (negative : Bool) (total : ℕ) (bytes : List ℕ) (x : Option 
 unfolding magnitude_at
 magnitude_left negative total [] x h = absurd cc
 magnitude_left negative total (b ∷ rest) x h =
-    elim (chosen (leb 49 b && leb b 57) (Ok (value_of negative (held (digits_from (b - 48) rest).0), (digits_from (b - 48) rest).1)) (Err (fault.Syntax (total - suc (length rest)))) x h) [
+    elim (chosen (leb 49 b && leb b 57) (Ok (value_of negative (as_u64 (digits_from (b - 48) rest).0), (digits_from (b - 48) rest).1)) (Err (fault.Syntax (total - suc (length rest)))) x h) [
       | inl g ↦
-          let made : ◌≡◌ {A = Option ℤ × List ℕ} (value_of negative (held (digits_from (b - 48) rest).0), (digits_from (b - 48) rest).1) x =
+          let made : ◌≡◌ {A = Option ℤ × List ℕ} (value_of negative (as_u64 (digits_from (b - 48) rest).0), (digits_from (b - 48) rest).1) x =
           cc (g.1) in
           ap (λ p. digit_first p.1) (sym made) ∙ digits_stop (b - 48) rest
       | inr g ↦ absurd (cc (g.1))
@@ -175,10 +175,10 @@ deep_freed total bytes k free moves split = ([], k.1, split, ap (λ (s : List �
 
 shallow_freed : (total : ℕ) (bytes : List ℕ) (k : Kind × List ℕ) (free : Reader Item) (b : Bool) → is_list k.0 ≡ b → kind_at total bytes ≡ Ok k
     → Moves (elements_of Free free k.0)
-    → Frees {T = Item} total bytes (cond b (Err (fault.TooDeep (total - length bytes))) (elements_of Kept (λ total bytes. broken total bytes) k.0 total k.1)) (elements_of Free free k.0 total k.1)
+    → Frees {T = Item} total bytes (cond b (Err (fault.TooDeep (total - length bytes))) (elements_of Kept (λ total bytes. syntax_fault total bytes) k.0 total k.1)) (elements_of Free free k.0 total k.1)
 shallow_freed total bytes k free true listed e moves = deep_freed total bytes k (elements_of Free free k.0) moves (list_there total bytes k e listed)
 shallow_freed total bytes k free false leaf e moves =
-    frees_behind total (60 ∷ name_of k.0) bytes k.1 _ _ (kind_takes total bytes k e) (looser_elements_of (λ total bytes. broken total bytes) free k.0 (λ (listed : is_list k.0 ≡ true). absurd (cc (listed, leaf))) total k.1)
+    frees_behind total (60 ∷ name_of k.0) bytes k.1 _ _ (kind_takes total bytes k e) (looser_elements_of (λ total bytes. syntax_fault total bytes) free k.0 (λ (listed : is_list k.0 ≡ true). absurd (cc (listed, leaf))) total k.1)
 
 -- the lists in a free item
 free_lists : (depth : ℕ) → Local (elements_at (item_at Free depth))

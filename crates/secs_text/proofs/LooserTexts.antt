@@ -6,7 +6,7 @@ use Rattle.secs_text.specs.declared.text_fault.TextFault.{TextFault}
 use Rattle.secs_text.specs.declared.text_fault.TextFault.TheVariants as fault
 use Rattle.secs_text.specs.Faults.{BeginsForm}
 use Rattle.secs_text.specs.Grammar.{AfterBlanks, Bounds, Kept, Free, HasElements, InBlanks, InTurn, IsFormed, IsText, ReadsWithin}
-use Rattle.secs_text.specs.Reading.{◌>>=◌, after_blanks, broken, item_at, read_within, whole}
+use Rattle.secs_text.specs.Reading.{◌>>=◌, after_blanks, syntax_fault, item_at, read_within, whole}
 use Rattle.secs_text.proofs.Blanks.{blanks_found}
 use Rattle.secs_text.proofs.FaultPlaces.{forms_front, forms_shorter}
 use Rattle.secs_text.proofs.FrontItems.{Starts, past_of, text_front}
@@ -25,7 +25,7 @@ pub all_same : (bounds : Bounds) (depth : ℕ) (text : List ℕ)
 unfolding all_at read_within leading trailing behind
 all_same bounds depth text = of (item_at bounds depth (length text) (after_blanks text)) where
   chosen : (x : Item × List ℕ) (b : Bool)
-      → ◌≡◌ {A = Result (Item × List ℕ) TextFault} (cond b (Ok (x.0, [])) (broken (length text) (after_blanks x.1))) ((cond b (Ok x.0) (broken {A = Item} (length text) (after_blanks x.1))) >>= λ v. Ok (v, []))
+      → ◌≡◌ {A = Result (Item × List ℕ) TextFault} (cond b (Ok (x.0, [])) (syntax_fault (length text) (after_blanks x.1))) ((cond b (Ok x.0) (syntax_fault {A = Item} (length text) (after_blanks x.1))) >>= λ v. Ok (v, []))
   chosen x true = refl
   chosen x false = refl
 
@@ -46,7 +46,7 @@ trailing_freed : (total : ℕ) (bytes : List ℕ) (x y : Item) (rest : List ℕ)
 unfolding trailing
 trailing_freed total bytes x y rest = of (eqb (length (after_blanks rest)) 0) where
   of : (b : Bool)
-      → Frees {T = Item} total bytes (cond b (Ok (x, [])) (broken total (after_blanks rest))) (cond b (Ok (y, [])) (broken total (after_blanks rest)))
+      → Frees {T = Item} total bytes (cond b (Ok (x, [])) (syntax_fault total (after_blanks rest))) (cond b (Ok (y, [])) (syntax_fault total (after_blanks rest)))
   of true = (y, refl)
   of false = refl
 

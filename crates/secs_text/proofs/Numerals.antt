@@ -10,7 +10,7 @@ use Rattle.std.proofs.lemmas.Fmt.{decimal-digits_value, decimal_digit, digits_de
 use Rattle.std.proofs.lemmas.Str.Parse.{IsNumeralModel, numerals_by_fold, tells_all_ascii_digits}
 use Rattle.secs_text.specs.declared.text_fault.TextFault.TheVariants as fault
 use Rattle.secs_text.specs.Grammar.{ArePositive}
-use Rattle.secs_text.specs.Reading.{◌>>=◌, as_signed, as_unsigned, begins, digits_from, held, is_within, magnitude_at, number_at, value_of, with_sign, within_at}
+use Rattle.secs_text.specs.Reading.{◌>>=◌, as_signed, as_unsigned, begins, digits_from, as_u64, is_within, magnitude_at, number_at, value_of, with_sign, within_at}
 use Rattle.secs_text.proofs.Blanks.{bind_ok, chosen, ok_or_ok}
 
 -- no digit stands at the front
@@ -51,9 +51,9 @@ digits_again n (d ∷ ds) rest digits stops =
     let p = and_parts (is_ascii_digit d) (all_ascii_digits ds) digits in
     rw (p.0) (digits_again (10 * n + (d - 48)) ds rest p.1 stops)
 
-held_some : (n m : ℕ) (t : Bool) → ltb n (2 ^ 64) ≡ t → cond t (Some n) None ≡ Some m → (n ≡ m) × (n < 2 ^ 64)
-held_some n m true e h = (cc, ltb-true n (2 ^ 64) e)
-held_some n m false e h = absurd cc
+as_u64_some : (n m : ℕ) (t : Bool) → ltb n (2 ^ 64) ≡ t → cond t (Some n) None ≡ Some m → (n ≡ m) × (n < 2 ^ 64)
+as_u64_some n m true e h = (cc, ltb-true n (2 ^ 64) e)
+as_u64_some n m false e h = absurd cc
 
 -- ---- digits that don't begin with 0
 
@@ -84,31 +84,31 @@ decimal_positive n some small = first_is (decimal n) (digits_decimal own n small
       (and_from (leb 49 b) (leb b 57) (le-leb 49 b (omega (arith, first))) q.1, digits)
 
 abbrev MagnitudeRead : Bool → List ℕ → Option ℤ × List ℕ → Type 0
-MagnitudeRead negative bytes x = (ds : List ℕ) × ArePositive ds × (bytes ≡ ds ++ x.1) × (x.0 ≡ value_of negative (held (read_on 0 ds)))
+MagnitudeRead negative bytes x = (ds : List ℕ) × ArePositive ds × (bytes ≡ ds ++ x.1) × (x.0 ≡ value_of negative (as_u64 (read_on 0 ds)))
 
 magnitude_parts : (negative : Bool) (total : ℕ) (bytes : List ℕ) (x : Option ℤ × List ℕ) → magnitude_at negative total bytes ≡ Ok x
     → MagnitudeRead negative bytes x
 unfolding magnitude_at
 magnitude_parts negative total [] x e = absurd cc
 magnitude_parts negative total (b ∷ rest) x e =
-    elim (chosen (leb 49 b && leb b 57) (Ok (value_of negative (held (digits_from (b - 48) rest).0), (digits_from (b - 48) rest).1)) (Err (fault.Syntax (total - suc (length rest)))) x e) [
+    elim (chosen (leb 49 b && leb b 57) (Ok (value_of negative (as_u64 (digits_from (b - 48) rest).0), (digits_from (b - 48) rest).1)) (Err (fault.Syntax (total - suc (length rest)))) x e) [
       | inl h ↦
           let p = and_parts (leb 49 b) (leb b 57) h.0 in
           let run = digits_run (b - 48) rest in
-          let made : ◌≡◌ {A = Option ℤ × List ℕ} (value_of negative (held (digits_from (b - 48) rest).0), (digits_from (b - 48) rest).1) x =
+          let made : ◌≡◌ {A = Option ℤ × List ℕ} (value_of negative (as_u64 (digits_from (b - 48) rest).0), (digits_from (b - 48) rest).1) x =
           cc (h.1) in
           let digit : is_ascii_digit b ≡ true = and_from (leb 48 b) (leb b 57) (le-leb 48 b (omega (arith, leb-true 49 b p.0))) p.1 in
           let start : b - 48 ≡ 10 * 0 + (b - 48) = omega arith in (
             b ∷ run.0,
             (h.0, and_from (is_ascii_digit b) (all_ascii_digits run.0) digit run.1),
             ap (λ (s : List ℕ). b ∷ s) (run.2 ∙ ap (λ (s : List ℕ). run.0 ++ s) (ap (λ p. p.1) made)),
-            sym (ap (λ p. p.0) made) ∙ ap (λ (n : ℕ). value_of negative (held n)) (run.3 ∙ ap (λ (n : ℕ). read_on n run.0) start),
+            sym (ap (λ p. p.0) made) ∙ ap (λ (n : ℕ). value_of negative (as_u64 n)) (run.3 ∙ ap (λ (n : ℕ). read_on n run.0) start),
           )
       | inr h ↦ absurd (cc (h.1))
     ]
 
 magnitude_again : (negative : Bool) (total : ℕ) (ds rest : List ℕ) → ArePositive ds → Stops rest
-    → (magnitude_at negative total (ds ++ rest) ≡ Ok (value_of negative (held (read_on 0 ds)), rest)) × (begins 48 (ds ++ rest) ≡ false) × (begins 45 (ds ++ rest) ≡ false)
+    → (magnitude_at negative total (ds ++ rest) ≡ Ok (value_of negative (as_u64 (read_on 0 ds)), rest)) × (begins 48 (ds ++ rest) ≡ false) × (begins 45 (ds ++ rest) ≡ false)
 unfolding magnitude_at
 magnitude_again negative total [] rest p stops = absurd (cc (p.0))
 magnitude_again negative total (b ∷ ds) rest p stops =
@@ -134,7 +134,7 @@ signed_digits negative ds = cond negative (45 ∷ ds) ds
 abbrev pub NumberRead : List ℕ → Option ℤ × List ℕ → Type 0
 NumberRead bytes x =
     ((x.0 ≡ Some (pos 0)) × (bytes ≡ 48 ∷ x.1)) ⊎
-    ((negative : Bool) × (ds : List ℕ) × ArePositive ds × (bytes ≡ signed_digits negative ds ++ x.1) × (x.0 ≡ value_of negative (held (read_on 0 ds))))
+    ((negative : Bool) × (ds : List ℕ) × ArePositive ds × (bytes ≡ signed_digits negative ds ++ x.1) × (x.0 ≡ value_of negative (as_u64 (read_on 0 ds))))
 
 number_cases : (total : ℕ) (bytes : List ℕ) (x : Option ℤ × List ℕ)
     → cond (begins 48 bytes) (Ok (Some (pos 0), drop 1 bytes)) (cond (begins 45 bytes) (magnitude_at true total (drop 1 bytes)) (magnitude_at false total bytes)) ≡ Ok x
@@ -155,7 +155,7 @@ unfolding number_at
 number_parts total bytes x e = number_cases total bytes x e
 
 pub numeral_again : (negative : Bool) (total : ℕ) (ds rest : List ℕ) → ArePositive ds → Stops rest
-    → number_at total (signed_digits negative ds ++ rest) ≡ Ok (value_of negative (held (read_on 0 ds)), rest)
+    → number_at total (signed_digits negative ds ++ rest) ≡ Ok (value_of negative (as_u64 (read_on 0 ds)), rest)
 unfolding number_at
 numeral_again true total ds rest p stops = (magnitude_again true total ds rest p stops).0
 numeral_again false total ds rest p stops = let m = magnitude_again false total ds rest p stops in rw (m.1, m.2) m.0
@@ -174,8 +174,8 @@ number_takes total bytes x v e some =
     elim (number_parts total bytes x e) [
       | inl z ↦ let same : pos 0 ≡ v = cc (sym z.0 ∙ some) in z.1 ∙ ap (λ (s : List ℕ). s ++ x.1) (sym zero_text) ∙ ap (λ (z : ℤ). signed_decimal z ++ x.1) same
       | inr n ↦
-          let m = mapped n.0 (held (read_on 0 n.1)) v (sym n.4 ∙ some) in
-          let h = held_some (read_on 0 n.1) m.0 (ltb (read_on 0 n.1) (2 ^ 64)) refl m.1 in
+          let m = mapped n.0 (as_u64 (read_on 0 n.1)) v (sym n.4 ∙ some) in
+          let h = as_u64_some (read_on 0 n.1) m.0 (ltb (read_on 0 n.1) (2 ^ 64)) refl m.1 in
           let t = digits_text n.1 m.0 n.2 h.0 (subst (λ (n : ℕ). n < 2 ^ 64) h.0 h.1) in
           n.3 ∙ ap (λ (s : List ℕ). s ++ x.1) (ap (signed_digits n.0) (sym t.1) ∙ signed_text n.0 m.0 t.0 ∙ ap signed_decimal (sym m.2))
     ]

@@ -5,8 +5,9 @@ use Rattle.hex.specs.Hex.{hex_digit_value}
 use Rattle.secs_text.specs.declared.text_fault.TextFault.{TextFault}
 use Rattle.secs_text.specs.declared.text_fault.TextFault.TheVariants as fault
 use Rattle.secs_text.specs.Grammar.{AfterBlanks, AreBlanks, InTurn, IsHexByte, IsQuoted, IsShown}
-use Rattle.secs_text.specs.Names.{is_blank, stands_for_itself}
-use Rattle.secs_text.specs.Reading.{◌>>=◌, Next, Ends, Goes, after_blanks, after_byte, after_end, after_space, begins, begins_escape, broken, byte_in, each_at, each_from, escape_at, quoted_at, shown_at, shown_next, text_at}
+use Rattle.secs_text.specs.Names.{is_blank}
+use Rattle.short_text.specs.Shown.{stands_for_itself}
+use Rattle.secs_text.specs.Reading.{◌>>=◌, Next, Ends, Goes, after_blanks, after_byte, after_end, after_space, begins, begins_escape, syntax_fault, byte_in, each_at, each_from, escape_at, quoted_at, shown_at, shown_next, text_at}
 use Rattle.secs_text.proofs.Blanks.{bind_ok, blanks_found, blanks_skipped, begins_there, byte_again, byte_there, chosen, in_table, longer, stays}
 
 quote_no_self : (b : ℕ) → stands_for_itself b ≡ true → eqb b 34 ≡ false
@@ -17,15 +18,15 @@ quote_no_self b h =
 -- ---- the digits of an escape
 
 -- the byte of two digits, where it doesn't stand for itself
-escape_end : (total byte : ℕ) (rest after : List ℕ) (x : ℕ × List ℕ) → cond (stands_for_itself byte) (broken total rest) (Ok (byte, after)) ≡ Ok x
+escape_end : (total byte : ℕ) (rest after : List ℕ) (x : ℕ × List ℕ) → cond (stands_for_itself byte) (syntax_fault total rest) (Ok (byte, after)) ≡ Ok x
     → (stands_for_itself byte ≡ false) × (◌≡◌ {A = ℕ × List ℕ} (byte, after) x)
 escape_end total byte rest after x e =
-    elim (chosen (stands_for_itself byte) (broken total rest) (Ok (byte, after)) x e) [
+    elim (chosen (stands_for_itself byte) (syntax_fault total rest) (Ok (byte, after)) x e) [
       | inl h ↦ absurd (cc (h.1))
       | inr h ↦ (h.0, cc (h.1))
     ]
 
-allowed : {A : Type 0} (b : Bool) (r : Result A TextFault) (total : ℕ) (bytes : List ℕ) (y : A) → cond b r (broken total bytes) ≡ Ok y → r ≡ Ok y
+allowed : {A : Type 0} (b : Bool) (r : Result A TextFault) (total : ℕ) (bytes : List ℕ) (y : A) → cond b r (syntax_fault total bytes) ≡ Ok y → r ≡ Ok y
 allowed true r total bytes y e = e
 allowed false r total bytes y e = absurd cc
 
@@ -35,10 +36,10 @@ unfolding escape_at
 escape_takes total bytes x e =
     let a =
     bind_ok (byte_in hex_digit_value total bytes)
-    (λ (high : ℕ × List ℕ). (cond (begins_escape high.0) (byte_in hex_digit_value total high.1) (broken total bytes)) >>= λ low. cond (stands_for_itself (16 * high.0 + low.0)) (broken total high.1) (Ok (16 * high.0 + low.0, low.1))) x e in
+    (λ (high : ℕ × List ℕ). (cond (begins_escape high.0) (byte_in hex_digit_value total high.1) (syntax_fault total bytes)) >>= λ low. cond (stands_for_itself (16 * high.0 + low.0)) (syntax_fault total high.1) (Ok (16 * high.0 + low.0, low.1))) x e in
     let b =
-    bind_ok (cond (begins_escape a.0.0) (byte_in hex_digit_value total a.0.1) (broken total bytes))
-    (λ (low : ℕ × List ℕ). cond (stands_for_itself (16 * a.0.0 + low.0)) (broken total a.0.1) (Ok (16 * a.0.0 + low.0, low.1))) x a.2 in
+    bind_ok (cond (begins_escape a.0.0) (byte_in hex_digit_value total a.0.1) (syntax_fault total bytes))
+    (λ (low : ℕ × List ℕ). cond (stands_for_itself (16 * a.0.0 + low.0)) (syntax_fault total a.0.1) (Ok (16 * a.0.0 + low.0, low.1))) x a.2 in
     let s = escape_end total (16 * a.0.0 + b.0.0) a.0.1 b.0.1 x b.2 in
     let h = in_table hex_digit_value total bytes a.0 a.1 in
     let l = in_table hex_digit_value total a.0.1 b.0 (allowed (begins_escape a.0.0) (byte_in hex_digit_value total a.0.1) total bytes b.0 b.1) in
@@ -196,7 +197,7 @@ quoted_again total xs front rest is =
 -- ---- the one element of an A
 
 pub space_there : (total : ℕ) (bytes rest : List ℕ) (b : Bool) → eqb (length (after_blanks bytes)) (length bytes) ≡ b
-    → cond b (broken total bytes) (Ok (after_blanks bytes)) ≡ Ok rest
+    → cond b (syntax_fault total bytes) (Ok (after_blanks bytes)) ≡ Ok rest
     → (blanks : List ℕ) × AreBlanks blanks × (blanks ≢ []) × (bytes ≡ blanks ++ rest)
 space_there total bytes rest true h e = absurd cc
 space_there total bytes rest false h e =

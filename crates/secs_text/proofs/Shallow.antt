@@ -29,9 +29,9 @@ list_or_leaf (Item-F.F8 ys) = inr (refl, refl)
 leaf : (x : Item-F Item) → ((items : List Item) → x ≡ Item-F.L items → ⊥) → is_list (kind_of x) ≡ false
 leaf x none = elim (list_or_leaf x) [ inl list ↦ absurd (none list.0 list.1) | inr simple ↦ simple.0 ]
 
-held : (Fits : Item → Type 0) (x : Item-F Item) → ((items : List Item) → x ≡ Item-F.L items → AllByRecursion Fits items)
+each_nests : (Fits : Item → Type 0) (x : Item-F Item) → ((items : List Item) → x ≡ Item-F.L items → AllByRecursion Fits items)
     → AllByRecursion Fits (items_of x)
-held Fits x each = elim (list_or_leaf x) [
+each_nests Fits x each = elim (list_or_leaf x) [
   | inl list ↦ subst (AllByRecursion Fits) (ap items_of (sym list.1)) (each list.0 list.1)
   | inr simple ↦ subst (AllByRecursion Fits) (sym simple.1) tt
 ]
@@ -46,7 +46,7 @@ turn_all Is Fits each (i ∷ items) text t = let a = t.3 in (each i a.1 a.5, tur
 text_nests : (depth : ℕ) (i : Item) (text : List ℕ) → ReadsWithin Kept depth i text → NestsWithin depth i
 text_nests zero i text t = leaf (out-Item i) (λ items is. subst (λ (x : Item-F Item). HasElements Kept (λ _ _. ⊥) x t.elements) is t.holds)
 text_nests (suc depth) i text t =
-    held (NestsWithin depth) (out-Item i) (λ items is.
+    each_nests (NestsWithin depth) (out-Item i) (λ items is.
     turn_all (ReadsWithin Kept depth) (NestsWithin depth) (text_nests depth) items t.elements (subst (λ (x : Item-F Item). HasElements Kept (InTurn (AfterBlanks (ReadsWithin Kept depth))) x t.elements) is t.holds))
 
 pub text_shallow : (text : List ℕ) (item : Item) → ReadsAs text item → IsShallow item
@@ -63,7 +63,7 @@ each_all Spelled Fits each (i ∷ items) content s = (each i s.0 s.3, each_all S
 bytes_nest : (depth : ℕ) (i : Item) (bytes : List ℕ) → SpellsWithin depth i bytes → NestsWithin depth i
 bytes_nest zero i bytes s = leaf (out-Item i) (λ items is. subst (λ (x : Item-F Item). HasContent (λ _ _. ⊥) x s.content) is s.holds)
 bytes_nest (suc depth) i bytes s =
-    held (NestsWithin depth) (out-Item i) (λ items is.
+    each_nests (NestsWithin depth) (out-Item i) (λ items is.
     each_all (SpellsWithin depth) (NestsWithin depth) (bytes_nest depth) items s.content (subst (λ (x : Item-F Item). HasContent (SpellsEach (SpellsWithin depth)) x s.content) is s.holds))
 
 pub bytes_shallow : (bytes : List ℕ) (item : Item) → Spells item bytes → IsShallow item

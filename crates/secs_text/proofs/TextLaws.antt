@@ -7,14 +7,14 @@ use Rattle.secs_items.specs.declared.item.Item.{Item}
 use Rattle.secs_text.specs.declared.text_fault.TextFault.{TextFault}
 use Rattle.secs_text.specs.declared.text_fault.TextFault.TheVariants as fault
 use Rattle.secs_text.specs.Grammar.{Bounds, InBlanks, IsItemText, Kept, ReadsAs, ReadsWithin}
-use Rattle.secs_text.specs.Reading.{Gives, ReadsOnly, after_blanks, broken, fault_of, first_text_fault, item_at, read_text, read_within, whole}
+use Rattle.secs_text.specs.Reading.{Gives, ReadsOnly, after_blanks, syntax_fault, fault_of, first_text_fault, item_at, read_text, read_within, whole}
 use Rattle.secs_text.proofs.Blanks.{bind_ok, blanks_alone, blanks_found, blanks_skipped, chosen, stays}
 use Rattle.secs_text.proofs.Elements.{stops_only}
 use Rattle.secs_text.proofs.Items.{item_form}
 
 all_read : (total : ℕ) (x : Item × List ℕ) (item : Item) → whole total x ≡ Ok item → (x.0 ≡ item) × (after_blanks x.1 ≡ [])
 all_read total x item e =
-    elim (chosen (eqb (length (after_blanks x.1)) 0) (Ok x.0) (broken total (after_blanks x.1)) item e) [
+    elim (chosen (eqb (length (after_blanks x.1)) 0) (Ok x.0) (syntax_fault total (after_blanks x.1)) item e) [
       | inl h ↦ (cc (h.1), nil_from_length (after_blanks x.1) (eqb-true (length (after_blanks x.1)) 0 h.0))
       | inr h ↦ absurd (cc (h.1))
     ]

@@ -17,8 +17,8 @@ BeginsForm front = (more : List ℕ) × IsFormed (front ++ more)
 
 -- ---- where the form breaks
 
--- What stands before the place begins a text of the form. With the byte at the place nothing does; or the text ends there
--- and isn't such a text.
+-- What stands before the place begins a text of the form. With the byte at the place nothing does; or the text ends
+-- there and isn't such a text.
 pub record BreaksAt (at : ℕ) (text : List ℕ) : Type 0 where
   pub within : at ≤ length text
   pub front : BeginsForm (take at text)
@@ -49,7 +49,8 @@ pub record IsOutsideAt (at : ℕ) (text : List ℕ) : Type 0 where
   pub front : Begins (take at text)
   pub outside : Begins (take at text ++ number) → ⊥
 
--- `<L` stands at the place, where the form has a list. With `<` alone some text begins that reads, with both bytes none does.
+-- `<L` stands at the place, where the form has a list. With `<` alone some text begins that reads, with both bytes none
+-- does.
 pub record IsTooDeepAt (at : ℕ) (text : List ℕ) : Type 0 where
   pub rest : List ℕ
   pub stands : drop at text ≡ 60 ∷ 76 ∷ rest

@@ -9,7 +9,9 @@ use Rattle.secs_items.specs.declared.item.Item.{Item, out-Item}
 use Rattle.secs_items.specs.declared.item.Item.TheOpen.{Item-F}
 use Rattle.secs_items.specs.Kinds.{is_list}
 use Rattle.secs_items.specs.Layers.{items_of, kind_of}
-use Rattle.secs_text.specs.Names.{is_blank, name_of, stands_for_itself}
+use Rattle.secs_items.specs.Limits.{max_depth}
+use Rattle.secs_text.specs.Names.{is_blank, name_of}
+use Rattle.short_text.specs.Shown.{stands_for_itself}
 
 -- one text after another, of each value
 abbrev pub InTurn : {T : Type 0} → (T → List ℕ → Type 0) → List T → List ℕ → Type 0
@@ -22,11 +24,13 @@ AreBlanks = AllByRecursion (λ b. is_blank b ≡ true)
 
 -- an element, and some blanks before it
 abbrev pub AfterBlanks : {T : Type 0} → (T → List ℕ → Type 0) → T → List ℕ → Type 0
-AfterBlanks Is x text = (blanks : List ℕ) × (front : List ℕ) × (text ≡ blanks ++ front) × AreBlanks blanks × (blanks ≢ []) × Is x front
+AfterBlanks Is x text =
+    (blanks : List ℕ) × (front : List ℕ) × (text ≡ blanks ++ front) × AreBlanks blanks × (blanks ≢ []) × Is x front
 
 -- two hex digits in either case
 abbrev pub IsHexByte : ℕ → List ℕ → Type 0
-IsHexByte b (high ∷ low ∷ []) = (h : ℕ) × (l : ℕ) × (hex_digit_value high ≡ Some h) × (hex_digit_value low ≡ Some l) × (b ≡ 16 * h + l)
+IsHexByte b (high ∷ low ∷ []) =
+    (h : ℕ) × (l : ℕ) × (hex_digit_value high ≡ Some h) × (hex_digit_value low ≡ Some l) × (b ≡ 16 * h + l)
 IsHexByte b _ = ⊥
 
 -- so many bytes in hex, one after another
@@ -45,8 +49,8 @@ IsQuoted bytes text = (inner : List ℕ) × (text ≡ 34 ∷ inner ++ 34 ∷ [])
 
 -- ---- numbers
 
--- Whether a number must be within its kind. Where it needn't, a text is read for its form: any number may stand, and the item
--- has 0 in its place, which every kind holds; so the text still reads in one way.
+-- Whether a number must be within its kind. Where it needn't, a text is read for its form: any number may stand, and
+-- the item has 0 in its place, which every kind holds; so the text still reads in one way.
 pub data Bounds : Type 0 where
   Kept : Bounds
   Free : Bounds
@@ -113,7 +117,7 @@ ReadsWithin bounds (suc depth) item = IsText bounds (InTurn (AfterBlanks (ReadsW
 
 -- The text of an item, from `<` to `>`. No list stands in more than 63 others.
 unfoldable pub IsItemText : Item → List ℕ → Type 0
-IsItemText = ReadsWithin Kept 64
+IsItemText = ReadsWithin Kept max_depth
 
 -- blanks may stand at both ends
 pub record InBlanks (Is : Item → List ℕ → Type 0) (text : List ℕ) (item : Item) : Type 0 where
@@ -140,4 +144,4 @@ NestsWithin (suc depth) item = AllByRecursion (NestsWithin depth) (items_of (out
 
 -- no list of the item stands in 64 others
 unfoldable pub IsShallow : Item → Type 0
-IsShallow = NestsWithin 64
+IsShallow = NestsWithin max_depth

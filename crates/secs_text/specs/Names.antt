@@ -1,5 +1,5 @@
 -- The names of the kinds in item text, and the characters of the grammar (this profile).
-use Rattle.std.specs.Prelude.{ℕ, ◌==◌, ◌||◌, ◌&&◌, not, nat_le, Bool, List, codes}
+use Rattle.std.specs.Prelude.{ℕ, ◌==◌, ◌||◌, Bool, List, codes}
 use Rattle.secs_items.specs.declared.kind.Kind.{Kind}
 use Rattle.secs_items.specs.declared.kind.Kind.TheVariants as kind
 
@@ -23,7 +23,3 @@ name_of kind.F8 = codes "F8"
 -- space, tab, CR, LF
 abbrev pub is_blank : ℕ → Bool
 is_blank b = b == 32 || b == 9 || b == 13 || b == 10
-
--- a byte that stands for itself between quotes: 20 to 7E, but the quote and the backslash
-abbrev pub stands_for_itself : ℕ → Bool
-stands_for_itself b = nat_le 32 b && nat_le b 126 && not (b == 34) && not (b == 92)

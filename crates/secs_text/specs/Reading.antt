@@ -8,10 +8,12 @@ use Rattle.secs_items.specs.declared.item.Item.TheVariants as item
 use Rattle.secs_items.specs.declared.kind.Kind.{Kind}
 use Rattle.secs_items.specs.declared.kind.Kind.TheVariants as kind
 use Rattle.secs_items.specs.Kinds.{is_list}
+use Rattle.secs_items.specs.Limits.{max_depth}
 use Rattle.secs_text.specs.declared.text_fault.TextFault.{TextFault}
 use Rattle.secs_text.specs.declared.text_fault.TextFault.TheVariants as fault
 use Rattle.secs_text.specs.Grammar.{Bounds, Kept, Free}
-use Rattle.secs_text.specs.Names.{is_blank, stands_for_itself}
+use Rattle.secs_text.specs.Names.{is_blank}
+use Rattle.short_text.specs.Shown.{stands_for_itself}
 
 infixl 10 ◌>>=◌
 abbrev pub ◌>>=◌ : {A B : Type 0} → Result A TextFault → (A → Result B TextFault) → Result B TextFault
@@ -33,8 +35,8 @@ abbrev pub Reader : Type 0 → Type 0
 Reader T = ℕ → List ℕ → Result (T × List ℕ) TextFault
 
 -- no text has what stands at the front of the rest
-abbrev pub broken : {A : Type 0} → ℕ → List ℕ → Result A TextFault
-broken total rest = Err (fault.Syntax (total - length rest))
+abbrev pub syntax_fault : {A : Type 0} → ℕ → List ℕ → Result A TextFault
+syntax_fault total rest = Err (fault.Syntax (total - length rest))
 
 -- what is left after the blanks at the front
 abbrev pub after_blanks : List ℕ → List ℕ
@@ -57,12 +59,15 @@ after_end total bytes = after_byte 62 total (after_blanks bytes)
 
 -- what is left after some blanks
 abbrev pub after_space : ℕ → List ℕ → Result (List ℕ) TextFault
-after_space total bytes = if length (after_blanks bytes) == length bytes then broken total bytes else Ok (after_blanks bytes)
+after_space total bytes =
+    if length (after_blanks bytes) == length bytes then syntax_fault total bytes
+    else Ok (after_blanks bytes)
 
 -- one byte that the table has a value for
 abbrev pub byte_in : {T : Type 0} → (ℕ → Option T) → Reader T
 byte_in table total [] = Err (fault.Syntax total)
-byte_in table total (b ∷ rest) = ok_or (table b) (fault.Syntax (total - suc (length rest))) >>= λ value. Ok (value, rest)
+byte_in table total (b ∷ rest) =
+    ok_or (table b) (fault.Syntax (total - suc (length rest))) >>= λ value. Ok (value, rest)
 
 -- ---- names
 
@@ -94,7 +99,9 @@ begins wanted (b ∷ rest) = b == wanted
 
 -- B or BOOLEAN, behind the B
 unfoldable pub binary_at : Reader Kind
-binary_at total bytes = if begins 79 bytes then (after_word (codes "OOLEAN") total bytes >>= λ rest. Ok (kind.Bool, rest)) else Ok (kind.B, bytes)
+binary_at total bytes =
+    if begins 79 bytes then (after_word (codes "OOLEAN") total bytes >>= λ rest. Ok (kind.Bool, rest))
+    else Ok (kind.B, bytes)
 
 -- a kind's name
 unfoldable pub name_at : Reader Kind
@@ -120,7 +127,8 @@ pub data Next : Type 0 where
   Ends : List ℕ → Next
   Goes : List ℕ → Next
 
-abbrev pub each_from : {T : Type 0} → (List ℕ → Result (List T × List ℕ) TextFault) → (List ℕ → Result (T × List ℕ) TextFault) → Next
+abbrev pub each_from :
+    {T : Type 0} → (List ℕ → Result (List T × List ℕ) TextFault) → (List ℕ → Result (T × List ℕ) TextFault) → Next
     → Result (List T × List ℕ) TextFault
 each_from each one (Ends rest) = Ok ([], rest)
 each_from each one (Goes rest) = do
@@ -130,7 +138,7 @@ each_from each one (Goes rest) = do
 
 -- Values one after another, up to the end that next finds. There are no more of them than bytes.
 abbrev pub each_at : {T : Type 0} → (ℕ → List ℕ → Result Next TextFault) → Reader T → ℕ → Reader (List T)
-each_at next one zero total bytes = broken total bytes
+each_at next one zero total bytes = syntax_fault total bytes
 each_at next one (suc most) total bytes = next total bytes >>= each_from (each_at next one most total) (one total)
 
 -- `>` after any blanks, or an element after some
@@ -138,7 +146,7 @@ unfoldable pub element_next : ℕ → List ℕ → Result Next TextFault
 element_next total bytes =
     let after = after_blanks bytes in
     if begins 62 after then Ok (Ends (drop 1 after))
-    else if length after == length bytes then broken total bytes
+    else if length after == length bytes then syntax_fault total bytes
     else Ok (Goes after)
 
 abbrev pub elements_at : {T : Type 0} → Reader T → Reader (List T)
@@ -167,8 +175,8 @@ begins_escape high = not (high == 3 || high == 4 || high == 6)
 unfoldable pub escape_at : Reader ℕ
 escape_at total bytes = do
   high ← byte_in hex_digit_value total bytes
-  low ← if begins_escape high.0 then byte_in hex_digit_value total high.1 else broken total bytes
-  if stands_for_itself (16 * high.0 + low.0) then broken total high.1 else Ok (16 * high.0 + low.0, low.1)
+  low ← if begins_escape high.0 then byte_in hex_digit_value total high.1 else syntax_fault total bytes
+  if stands_for_itself (16 * high.0 + low.0) then syntax_fault total high.1 else Ok (16 * high.0 + low.0, low.1)
 
 -- a byte between quotes
 unfoldable pub shown_at : Reader ℕ
@@ -182,9 +190,13 @@ shown_at total (b ∷ rest) =
 unfoldable pub shown_next : ℕ → List ℕ → Result Next TextFault
 shown_next total bytes = if begins 34 bytes then Ok (Ends (drop 1 bytes)) else Ok (Goes bytes)
 
+-- the bytes of a quoted text up to the quote that ends it
+abbrev pub all_shown_at : Reader (List ℕ)
+all_shown_at total bytes = each_at shown_next shown_at (length bytes) total bytes
+
 -- a text in quotes
 unfoldable pub quoted_at : Reader (List ℕ)
-quoted_at total bytes = after_byte 34 total bytes >>= λ inner. each_at shown_next shown_at (length inner) total inner
+quoted_at total bytes = after_byte 34 total bytes >>= λ inner. all_shown_at total inner
 
 -- the one text of an A, after some blanks, and the end of the A
 unfoldable pub text_at : Reader (List ℕ)
@@ -202,8 +214,8 @@ digits_from n [] = (n, [])
 digits_from n (b ∷ rest) = if is_ascii_digit b then digits_from (10 * n + (b - 48)) rest else (n, b ∷ rest)
 
 -- a number that 64 bits hold
-abbrev pub held : ℕ → Option ℕ
-held n = if nat_lt n (2 ^ 64) then Some n else None
+abbrev pub as_u64 : ℕ → Option ℕ
+as_u64 n = if nat_lt n (2 ^ 64) then Some n else None
 
 -- the number of this sign and magnitude
 abbrev pub with_sign : Bool → ℕ → ℤ
@@ -216,7 +228,8 @@ value_of negative n = option_map (with_sign negative) n
 unfoldable pub magnitude_at : Bool → Reader (Option ℤ)
 magnitude_at negative total [] = Err (fault.Syntax total)
 magnitude_at negative total (b ∷ rest) =
-    if nat_le 49 b && nat_le b 57 then Ok (value_of negative (held (digits_from (b - 48) rest).0), (digits_from (b - 48) rest).1)
+    if nat_le 49 b && nat_le b 57 then
+    Ok (value_of negative (as_u64 (digits_from (b - 48) rest).0), (digits_from (b - 48) rest).1)
     else Err (fault.Syntax (total - suc (length rest)))
 
 -- a number without leading zeros; -0 is none
@@ -289,15 +302,17 @@ elements_of bounds one kind.F8 total bytes = item_of item.F8 (elements_at (hex_b
 -- an item that begins at a place where no list may
 abbrev pub shallow_at : Bounds → ℕ → List ℕ → Kind × List ℕ → Result (Item × List ℕ) TextFault
 shallow_at bounds total bytes k =
-    if is_list k.0 then Err (fault.TooDeep (total - length bytes)) else elements_of bounds (λ total bytes. broken total bytes) k.0 total k.1
+    if is_list k.0 then Err (fault.TooDeep (total - length bytes))
+    else elements_of bounds (λ total bytes. syntax_fault total bytes) k.0 total k.1
 
 -- one item, in which lists may nest so deep
 unfoldable pub item_at : Bounds → ℕ → Reader Item
 item_at bounds zero total bytes = kind_at total bytes >>= shallow_at bounds total bytes
-item_at bounds (suc depth) total bytes = kind_at total bytes >>= λ k. elements_of bounds (item_at bounds depth) k.0 total k.1
+item_at bounds (suc depth) total bytes =
+    kind_at total bytes >>= λ k. elements_of bounds (item_at bounds depth) k.0 total k.1
 
 abbrev pub whole : ℕ → Item × List ℕ → Result Item TextFault
-whole total x = if length (after_blanks x.1) == 0 then Ok x.0 else broken total (after_blanks x.1)
+whole total x = if length (after_blanks x.1) == 0 then Ok x.0 else syntax_fault total (after_blanks x.1)
 
 -- the one item that is all of the text, with any blanks at both ends
 unfoldable pub read_within : Bounds → ℕ → List ℕ → Result Item TextFault
@@ -305,7 +320,7 @@ read_within bounds depth text = item_at bounds depth (length text) (after_blanks
 
 -- the same where bounds are kept and no list stands in more than 63 others (this profile)
 abbrev pub read_text : List ℕ → Result Item TextFault
-read_text = read_within Kept 64
+read_text = read_within Kept max_depth
 
 abbrev pub fault_of : Result Item TextFault → Option TextFault
 fault_of (Ok item) = None
@@ -314,6 +329,10 @@ fault_of (Err e) = Some e
 -- the fault that reading meets; HasFault says which it is by the grammar alone
 abbrev pub first_text_fault : List ℕ → Option TextFault
 first_text_fault text = fault_of (read_text text)
+
+-- an item that is no list: what a list's items would be read by makes no difference
+abbrev pub GivesLeaf : {X : Type 0} → (X → Item × List ℕ) → Result X TextFault → Kind → ℕ → List ℕ → Type 0
+GivesLeaf view result kind total bytes = (one : Reader Item) → Gives view result (elements_of Kept one kind total bytes)
 
 -- the value that was read is this one, unless memory ran out
 abbrev pub ReadsOnly : Item → Result Item TextFault → Type 0

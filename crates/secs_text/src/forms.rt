@@ -9,7 +9,8 @@ ghost use Rattle.secs_items.specs.Elements.{IsByte, IsRaw};
 ghost use Rattle.secs_text.specs.declared.text_fault.TextFault.{TextFault};
 ghost use Rattle.secs_text.specs.declared.text_fault.TextFault.TheVariants as fault;
 ghost use Rattle.secs_text.specs.Reading.{Reads, hex_byte_at, hex_bytes_at, signed_at, unsigned_at};
-ghost use Rattle.secs_text.specs.Text.{hex_byte, hex_bytes};
+ghost use Rattle.secs_text.specs.Text.{hex_bytes};
+ghost use Rattle.short_text.specs.Shown.{hex_byte};
 
 use crate::lexing::hex_digit;
 use crate::numbers::number_of;

@@ -15,15 +15,15 @@ pub fn one_item_a_text()
 
 /// A text reads as an item or has a fault, not both, and it has one fault at most.
 pub fn a_fault_or_an_item()
-    ensures either { (text : List ℕ) → ((item : Item) × ReadsAs text item) ⊎ ((fault : TextFault) × HasFault text fault) }
-    ensures alone { (text : List ℕ) (item : Item) (fault : TextFault) → ReadsAs text item → HasFault text fault → ⊥ }
-    ensures once { (text : List ℕ) (first second : TextFault) → HasFault text first → HasFault text second → first ≡ second }
+    ensures either { (text : List ℕ) → ((item : Item) × ReadsAs text item) ⊎ ((e : TextFault) × HasFault text e) }
+    ensures alone { (text : List ℕ) (item : Item) (e : TextFault) → ReadsAs text item → HasFault text e → ⊥ }
+    ensures once { (text : List ℕ) (d e : TextFault) → HasFault text d → HasFault text e → d ≡ e }
 {}
 
-/// The reading from left to right, a definition that computes, meets the fault that the grammar's words say, and none in a
-/// text that reads.
+/// The reading from left to right, a definition that computes, meets the fault that the grammar's words say, and none
+/// in a text that reads.
 pub fn reading_meets_the_fault()
-    ensures fault { (text : List ℕ) (fault : TextFault) → HasFault text fault → first_text_fault text ≡ Some fault }
+    ensures fault { (text : List ℕ) (e : TextFault) → HasFault text e → first_text_fault text ≡ Some e }
     ensures none { (text : List ℕ) (item : Item) → ReadsAs text item → first_text_fault text ≡ None }
 {}
 

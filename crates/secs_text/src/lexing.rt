@@ -3,7 +3,8 @@
 ghost use Rattle.std.specs.Prelude.{◌≡◌, ◌↔◌, ◌-◌, ◌<◌, ◌≤◌, length, IfOk, IsTrue, true};
 ghost use Rattle.secs_text.specs.declared.text_fault.TextFault.TheVariants as fault;
 ghost use Rattle.hex.specs.Hex.{hex_digit_value};
-ghost use Rattle.secs_text.specs.Names.{is_blank, stands_for_itself};
+ghost use Rattle.secs_text.specs.Names.{is_blank};
+ghost use Rattle.short_text.specs.Shown.{stands_for_itself};
 ghost use Rattle.secs_text.specs.Nexts.{next_view, next_rest};
 ghost use Rattle.secs_text.specs.Reading.{Reads, after_blanks, after_byte, after_end, after_space, after_word, begins, binary_at, byte_in, element_next, float_kind, integer_kind, kind_at, name_at, unsigned_kind};
 

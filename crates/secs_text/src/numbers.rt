@@ -4,7 +4,7 @@ ghost use Rattle.std.specs.Prelude.{◌≡◌, ℕ, ◌-◌, ◌*◌, ◌+◌, �
 ghost use Rattle.std.specs.Prelude.{◌≤ℤ◌, ◌<ℤ◌, pos, neg_ℤ};
 ghost use Rattle.secs_text.specs.declared.text_fault.TextFault.TheVariants as fault;
 ghost use Rattle.secs_text.specs.Numbers.{number_view};
-ghost use Rattle.secs_text.specs.Reading.{Reads, as_signed, as_unsigned, digits_from, held, magnitude_at, number_at};
+ghost use Rattle.secs_text.specs.Reading.{Reads, as_signed, as_unsigned, digits_from, as_u64, magnitude_at, number_at};
 
 use crate::lexing::{begins, syntax};
 use crate::text_fault::TextFault;
@@ -98,7 +98,7 @@ fn positive_of(negative: bool, bytes: &[u8], total: usize) -> Result<(Number, &[
 
 /// The number that the digits at the front go on to behind `first`, where 64 bits hold it, and the bytes after them.
 fn digits_behind(first: u64, bytes: &[u8]) -> (Option<u64>, &[u8])
-    ensures value { result.0 ≡ held (digits_from first bytes.now).0 }
+    ensures value { result.0 ≡ as_u64 (digits_from first bytes.now).0 }
     ensures rest { result.1.now ≡ (digits_from first bytes.now).1 }
     ensures within { length result.1.now ≤ length bytes.now }
 {
@@ -116,7 +116,7 @@ fn digits_behind(first: u64, bytes: &[u8]) -> (Option<u64>, &[u8])
 
 /// A number with one more digit at its end, where 64 bits hold it.
 fn with_digit(value: Option<u64>, digit: u8) -> Option<u64>
-    ensures { (n : ℕ) → value ≡ held n → result ≡ held (10 * n + digit) }
+    ensures { (n : ℕ) → value ≡ as_u64 n → result ≡ as_u64 (10 * n + digit) }
 {
     value?.checked_mul(10)?.checked_add(u64::from(digit))
 }

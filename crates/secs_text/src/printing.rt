@@ -6,7 +6,8 @@ ghost use Rattle.secs_items.specs.Elements.{IsByte};
 ghost use Rattle.secs_items.specs.Ranges.{InRange};
 ghost use Rattle.secs_text.specs.Grammar.{IsShallow, ReadsAs};
 ghost use Rattle.secs_text.specs.Printing.{Puts};
-ghost use Rattle.secs_text.specs.Text.{quoted, shown, spaced, text_of};
+ghost use Rattle.secs_text.specs.Text.{quoted_text, spaced_texts, text_of};
+ghost use Rattle.short_text.specs.Shown.{shown_text};
 
 use crate::forms::{Decimal, Form, Hex};
 use crate::lexing::stands_for_itself;
@@ -55,7 +56,7 @@ fn put_item(item: &Item, into: &mut Row<u8>) -> Result<(), NoMemory>
 /// Puts a list of items.
 #[cycle(printing)]
 fn put_list(items: &[Item], into: &mut Row<u8>) -> Result<(), NoMemory>
-    ensures puts { Puts (60 ∷ 76 ∷ [] ++ spaced text_of items.now ++ 62 ∷ []) into.old into.new result }
+    ensures puts { Puts (60 ∷ 76 ∷ [] ++ spaced_texts text_of items.now ++ 62 ∷ []) into.old into.new result }
     ensures ranges { OnOk result (AllByRecursion InRange items.now) }
 {
     into.extend(b"<L")?;
@@ -72,7 +73,7 @@ fn put_elements<T: Copy, F: Form<T>>(
     elements: &Row<T>,
     into: &mut Row<u8>,
 ) -> Result<(), NoMemory>
-    ensures puts { Puts (opening.now ++ spaced F.text elements.now ++ 62 ∷ []) into.old into.new result }
+    ensures puts { Puts (opening.now ++ spaced_texts F.text elements.now ++ 62 ∷ []) into.old into.new result }
     ensures ranges { OnOk result (AllByRecursion F.fits elements.now) }
 {
     into.extend(opening)?;
@@ -82,7 +83,7 @@ fn put_elements<T: Copy, F: Form<T>>(
 
 /// Puts each element after a space.
 fn put_each<T: Copy, F: Form<T>>(elements: &[T], into: &mut Row<u8>) -> Result<(), NoMemory>
-    ensures puts { Puts (spaced F.text elements.now) into.old into.new result }
+    ensures puts { Puts (spaced_texts F.text elements.now) into.old into.new result }
     ensures ranges { OnOk result (AllByRecursion F.fits elements.now) }
 {
     for element in elements {
@@ -94,7 +95,7 @@ fn put_each<T: Copy, F: Form<T>>(elements: &[T], into: &mut Row<u8>) -> Result<(
 
 /// Puts an A.
 fn put_text(bytes: &[u8], into: &mut Row<u8>) -> Result<(), NoMemory>
-    ensures puts { Puts (60 ∷ 65 ∷ 32 ∷ [] ++ quoted bytes.now ++ 62 ∷ []) into.old into.new result }
+    ensures puts { Puts (60 ∷ 65 ∷ 32 ∷ [] ++ quoted_text bytes.now ++ 62 ∷ []) into.old into.new result }
     ensures ranges { OnOk result (AllByRecursion IsByte bytes.now) }
 {
     into.extend(b"<A \"")?;
@@ -104,7 +105,7 @@ fn put_text(bytes: &[u8], into: &mut Row<u8>) -> Result<(), NoMemory>
 
 /// Puts bytes as they are shown between quotes.
 fn put_shown(bytes: &[u8], into: &mut Row<u8>) -> Result<(), NoMemory>
-    ensures { Puts (flat_map shown bytes.now) into.old into.new result }
+    ensures { Puts (flat_map shown_text bytes.now) into.old into.new result }
 {
     for byte in bytes {
         put_byte(*byte, into)?;
@@ -114,7 +115,7 @@ fn put_shown(bytes: &[u8], into: &mut Row<u8>) -> Result<(), NoMemory>
 
 /// Puts a byte as it is, or a backslash, x and two digits.
 fn put_byte(byte: u8, into: &mut Row<u8>) -> Result<(), NoMemory>
-    ensures { Puts (shown byte) into.old into.new result }
+    ensures { Puts (shown_text byte) into.old into.new result }
 {
     if stands_for_itself(byte) {
         return into.push(byte);

@@ -8,7 +8,7 @@ ghost use Rattle.secs_items.specs.declared.kind.Kind.TheVariants as kinds;
 ghost use Rattle.secs_text.specs.Faults.{HasFault};
 ghost use Rattle.secs_text.specs.Grammar.{Kept, ReadsAs};
 ghost use Rattle.secs_text.specs.Nexts.{next_rest, next_view};
-ghost use Rattle.secs_text.specs.Reading.{FailsOnly, Gives, Reader, Reads, ReadsOnly, each_at, elements_at, elements_of, escape_at, item_at, quoted_at, read_text, shown_at, shown_next, text_at};
+ghost use Rattle.secs_text.specs.Reading.{FailsOnly, Gives, GivesLeaf, Reads, ReadsOnly, all_shown_at, elements_at, escape_at, item_at, quoted_at, read_text, shown_at, text_at};
 
 use crate::forms::{Decimal, Form, Hex};
 use crate::lexing::{
@@ -17,13 +17,10 @@ use crate::lexing::{
 };
 use crate::text_fault::TextFault;
 use gl_base::Row;
-use secs_items::{Item, Kind};
+use secs_items::{Item, Kind, MAX_DEPTH};
 use std::alloc::Global;
 
-/// How deep lists may nest.
-const MAX_DEPTH: usize = 64;
-
-/// The item that the text reads as. It takes memory for what it returns alone.
+/// The item that the text reads as.
 pub fn read(alloc: Global, text: &[u8]) -> Result<Item, TextFault>
     // What is returned is what the text reads as.
     ensures found { IfOk result (λ item. ReadsAs text.now item) }
@@ -112,7 +109,7 @@ fn leaf_of(
 ) -> Result<(Item, &[u8]), TextFault>
     requires leaf { kind ≢ kinds.L }
     requires within { length bytes.now ≤ total }
-    ensures gives { (one : Reader Item) → Gives (λ x. (x.0, x.1.now)) result (elements_of Kept one kind total bytes.now) }
+    ensures gives { GivesLeaf (λ x. (x.0, x.1.now)) result kind total bytes.now }
     ensures within { IfOk result (λ x. length x.1.now < length bytes.now) }
 {
     Ok(match kind {
@@ -227,7 +224,7 @@ fn quoted_of(alloc: Global, bytes: &[u8], total: usize) -> Result<(Row<u8>, &[u8
 /// The bytes up to the closing quote, and what stands after it.
 fn shown_bytes(alloc: Global, bytes: &[u8], total: usize) -> Result<(Row<u8>, &[u8]), TextFault>
     requires { length bytes.now ≤ total }
-    ensures gives { Gives (λ x. (x.0, x.1.now)) result (each_at shown_next shown_at (length bytes.now) total bytes.now) }
+    ensures gives { Gives (λ x. (x.0, x.1.now)) result (all_shown_at total bytes.now) }
     ensures within { IfOk result (λ x. length x.1.now < length bytes.now) }
 {
     let mut shown = Row::new(alloc);

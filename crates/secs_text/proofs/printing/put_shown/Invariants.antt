@@ -1,8 +1,8 @@
 use Rattle.std.proofs.Common.{◌≡◌, ◌++◌, take}
 use Rattle.std.specs.List.{flat_map}
-use Rattle.secs_text.specs.Text.{shown}
+use Rattle.short_text.specs.Shown.{shown_text}
 use Rattle.secs_text.proofs.printing.put_shown.Given as goal
 
 -- the bytes so far are put
 abbrev pub invariant-loop-byte : goal.invariant-loop-byte
-invariant-loop-byte l = l.into ≡ l.initial.into ++ flat_map shown (take l.byte-index l.bytes)
+invariant-loop-byte l = l.into ≡ l.initial.into ++ flat_map shown_text (take l.byte-index l.bytes)
