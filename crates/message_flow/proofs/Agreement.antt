@@ -11,11 +11,11 @@ use Rattle.block_codec.specs.declared.header.Header.{Header}
 use Rattle.message_flow.specs.declared.flow.Flow.{Flow}
 use Rattle.message_flow.specs.declared.flow.Flow.TheVariants.{Part, Whole, Duplicate, Foreign, Unexpected, TooLong, Crowded}
 use Rattle.message_flow.specs.declared.partial.Partial.{Partial}
-use Rattle.message_flow.specs.Assembly.{body_so_far, flow_of, grown, has_key, header_so_far, joined, new_partial, partials_after, without_key}
-use Rattle.message_flow.specs.Deadlines.{deadline_of, moment_of, runs_out}
-use Rattle.message_flow.specs.Entries.{Entry, Kept, kept_after, next_kept}
-use Rattle.message_flow.specs.Entries.Entry.{Dropped, Given}
-use Rattle.message_flow.specs.History.{Met, cuts, ends, first_of, first_part, flow_after, is_part, last_given, met_of, newest_header, open_blocks, open_firsts, part_of, text_of}
+use Rattle.message_flow.specs.Assembly.{body_so_far, flow_of, next_partial, has_key, header_so_far, with_part, new_partial, partials_after, without_key}
+use Rattle.message_flow.specs.Deadlines.{deadline_of, moment_of, t4_end}
+use Rattle.message_flow.specs.Entries.{FlowEntry, Kept, kept_after, next_kept}
+use Rattle.message_flow.specs.Entries.FlowEntry.{Dropped, Given}
+use Rattle.message_flow.specs.History.{Met, is_cut, is_end, first_of, first_part, flow_after, is_part, last_given, met_of, newest_header, open_blocks, open_firsts, part_of, text_of}
 use Rattle.message_flow.specs.History.Met.{Arrived, TimedOut}
 use Rattle.message_flow.specs.Key.{same_key}
 use Rattle.message_flow.specs.Laws.{AreFirsts, deadline_so_far}
@@ -27,26 +27,29 @@ use Rattle.message_flow.proofs.Kept.{kept_push}
 
 -- one entry more in front
 before_first-cons :
-    {X : Type 0} (test : X → Bool) (x : X) (xs : List X) → before_first test (x ∷ xs) ≡ cond (test x) [] (x ∷ before_first test xs)
+    {X : Type 0} (test : X → Bool) (x : X) (xs : List X)
+    → before_first test (x ∷ xs) ≡ cond (test x) [] (x ∷ before_first test xs)
 before_first-cons test x xs =
-    elim (test x) as (λ b. take (cond (not b) (1 + position_or_len test xs) 0) (x ∷ xs) ≡ cond b [] (x ∷ before_first test xs))
+    elim (test x) as (λ b. take (cond (not b) (1 + position_or_len test xs) 0) (x ∷ xs)
+    ≡ cond b [] (x ∷ before_first test xs))
     [ true ↦ refl | false ↦ ap (λ n. take n (x ∷ xs)) (one-more (position_or_len test xs)) ]
 
 -- what entries after the last cut of a key give: nothing where the newest is a cut of it
 pub open-cut :
-    {X : Type 0} (f : Met → Option X) (header : Header) (entry : Met) (met : List Met) → cuts header entry ≡ true
-    → filter_map f (before_first (cuts header) (entry ∷ met)) ≡ []
+    {X : Type 0} (f : Met → Option X) (header : Header) (entry : Met) (met : List Met) → is_cut header entry ≡ true
+    → filter_map f (before_first (is_cut header) (entry ∷ met)) ≡ []
 open-cut f header entry met cut =
-    ap (filter_map f) (before_first-cons (cuts header) entry met
-    ∙ ap (λ (b : Bool). cond b [] (entry ∷ before_first (cuts header) met)) cut)
+    ap (filter_map f) (before_first-cons (is_cut header) entry met
+    ∙ ap (λ (b : Bool). cond b [] (entry ∷ before_first (is_cut header) met)) cut)
 
 -- and else what the newest gives in front of the others
 pub open-uncut :
-    {X : Type 0} (f : Met → Option X) (header : Header) (entry : Met) (met : List Met) → cuts header entry ≡ false
-    → filter_map f (before_first (cuts header) (entry ∷ met)) ≡ cons_option (f entry) (filter_map f (before_first (cuts header) met))
+    {X : Type 0} (f : Met → Option X) (header : Header) (entry : Met) (met : List Met) → is_cut header entry ≡ false
+    → filter_map f (before_first (is_cut header) (entry ∷ met))
+    ≡ cons_option (f entry) (filter_map f (before_first (is_cut header) met))
 open-uncut f header entry met uncut =
-    ap (filter_map f) (before_first-cons (cuts header) entry met
-    ∙ ap (λ (b : Bool). cond b [] (entry ∷ before_first (cuts header) met)) uncut)
+    ap (filter_map f) (before_first-cons (is_cut header) entry met
+    ∙ ap (λ (b : Bool). cond b [] (entry ∷ before_first (is_cut header) met)) uncut)
 
 -- for a key: the header of its last block, its text so far, and when T4 runs out on it
 pub record IsSoFar (found : Option Partial) (blocks : List BlockView) (deadline : Option ℕ) : Type 0 where
@@ -56,11 +59,13 @@ pub record IsSoFar (found : Option Partial) (blocks : List BlockView) (deadline 
 
 pub record Agrees (receiver : Receiver) (kept : Kept) (met : List Met) : Type 0 where
   pub last : kept.last ≡ last_given met
-  pub each : (header : Header) → IsSoFar (find (has_key header) kept.partials) (open_blocks header met) (deadline_of receiver header met)
+  pub each : (header : Header)
+      → IsSoFar (find (has_key header) kept.partials) (open_blocks header met) (deadline_of receiver header met)
   pub firsts : AreFirsts kept.partials (open_firsts met)
   pub distinct : AreDistinct kept.partials
 
-pub firsts-length : (partials : List Partial) (headers : List Header) → AreFirsts partials headers → length partials ≡ length headers
+pub firsts-length : (partials : List Partial) (headers : List Header) → AreFirsts partials headers
+    → length partials ≡ length headers
 firsts-length [] [] are = refl
 firsts-length [] (header ∷ headers) are = absurd are
 firsts-length (partial ∷ partials) [] are = absurd are
@@ -70,7 +75,13 @@ pub flow-same :
     (receiver : Receiver) (kept : Kept) (met : List Met) (block : BlockView) → Agrees receiver kept met
     → flow_of receiver kept.last kept.partials block ≡ flow_after receiver met block
 flow-same receiver kept met block agrees =
-    rw (agrees.last, (agrees.each block.header).header, (agrees.each block.header).body, firsts-length kept.partials (open_firsts met) agrees.firsts) refl
+    rw (
+      agrees.last,
+      (agrees.each block.header).header,
+      (agrees.each block.header).body,
+      firsts-length kept.partials
+          (open_firsts met) agrees.firsts,
+    ) refl
 
 -- ---- what is found of a key after a change of the kept messages
 
@@ -125,9 +136,11 @@ find-replace-same added other (partial ∷ rest) found same is =
     go (same_key partial.header added.header) refl (find-replace-same added other rest found same) is
   where
     go : (b : Bool) → same_key partial.header added.header ≡ b
-        → (find (has_key added.header) rest ≡ Some found → find (has_key other) (replace-first (has_key added.header) added rest) ≡ Some added)
+        → (find (has_key added.header) rest ≡ Some found
+        → find (has_key other) (replace-first (has_key added.header) added rest) ≡ Some added)
         → cond b (Some partial) (find (has_key added.header) rest) ≡ Some found
-        → find (has_key other) (cond b (added ∷ rest) (partial ∷ replace-first (has_key added.header) added rest)) ≡ Some added
+        → find (has_key other) (cond b (added ∷ rest) (partial ∷ replace-first (has_key added.header) added rest))
+        ≡ Some added
     go true key next is = rw same refl
     go false key next is =
         let no : same_key partial.header other ≡ false = sym (key-right partial.header added.header other same) ∙ key in
@@ -168,17 +181,19 @@ option_or-none (Some partial) = refl
 -- ---- one key, one entry more
 
 so-far-as :
-    (found other : Option Partial) (blocks others : List BlockView) (deadline same : Option ℕ) → IsSoFar found blocks deadline
+    (found other : Option Partial) (blocks others : List BlockView) (deadline same : Option ℕ)
+    → IsSoFar found blocks deadline
     → other ≡ found → others ≡ blocks → same ≡ deadline → IsSoFar other others same
 so-far-as found other blocks others deadline same is e f g = rw (e, f, g) is
 
 -- an entry that is no cut of the key and gives nothing
 pub open-other :
-    {X : Type 0} (f : Met → Option X) (header : Header) (entry : Met) (met : List Met) → cuts header entry ≡ false → f entry ≡ None
-    → filter_map f (before_first (cuts header) (entry ∷ met)) ≡ filter_map f (before_first (cuts header) met)
+    {X : Type 0} (f : Met → Option X) (header : Header) (entry : Met) (met : List Met) → is_cut header entry ≡ false
+    → f entry ≡ None
+    → filter_map f (before_first (is_cut header) (entry ∷ met)) ≡ filter_map f (before_first (is_cut header) met)
 open-other {X} f header entry met uncut none =
     open-uncut f header entry met uncut
-    ∙ ap (λ (x : Option X). cons_option x (filter_map f (before_first (cuts header) met))) none
+    ∙ ap (λ (x : Option X). cons_option x (filter_map f (before_first (is_cut header) met))) none
 
 pub part-none : {X : Type 0} (x : X) (t : Bool) → t ≡ false → cond t (Some x) None ≡ None
 part-none x t e = rw e refl
@@ -188,30 +203,35 @@ part-some x t e = rw e refl
 
 each-passed :
     (receiver : Receiver) (kept : Kept) (met : List Met) (block : BlockView) (now : ℕ) (flow : Flow) (header : Header)
-    → Agrees receiver kept met → ends flow ≡ false → is_part flow ≡ false
+    → Agrees receiver kept met → is_end flow ≡ false → is_part flow ≡ false
     → IsSoFar (find (has_key header) kept.partials) (open_blocks header (Arrived block now flow ∷ met))
     (deadline_of receiver header (Arrived block now flow ∷ met))
 each-passed receiver kept met block now flow header agrees ends part =
     so-far-as _ _ _ _ _ _ (agrees.each header) refl
-    (open-other (part_of header) header (Arrived block now flow) met (and_right _ _ ends) (part-none block _ (and_right _ _ part)))
-    (ap (runs_out receiver)
-    (open-other (moment_of header) header (Arrived block now flow) met (and_right _ _ ends) (part-none now _ (and_right _ _ part))))
+    (open-other (part_of header) header (Arrived block now flow) met (and_right _ _ ends)
+    (part-none block _ (and_right _ _ part)))
+    (ap (t4_end receiver)
+    (open-other (moment_of header) header (Arrived block now flow) met (and_right _ _ ends)
+    (part-none now _ (and_right _ _ part))))
 
 each-cut :
-    (receiver : Receiver) (kept : Kept) (met : List Met) (entry : Met) (key header : Header) (t : Bool) → Agrees receiver kept met
-    → same_key key header ≡ t → cuts header entry ≡ t → part_of header entry ≡ None → moment_of header entry ≡ None
+    (receiver : Receiver) (kept : Kept) (met : List Met) (entry : Met) (key header : Header) (t : Bool)
+    → Agrees receiver kept met
+    → same_key key header ≡ t → is_cut header entry ≡ t → part_of header entry ≡ None → moment_of header entry ≡ None
     → IsSoFar (find (has_key header) (without_key key kept.partials)) (open_blocks header (entry ∷ met))
     (deadline_of receiver header (entry ∷ met))
 each-cut receiver kept met entry key header true agrees same cut none never =
     so-far-as None _ [] _ None _ (record { header = refl; body = refl; deadline_is = refl })
-    (ap (find (has_key header)) (removed (has_key key) kept.partials) ∙ find-without-same key header kept.partials same agrees.distinct)
+    (ap (find (has_key header)) (removed (has_key key) kept.partials)
+    ∙ find-without-same key header kept.partials same agrees.distinct)
     (open-cut (part_of header) header entry met cut)
-    (ap (runs_out receiver) (open-cut (moment_of header) header entry met cut))
+    (ap (t4_end receiver) (open-cut (moment_of header) header entry met cut))
 each-cut receiver kept met entry key header false agrees same cut none never =
     so-far-as _ _ _ _ _ _ (agrees.each header)
-    (ap (find (has_key header)) (removed (has_key key) kept.partials) ∙ find-without-other key header kept.partials same)
+    (ap (find (has_key header)) (removed (has_key key) kept.partials)
+    ∙ find-without-other key header kept.partials same)
     (open-other (part_of header) header entry met cut none)
-    (ap (runs_out receiver) (open-other (moment_of header) header entry met cut never))
+    (ap (t4_end receiver) (open-other (moment_of header) header entry met cut never))
 
 and-true-right : (t b : Bool) → b ≡ true → t && b ≡ t
 and-true-right true b e = e
@@ -219,8 +239,9 @@ and-true-right false b e = refl
 
 each-ended :
     (receiver : Receiver) (kept : Kept) (met : List Met) (block : BlockView) (now : ℕ) (flow : Flow) (header : Header)
-    → Agrees receiver kept met → ends flow ≡ true → is_part flow ≡ false
-    → IsSoFar (find (has_key header) (without_key block.header kept.partials)) (open_blocks header (Arrived block now flow ∷ met))
+    → Agrees receiver kept met → is_end flow ≡ true → is_part flow ≡ false
+    → IsSoFar (find (has_key header) (without_key block.header kept.partials))
+    (open_blocks header (Arrived block now flow ∷ met))
     (deadline_of receiver header (Arrived block now flow ∷ met))
 each-ended receiver kept met block now flow header agrees ends part =
     each-cut receiver kept met (Arrived block now flow) block.header header (same_key block.header header) agrees refl
@@ -230,73 +251,86 @@ each-ended receiver kept met block now flow header agrees ends part =
 find-joined-other :
     (partials : List Partial) (block : BlockView) (deadline : ℕ) (header : Header) (found : Option Partial)
     → same_key block.header header ≡ false
-    → find (has_key header) (joined found partials block deadline) ≡ find (has_key header) partials
+    → find (has_key header) (with_part found partials block deadline) ≡ find (has_key header) partials
 find-joined-other partials block deadline header None differ =
     find-push (new_partial block deadline) header partials
-    ∙ ap (λ (b : Bool). option_or (find (has_key header) partials) (cond b (Some (new_partial block deadline)) None)) differ
+    ∙ ap (λ (b : Bool). option_or (find (has_key header) partials)
+    (cond b (Some (new_partial block deadline)) None)) differ
     ∙ option_or-none (find (has_key header) partials)
 find-joined-other partials block deadline header (Some found) differ =
-    ap (find (has_key header)) (replaced (has_key block.header) (grown found block deadline) partials)
-    ∙ find-replace-other (grown found block deadline) header partials differ
+    ap (find (has_key header)) (replaced (has_key block.header) (next_partial found block deadline) partials)
+    ∙ find-replace-other (next_partial found block deadline) header partials differ
 
 part-so-far :
-    (partials : List Partial) (block : BlockView) (deadline : ℕ) (header : Header) (found : Option Partial) (blocks : List BlockView)
+    (partials : List Partial) (block : BlockView) (deadline : ℕ) (header : Header) (found : Option Partial)
+    (blocks : List BlockView)
     (before : Option ℕ) → find (has_key block.header) partials ≡ found → same_key block.header header ≡ true
     → IsSoFar (find (has_key header) partials) blocks before
-    → IsSoFar (find (has_key header) (joined found partials block deadline)) (block ∷ blocks) (Some deadline)
+    → IsSoFar (find (has_key header) (with_part found partials block deadline)) (block ∷ blocks) (Some deadline)
 part-so-far partials block deadline header None blocks before is same so_far =
     let e : find (has_key header) partials ≡ None = find-same-key block.header header partials same ∙ is in
     let text : [] ≡ text_of blocks = sym (ap body_so_far e) ∙ so_far.body in
-    let there : find (has_key header) (partials ++ new_partial block deadline ∷ []) ≡ Some (new_partial block deadline) =
+    let there : find (has_key header) (partials ++ new_partial block deadline ∷ [])
+    ≡ Some (new_partial block deadline) =
     find-push (new_partial block deadline) header partials ∙ rw (e, same) refl in
     rw there (record { header = refl; body = ap (λ (bytes : List ℕ). bytes ++ block.body) text; deadline_is = refl })
 part-so-far partials block deadline header (Some found) blocks before is same so_far =
     let e : find (has_key header) partials ≡ Some found = find-same-key block.header header partials same ∙ is in
     let text : found.body ≡ text_of blocks = sym (ap body_so_far e) ∙ so_far.body in
-    let there : find (has_key header) (joined (Some found) partials block deadline) ≡ Some (grown found block deadline) =
-    ap (find (has_key header)) (replaced (has_key block.header) (grown found block deadline) partials)
-    ∙ find-replace-same (grown found block deadline) header partials found same is in
+    let there : find (has_key header) (with_part (Some found) partials block deadline)
+    ≡ Some (next_partial found block deadline) =
+    ap (find (has_key header)) (replaced (has_key block.header) (next_partial found block deadline) partials)
+    ∙ find-replace-same (next_partial found block deadline) header partials found same is in
     rw there (record { header = refl; body = ap (λ (bytes : List ℕ). bytes ++ block.body) text; deadline_is = refl })
 
 -- what a part gives, in front of what the entries before it give
 pub open-part :
     {X : Type 0} (f : Met → Option X) (x : X) (header : Header) (block : BlockView) (now : ℕ) (met : List Met)
     → f (Arrived block now Part) ≡ Some x
-    → filter_map f (before_first (cuts header) (Arrived block now Part ∷ met)) ≡ x ∷ filter_map f (before_first (cuts header) met)
+    → filter_map f (before_first (is_cut header) (Arrived block now Part ∷ met))
+    ≡ x ∷ filter_map f (before_first (is_cut header) met)
 open-part {X} f x header block now met e =
     open-uncut f header (Arrived block now Part) met (and_right _ _ refl)
-    ∙ ap (λ (y : Option X). cons_option y (filter_map f (before_first (cuts header) met))) e
+    ∙ ap (λ (y : Option X). cons_option y (filter_map f (before_first (is_cut header) met))) e
 
 each-part :
     (receiver : Receiver) (kept : Kept) (met : List Met) (block : BlockView) (now : ℕ) (header : Header) (t : Bool)
     → Agrees receiver kept met → same_key block.header header ≡ t
-    → IsSoFar (find (has_key header) (joined (find (has_key block.header) kept.partials) kept.partials block (now + receiver.t4)))
+    → IsSoFar (find (has_key header)
+    (with_part (find (has_key block.header) kept.partials) kept.partials block (now + receiver.t4)))
     (open_blocks header (Arrived block now Part ∷ met)) (deadline_of receiver header (Arrived block now Part ∷ met))
 each-part receiver kept met block now header true agrees same =
     so-far-as _ _ _ _ _ _
-    (part-so-far kept.partials block (now + receiver.t4) header _ (open_blocks header met) _ refl same (agrees.each header)) refl
+    (part-so-far kept.partials block (now + receiver.t4) header _ (open_blocks header met) _ refl same
+    (agrees.each header)) refl
     (open-part (part_of header) block header block now met (part-some block _ (and_from _ _ same refl)))
-    (ap (runs_out receiver)
+    (ap (t4_end receiver)
     (open-part (moment_of header) now header block now met (part-some now _ (and_from _ _ same refl))))
 each-part receiver kept met block now header false agrees differ =
     so-far-as _ _ _ _ _ _ (agrees.each header)
-    (find-joined-other kept.partials block (now + receiver.t4) header (find (has_key block.header) kept.partials) differ)
-    (open-other (part_of header) header (Arrived block now Part) met (and_right _ _ refl) (part-none block _ (and_left _ _ differ)))
-    (ap (runs_out receiver)
-    (open-other (moment_of header) header (Arrived block now Part) met (and_right _ _ refl) (part-none now _ (and_left _ _ differ))))
+    (find-joined-other kept.partials block (now + receiver.t4) header
+    (find (has_key block.header) kept.partials) differ)
+    (open-other (part_of header) header (Arrived block now Part) met (and_right _ _ refl)
+    (part-none block _ (and_left _ _ differ)))
+    (ap (t4_end receiver)
+    (open-other (moment_of header) header (Arrived block now Part) met (and_right _ _ refl)
+    (part-none now _ (and_left _ _ differ))))
 
 -- ---- the first blocks, one entry more
 
-filter-all : (test : Header → Bool) (headers : List Header) → ((header : Header) → test header ≡ true) → filter test headers ≡ headers
+filter-all : (test : Header → Bool) (headers : List Header) → ((header : Header) → test header ≡ true)
+    → filter test headers ≡ headers
 filter-all test [] all = refl
-filter-all test (header ∷ headers) all = rw (all header) (ap (λ (hs : List Header). header ∷ hs) (filter-all test headers all))
+filter-all test (header ∷ headers) all =
+    rw (all header) (ap (λ (hs : List Header). header ∷ hs) (filter-all test headers all))
 
 firsts-passed :
-    (receiver : Receiver) (kept : Kept) (met : List Met) (block : BlockView) (now : ℕ) (flow : Flow) → Agrees receiver kept met
-    → ends flow ≡ false → is_part flow ≡ false
+    (receiver : Receiver) (kept : Kept) (met : List Met) (block : BlockView) (now : ℕ) (flow : Flow)
+    → Agrees receiver kept met
+    → is_end flow ≡ false → is_part flow ≡ false
     → open_firsts (Arrived block now flow ∷ met) ≡ open_firsts met
 firsts-passed receiver kept met block now flow agrees ends part =
-    let kept_all : filter (λ first. not (cuts first (Arrived block now flow))) (open_firsts met) ≡ open_firsts met =
+    let kept_all : filter (λ first. not (is_cut first (Arrived block now flow))) (open_firsts met) ≡ open_firsts met =
     filter-all _ _ (λ header. not_from_false _ (and_right _ _ ends)) in
     rw (kept_all, part) (append-nil (open_firsts met))
 
@@ -319,7 +353,8 @@ firsts-replace added (partial ∷ partials) (header ∷ headers) are =
   where
     go : (b : Bool) → same_key partial.header added.header ≡ b
         → AreFirsts (replace-first (has_key added.header) added partials) headers
-        → AreFirsts (cond b (added ∷ partials) (partial ∷ replace-first (has_key added.header) added partials)) (header ∷ headers)
+        → AreFirsts (cond b (added ∷ partials) (partial ∷ replace-first (has_key added.header) added partials))
+        (header ∷ headers)
     go true is next = (sym (key-left partial.header added.header header is) ∙ are.0, are.1)
     go false is next = (are.0, next)
 
@@ -336,7 +371,8 @@ filter-others key (partial ∷ partials) (header ∷ headers) are all =
     sym (key-right key partial.header header are.0)
     ∙ All-head (λ (p : Partial). same_key key p.header ≡ false) partial partials all in
     rw differ (ap (λ (hs : List Header). header ∷ hs)
-    (filter-others key partials headers are.1 (All-tail (λ (p : Partial). same_key key p.header ≡ false) partial partials all)))
+    (filter-others key partials headers are.1
+    (All-tail (λ (p : Partial). same_key key p.header ≡ false) partial partials all)))
 
 firsts-cut :
     (key : Header) (partials : List Partial) (headers : List Header) → AreFirsts partials headers → AreDistinct partials
@@ -369,42 +405,53 @@ filter-same test other (header ∷ headers) same = rw (same header, filter-same 
 
 firsts-ended :
     (receiver : Receiver) (kept : Kept) (met : List Met) (entry : Met) (key : Header) → Agrees receiver kept met
-    → ((header : Header) → cuts header entry ≡ same_key key header) → first_of entry met ≡ []
+    → ((header : Header) → is_cut header entry ≡ same_key key header) → first_of entry met ≡ []
     → AreFirsts (without_key key kept.partials) (open_firsts (entry ∷ met))
 firsts-ended receiver kept met entry key agrees cut none =
     let e : open_firsts (entry ∷ met) ≡ filter (λ first. not (same_key key first)) (open_firsts met) =
-    ap (λ (hs : List Header). filter (λ first. not (cuts first entry)) (open_firsts met) ++ hs) none
+    ap (λ (hs : List Header). filter (λ first. not (is_cut first entry)) (open_firsts met) ++ hs) none
     ∙ append-nil _ ∙ filter-same _ _ (open_firsts met) (λ header. ap not (cut header)) in
-    rw (e, removed (has_key key) kept.partials) (firsts-cut key kept.partials (open_firsts met) agrees.firsts agrees.distinct)
+    rw (e, removed (has_key key) kept.partials)
+    (firsts-cut key kept.partials (open_firsts met) agrees.firsts agrees.distinct)
 
 firsts-joined :
-    (receiver : Receiver) (kept : Kept) (met : List Met) (block : BlockView) (deadline : ℕ) (found : Option Partial) (blocks : List BlockView) → Agrees receiver kept met
+    (receiver : Receiver) (kept : Kept) (met : List Met) (block : BlockView) (deadline : ℕ) (found : Option Partial)
+    (blocks : List BlockView) → Agrees receiver kept met
     → header_so_far found ≡ newest_header blocks
-    → AreFirsts (joined found kept.partials block deadline) (open_firsts met ++ first_part true block.header blocks)
+    → AreFirsts (with_part found kept.partials block deadline) (open_firsts met ++ first_part true block.header blocks)
 firsts-joined receiver kept met block deadline None [] agrees e =
-    firsts-push kept.partials (open_firsts met) (new_partial block deadline) block.header agrees.firsts (key-self block.header)
+    firsts-push kept.partials (open_firsts met) (new_partial block deadline) block.header agrees.firsts
+    (key-self block.header)
 firsts-joined receiver kept met block deadline None (before ∷ blocks) agrees e = absurd (cc)
 firsts-joined receiver kept met block deadline (Some found) [] agrees e = absurd (cc)
 firsts-joined receiver kept met block deadline (Some found) (before ∷ blocks) agrees e =
-    rw (append-nil (open_firsts met), replaced (has_key block.header) (grown found block deadline) kept.partials)
-    (firsts-replace (grown found block deadline) kept.partials (open_firsts met) agrees.firsts)
+    rw (append-nil (open_firsts met), replaced (has_key block.header) (next_partial found block deadline) kept.partials)
+    (firsts-replace (next_partial found block deadline) kept.partials (open_firsts met) agrees.firsts)
 
 firsts-part :
-    (receiver : Receiver) (kept : Kept) (met : List Met) (block : BlockView) (now deadline : ℕ) → Agrees receiver kept met
-    → AreFirsts (joined (find (has_key block.header) kept.partials) kept.partials block deadline) (open_firsts (Arrived block now Part ∷ met))
+    (receiver : Receiver) (kept : Kept) (met : List Met) (block : BlockView) (now deadline : ℕ)
+    → Agrees receiver kept met
+    → AreFirsts (with_part (find (has_key block.header) kept.partials) kept.partials block deadline)
+    (open_firsts (Arrived block now Part ∷ met))
 firsts-part receiver kept met block now deadline agrees =
-    let kept_all : filter (λ first. not (cuts first (Arrived block now Part))) (open_firsts met) ≡ open_firsts met =
+    let kept_all : filter (λ first. not (is_cut first (Arrived block now Part))) (open_firsts met) ≡ open_firsts met =
     filter-all _ _ (λ header. not_from_false _ (and_right _ _ refl)) in
     rw kept_all
-    (firsts-joined receiver kept met block deadline (find (has_key block.header) kept.partials) (open_blocks block.header met) agrees
+    (firsts-joined receiver kept met block deadline (find (has_key block.header) kept.partials)
+    (open_blocks block.header met) agrees
     (agrees.each block.header).header)
 
 -- ---- all of it, one entry more
 
 agrees-flow :
-    (receiver : Receiver) (kept : Kept) (met : List Met) (block : BlockView) (now : ℕ) (flow : Flow) → Agrees receiver kept met
+    (receiver : Receiver) (kept : Kept) (met : List Met) (block : BlockView) (now : ℕ) (flow : Flow)
+    → Agrees receiver kept met
     → AreDistinct (partials_after kept.partials block (now + receiver.t4) flow)
-    → Agrees receiver (record { last = Some block.header; partials = partials_after kept.partials block (now + receiver.t4) flow }) (Arrived block now flow ∷ met)
+    → Agrees receiver (record {
+      last = Some block.header;
+      partials =
+          partials_after kept.partials block (now + receiver.t4) flow;
+    }) (Arrived block now flow ∷ met)
 agrees-flow receiver kept met block now Part agrees distinct = record {
   last = refl;
   each = λ header. each-part receiver kept met block now header (same_key block.header header) agrees refl;
@@ -414,19 +461,22 @@ agrees-flow receiver kept met block now Part agrees distinct = record {
 agrees-flow receiver kept met block now (Whole message) agrees distinct = record {
   last = refl;
   each = λ header. each-ended receiver kept met block now (Whole message) header agrees refl refl;
-  firsts = firsts-ended receiver kept met (Arrived block now (Whole message)) block.header agrees (λ header. and-true-right _ _ refl) refl;
+  firsts = firsts-ended receiver kept met (Arrived block now (Whole message)) block.header agrees
+      (λ header. and-true-right _ _ refl) refl;
   distinct = distinct;
 }
 agrees-flow receiver kept met block now Unexpected agrees distinct = record {
   last = refl;
   each = λ header. each-ended receiver kept met block now Unexpected header agrees refl refl;
-  firsts = firsts-ended receiver kept met (Arrived block now Unexpected) block.header agrees (λ header. and-true-right _ _ refl) refl;
+  firsts = firsts-ended receiver kept met (Arrived block now Unexpected) block.header agrees
+      (λ header. and-true-right _ _ refl) refl;
   distinct = distinct;
 }
 agrees-flow receiver kept met block now TooLong agrees distinct = record {
   last = refl;
   each = λ header. each-ended receiver kept met block now TooLong header agrees refl refl;
-  firsts = firsts-ended receiver kept met (Arrived block now TooLong) block.header agrees (λ header. and-true-right _ _ refl) refl;
+  firsts = firsts-ended receiver kept met (Arrived block now TooLong) block.header agrees
+      (λ header. and-true-right _ _ refl) refl;
   distinct = distinct;
 }
 agrees-flow receiver kept met block now Duplicate agrees distinct = record {
@@ -449,7 +499,8 @@ agrees-flow receiver kept met block now Crowded agrees distinct = record {
 }
 
 agrees-next :
-    (receiver : Receiver) (kept : Kept) (before : List Entry) (entry : Entry) → Agrees receiver kept (met_of receiver before)
+    (receiver : Receiver) (kept : Kept) (before : List FlowEntry) (entry : FlowEntry)
+    → Agrees receiver kept (met_of receiver before)
     → Agrees receiver (next_kept receiver kept entry) (met_of receiver (entry ∷ before))
 agrees-next receiver kept before (Given block now) agrees =
     let met = met_of receiver before in
@@ -460,7 +511,8 @@ agrees-next receiver kept before (Dropped header now) agrees =
     let met = met_of receiver before in
     record {
       last = agrees.last;
-      each = λ other. each-cut receiver kept met (TimedOut header now) header other (same_key header other) agrees refl refl refl refl;
+      each = λ other. each-cut receiver kept met (TimedOut header now) header other
+          (same_key header other) agrees refl refl refl refl;
       firsts = firsts-ended receiver kept met (TimedOut header now) header agrees (λ other. refl) refl;
       distinct = distinct-next receiver kept (Dropped header now) agrees.distinct;
     }
@@ -474,14 +526,18 @@ agrees-start receiver = record {
 }
 
 -- after each list of entries, the newest first
-agrees-back : (receiver : Receiver) (entries : List Entry) → Agrees receiver (kept_after receiver (reverse entries)) (met_of receiver entries)
+agrees-back : (receiver : Receiver) (entries : List FlowEntry)
+    → Agrees receiver (kept_after receiver (reverse entries)) (met_of receiver entries)
 agrees-back receiver [] = agrees-start receiver
 agrees-back receiver (entry ∷ before) =
-    let e : kept_after receiver (reverse (entry ∷ before)) ≡ next_kept receiver (kept_after receiver (reverse before)) entry =
+    let e : kept_after receiver (reverse (entry ∷ before))
+    ≡ next_kept receiver (kept_after receiver (reverse before)) entry =
     ap (kept_after receiver) (reverse-append (entry ∷ []) before) ∙ kept_push receiver (reverse before) entry in
     rw e (agrees-next receiver (kept_after receiver (reverse before)) before entry (agrees-back receiver before))
 
-pub agrees-after : (receiver : Receiver) (entries : List Entry) → Agrees receiver (kept_after receiver entries) (met_of receiver (reverse entries))
+pub agrees-after : (receiver : Receiver) (entries : List FlowEntry)
+    → Agrees receiver (kept_after receiver entries) (met_of receiver (reverse entries))
 agrees-after receiver entries =
-    subst (λ (es : List Entry). Agrees receiver (kept_after receiver es) (met_of receiver (reverse entries))) (reverse-reverse entries)
+    subst (λ (es : List FlowEntry). Agrees receiver (kept_after receiver es) (met_of receiver (reverse entries)))
+    (reverse-reverse entries)
     (agrees-back receiver (reverse entries))

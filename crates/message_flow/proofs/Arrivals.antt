@@ -1,21 +1,22 @@
 -- The blocks of one message that come in order.
-use Rattle.std.proofs.Common.{◌≡◌, refl, sym, ◌∙◌, ap, subst, arith, ◌<◌, ◌≤◌, ◌⊎◌, inl, inr, Bool, true, false, cond, ◌==◌, ℕ, zero, suc, ◌+◌, ◌-◌, ◌*◌, List, [], ◌∷◌, ◌++◌, drop, length, min, reverse, take, Option, None}
+use Rattle.std.proofs.Common.{◌≡◌, refl, sym, ◌∙◌, ap, subst, arith, ◌<◌, ◌≤◌, ◌⊎◌, inl, inr, Bool, true, false, cond, ◌==◌, ℕ, zero, suc, ◌+◌, ◌-◌, ◌*◌, List, ◌∷◌, ◌++◌, drop, length, min, reverse, take, Option, None}
 use Rattle.std.proofs.Math.Nat.{min-le_right}
 use Rattle.std.proofs.lemmas.Bool.{and_from, and_left, and_right, eq-eqb, eqb-true, le-ltb, lt-leb, ne_eqb}
 use Rattle.std.proofs.lemmas.List.{length-append, length-take, reverse-reverse}
 use Rattle.block_codec.specs.Block.{BlockView}
+use Rattle.block_codec.specs.Protocol.{longest_body}
 use Rattle.block_codec.specs.declared.header.Header.{Header}
 use Rattle.gl_base.specs.declared.side.Side.{Side}
 use Rattle.message_flow.specs.declared.flow.Flow.{Flow}
 use Rattle.message_flow.specs.declared.flow.Flow.TheVariants.{Part, Whole, Duplicate, Crowded}
 use Rattle.message_flow.specs.declared.message.Message.{Message}
-use Rattle.message_flow.specs.Arrivals.{CanBegin, HaveCome, IsOfOther, part_or_whole}
-use Rattle.message_flow.specs.Arrivals.HaveCome.{again, begun, between, next}
-use Rattle.message_flow.specs.Assembly.{is_crowded, is_next, judged, message_of}
+use Rattle.message_flow.specs.Arrivals.{CanBegin, HaveCome, IsOfOther, first_blocks, part_or_whole}
+use Rattle.message_flow.specs.Arrivals.HaveCome.{again, start, between, next}
+use Rattle.message_flow.specs.Assembly.{is_crowded, is_next, flow_behind, message_of}
 use Rattle.message_flow.specs.Blocks.{block_count, header_of, numbered_block}
-use Rattle.message_flow.specs.Entries.{Entry}
-use Rattle.message_flow.specs.Entries.Entry.{Dropped, Given}
-use Rattle.message_flow.specs.History.{Met, cuts, flow_after, last_given, met_of, newest_header, open_blocks, open_firsts, part_of, text_of}
+use Rattle.message_flow.specs.Entries.{FlowEntry}
+use Rattle.message_flow.specs.Entries.FlowEntry.{Dropped, Given}
+use Rattle.message_flow.specs.History.{Met, is_cut, flow_after, last_given, met_of, newest_header, open_blocks, open_firsts, part_of, text_of}
 use Rattle.message_flow.specs.History.Met.{Arrived, TimedOut}
 use Rattle.message_flow.specs.Key.{is_given, same_header}
 use Rattle.message_flow.specs.Laws.{MessagesComeWhole}
@@ -24,24 +25,22 @@ use Rattle.message_flow.proofs.Agreement.{open-other, open-part, part-none, part
 use Rattle.message_flow.proofs.Keys.{beq-self, key-self}
 use Rattle.message_flow.proofs.Numbered.{take-block, take-count}
 
--- the first blocks of a message, the newest first
-abbrev came : Side → ℕ → Message → ℕ → List BlockView
-came side device message zero = []
-came side device message (suc number) = numbered_block side device message (number + 1) ∷ came side device message number
-
-one-more-came :
+one-more-block :
     (side : Side) (device : ℕ) (message : Message) (number : ℕ)
-    → came side device message (number + 1) ≡ numbered_block side device message (number + 1) ∷ came side device message number
-one-more-came side device message number =
+    → first_blocks side device message (number + 1)
+    ≡ numbered_block side device message (number + 1) ∷ first_blocks side device message number
+one-more-block side device message number =
     let e : number + 1 ≡ suc number = omega arith in
-    ap (came side device message) e
+    ap (first_blocks side device message) e
 
-text-came : (side : Side) (device : ℕ) (message : Message) (number : ℕ) → text_of (came side device message number) ≡ take (244 * number) message.body
-text-came side device message zero = refl
-text-came side device message (suc number) =
+text-first : (side : Side) (device : ℕ) (message : Message) (number : ℕ)
+    → text_of (first_blocks side device message number) ≡ take (longest_body * number) message.body
+text-first side device message zero = refl
+text-first side device message (suc number) =
     let e : number + 1 ≡ suc number = omega arith in
-    ap (λ (bytes : List ℕ). bytes ++ take 244 (drop (244 * (number + 1 - 1)) message.body)) (text-came side device message number)
-    ∙ take-block number message.body ∙ ap (λ n. take (244 * n) message.body) e
+    ap (λ (bytes : List ℕ). bytes ++ take longest_body (drop (longest_body * (number + 1 - 1)) message.body))
+    (text-first side device message number)
+    ∙ take-block number message.body ∙ ap (λ n. take (longest_body * n) message.body) e
 
 header-self : (a : Header) → same_header a a ≡ true
 header-self a = and_from _ _ (and_from _ _ (key-self a) (beq-self a.last)) (eq-eqb a.number a.number refl)
@@ -51,11 +50,12 @@ other-number a b e = and_right _ _ (ne_eqb a.number b.number (λ same. omega ari
 
 -- ready for the block behind this number
 record IsReady (side : Side) (device : ℕ) (message : Message) (met : List Met) (number : ℕ) : Type 0 where
-  pub open_are : open_blocks (header_of side device message 1) met ≡ came side device message number
+  pub open_are : open_blocks (header_of side device message 1) met ≡ first_blocks side device message number
   pub fresh : is_given (last_given met) (header_of side device message (number + 1)) ≡ false
   pub room : (1 ≤ number) ⊎ ((length (open_firsts met) < 16) ⊎ (block_count message ≡ 1))
 
-record IsUnderWay (receiver : Receiver) (side : Side) (device : ℕ) (message : Message) (met : List Met) (number : ℕ) (just : Bool) : Type 0 where
+record IsUnderWay (receiver : Receiver) (side : Side) (device : ℕ) (message : Message) (met : List Met) (number : ℕ)
+    (just : Bool) : Type 0 where
   pub some : 1 ≤ number
   pub fits : length message.body ≤ receiver.max_body
   pub own : is_foreign receiver (header_of side device message 1) ≡ false
@@ -68,63 +68,70 @@ judged-is :
     (receiver : Receiver) (before : Option Header) (body : List ℕ) (open_count : ℕ) (block : BlockView)
     → is_next before block.header ≡ true → length body + length block.body ≤ receiver.max_body
     → (block.header.last ≡ true) ⊎ (is_crowded before open_count ≡ false)
-    → judged receiver before body open_count block
+    → flow_behind receiver before body open_count block
     ≡ cond block.header.last (Whole (message_of block.header (body ++ block.body))) Part
 judged-is receiver before body open_count block follows short room =
     rw (follows, le-ltb receiver.max_body (length body + length block.body) short) (go block.header.last room)
   where
     go : (last : Bool) → (last ≡ true) ⊎ (is_crowded before open_count ≡ false)
-        → cond last (Whole (message_of block.header (body ++ block.body))) (cond (is_crowded before open_count) Crowded Part)
+        → cond last (Whole (message_of block.header (body ++ block.body)))
+        (cond (is_crowded before open_count) Crowded Part)
         ≡ cond last (Whole (message_of block.header (body ++ block.body))) Part
     go true some = refl
     go false (inl is) = absurd (cc)
     go false (inr is) = rw is refl
 
-is-next-came :
+is-next-first :
     (side : Side) (device : ℕ) (message : Message) (number : ℕ)
-    → is_next (newest_header (came side device message number)) (header_of side device message (number + 1)) ≡ true
-is-next-came side device message zero = refl
-is-next-came side device message (suc number) =
+    → is_next (newest_header (first_blocks side device message number)) (header_of side device message (number + 1))
+    ≡ true
+is-next-first side device message zero = refl
+is-next-first side device message (suc number) =
     let e : suc number + 1 ≡ number + 1 + 1 = omega arith in eq-eqb (suc number + 1) (number + 1 + 1) e
 
 not-crowded :
     (side : Side) (device : ℕ) (message : Message) (number open_count : ℕ)
     → (1 ≤ number) ⊎ ((open_count < 16) ⊎ (block_count message ≡ 1))
-    → (number + 1 == block_count message ≡ true) ⊎ (is_crowded (newest_header (came side device message number)) open_count ≡ false)
+    → (number + 1 == block_count message ≡ true)
+    ⊎ (is_crowded (newest_header (first_blocks side device message number)) open_count ≡ false)
 not-crowded side device message zero open_count (inl some) = absurd (omega arith)
 not-crowded side device message zero open_count (inr (inl few)) = inr (lt-leb 16 open_count few)
 not-crowded side device message zero open_count (inr (inr one)) = inl (eq-eqb 1 (block_count message) (sym one))
 not-crowded side device message (suc number) open_count room = inr refl
 
-text-next :
+pub text-next :
     (side : Side) (device : ℕ) (message : Message) (number : ℕ)
-    → text_of (came side device message number) ++ (numbered_block side device message (number + 1)).body
-    ≡ take (244 * (number + 1)) message.body
+    → text_of (first_blocks side device message number) ++ (numbered_block side device message (number + 1)).body
+    ≡ take (longest_body * (number + 1)) message.body
 text-next side device message number =
-    ap (λ (bytes : List ℕ). bytes ++ take 244 (drop (244 * (number + 1 - 1)) message.body)) (text-came side device message number)
+    ap (λ (bytes : List ℕ). bytes ++ take longest_body (drop (longest_body * (number + 1 - 1)) message.body))
+    (text-first side device message number)
     ∙ take-block number message.body
 
 short-next :
     (side : Side) (device : ℕ) (message : Message) (number most : ℕ) → length message.body ≤ most
-    → length (text_of (came side device message number)) + length (numbered_block side device message (number + 1)).body ≤ most
+    → length (text_of (first_blocks side device message number)) + length
+    (numbered_block side device message (number + 1)).body ≤ most
 short-next side device message number most fits =
-    let text = came side device message number in
+    let text = first_blocks side device message number in
     let block = numbered_block side device message (number + 1) in
-    let e : length (text_of text) + length block.body ≡ min (244 * (number + 1)) (length message.body) =
+    let e : length (text_of text) + length block.body ≡ min (longest_body * (number + 1)) (length message.body) =
     sym (length-append (text_of text) block.body) ∙ ap length (text-next side device message number)
-    ∙ length-take (244 * (number + 1)) message.body in
-    let less = min-le_right (244 * (number + 1)) (length message.body) in
+    ∙ length-take (longest_body * (number + 1)) message.body in
+    let less = min-le_right (longest_body * (number + 1)) (length message.body) in
     rw e (omega arith)
 
-whole-next :
+pub whole-next :
     (side : Side) (device : ℕ) (message : Message) (number : ℕ) (t : Bool) → number + 1 == block_count message ≡ t
     → cond t (Whole (message_of (header_of side device message (number + 1))
-    (text_of (came side device message number) ++ (numbered_block side device message (number + 1)).body))) Part
+    (text_of (first_blocks side device message number) ++ (numbered_block side device message (number + 1)).body))) Part
     ≡ cond t (Whole message) Part
 whole-next side device message number false e = refl
 whole-next side device message number true e =
-    let all : text_of (came side device message number) ++ (numbered_block side device message (number + 1)).body ≡ message.body =
-    text-next side device message number ∙ ap (λ n. take (244 * n) message.body) (eqb-true _ _ e) ∙ take-count message in
+    let all : text_of (first_blocks side device message number) ++
+    (numbered_block side device message (number + 1)).body ≡ message.body =
+    text-next side device message number ∙ ap (λ n. take (longest_body * n) message.body) (eqb-true _ _ e)
+    ∙ take-count message in
     ap (λ (bytes : List ℕ). Whole (message_of (header_of side device message (number + 1)) bytes)) all
 
 flow-next :
@@ -134,8 +141,10 @@ flow-next :
     → flow_after receiver met (numbered_block side device message (number + 1)) ≡ part_or_whole message (number + 1)
 flow-next receiver side device message met number fits own ready =
     rw (ready.fresh, own, ready.open_are)
-    (judged-is receiver (newest_header (came side device message number)) (text_of (came side device message number))
-    (length (open_firsts met)) (numbered_block side device message (number + 1)) (is-next-came side device message number)
+    (judged-is receiver (newest_header (first_blocks side device message number))
+    (text_of (first_blocks side device message number))
+    (length (open_firsts met)) (numbered_block side device message (number + 1))
+    (is-next-first side device message number)
     (short-next side device message number receiver.max_body fits)
     (not-crowded side device message number (length (open_firsts met)) ready.room)
     ∙ whole-next side device message number _ refl)
@@ -152,7 +161,8 @@ after-next :
     → length message.body ≤ receiver.max_body → is_foreign receiver (header_of side device message 1) ≡ false
     → IsReady side device message met number
     → IsUnderWay receiver side device message
-    (Arrived (numbered_block side device message (number + 1)) now (flow_after receiver met (numbered_block side device message (number + 1))) ∷ met)
+    (Arrived (numbered_block side device message (number + 1)) now
+    (flow_after receiver met (numbered_block side device message (number + 1))) ∷ met)
     (number + 1) true
 after-next receiver side device message met number now fits own ready =
     let block = numbered_block side device message (number + 1) in
@@ -169,7 +179,7 @@ after-next receiver side device message met number now fits own ready =
             open_are = ap (λ flow. open_blocks key (Arrived block now flow ∷ met)) part
                 ∙ open-part (part_of key) block key block now met (part-some block _ (and_from _ _ (key-self key) refl))
                 ∙ ap (λ (blocks : List BlockView). block ∷ blocks) ready.open_are
-                ∙ sym (one-more-came side device message number);
+                ∙ sym (one-more-block side device message number);
             fresh = other-number block.header (header_of side device message (number + 1 + 1)) refl;
             room = inl (omega arith);
           };
@@ -179,18 +189,24 @@ after-next receiver side device message met number now fits own ready =
 -- an entry that is no cut of the key, and no part of it, with another block given last
 ready-still :
     (side : Side) (device : ℕ) (message : Message) (met : List Met) (entry : Met) (number : ℕ) → 1 ≤ number
-    → cuts (header_of side device message 1) entry ≡ false → part_of (header_of side device message 1) entry ≡ None
+    → is_cut (header_of side device message 1) entry ≡ false → part_of (header_of side device message 1) entry ≡ None
     → is_given (last_given (entry ∷ met)) (header_of side device message (number + 1)) ≡ false
     → IsReady side device message met number → IsReady side device message (entry ∷ met) number
 ready-still side device message met entry number some uncut none fresh ready =
     let key = header_of side device message 1 in
-    record { open_are = open-other (part_of key) key entry met uncut none ∙ ready.open_are; fresh = fresh; room = inl some }
+    record {
+      open_are = open-other (part_of key) key entry met uncut none ∙ ready.open_are;
+      fresh = fresh;
+      room =
+          inl some;
+    }
 
 after-again :
     (receiver : Receiver) (side : Side) (device : ℕ) (message : Message) (met : List Met) (number now : ℕ)
     → IsUnderWay receiver side device message met number true
     → IsUnderWay receiver side device message
-    (Arrived (numbered_block side device message number) now (flow_after receiver met (numbered_block side device message number)) ∷ met)
+    (Arrived (numbered_block side device message number) now
+    (flow_after receiver met (numbered_block side device message number)) ∷ met)
     number true
 after-again receiver side device message met number now is =
     let block = numbered_block side device message number in
@@ -208,7 +224,8 @@ after-again receiver side device message met number now is =
     })
 
 after-other :
-    (receiver : Receiver) (side : Side) (device : ℕ) (message : Message) (entries : List Entry) (number : ℕ) (just : Bool) (entry : Entry)
+    (receiver : Receiver) (side : Side) (device : ℕ) (message : Message) (entries : List FlowEntry) (number : ℕ)
+    (just : Bool) (entry : FlowEntry)
     → IsOfOther (header_of side device message 1) entry
     → IsUnderWay receiver side device message (met_of receiver entries) number just
     → IsUnderWay receiver side device message (met_of receiver (entry ∷ entries)) number false
@@ -219,7 +236,8 @@ after-other receiver side device message entries number just (Given block now) o
       fits = is.fits;
       own = is.own;
       ready = λ less.
-          ready-still side device message met (Arrived block now (flow_after receiver met block)) number is.some (and_left _ _ other)
+          ready-still side device message met (Arrived block now (flow_after receiver met block)) number is.some
+          (and_left _ _ other)
           (part-none block _ (and_left _ _ other))
           (and_left _ _ (and_left _ _ other)) (is.ready less);
       given = λ just. absurd (cc);
@@ -231,23 +249,25 @@ after-other receiver side device message entries number just (Dropped header now
       fits = is.fits;
       own = is.own;
       ready = λ less.
-          ready-still side device message met (TimedOut header now) number is.some other refl (is.ready less).fresh (is.ready less);
+          ready-still side device message met (TimedOut header now) number is.some other refl (is.ready less).fresh
+          (is.ready less);
       given = λ just. absurd (cc);
     }
 
 -- ---- all of them
 
 ready-first :
-    (receiver : Receiver) (side : Side) (device : ℕ) (message : Message) (before : List Entry)
+    (receiver : Receiver) (side : Side) (device : ℕ) (message : Message) (before : List FlowEntry)
     → CanBegin receiver side device message before → IsReady side device message (met_of receiver before) 0
 ready-first receiver side device message before can =
     record { open_are = can.none_open; fresh = can.not_given; room = inr can.room }
 
 under-way :
-    (receiver : Receiver) (side : Side) (device : ℕ) (message : Message) (entries : List Entry) (number : ℕ) (just : Bool)
+    (receiver : Receiver) (side : Side) (device : ℕ) (message : Message) (entries : List FlowEntry) (number : ℕ)
+    (just : Bool)
     → HaveCome receiver side device message entries number just
     → IsUnderWay receiver side device message (met_of receiver entries) number just
-under-way receiver side device message _ _ _ (begun before now can) =
+under-way receiver side device message _ _ _ (start before now can) =
     after-next receiver side device message (met_of receiver before) 0 now can.fits can.own
     (ready-first receiver side device message before can)
 under-way receiver side device message _ _ _ (next before number just now come less) =
@@ -262,10 +282,11 @@ under-way receiver side device message _ _ _ (between before number just entry c
 
 -- what is looked back for in entries, the newest first
 pub flow-back :
-    (receiver : Receiver) (entries : List Entry) (block : BlockView)
-    → flow_after receiver (met_of receiver (reverse (reverse entries))) block ≡ flow_after receiver (met_of receiver entries) block
+    (receiver : Receiver) (entries : List FlowEntry) (block : BlockView)
+    → flow_after receiver (met_of receiver (reverse (reverse entries))) block
+    ≡ flow_after receiver (met_of receiver entries) block
 flow-back receiver entries block =
-    ap (λ (es : List Entry). flow_after receiver (met_of receiver es) block) (reverse-reverse entries)
+    ap (λ (es : List FlowEntry). flow_after receiver (met_of receiver es) block) (reverse-reverse entries)
 
 pub comes-whole : MessagesComeWhole
 comes-whole = λ receiver side device message. record {

@@ -9,7 +9,7 @@ use Rattle.block_codec.specs.declared.header.Header.{Header}
 use Rattle.message_flow.specs.declared.partial.Partial.{Partial}
 use Rattle.message_flow.specs.Assembly.{AssemblyView, has_key, header_so_far, is_due}
 use Rattle.message_flow.specs.Deadlines.{IsDeadlineAfter, IsDeadlineAt, deadline_of, dropped_at, has_come, newest_of}
-use Rattle.message_flow.specs.Entries.{Entry, Kept, StandsFor, kept_after}
+use Rattle.message_flow.specs.Entries.{FlowEntry, Kept, StandsFor, kept_after}
 use Rattle.message_flow.specs.History.{Met, met_of, newest_header, open_blocks, open_firsts}
 use Rattle.message_flow.specs.Key.{same_key}
 use Rattle.message_flow.specs.Laws.{AreFirsts, deadline_so_far}
@@ -30,7 +30,8 @@ found-behind partial rest [] others found = All-nil (IsFoundIn (partial ∷ rest
 found-behind partial rest (other ∷ some) others found =
     let differ : same_key partial.header other.header ≡ false = All-head (IsOther partial) other some others in
     All-cons (IsFoundIn (partial ∷ rest)) other some (rw differ (All-head (IsFoundIn rest) other some found))
-    (found-behind partial rest some (All-tail (IsOther partial) other some others) (All-tail (IsFoundIn rest) other some found))
+    (found-behind partial rest some (All-tail (IsOther partial) other some others)
+    (All-tail (IsFoundIn rest) other some found))
 
 each-found : (partials : List Partial) → AreDistinct partials → All (IsFoundIn partials) partials
 each-found [] are = All-nil (IsFoundIn [])
@@ -61,7 +62,8 @@ record IsLeast (all partials : List Partial) (first moment : ℕ) : Type 0 where
 fold-least :
     (all partials : List Partial) (first : ℕ) → IsReached all first → All (IsFoundIn all) partials
     → IsLeast all partials first (fold min first (map (λ partial. partial.deadline) partials))
-fold-least all [] first reached found = record { reached = reached; at_most = omega arith; least = All-nil (λ partial. first ≤ partial.deadline) }
+fold-least all [] first reached found =
+    record { reached = reached; at_most = omega arith; least = All-nil (λ partial. first ≤ partial.deadline) }
 fold-least all (partial ∷ rest) first reached found =
     let its : IsReached all partial.deadline =
     record { partial = partial; found = All-head (IsFoundIn all) partial rest found; its = refl } in
@@ -73,7 +75,8 @@ fold-least all (partial ∷ rest) first reached found =
     record {
       reached = less.reached;
       at_most = omega arith;
-      least = All-cons (λ (p : Partial). fold min (min first partial.deadline) (map (λ (q : Partial). q.deadline) rest) ≤ p.deadline)
+      least = All-cons (λ (p : Partial). fold min (min first partial.deadline)
+          (map (λ (q : Partial). q.deadline) rest) ≤ p.deadline)
           partial rest (omega arith) less.least;
     }
 
@@ -111,7 +114,8 @@ deadline-is receiver met last (partial ∷ rest) agrees =
       key = key.header;
       is_open = some-blocks (open_blocks key.header met) key.header
           (sym (agrees.each key.header).header ∙ ap header_so_far least.reached.found);
-      reached = sym (agrees.each key.header).deadline_is ∙ ap deadline_so_far least.reached.found ∙ ap (λ (n : ℕ). Some n) least.reached.its;
+      reached = sym (agrees.each key.header).deadline_is ∙ ap deadline_so_far least.reached.found
+          ∙ ap (λ (n : ℕ). Some n) least.reached.its;
       least = λ header other e.
           least-found all _ header _ other
           (All-cons (λ (p : Partial). fold min partial.deadline (map (λ (q : Partial). q.deadline) rest) ≤ p.deadline)
@@ -126,21 +130,25 @@ AreEnds receiver met [] [] = Unit {0}
 AreEnds receiver met [] (header ∷ headers) = ⊥
 AreEnds receiver met (partial ∷ partials) [] = ⊥
 AreEnds receiver met (partial ∷ partials) (header ∷ headers) =
-    (newest_header (open_blocks header met) ≡ Some partial.header) × (deadline_of receiver header met ≡ Some partial.deadline)
+    (newest_header (open_blocks header met) ≡ Some partial.header)
+    × (deadline_of receiver header met ≡ Some partial.deadline)
     × AreEnds receiver met partials headers
 
 are-ends :
-    (receiver : Receiver) (kept : Kept) (met : List Met) → Agrees receiver kept met → (partials : List Partial) (headers : List Header)
+    (receiver : Receiver) (kept : Kept) (met : List Met) → Agrees receiver kept met
+    → (partials : List Partial) (headers : List Header)
     → All (IsFoundIn kept.partials) partials → AreFirsts partials headers → AreEnds receiver met partials headers
 are-ends receiver kept met agrees [] [] found are = tt
 are-ends receiver kept met agrees [] (header ∷ headers) found are = absurd are
 are-ends receiver kept met agrees (partial ∷ partials) [] found are = absurd are
 are-ends receiver kept met agrees (partial ∷ partials) (header ∷ headers) found are =
     let e : find (has_key header) kept.partials ≡ Some partial =
-    find-same-key partial.header header kept.partials are.0 ∙ All-head (IsFoundIn kept.partials) partial partials found in (
+    find-same-key partial.header header kept.partials are.0
+    ∙ All-head (IsFoundIn kept.partials) partial partials found in (
       sym (agrees.each header).header ∙ ap header_so_far e,
       sym (agrees.each header).deadline_is ∙ ap deadline_so_far e,
-      are-ends receiver kept met agrees partials headers (All-tail (IsFoundIn kept.partials) partial partials found) are.1,
+      are-ends receiver kept met agrees partials headers
+          (All-tail (IsFoundIn kept.partials) partial partials found) are.1,
     )
 
 first-due :
@@ -165,26 +173,28 @@ first-due receiver met now (partial ∷ partials) (header ∷ headers) are =
 -- ---- after all entries
 
 pub deadline-kept :
-    (receiver : Receiver) (entries : List Entry)
-    → IsDeadlineAt receiver entries (reduce min (map (λ partial. partial.deadline) (kept_after receiver entries).partials))
+    (receiver : Receiver) (entries : List FlowEntry)
+    → IsDeadlineAt receiver entries
+    (reduce min (map (λ partial. partial.deadline) (kept_after receiver entries).partials))
 deadline-kept receiver entries = deadline-is receiver _ _ _ (agrees-after receiver entries)
 
 pub due-kept :
-    (receiver : Receiver) (entries : List Entry) (now : ℕ)
+    (receiver : Receiver) (entries : List FlowEntry) (now : ℕ)
     → header_so_far (find (is_due now) (kept_after receiver entries).partials) ≡ dropped_at receiver entries now
 due-kept receiver entries now =
     let kept = kept_after receiver entries in
     let met = met_of receiver (reverse entries) in
     let agrees = agrees-after receiver entries in
     first-due receiver met now kept.partials (open_firsts met)
-    (are-ends receiver kept met agrees kept.partials (open_firsts met) (each-found kept.partials agrees.distinct) agrees.firsts)
+    (are-ends receiver kept met agrees kept.partials (open_firsts met)
+    (each-found kept.partials agrees.distinct) agrees.firsts)
 
 pub deadline_stands :
-    (assembly : AssemblyView) (entries : List Entry) → StandsFor assembly entries
+    (assembly : AssemblyView) (entries : List FlowEntry) → StandsFor assembly entries
     → IsDeadlineAt assembly.receiver entries (reduce min (map (λ partial. partial.deadline) assembly.partials))
 deadline_stands assembly entries stands = rw stands.partials (deadline-kept assembly.receiver entries)
 
 pub dropped_stands :
-    (assembly : AssemblyView) (entries : List Entry) (now : ℕ) → StandsFor assembly entries
+    (assembly : AssemblyView) (entries : List FlowEntry) (now : ℕ) → StandsFor assembly entries
     → header_so_far (find (is_due now) assembly.partials) ≡ dropped_at assembly.receiver entries now
 dropped_stands assembly entries now stands = rw stands.partials (due-kept assembly.receiver entries now)

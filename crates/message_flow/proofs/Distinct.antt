@@ -7,9 +7,9 @@ use Rattle.block_codec.specs.declared.header.Header.{Header}
 use Rattle.message_flow.specs.declared.flow.Flow.{Flow}
 use Rattle.message_flow.specs.declared.flow.Flow.TheVariants.{Part, Whole, Duplicate, Foreign, Unexpected, TooLong, Crowded}
 use Rattle.message_flow.specs.declared.partial.Partial.{Partial}
-use Rattle.message_flow.specs.Assembly.{flow_of, grown, has_key, is_due, joined, new_partial, partials_after, without_key}
-use Rattle.message_flow.specs.Entries.{Entry, Kept, kept_after, next_kept}
-use Rattle.message_flow.specs.Entries.Entry.{Dropped, Given}
+use Rattle.message_flow.specs.Assembly.{flow_of, next_partial, has_key, is_due, with_part, new_partial, partials_after, without_key}
+use Rattle.message_flow.specs.Entries.{FlowEntry, Kept, kept_after, next_kept}
+use Rattle.message_flow.specs.Entries.FlowEntry.{Dropped, Given}
 use Rattle.message_flow.specs.Key.{same_key}
 use Rattle.message_flow.specs.Receiver.{Receiver}
 use Rattle.message_flow.proofs.Firsts.{All-find, All-replace, All-without, removed, replace-first, replaced, without-first}
@@ -22,7 +22,8 @@ abbrev pub AreDistinct : List Partial → Type 0
 AreDistinct [] = Unit {0}
 AreDistinct (partial ∷ rest) = All (IsOther partial) rest × AreDistinct rest
 
-distinct-without : (test : Partial → Bool) (partials : List Partial) → AreDistinct partials → AreDistinct (without-first test partials)
+distinct-without : (test : Partial → Bool) (partials : List Partial) → AreDistinct partials
+    → AreDistinct (without-first test partials)
 distinct-without test [] are = tt
 distinct-without test (partial ∷ rest) are =
     elim (test partial) as (λ b. AreDistinct (cond b rest (partial ∷ without-first test rest))) [
@@ -37,7 +38,8 @@ distinct-replace added [] are = tt
 distinct-replace added (partial ∷ rest) are =
     go (same_key partial.header added.header) refl (distinct-replace added rest are.1)
   where
-    go : (b : Bool) → same_key partial.header added.header ≡ b → AreDistinct (replace-first (has_key added.header) added rest)
+    go : (b : Bool) → same_key partial.header added.header ≡ b
+        → AreDistinct (replace-first (has_key added.header) added rest)
         → AreDistinct (cond b (added ∷ rest) (partial ∷ replace-first (has_key added.header) added rest))
     go true is after = (
       All-weaker (IsOther partial) (IsOther added)
@@ -62,14 +64,15 @@ distinct-push added (partial ∷ rest) none are =
 distinct-joined :
     (partials : List Partial) (block : BlockView) (deadline : ℕ) (found : Option Partial)
     → find (has_key block.header) partials ≡ found → AreDistinct partials
-    → AreDistinct (joined found partials block deadline)
+    → AreDistinct (with_part found partials block deadline)
 distinct-joined partials block deadline None none are =
     distinct-push (new_partial block deadline) partials none are
 distinct-joined partials block deadline (Some found) is are =
-    rw (replaced (has_key block.header) (grown found block deadline) partials)
-    (distinct-replace (grown found block deadline) partials are)
+    rw (replaced (has_key block.header) (next_partial found block deadline) partials)
+    (distinct-replace (next_partial found block deadline) partials are)
 
-distinct-without_key : (header : Header) (partials : List Partial) → AreDistinct partials → AreDistinct (without_key header partials)
+distinct-without_key : (header : Header) (partials : List Partial) → AreDistinct partials
+    → AreDistinct (without_key header partials)
 distinct-without_key header partials are =
     rw (removed (has_key header) partials) (distinct-without (has_key header) partials are)
 
@@ -84,20 +87,21 @@ distinct-partials partials block deadline Unexpected are = distinct-without_key 
 distinct-partials partials block deadline TooLong are = distinct-without_key block.header partials are
 distinct-partials partials block deadline Crowded are = are
 
-pub distinct-next : (receiver : Receiver) (kept : Kept) (entry : Entry) → AreDistinct kept.partials
+pub distinct-next : (receiver : Receiver) (kept : Kept) (entry : FlowEntry) → AreDistinct kept.partials
     → AreDistinct (next_kept receiver kept entry).partials
 distinct-next receiver kept (Given block now) are =
     distinct-partials kept.partials block (now + receiver.t4) (flow_of receiver kept.last kept.partials block) are
 distinct-next receiver kept (Dropped header now) are = distinct-without_key header kept.partials are
 
 distinct-fold :
-    (receiver : Receiver) (entries : List Entry) (kept : Kept) → AreDistinct kept.partials
+    (receiver : Receiver) (entries : List FlowEntry) (kept : Kept) → AreDistinct kept.partials
     → AreDistinct (fold (next_kept receiver) kept entries).partials
 distinct-fold receiver [] kept are = are
 distinct-fold receiver (entry ∷ entries) kept are =
     distinct-fold receiver entries (next_kept receiver kept entry) (distinct-next receiver kept entry are)
 
-pub distinct-after : (receiver : Receiver) (entries : List Entry) → AreDistinct (kept_after receiver entries).partials
+pub distinct-after : (receiver : Receiver) (entries : List FlowEntry)
+    → AreDistinct (kept_after receiver entries).partials
 distinct-after receiver entries = distinct-fold receiver entries _ tt
 
 -- of distinct messages the first that is due is the one of its key
@@ -108,7 +112,8 @@ due-first now [] due are found = refl
 due-first now (partial ∷ rest) due are found = go (is_due now partial) (due-first now rest due are.1) found
   where
     go : (b : Bool)
-        → (find (is_due now) rest ≡ Some due → without-first (is_due now) rest ≡ without-first (has_key due.header) rest)
+        → (find (is_due now) rest ≡ Some due
+        → without-first (is_due now) rest ≡ without-first (has_key due.header) rest)
         → cond b (Some partial) (find (is_due now) rest) ≡ Some due
         → cond b rest (partial ∷ without-first (is_due now) rest)
         ≡ cond (same_key partial.header due.header) rest (partial ∷ without-first (has_key due.header) rest)

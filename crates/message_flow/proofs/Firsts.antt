@@ -17,18 +17,25 @@ replace-first test y (x ∷ xs) = cond (test x) (y ∷ xs) (x ∷ replace-first 
 pub removed : {X : Type 0} (test : X → Bool) (xs : List X) → remove xs (position_or_len test xs) ≡ without-first test xs
 removed test [] = refl
 removed test (x ∷ xs) =
-    elim (test x) as (λ b. remove (x ∷ xs) (cond (not b) (1 + position_or_len test xs) 0) ≡ cond b xs (x ∷ without-first test xs))
-    [ true ↦ refl | false ↦ ap (remove (x ∷ xs)) (one-more (position_or_len test xs)) ∙ ap (λ ys. x ∷ ys) (removed test xs) ]
+    elim (test x) as (λ b. remove (x ∷ xs) (cond (not b) (1 + position_or_len test xs) 0)
+    ≡ cond b xs (x ∷ without-first test xs)) [
+      | true ↦ refl
+      | false ↦ ap (remove (x ∷ xs)) (one-more (position_or_len test xs))
+          ∙ ap (λ ys. x ∷ ys) (removed test xs)
+    ]
 
-pub replaced : {X : Type 0} (test : X → Bool) (y : X) (xs : List X) → set xs (position_or_len test xs) y ≡ replace-first test y xs
+pub replaced : {X : Type 0} (test : X → Bool) (y : X) (xs : List X)
+    → set xs (position_or_len test xs) y ≡ replace-first test y xs
 replaced test y [] = refl
 replaced test y (x ∷ xs) =
-    elim (test x) as (λ b. set (x ∷ xs) (cond (not b) (1 + position_or_len test xs) 0) y ≡ cond b (y ∷ xs) (x ∷ replace-first test y xs)) [
+    elim (test x) as (λ b. set (x ∷ xs) (cond (not b) (1 + position_or_len test xs) 0) y
+    ≡ cond b (y ∷ xs) (x ∷ replace-first test y xs)) [
       | true ↦ refl
       | false ↦ ap (λ n. set (x ∷ xs) n y) (one-more (position_or_len test xs)) ∙ ap (λ ys. x ∷ ys) (replaced test y xs)
     ]
 
-pub All-without : {X : Type 0} (test : X → Bool) (P : X → Type 0) (xs : List X) → All P xs → All P (without-first test xs)
+pub All-without : {X : Type 0} (test : X → Bool) (P : X → Type 0) (xs : List X) → All P xs
+    → All P (without-first test xs)
 All-without test P [] all = All-nil P
 All-without test P (x ∷ xs) all =
     elim (test x) as (λ b. All P (cond b xs (x ∷ without-first test xs))) [
@@ -36,7 +43,8 @@ All-without test P (x ∷ xs) all =
       | false ↦ All-cons P x _ (All-head P x xs all) (All-without test P xs (All-tail P x xs all))
     ]
 
-pub All-replace : {X : Type 0} (test : X → Bool) (P : X → Type 0) (y : X) (xs : List X) → P y → All P xs → All P (replace-first test y xs)
+pub All-replace : {X : Type 0} (test : X → Bool) (P : X → Type 0) (y : X) (xs : List X) → P y → All P xs
+    → All P (replace-first test y xs)
 All-replace test P y [] is all = All-nil P
 All-replace test P y (x ∷ xs) is all =
     elim (test x) as (λ b. All P (cond b (y ∷ xs) (x ∷ replace-first test y xs))) [
@@ -45,7 +53,8 @@ All-replace test P y (x ∷ xs) is all =
     ]
 
 -- what is found has what all have
-pub All-find : {X : Type 0} (test : X → Bool) (P : X → Type 0) (xs : List X) (x : X) → All P xs → find test xs ≡ Some x → P x
+pub All-find : {X : Type 0} (test : X → Bool) (P : X → Type 0) (xs : List X) (x : X) → All P xs
+    → find test xs ≡ Some x → P x
 All-find test P [] x all found = absurd (cc)
 All-find {X} test P (y ∷ ys) x all found = go (test y) (All-find test P ys x (All-tail P y ys all)) found
   where

@@ -8,10 +8,12 @@ pub record IsPlace {X : Type 0} (test : X → Bool) (xs : List X) (place : ℕ) 
   pub is : place ≡ position_or_len test xs
   pub within : place < length xs
 
-pub position-some : {X : Type 0} (test : X → Bool) (xs : List X) (place : ℕ) → position test xs ≡ Some place → IsPlace test xs place
+pub position-some : {X : Type 0} (test : X → Bool) (xs : List X) (place : ℕ) → position test xs ≡ Some place
+    → IsPlace test xs place
 position-some {X} test xs place h = go (nat_lt (position_or_len test xs) (length xs)) refl h
   where
-    go : (b : Bool) → nat_lt (position_or_len test xs) (length xs) ≡ b → cond b (Some (position_or_len test xs)) None ≡ Some place
+    go : (b : Bool) → nat_lt (position_or_len test xs) (length xs) ≡ b
+        → cond b (Some (position_or_len test xs)) None ≡ Some place
         → IsPlace test xs place
     go true less is =
         let same : place ≡ position_or_len test xs = cc in
@@ -24,7 +26,8 @@ pub found-at :
 found-at test [] d h = absurd (omega arith)
 found-at {X} test (x ∷ xs) d h = go (test x) (found-at test xs d) h
   where
-    go : (b : Bool) → (position_or_len test xs < length xs → find test xs ≡ Some (get_or xs (position_or_len test xs) d))
+    go : (b : Bool) → (position_or_len test xs < length xs
+        → find test xs ≡ Some (get_or xs (position_or_len test xs) d))
         → cond (not b) (1 + position_or_len test xs) 0 < length (x ∷ xs)
         → cond b (Some x) (find test xs) ≡ Some (get_or (x ∷ xs) (cond (not b) (1 + position_or_len test xs) 0) d)
     go true next less = refl
@@ -32,7 +35,8 @@ found-at {X} test (x ∷ xs) d h = go (test x) (found-at test xs d) h
         next (omega arith) ∙ ap (λ n. Some (get_or (x ∷ xs) n d)) (sym (one-more (position_or_len test xs)))
 
 pub found-place :
-    {X : Type 0} (test : X → Bool) (xs : List X) (place : ℕ) (d : X) → IsPlace test xs place → find test xs ≡ Some (get_or xs place d)
+    {X : Type 0} (test : X → Bool) (xs : List X) (place : ℕ) (d : X) → IsPlace test xs place
+    → find test xs ≡ Some (get_or xs place d)
 found-place test xs place d at = rw at.is (found-at test xs d (rw at.is at at.within))
 
 none-at-end : {X : Type 0} (test : X → Bool) (xs : List X) → length xs ≤ position_or_len test xs → find test xs ≡ None
@@ -47,7 +51,8 @@ none-at-end {X} test (x ∷ xs) e = go (test x) (none-at-end test xs) e
 pub find-none : {X : Type 0} (test : X → Bool) (xs : List X) → position test xs ≡ None → find test xs ≡ None
 find-none {X} test xs h = go (nat_lt (position_or_len test xs) (length xs)) refl h
   where
-    go : (b : Bool) → nat_lt (position_or_len test xs) (length xs) ≡ b → cond b (Some (position_or_len test xs)) None ≡ None
+    go : (b : Bool) → nat_lt (position_or_len test xs) (length xs) ≡ b
+        → cond b (Some (position_or_len test xs)) None ≡ None
         → find test xs ≡ None
     go true less is = absurd (cc)
     go false less is = none-at-end test xs (ltb-false _ _ less)

@@ -6,7 +6,7 @@ use Rattle.block_codec.specs.declared.header.Header.{Header}
 use Rattle.message_flow.specs.declared.flow.Flow.{Flow}
 use Rattle.message_flow.specs.declared.flow.Flow.TheVariants.{Part, Whole, Duplicate, Foreign, Unexpected, TooLong, Crowded}
 use Rattle.message_flow.specs.declared.partial.Partial.{Partial}
-use Rattle.message_flow.specs.Assembly.{after_first, after_next, body_so_far, flow_of, has_key, header_so_far, judged, partials_after, without_key}
+use Rattle.message_flow.specs.Assembly.{after_first, after_next, body_so_far, flow_of, has_key, header_so_far, flow_behind, partials_after, without_key}
 use Rattle.message_flow.specs.Key.{is_given}
 use Rattle.message_flow.specs.Receiver.{Receiver, is_foreign}
 use Rattle.message_flow.proofs.Firsts.{removed}
@@ -16,7 +16,8 @@ pub flow_of-found :
     (receiver : Receiver) (last : Option Header) (partials : List Partial) (block : BlockView) (found : Option Partial)
     → is_given last block.header ≡ false → is_foreign receiver block.header ≡ false
     → find (has_key block.header) partials ≡ found
-    → flow_of receiver last partials block ≡ judged receiver (header_so_far found) (body_so_far found) (length partials) block
+    → flow_of receiver last partials block
+    ≡ flow_behind receiver (header_so_far found) (body_so_far found) (length partials) block
 flow_of-found receiver last partials block found given foreign e = rw (given, foreign, e) refl
 
 pub after_next-is :
@@ -32,11 +33,13 @@ after_next-is partials place found block deadline TooLong at e = rw at refl
 after_next-is partials place found block deadline Crowded at e = refl
 
 without_key-none :
-    (header : Header) (partials : List Partial) → find (has_key header) partials ≡ None → partials ≡ without_key header partials
+    (header : Header) (partials : List Partial) → find (has_key header) partials ≡ None
+    → partials ≡ without_key header partials
 without_key-none header partials e = sym (removed (has_key header) partials ∙ without-none (has_key header) partials e)
 
 pub after_first-is :
-    (partials : List Partial) (block : BlockView) (deadline : ℕ) (flow : Flow) → find (has_key block.header) partials ≡ None
+    (partials : List Partial) (block : BlockView) (deadline : ℕ) (flow : Flow)
+    → find (has_key block.header) partials ≡ None
     → after_first partials block deadline flow ≡ partials_after partials block deadline flow
 after_first-is partials block deadline Part e = rw e refl
 after_first-is partials block deadline (Whole message) e = without_key-none block.header partials e

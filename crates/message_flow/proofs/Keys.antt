@@ -41,7 +41,14 @@ key-same a b h =
 
 pub key-self : (a : Header) → same_key a a ≡ true
 key-self a =
-    rw (beq-self a.from_equipment, eq-eqb a.device a.device refl, eq-eqb a.stream a.stream refl, beq-self a.wait, eq-eqb a.function a.function refl, eq-eqb a.system a.system refl)
+    rw (
+      beq-self a.from_equipment,
+      eq-eqb a.device a.device refl,
+      eq-eqb a.stream a.stream refl,
+      beq-self a.wait,
+      eq-eqb a.function a.function refl,
+      eq-eqb a.system a.system refl,
+    )
 
 -- headers with the same key agree with the same others
 pub key-left : (a b c : Header) → same_key a b ≡ true → same_key a c ≡ same_key b c

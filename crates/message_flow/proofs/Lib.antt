@@ -2,12 +2,15 @@ mod Agreement
 mod Arrivals
 mod Deadlines
 mod Distinct
-mod Firsts
+pub mod Firsts
+mod Fitting
 mod Found
 mod Judging
 mod Kept
-mod Keys
+pub mod Keys
+mod Making
 mod Missed
 mod Numbered
+pub mod Places
 mod Queue
 mod Standing

@@ -5,6 +5,7 @@ use Rattle.std.proofs.Math.Nat.{div-add-mod, le-min, max-eq_left, min-eq_left, m
 use Rattle.std.proofs.lemmas.Bool.{eqb-true, eq-eqb}
 use Rattle.std.proofs.lemmas.List.{append-nil, append_assoc, drop-take, length-drop, length-take, take-append-drop, take-take, take_all}
 use Rattle.block_codec.specs.Block.{BlockView}
+use Rattle.block_codec.specs.Protocol.{longest_body, longest_text, most_blocks}
 use Rattle.gl_base.specs.declared.side.Side.{Side}
 use Rattle.message_flow.specs.declared.message.Message.{Message}
 use Rattle.message_flow.specs.Blocks.{block_count, numbered_block}
@@ -25,7 +26,8 @@ get-numbered f from (suc count) (suc place) less =
 pub numbered : BlocksAreNumbered
 numbered = record {
   count = λ side device message. length-numbered (numbered_block side device message) 1 (block_count message);
-  each = λ side device message place less. get-numbered (numbered_block side device message) 1 (block_count message) place less;
+  each = λ side device message place less. get-numbered (numbered_block side device message) 1
+      (block_count message) place less;
 }
 
 -- ---- the text in the blocks
@@ -33,10 +35,11 @@ numbered = record {
 -- how many blocks a text of so many bytes has: they hold it, and all but the last are full
 record IsCount (bytes count : ℕ) : Type 0 where
   pub some : 1 ≤ count
-  pub holds : bytes ≤ 244 * count
-  pub full : (244 * (count - 1) < bytes) ⊎ (count ≡ 1)
+  pub holds : bytes ≤ longest_body * count
+  pub full : (longest_body * (count - 1) < bytes) ⊎ (count ≡ 1)
 
-is-count-of : (bytes whole rest : ℕ) → 244 * whole + rest ≡ bytes + 243 → rest < 244 → IsCount bytes (max whole 1)
+is-count-of : (bytes whole rest : ℕ) → longest_body * whole + rest ≡ bytes + (longest_body - 1) → rest < longest_body
+    → IsCount bytes (max whole 1)
 is-count-of bytes zero rest e less = record { some = omega arith; holds = omega arith; full = inr refl }
 is-count-of bytes (suc whole) rest e less =
     let most : max (suc whole) 1 ≡ suc whole = max-eq_left (omega arith) in
@@ -44,8 +47,20 @@ is-count-of bytes (suc whole) rest e less =
 
 is-count : (message : Message) → IsCount (length message.body) (block_count message)
 is-count message =
-    is-count-of (length message.body) ((length message.body + 243) / 244) ((length message.body + 243) % 244)
-    (div-add-mod (length message.body + 243) 244) (mod-lt (length message.body + 243) (omega arith))
+    is-count-of (length message.body) ((length message.body + (longest_body - 1)) / longest_body)
+    ((length message.body + (longest_body - 1)) % longest_body)
+    (div-add-mod (length message.body + (longest_body - 1)) longest_body)
+    (mod-lt (length message.body + (longest_body - 1)) (omega arith))
+
+few-of : (bytes count : ℕ) → IsCount bytes count → bytes ≤ longest_text → count ≤ most_blocks
+few-of bytes count is short = go is.full
+  where
+    go : (longest_body * (count - 1) < bytes) ⊎ (count ≡ 1) → count ≤ most_blocks
+    go (inl full) = omega arith
+    go (inr one) = omega arith
+
+pub few-blocks : (message : Message) → length message.body ≤ longest_text → block_count message ≤ most_blocks
+few-blocks message short = few-of (length message.body) (block_count message) (is-count message) short
 
 pub take-plus : (n m : ℕ) (xs : List ℕ) → take (n + m) xs ≡ take n xs ++ take m (drop n xs)
 take-plus n m xs =
@@ -55,41 +70,49 @@ take-plus n m xs =
 
 -- the next 244 bytes behind those of the blocks before
 pub take-block : (number : ℕ) (body : List ℕ)
-    → take (244 * number) body ++ take 244 (drop (244 * (number + 1 - 1)) body) ≡ take (244 * (number + 1)) body
+    → take (longest_body * number) body ++ take longest_body (drop (longest_body * (number + 1 - 1)) body)
+    ≡ take (longest_body * (number + 1)) body
 take-block number body =
     let e : number + 1 - 1 ≡ number = omega arith in
-    let f : 244 * number + 244 ≡ 244 * (number + 1) = omega arith in
-    rw e (sym (take-plus (244 * number) 244 body) ∙ ap (λ n. take n body) f)
+    let f : longest_body * number + longest_body ≡ longest_body * (number + 1) = omega arith in
+    rw e (sym (take-plus (longest_body * number) longest_body body) ∙ ap (λ n. take n body) f)
 
 joined-from :
     (side : Side) (device : ℕ) (message : Message) (from count : ℕ)
-    → take (244 * from) message.body
-    ++ flat_map (λ (block : BlockView). block.body) (map (numbered_block side device message) (range_with_len (from + 1) count))
-    ≡ take (244 * (from + count)) message.body
+    → take (longest_body * from) message.body
+    ++ flat_map (λ (block : BlockView). block.body)
+    (map (numbered_block side device message) (range_with_len (from + 1) count))
+    ≡ take (longest_body * (from + count)) message.body
 joined-from side device message from zero =
     let e : from + 0 ≡ from = omega arith in
-    append-nil (take (244 * from) message.body) ∙ ap (λ n. take (244 * n) message.body) (sym e)
+    append-nil (take (longest_body * from) message.body) ∙ ap (λ n. take (longest_body * n) message.body) (sym e)
 joined-from side device message from (suc count) =
     let e : from + 1 + count ≡ from + suc count = omega arith in
-    sym (append_assoc (take (244 * from) message.body) (take 244 (drop (244 * (from + 1 - 1)) message.body))
-    (flat_map (λ (block : BlockView). block.body) (map (numbered_block side device message) (range_with_len (from + 1 + 1) count))))
+    sym (append_assoc (take (longest_body * from) message.body)
+    (take longest_body (drop (longest_body * (from + 1 - 1)) message.body))
+    (flat_map (λ (block : BlockView). block.body)
+    (map (numbered_block side device message) (range_with_len (from + 1 + 1) count))))
     ∙ ap (λ (bytes : List ℕ). bytes ++ flat_map (λ (block : BlockView). block.body)
     (map (numbered_block side device message) (range_with_len (from + 1 + 1) count))) (take-block from message.body)
     ∙ joined-from side device message (from + 1) count
-    ∙ ap (λ n. take (244 * n) message.body) e
+    ∙ ap (λ n. take (longest_body * n) message.body) e
 
-pub take-count : (message : Message) → take (244 * block_count message) message.body ≡ message.body
-take-count message = take_all (244 * block_count message) message.body (is-count message).holds
+pub take-count : (message : Message) → take (longest_body * block_count message) message.body ≡ message.body
+take-count message = take_all (longest_body * block_count message) message.body (is-count message).holds
 
-length-block : (number : ℕ) (body : List ℕ) → length (take 244 (drop (244 * (number - 1)) body)) ≡ min 244 (length body - 244 * (number - 1))
-length-block number body = length-take 244 (drop (244 * (number - 1)) body) ∙ ap (min 244) (length-drop (244 * (number - 1)) body)
+pub length-block : (number : ℕ) (body : List ℕ)
+    → length (take longest_body (drop (longest_body * (number - 1)) body))
+    ≡ min longest_body (length body - longest_body * (number - 1))
+length-block number body = length-take longest_body (drop (longest_body * (number - 1)) body)
+    ∙ ap (min longest_body) (length-drop (longest_body * (number - 1)) body)
 
 full-block :
     (number : ℕ) (body : List ℕ) (count : ℕ) → IsCount (length body) count → 1 ≤ number → number < count
-    → length (take 244 (drop (244 * (number - 1)) body)) ≡ 244
+    → length (take longest_body (drop (longest_body * (number - 1)) body)) ≡ longest_body
 full-block number body count is some less = length-block number body ∙ go is.full
   where
-    go : (244 * (count - 1) < length body) ⊎ (count ≡ 1) → min 244 (length body - 244 * (number - 1)) ≡ 244
+    go : (longest_body * (count - 1) < length body) ⊎ (count ≡ 1)
+        → min longest_body (length body - longest_body * (number - 1)) ≡ longest_body
     go (inl full) = min-eq_left (omega arith)
     go (inr one) = absurd (omega arith)
 
@@ -99,10 +122,11 @@ some-text (byte ∷ rest) some = omega arith
 
 last-block :
     (body : List ℕ) (count : ℕ) → IsCount (length body) count → 1 ≤ length body
-    → 1 ≤ length (take 244 (drop (244 * (count - 1)) body))
+    → 1 ≤ length (take longest_body (drop (longest_body * (count - 1)) body))
 last-block body count is some = rw (length-block count body) (go is.full)
   where
-    go : (244 * (count - 1) < length body) ⊎ (count ≡ 1) → 1 ≤ min 244 (length body - 244 * (count - 1))
+    go : (longest_body * (count - 1) < length body) ⊎ (count ≡ 1)
+        → 1 ≤ min longest_body (length body - longest_body * (count - 1))
     go (inl full) = le-min (omega arith) (omega arith)
     go (inr one) = le-min (omega arith) (omega arith)
 
@@ -111,9 +135,9 @@ carries = λ side device message.
     let is = is-count message in
     record {
       joined = joined-from side device message 0 (block_count message)
-          ∙ ap (λ n. take (244 * n) message.body) (zero-add (block_count message)) ∙ take-count message;
+          ∙ ap (λ n. take (longest_body * n) message.body) (zero-add (block_count message)) ∙ take-count message;
       full = λ number some less. full-block number message.body (block_count message) is some less;
-      last_at_most = rw (length-block (block_count message) message.body) (min-le_left 244 _);
+      last_at_most = rw (length-block (block_count message) message.body) (min-le_left longest_body _);
       last_at_least = λ some. last-block message.body (block_count message) is (some-text message.body some);
       last = λ number. (λ e. eqb-true _ _ e, λ e. eq-eqb _ _ e);
     }

@@ -1,12 +1,17 @@
 -- What is kept of the messages that wait, as one leaves or has its turn.
-use Rattle.std.proofs.Common.{◌≡◌, ◌∙◌, sym, Bool, false, ◌==◌, ℕ, ◌+◌, List, ◌++◌, drop, take, set, arith}
+use Rattle.std.proofs.Common.{◌≡◌, refl, ◌∙◌, sym, Bool, true, false, ◌==◌, ℕ, ◌+◌, List, ◌++◌, drop, take, set, arith}
+use Rattle.std.specs.Bool.{beq}
+use Rattle.std.specs.List.{list_any}
+use Rattle.std.proofs.lemmas.Bool.{and_left, and_right, ne_eqb}
 use Rattle.std.proofs.lemmas.Bool.Decides.{nat_tests}
 use Rattle.std.proofs.lemmas.List.{drop-set-lt, length-append, length-drop, length-take, length-set}
-use Rattle.std.proofs.lemmas.List.Elements.{All-append, All-drop, All-set, All-take}
+use Rattle.std.proofs.lemmas.List.Elements.{All-append, All-drop, All-set, All-take, All-weaker}
+use Rattle.std.proofs.lemmas.List.Folds.{list_any_none}
+use Rattle.block_codec.specs.declared.header.Header.{Header}
 use Rattle.gl_base.specs.declared.side.Side.{Side}
 use Rattle.message_flow.specs.declared.waiting.Waiting.{Waiting}
 use Rattle.message_flow.specs.Blocks.{block_count}
-use Rattle.message_flow.specs.Outgoing.{IsOutgoing}
+use Rattle.message_flow.specs.Outgoing.{IsOutgoing, OutgoingView, is_source_of}
 use Rattle.message_flow.specs.Waiting.{IsWaiting}
 
 -- the first message leaves
@@ -51,3 +56,22 @@ front-turned side device waiting rest first is is_waiting e =
       waiting = rw e (All-append IsWaiting _ _ (All-drop IsWaiting 1 _ all) (All-take IsWaiting 1 _ all));
       few = rw e (simp (length-append, length-drop, length-take, length-set) (omega arith));
     }
+
+-- the last block that has gone of a message that waits hasn't the E bit
+no-end :
+    (outgoing : OutgoingView) (header : Header) → header.last ≡ true → (w : Waiting) → IsWaiting w
+    → is_source_of outgoing header w ≡ false
+no-end outgoing header last w is =
+    let left = is.left in
+    let open_still : (w.gone == block_count w.message) ≡ false =
+    ne_eqb w.gone (block_count w.message) (λ e. omega arith) in
+    let differ : beq (w.gone == block_count w.message) header.last ≡ false = rw (open_still, last) refl in
+    and_left _ _ (and_right _ _ differ)
+
+pub none-ended :
+    (outgoing : OutgoingView) (header : Header) → IsOutgoing outgoing → header.last ≡ true
+    → list_any (is_source_of outgoing header) outgoing.waiting ≡ false
+none-ended outgoing header is last =
+    list_any_none (is_source_of outgoing header) outgoing.waiting
+    (All-weaker IsWaiting (λ w. is_source_of outgoing header w ≡ false)
+    (no-end outgoing header last) outgoing.waiting is.waiting)

@@ -2,8 +2,8 @@
 use Rattle.std.specs.Prelude.{◌≡◌, ◌≢◌, ℕ, Bool, false, ◌+◌, ◌≤◌, ◌&&◌, nat_le, reverse, List, [], ◌∷◌, Option, Some, None, if◌then◌else◌}
 use Rattle.std.specs.List.{before_first, filter_map, find}
 use Rattle.block_codec.specs.declared.header.Header.{Header}
-use Rattle.message_flow.specs.Entries.{Entry}
-use Rattle.message_flow.specs.History.{Met, cuts, is_part, met_of, newest_header, open_blocks, open_firsts}
+use Rattle.message_flow.specs.Entries.{FlowEntry}
+use Rattle.message_flow.specs.History.{Met, is_cut, is_part, met_of, newest_header, open_blocks, open_firsts}
 use Rattle.message_flow.specs.History.Met.{Arrived, TimedOut}
 use Rattle.message_flow.specs.Key.{same_key}
 use Rattle.message_flow.specs.Receiver.{Receiver}
@@ -15,16 +15,16 @@ moment_of header (TimedOut dropped now) = None
 
 -- the moments of the open blocks of a header's key, the newest first
 abbrev pub open_moments : Header → List Met → List ℕ
-open_moments header met = filter_map (moment_of header) (before_first (cuts header) met)
+open_moments header met = filter_map (moment_of header) (before_first (is_cut header) met)
 
 -- T4 runs from the newest of these moments (SEMI E4, T4)
-abbrev pub runs_out : Receiver → List ℕ → Option ℕ
-runs_out receiver [] = None
-runs_out receiver (newest ∷ before) = Some (newest + receiver.t4)
+abbrev pub t4_end : Receiver → List ℕ → Option ℕ
+t4_end receiver [] = None
+t4_end receiver (newest ∷ before) = Some (newest + receiver.t4)
 
 -- the moment at which T4 runs out on a header's key; none where no block of it is open
 abbrev pub deadline_of : Receiver → Header → List Met → Option ℕ
-deadline_of receiver header met = runs_out receiver (open_moments header met)
+deadline_of receiver header met = t4_end receiver (open_moments header met)
 
 -- T4 runs out on some key with an open block at this moment, and on none before
 pub record IsEarliest (receiver : Receiver) (met : List Met) (moment : ℕ) : Type 0 where
@@ -33,13 +33,14 @@ pub record IsEarliest (receiver : Receiver) (met : List Met) (moment : ℕ) : Ty
   pub reached : deadline_of receiver key met ≡ Some moment
   pub least : (header : Header) (other : ℕ) → deadline_of receiver header met ≡ Some other → moment ≤ other
 
--- the deadline after all this: the earliest moment at which T4 runs out, and none exactly where no key has an open block
+-- the deadline after all this: the earliest moment at which T4 runs out, and none exactly where no key has an open
+-- block
 abbrev pub IsDeadlineAfter : Receiver → List Met → Option ℕ → Type 0
 IsDeadlineAfter receiver met None = (header : Header) → open_blocks header met ≡ []
 IsDeadlineAfter receiver met (Some moment) = IsEarliest receiver met moment
 
 -- the deadline after these entries, the oldest first
-abbrev pub IsDeadlineAt : Receiver → List Entry → Option ℕ → Type 0
+abbrev pub IsDeadlineAt : Receiver → List FlowEntry → Option ℕ → Type 0
 IsDeadlineAt receiver entries deadline = IsDeadlineAfter receiver (met_of receiver (reverse entries)) deadline
 
 -- a moment that has come
@@ -59,5 +60,5 @@ dropped_after receiver met now =
     newest_of met (find (λ first. has_come now (deadline_of receiver first met)) (open_firsts met))
 
 -- the same after these entries, the oldest first
-abbrev pub dropped_at : Receiver → List Entry → ℕ → Option Header
+abbrev pub dropped_at : Receiver → List FlowEntry → ℕ → Option Header
 dropped_at receiver entries now = dropped_after receiver (met_of receiver (reverse entries)) now

@@ -9,5 +9,6 @@ pub mod Laws
 pub mod Message
 pub mod Outgoing
 pub mod Receiver
+pub mod Standing
 pub mod Waiting
 pub mod Worked

@@ -4,10 +4,10 @@ use Rattle.block_codec.specs.Block.{BlockView}
 use Rattle.gl_base.specs.declared.side.Side.TheVariants.{Equipment, Host}
 use Rattle.message_flow.specs.declared.flow.Flow.TheVariants.{Part, Whole, Duplicate, Unexpected}
 use Rattle.message_flow.specs.declared.message.Message.{Message}
-use Rattle.message_flow.specs.Arrivals.{CanBegin, HaveCome, given_since}
+use Rattle.message_flow.specs.Arrivals.{CanBegin, HaveCome, is_given_since}
 use Rattle.message_flow.specs.Blocks.{block_count, header_of, numbered_block}
-use Rattle.message_flow.specs.Entries.{Entry}
-use Rattle.message_flow.specs.Entries.Entry.{Given}
+use Rattle.message_flow.specs.Entries.{FlowEntry}
+use Rattle.message_flow.specs.Entries.FlowEntry.{Given}
 use Rattle.message_flow.specs.History.{flow_at}
 use Rattle.message_flow.specs.Receiver.{IsReceiver, Receiver}
 
@@ -24,16 +24,16 @@ abbrev pub block : ℕ → ℕ → BlockView
 block system number = numbered_block Equipment 0 (report system) number
 
 -- block 1, the same again, block 1 of another message, and block 2
-abbrev pub once : List Entry
+abbrev pub once : List FlowEntry
 once = Given (block 1 1) 0 ∷ []
 
-abbrev pub twice : List Entry
+abbrev pub twice : List FlowEntry
 twice = Given (block 1 1) 1 ∷ once
 
-abbrev pub mixed : List Entry
+abbrev pub mixed : List FlowEntry
 mixed = Given (block 2 1) 2 ∷ twice
 
-abbrev pub all_but_last : List Entry
+abbrev pub all_but_last : List FlowEntry
 all_but_last = Given (block 1 2) 3 ∷ mixed
 
 pub record ComesInThree : Type 0 where
@@ -49,5 +49,5 @@ pub record ComesInThree : Type 0 where
 -- block 3 comes after block 1
 pub record LacksOne : Type 0 where
   pub within : 2 ≤ block_count (report 1)
-  pub missed : given_since (header_of Equipment 0 (report 1) 1) 2 (Given (block 1 3) 3 ∷ mixed) ≡ false
+  pub missed : is_given_since (header_of Equipment 0 (report 1) 1) 2 (Given (block 1 3) 3 ∷ mixed) ≡ false
   pub told : flow_at a_host (reverse mixed) (block 1 3) ≡ Unexpected

@@ -3,14 +3,13 @@ ghost use Rattle.std.specs.List.{find, position, position_or_len, reduce, remove
 ghost use Rattle.std.specs.Option.{option_map, OnSome};
 ghost use Rattle.block_codec.specs.Header.{Fits};
 ghost use Rattle.message_flow.specs.declared.partial.Partial.{Partial};
-ghost use Rattle.message_flow.specs.Assembly.{AssemblyView, IsAssembly, flow_of, has_key, header_so_far, is_due, judged, body_so_far, partials_after, message_of, after_first, after_next};
-ghost use Rattle.message_flow.specs.Deadlines.{IsDeadlineAt, dropped_at};
-ghost use Rattle.message_flow.specs.Entries.{Entry, StandsFor};
-ghost use Rattle.message_flow.specs.History.{flow_at};
-ghost use Rattle.message_flow.specs.Entries.Entry.{Dropped, Given};
-ghost use Rattle.message_flow.specs.Key.{is_given, same_key, same_header};
+ghost use Rattle.message_flow.specs.Assembly.{AssemblyView, FlowsNext, IsAccepted, IsAssembly, IsNextAfter, WholeFits, first_flow, flow_to, has_key, header_so_far, is_due, with_first, with_flow, without_due};
+ghost use Rattle.message_flow.specs.Entries.{StandsFor};
+ghost use Rattle.message_flow.specs.Key.{is_given};
 ghost use Rattle.message_flow.specs.Receiver.{IsReceiver, Receiver, address_of, is_foreign};
+ghost use Rattle.message_flow.specs.Standing.{IsDroppedAt, IsFlowAt, IsNextDeadline, StandsWithBlock, StandsWithDrop};
 
+use crate::key::{same_header, same_key};
 use crate::partial::Partial;
 use crate::{Flow, Message};
 use block_codec::{Block, Header};
@@ -53,8 +52,8 @@ impl Model for Assembly {
 }
 
 impl Assembly {
-    /// What comes in to this side, from every device where none is given. T4 is in milliseconds, and `max_body` is the most
-    /// bytes of a message's text that is taken. No memory is taken yet.
+    /// What comes in to this side, from every device where none is given. T4 is in milliseconds, and `max_body` is
+    /// the most bytes of a message's text that is taken. No memory is taken yet.
     pub fn new(alloc: Global, side: Side, device: Option<u16>, t4: u32, max_body: u32) -> Assembly
         requires { IsReceiver (record { side = side; device = device; t4 = t4; max_body = max_body }) }
         ensures receiver { result.receiver ≡ record { side = side; device = device; t4 = t4; max_body = max_body } }
@@ -71,14 +70,17 @@ impl Assembly {
         }
     }
 
-    /// What a block is that arrives now, after all blocks that were given so far and all messages that T4 dropped.
+    /// What a block is that arrives now, after all blocks that were given so far and all messages that T4 dropped. A
+    /// whole message fits, and its text has no more bytes than this side takes.
     ///
     /// Where memory runs out nothing has changed, and the block was not given.
     #[tactic(auto, using(crate::proofs::Standing::flow_stands, crate::proofs::Standing::stands_given))]
     pub fn accept(&mut self, block: &Block, now: u64) -> Result<Flow, NoMemory>
         requires { now < 2 ^ 62 }
-        ensures answer { (entries : List Entry) → StandsFor self.old entries → IfOk result (λ flow. flow ≡ flow_at self.old.receiver entries block.now) }
-        ensures stands { (entries : List Entry) → StandsFor self.old entries → OnOk result (StandsFor self.new (entries ++ Given block.now now ∷ [])) }
+        ensures kept { IfOk result (IsAccepted self.old block.now now self.new) }
+        ensures whole { IfOk result (WholeFits self.old.receiver.max_body) }
+        ensures answer { IsFlowAt self.old block.now result }
+        ensures stands { StandsWithBlock self.old self.new block.now now result }
         ensures receiver { self.new.receiver ≡ self.old.receiver }
         ensures err { OnErr result (self.new ≡ self.old) }
     {
@@ -93,21 +95,23 @@ impl Assembly {
     /// Where T4 has run out on no message, and only there, the answer is `None`. No memory is taken.
     pub fn tick(&mut self, now: u64) -> Option<Header>
         ensures answer { result ≡ header_so_far (find (is_due now) self.old.partials) }
-        ensures dropped { (entries : List Entry) → StandsFor self.old entries → result ≡ dropped_at self.old.receiver entries now }
-        ensures stands { (entries : List Entry) → StandsFor self.old entries → IfSome result (λ header. StandsFor self.new (entries ++ Dropped header now ∷ [])) }
+        ensures kept { self.new ≡ without_due now self.old }
+        ensures dropped { IsDroppedAt self.old now result }
+        ensures stands { StandsWithDrop self.old self.new now result }
         ensures receiver { self.new.receiver ≡ self.old.receiver }
         ensures none { IfNone result (self.new ≡ self.old) }
+        ensures fits { IfSome result Fits }
     {
         let place = self.first_due(now)?;
         Some(self.partials.remove(place).header)
     }
 
-    /// When T4 runs out on a message next: T4 after the last block of one, the least of all. `None` exactly where no message is
-    /// open.
+    /// When T4 runs out on a message next: T4 after the last block of one, the least of all. `None` exactly where no
+    /// message is open.
     #[tactic(auto, using(crate::proofs::Deadlines::deadline_stands))]
     pub fn deadline(&self) -> Option<u64>
         ensures kept { result ≡ reduce min (map (λ partial. partial.deadline) self.now.partials) }
-        ensures answer { (entries : List Entry) → StandsFor self.now entries → IsDeadlineAt self.now.receiver entries result }
+        ensures answer { IsNextDeadline self.now result }
     {
         self.least_deadline()
     }
@@ -115,8 +119,8 @@ impl Assembly {
     // What a block is, with the change of the open messages that follows.
     fn judge(&mut self, block: &Block, now: u64) -> Result<Flow, NoMemory>
         requires { now < 2 ^ 62 }
-        ensures flow { IfOk result (λ flow. flow ≡ flow_of self.old.receiver self.old.last self.old.partials block.now) }
-        ensures partials { IfOk result (λ flow. self.new ≡ record self.old { partials = partials_after self.old.partials block.now (now + self.old.receiver.t4) flow }) }
+        ensures flow { IfOk result (λ flow. flow ≡ flow_to self.old block.now) }
+        ensures partials { IfOk result (λ flow. self.new ≡ with_flow self.old block.now now flow) }
         ensures err { OnErr result (self.new ≡ self.old) }
     {
         let header = block.header();
@@ -136,8 +140,8 @@ impl Assembly {
     fn go_on(&mut self, place: usize, block: &Block, now: u64) -> Result<Flow, NoMemory>
         requires now { now < 2 ^ 62 }
         requires place { place < length self.old.partials }
-        ensures flow { (partial : Partial) → partial ≡ slice_index_or self.old.partials place partial → IfOk result (λ flow. flow ≡ judged self.old.receiver (Some partial.header) partial.body (length self.old.partials) block.now) }
-        ensures partials { (partial : Partial) → partial ≡ slice_index_or self.old.partials place partial → IfOk result (λ flow. self.new ≡ record self.old { partials = after_next self.old.partials place partial block.now (now + self.old.receiver.t4) flow }) }
+        ensures flow { FlowsNext self.old place block.now result }
+        ensures partials { IsNextAfter self.old self.new place block.now now result }
         ensures err { OnErr result (self.new ≡ self.old) }
     {
         let header = block.header();
@@ -162,8 +166,8 @@ impl Assembly {
     // What a block is whose message is not open.
     fn begin(&mut self, block: &Block, now: u64) -> Result<Flow, NoMemory>
         requires { now < 2 ^ 62 }
-        ensures flow { IfOk result (λ flow. flow ≡ judged self.old.receiver None [] (length self.old.partials) block.now) }
-        ensures partials { IfOk result (λ flow. self.new ≡ record self.old { partials = after_first self.old.partials block.now (now + self.old.receiver.t4) flow }) }
+        ensures flow { IfOk result (λ flow. flow ≡ first_flow self.old block.now) }
+        ensures partials { IfOk result (λ flow. self.new ≡ with_first self.old block.now now flow) }
         ensures err { OnErr result (self.new ≡ self.old) }
     {
         let header = block.header();
@@ -223,25 +227,6 @@ impl Assembly {
         let own = header.from_equipment == (self.side == Side::Equipment);
         own || self.device.is_some_and(|device| device != header.device)
     }
-}
-
-// Whether two blocks are of one message: all of the headers agrees but E bit and block number.
-fn same_key(a: &Header, b: &Header) -> bool
-    ensures { result ≡ same_key a.now b.now }
-{
-    a.from_equipment == b.from_equipment
-        && a.device == b.device
-        && a.stream == b.stream
-        && a.wait == b.wait
-        && a.function == b.function
-        && a.system == b.system
-}
-
-// Whether two headers have the same ten bytes.
-fn same_header(a: &Header, b: &Header) -> bool
-    ensures { result ≡ same_header a.now b.now }
-{
-    same_key(a, b) && a.last == b.last && a.number == b.number
 }
 
 // The first two bytes of a header, as one number.

@@ -3,6 +3,7 @@
 
 mod assembly;
 mod flow;
+mod key;
 mod laws;
 mod message;
 mod outgoing;
@@ -15,8 +16,9 @@ mod waiting;
 pub use assembly::Assembly;
 pub use flow::Flow;
 pub use laws::{
-    blocks_are_numbered, blocks_carry_text, kept_is_looked_back_for, left_out_is_missed,
-    messages_come_whole, whole_is_numbered, worked_runs,
+    blocks_are_numbered, blocks_carry_text, blocks_make_messages, kept_is_looked_back_for,
+    left_out_is_missed, messages_come_whole, messages_go_in_blocks, standing_goes_on,
+    whole_is_numbered, whole_messages_fit, worked_runs,
 };
 pub use message::Message;
 pub use outgoing::{Outgoing, Pushing};

@@ -1,13 +1,11 @@
 ghost use Rattle.std.specs.Prelude.{◌≡◌, ◌+◌, ◌<◌, ◌≤◌, ◌↔◌, length, IsTrue};
 ghost use Rattle.block_codec.specs.Block.{IsBlock};
+ghost use Rattle.block_codec.specs.Protocol.{most_blocks};
 ghost use Rattle.message_flow.specs.Blocks.{block_count, header_of, numbered_block};
 ghost use Rattle.message_flow.specs.Message.{MessageFits, is_primary};
 
-use block_codec::{Block, Header};
+use block_codec::{Block, Header, LONGEST_BODY, LONGEST_TEXT};
 use gl_base::{Row, Side};
-
-// The most bytes of a message's text that a block carries.
-const BLOCK_BODY: usize = 244;
 
 /// A message: its stream and function, whether its sender awaits a reply, its system bytes and its text.
 #[derive(Debug, Drop)]
@@ -29,7 +27,7 @@ impl Message {
     pub fn fits(&self) -> bool
         ensures { IsTrue result ↔ MessageFits self.now }
     {
-        self.stream < 0x80 && self.body.len() <= 7_995_148
+        self.stream < 0x80 && self.body.len() <= LONGEST_TEXT as usize
     }
 
     // Whether it is a primary message: its function is odd.
@@ -44,9 +42,9 @@ impl Message {
         requires { MessageFits self.now }
         ensures count { result ≡ block_count self.now }
         ensures some { 1 ≤ result }
-        ensures few { result ≤ 32767 }
+        ensures few { result ≤ most_blocks }
     {
-        self.body.len().div_ceil(BLOCK_BODY).max(1) as u16
+        self.body.len().div_ceil(LONGEST_BODY).max(1) as u16
     }
 
     // The header of the block of this number.
@@ -75,9 +73,9 @@ impl Message {
         ensures value { result ≡ numbered_block side device self.now number }
         ensures is_block { IsBlock result }
     {
-        let start = BLOCK_BODY * (usize::from(number) - 1);
+        let start = LONGEST_BODY * (usize::from(number) - 1);
         let rest = self.body.as_slice().split_at(start).1;
-        let body = rest.split_at(BLOCK_BODY.min(rest.len())).0;
+        let body = rest.split_at(LONGEST_BODY.min(rest.len())).0;
         Block::new(self.header(side, device, number), body).unwrap()
     }
 }

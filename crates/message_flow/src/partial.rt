@@ -1,5 +1,5 @@
 ghost use Rattle.std.specs.Prelude.{◌≡◌, ◌≤◌, ◌<◌, [], OnErr, OnOk, IfOk};
-ghost use Rattle.message_flow.specs.Assembly.{grown, message_of, new_partial};
+ghost use Rattle.message_flow.specs.Assembly.{next_partial, message_of, new_partial};
 
 use crate::Message;
 use block_codec::{Block, Header};
@@ -30,7 +30,7 @@ impl Partial {
 
     // The next block has come. Where memory runs out the message stays as it was.
     pub(crate) fn grow(&mut self, block: &Block, deadline: u64) -> Result<(), NoMemory>
-        ensures ok { OnOk result (self.new ≡ grown self.old block.now deadline) }
+        ensures ok { OnOk result (self.new ≡ next_partial self.old block.now deadline) }
         ensures err { OnErr result (self.new ≡ self.old) }
     {
         self.body.extend(block.body())?;

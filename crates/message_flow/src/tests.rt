@@ -1,16 +1,14 @@
 use super::*;
 use arrayvec::ArrayVec;
-use block_codec::{Block, Header, frame_of};
+use block_codec::{Block, Header, LONGEST_TEXT, frame_of};
 use gl_base::{NoMemory, Row, Side};
 use std::alloc::Global;
 use std::test::Fail;
 
-// An event report of the equipment, S6F11 with W, of so many bytes.
-fn report(alloc: Global, system: u32, bytes: usize) -> Result<Message, NoMemory> {
+// An event report of the equipment, S6F11 with W, with this text.
+fn report(alloc: Global, system: u32, text: &[u8]) -> Result<Message, NoMemory> {
     let mut body = Row::new(alloc);
-    for _ in 0..bytes {
-        body.push(7)?;
-    }
+    body.extend(text)?;
     Ok(Message {
         stream: 6,
         function: 11,
@@ -20,39 +18,40 @@ fn report(alloc: Global, system: u32, bytes: usize) -> Result<Message, NoMemory>
     })
 }
 
-// Whether a message that fits joins those that wait.
-fn joins(outgoing: &mut Outgoing, message: Message) -> bool {
-    message.fits() && outgoing.push(message).is_ok()
-}
-
-// A block of an event report of device 0.
-fn part(system: u32, number: u16, last: bool, body: &[u8]) -> Option<Block> {
-    let header = Header {
+// The header of one of its blocks.
+fn header(device: u16, system: u32, number: u16, last: bool) -> Header {
+    Header {
         from_equipment: true,
-        device: 0,
+        device,
         wait: true,
         stream: 6,
         function: 11,
         last,
         number,
         system,
-    };
-    Block::new(header, body)
+    }
 }
 
-// A block of another device than 0.
-fn of_device(device: u16) -> Option<Block> {
-    let header = Header {
-        from_equipment: true,
-        device,
-        wait: false,
-        stream: 6,
-        function: 11,
-        last: true,
-        number: 1,
-        system: 1,
-    };
-    Block::new(header, &[])
+// Whether a report joins those that wait.
+fn joins(outgoing: &mut Outgoing, alloc: Global, system: u32, text: &[u8]) -> bool {
+    match report(alloc, system, text) {
+        Ok(message) => message.fits() && outgoing.push(message).is_ok(),
+        Err(NoMemory) => false,
+    }
+}
+
+// Whether these blocks go next: their system bytes, their numbers and how many bytes of text they have.
+fn send(outgoing: &mut Outgoing, blocks: &[(u32, u16, usize)]) -> bool {
+    for (system, number, bytes) in blocks {
+        let Some(block) = outgoing.next_block() else {
+            return false;
+        };
+        let header = block.header();
+        if header.system != *system || header.number != *number || block.body().len() != *bytes {
+            return false;
+        }
+    }
+    true
 }
 
 // What a block is at a moment, in a word.
@@ -62,9 +61,21 @@ fn told(assembly: &mut Assembly, block: Option<Block>, now: u32) -> &'static str
     };
     match assembly.accept(&block, u64::from(now)) {
         Ok(Flow::Part) => "part",
-        Ok(Flow::Whole(_)) => "whole",
+        Ok(Flow::Whole(message)) => {
+            if message.body.as_slice() == b"ac".as_slice() {
+                "whole ac"
+            } else {
+                "whole"
+            }
+        }
         Ok(Flow::Duplicate) => "duplicate",
-        Ok(Flow::Foreign(_)) => "foreign",
+        Ok(Flow::Foreign(address)) => {
+            if address == 0x8001 {
+                "foreign 8001"
+            } else {
+                "foreign"
+            }
+        }
         Ok(Flow::Unexpected) => "unexpected",
         Ok(Flow::TooLong) => "too long",
         Ok(Flow::Crowded) => "crowded",
@@ -72,22 +83,64 @@ fn told(assembly: &mut Assembly, block: Option<Block>, now: u32) -> &'static str
     }
 }
 
+// A block, and what it is: its moment, system bytes, number, E bit and text.
+type Case<'a> = (u32, u32, u16, bool, &'a [u8], &'static str);
+
+// Whether the blocks are what is said of them.
+fn are_told(assembly: &mut Assembly, cases: &[Case]) -> bool {
+    for (now, system, number, last, text, word) in cases {
+        let block = Block::new(header(0, *system, *number, *last), text);
+        if told(assembly, block, *now) != *word {
+            return false;
+        }
+    }
+    true
+}
+
+// Whether a block of each of 16 messages is what is said of it.
+fn sixteen_are(assembly: &mut Assembly, number: u16, last: bool, word: &str) -> bool {
+    for system in 0..16 {
+        let block = Block::new(header(0, system, number, last), b"x");
+        if told(assembly, block, 0) != word {
+            return false;
+        }
+    }
+    true
+}
+
+// Whether 128 reports of two blocks join those that wait.
+fn fill(outgoing: &mut Outgoing, alloc: Global) -> bool {
+    for system in 0..128 {
+        if !joins(outgoing, alloc, system, &[7; 245]) {
+            return false;
+        }
+    }
+    true
+}
+
+// Whether a report is handed back since 128 wait.
+fn is_full(outgoing: &mut Outgoing, message: Message) -> bool {
+    let system = message.system;
+    if !message.fits() {
+        return false;
+    }
+    match outgoing.push(message) {
+        Err(Pushing::QueueFull(back)) => back.system == system,
+        _ => false,
+    }
+}
+
 #[test]
 fn goes_out_in_blocks(rt: HostRuntime) -> Result<(), Fail> {
     let alloc = rt.alloc();
     let mut outgoing = Outgoing::new(alloc, Side::Equipment, 0);
-    assert!(rt; joins(&mut outgoing, report(alloc, 1, 489)?));
-    for (number, length, last) in [(1, 0xFE, false), (2, 0xFE, false), (3, 0x0B, true)] {
-        let block = outgoing.next_block().ok_or("no block")?;
-        assert_eq!(rt; block.header().number, number);
-        assert_eq!(rt; block.header().last, last);
-        assert_eq!(rt; frame_of(&block).as_slice().first(), Some(&length));
-    }
-    assert!(rt; outgoing.next_block().is_none());
-    assert!(rt; joins(&mut outgoing, report(alloc, 2, 0)?));
+    assert!(rt; joins(&mut outgoing, alloc, 1, &[7; 489]));
+    assert!(rt; send(&mut outgoing, &[(1, 1, 244), (1, 2, 244)]));
     let block = outgoing.next_block().ok_or("no block")?;
-    assert!(rt; block.header().last && block.header().number == 1 && block.body().is_empty());
-    assert_eq!(rt; outgoing.len(), 0);
+    assert_eq!(rt; block.header(), header(0, 1, 3, true));
+    assert_eq!(rt; frame_of(&block).as_slice().first(), Some(&11));
+    assert!(rt; joins(&mut outgoing, alloc, 2, &[]));
+    assert!(rt; send(&mut outgoing, &[(2, 1, 0)]) && outgoing.next_block().is_none());
     Ok(())
 }
 
@@ -95,140 +148,87 @@ fn goes_out_in_blocks(rt: HostRuntime) -> Result<(), Fail> {
 fn waits_in_turn(rt: HostRuntime) -> Result<(), Fail> {
     let alloc = rt.alloc();
     let mut outgoing = Outgoing::new(alloc, Side::Host, 32_767);
-    for system in 0..128 {
-        assert!(rt; joins(&mut outgoing, report(alloc, system, 245)?));
-    }
-    let more = report(alloc, 128, 0)?;
-    assert!(rt; more.fits());
-    if more.fits() {
-        let Err(Pushing::QueueFull(back)) = outgoing.push(more) else {
-            return Err("taken")?;
-        };
-        assert_eq!(rt; back.system, 128);
-    }
-    for system in 0..2 {
-        let block = outgoing.next_block().ok_or("no block")?;
-        assert_eq!(rt; (block.header().system, block.header().number), (system, 1));
-    }
-    assert_eq!(rt; outgoing.without_wait(), 0);
-    assert!(rt; outgoing.waiting(false, 2).is_none());
+    assert!(rt; outgoing.drop_front().is_none() && outgoing.waiting(true, 2).is_none());
+    assert!(rt; fill(&mut outgoing, alloc) && is_full(&mut outgoing, report(alloc, 128, &[])?));
+    assert!(rt; send(&mut outgoing, &[(0, 1, 244), (1, 1, 244)]));
     let last = outgoing.waiting(true, 2).ok_or("not there")?;
-    assert_eq!(rt; (last.number, last.last, last.device), (2, true, 32_767));
-    assert!(rt;
-        !outgoing.remove(false, 2) && outgoing.remove(true, 2) && !outgoing.remove(true, 2)
-    );
+    assert!(rt; last.number == 2 && last.last && last.device == 32_767);
+    assert!(rt; !outgoing.remove(false, 2) && outgoing.remove(true, 2));
     assert_eq!(rt; outgoing.drop_front().map(|header| header.system), Some(3));
     assert_eq!(rt; outgoing.len(), 126);
+    Ok(())
+}
+
+// Two reports with one key: of two blocks and of three.
+#[test]
+fn recalls_the_last_in_turn(rt: HostRuntime) -> Result<(), Fail> {
+    let alloc = rt.alloc();
+    let mut outgoing = Outgoing::new(alloc, Side::Equipment, 0);
+    assert!(rt; joins(&mut outgoing, alloc, 1, &[7; 245]));
+    assert!(rt; joins(&mut outgoing, alloc, 1, &[7; 489]));
+    assert!(rt; send(&mut outgoing, &[(1, 1, 244), (1, 1, 244)]));
+    assert!(rt; outgoing.recall(&header(0, 1, 1, false)));
+    assert!(rt; joins(&mut outgoing, alloc, 1, &[7; 489]));
+    assert!(rt; send(&mut outgoing, &[(1, 2, 1), (1, 1, 244), (1, 2, 244)]));
+    assert!(rt; !outgoing.recall(&header(0, 1, 2, true)));
+    assert!(rt; send(&mut outgoing, &[(1, 3, 1)]));
     Ok(())
 }
 
 #[test]
 fn comes_in_block_by_block(rt: HostRuntime) -> Result<(), Fail> {
     let mut host = Assembly::new(rt.alloc(), Side::Host, Some(0), 1_000, 244);
-    assert_eq!(rt; told(&mut host, part(1, 1, false, b"a"), 0), "part");
-    assert_eq!(rt; told(&mut host, part(2, 1, false, b"b"), 1), "part");
-    assert_eq!(rt; told(&mut host, part(2, 1, false, b"b"), 2), "duplicate");
-    assert_eq!(rt; host.deadline(), Some(1_000));
-    let last = part(1, 2, true, b"c").ok_or("no block")?;
-    let Flow::Whole(message) = host.accept(&last, 3)? else {
-        return Err("not whole")?;
-    };
-    assert_eq!(rt; message.body.as_slice(), b"ac".as_slice());
-    assert_eq!(rt;
-        (message.stream, message.function, message.system),
-        (6, 11, 1)
-    );
-    assert_eq!(rt; told(&mut host, part(2, 2, true, b"d"), 4), "whole");
-    assert_eq!(rt; told(&mut host, part(3, 2, true, b""), 5), "unexpected");
-    assert_eq!(rt; told(&mut host, part(4, 1, false, &[0; 244]), 6), "part");
-    assert_eq!(rt; told(&mut host, part(4, 2, true, b"x"), 7), "too long");
-    assert_eq!(rt; told(&mut host, part(5, 1, false, b""), 8), "part");
-    assert_eq!(rt; host.tick(1_007), None);
-    assert_eq!(rt; host.tick(1_008).map(|header| header.system), Some(5));
-    assert_eq!(rt; told(&mut host, part(5, 2, true, b""), 1_009), "unexpected");
+    let cases: [Case; 10] = [
+        (0, 1, 1, false, b"a", "part"),
+        (1, 2, 1, false, b"b", "part"),
+        (2, 2, 1, false, b"b", "duplicate"),
+        (3, 1, 2, true, b"c", "whole ac"),
+        (3, 2, 2, true, b"d", "whole"),
+        (3, 3, 2, true, b"", "unexpected"),
+        (3, 4, 1, false, &[0; 244], "part"),
+        (3, 4, 2, true, b"x", "too long"),
+        (4, 4, 1, true, &[0; 244], "whole"),
+        (5, 5, 1, false, b"", "part"),
+    ];
+    assert!(rt; are_told(&mut host, &cases));
+    assert_eq!(rt; host.deadline(), Some(1_005));
+    assert_eq!(rt; host.tick(1_004), None);
+    assert_eq!(rt; host.tick(1_005), Some(header(0, 5, 1, false)));
+    assert_eq!(rt; host.deadline(), None);
     Ok(())
 }
 
 #[test]
-fn knows_its_device(rt: HostRuntime) -> Result<(), Fail> {
+fn knows_side_and_device(rt: HostRuntime) -> Result<(), Fail> {
     let alloc = rt.alloc();
+    let block = Block::new(header(1, 1, 1, true), &[]);
     let mut host = Assembly::new(alloc, Side::Host, Some(0), 1_000, 244);
-    let Flow::Foreign(address) = host.accept(&of_device(1).ok_or("no block")?, 0)? else {
-        return Err("not foreign")?;
-    };
-    assert_eq!(rt; address, 0x8001);
-    let mut last = Assembly::new(alloc, Side::Host, Some(32_767), 1_000, 244);
-    assert_eq!(rt; told(&mut last, of_device(32_767), 0), "whole");
-    let mut every = Assembly::new(alloc, Side::Host, None, 1_000, 244);
-    assert_eq!(rt; told(&mut every, of_device(9), 0), "whole");
+    assert_eq!(rt; told(&mut host, block, 0), "foreign 8001");
+    let block = Block::new(header(9, 1, 1, true), &[]);
     let mut equipment = Assembly::new(alloc, Side::Equipment, None, 1_000, 244);
-    assert_eq!(rt; told(&mut equipment, of_device(9), 0), "foreign");
+    assert_eq!(rt; told(&mut equipment, block, 0), "foreign");
+    let block = Block::new(header(9, 1, 1, true), &[]);
+    let mut every = Assembly::new(alloc, Side::Host, None, 1_000, 244);
+    assert_eq!(rt; told(&mut every, block, 0), "whole");
     Ok(())
 }
 
 #[test]
 fn keeps_sixteen_apart(rt: HostRuntime) -> Result<(), Fail> {
-    let mut host = Assembly::new(rt.alloc(), Side::Host, Some(0), 120_000, 7_995_148);
-    for number in 1..4 {
-        for system in 0..16 {
-            let wanted = if number == 3 { "whole" } else { "part" };
-            assert_eq!(rt;
-                told(&mut host, part(system, number, number == 3, b"x"), 0),
-                wanted
-            );
-        }
-        if number < 3 {
-            assert_eq!(rt; told(&mut host, part(16, 1, false, b"x"), 0), "crowded");
-            assert_eq!(rt; told(&mut host, part(17, 1, true, b"x"), 0), "whole");
-        }
-    }
-    assert_eq!(rt; host.deadline(), None);
-    Ok(())
-}
-
-// A whole message in one block without text, as the host sends it: S1F1 with W.
-#[test]
-fn tells_a_repeat(rt: HostRuntime) -> Result<(), Fail> {
-    let header = Header {
-        from_equipment: false,
-        device: 0,
-        wait: true,
-        stream: 1,
-        function: 1,
-        last: true,
-        number: 1,
-        system: 1,
-    };
-    let mut equipment = Assembly::new(rt.alloc(), Side::Equipment, None, 1_000, 244);
-    assert_eq!(rt; told(&mut equipment, Block::new(header, &[]), 0), "whole");
-    assert_eq!(rt;
-        told(&mut equipment, Block::new(header, &[]), 0),
-        "duplicate"
+    let mut host = Assembly::new(rt.alloc(), Side::Host, Some(0), 120_000, LONGEST_TEXT);
+    assert!(rt; sixteen_are(&mut host, 1, false, "part"));
+    assert!(rt;
+        are_told(
+            &mut host,
+            &[
+                (0, 16, 1, false, b"x", "crowded"),
+                (0, 17, 1, true, b"x", "whole")
+            ]
+        )
     );
-    Ok(())
-}
-
-// What the last block of a message of so many bytes is to a host that takes 244.
-fn ends_as(alloc: Global, bytes: usize) -> Result<&'static str, NoMemory> {
-    let mut equipment = Outgoing::new(alloc, Side::Equipment, 0);
-    let mut host = Assembly::new(alloc, Side::Host, Some(0), 1_000, 244);
-    let mut last = "not sent";
-    if joins(&mut equipment, report(alloc, 1, bytes)?) {
-        for now in 0..2 {
-            last = told(&mut host, equipment.next_block(), now);
-            if equipment.len() == 0 {
-                return Ok(last);
-            }
-        }
-    }
-    Ok(last)
-}
-
-#[test]
-fn takes_as_much_as_it_may(rt: HostRuntime) -> Result<(), Fail> {
-    let alloc = rt.alloc();
-    assert_eq!(rt; ends_as(alloc, 244)?, "whole");
-    assert_eq!(rt; ends_as(alloc, 245)?, "too long");
+    assert!(rt;
+        sixteen_are(&mut host, 2, false, "part") && sixteen_are(&mut host, 3, true, "whole")
+    );
     Ok(())
 }
 
@@ -236,18 +236,20 @@ fn takes_as_much_as_it_may(rt: HostRuntime) -> Result<(), Fail> {
 fn counts_those_without_wait(rt: HostRuntime) -> Result<(), Fail> {
     let alloc = rt.alloc();
     let mut outgoing = Outgoing::new(alloc, Side::Equipment, 0);
-    assert!(rt; outgoing.drop_front().is_none() && outgoing.waiting(true, 1).is_none());
     let quiet = Message {
         wait: false,
-        ..report(alloc, 1, 0)?
+        ..report(alloc, 1, &[])?
     };
-    assert!(rt; joins(&mut outgoing, quiet) && joins(&mut outgoing, report(alloc, 2, 0)?));
+    assert!(rt; quiet.fits());
+    if quiet.fits() {
+        assert!(rt; outgoing.push(quiet).is_ok() && joins(&mut outgoing, alloc, 2, &[]));
+    }
     assert_eq!(rt; outgoing.without_wait(), 1);
-    assert_eq!(rt;
-        outgoing.drop_front().map(|header| header.wait),
-        Some(false)
-    );
-    assert_eq!(rt; (outgoing.without_wait(), outgoing.len()), (0, 1));
+    let wide = Message {
+        stream: 128,
+        ..report(alloc, 1, &[])?
+    };
+    assert!(rt; !wide.fits());
     Ok(())
 }
 

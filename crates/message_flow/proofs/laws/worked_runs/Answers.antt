@@ -1,5 +1,5 @@
 use Rattle.std.proofs.Common.{refl, rules, arith, true, [], inl}
-use Rattle.message_flow.specs.Arrivals.HaveCome.{begun, next, again, between}
+use Rattle.message_flow.specs.Arrivals.HaveCome.{start, next, again, between}
 use Rattle.gl_base.specs.declared.side.Side.TheVariants.{Equipment}
 use Rattle.message_flow.specs.Arrivals.{CanBegin}
 use Rattle.message_flow.specs.Worked.{a_host, mixed, once, report, twice}
@@ -12,7 +12,7 @@ returns-clause-comes c =
     record {
       receiver = search rules;
       begins = begins;
-      comes = next mixed 1 _ 3 (between twice 1 true _ (again once 1 1 (begun [] 0 begins)) refl) (omega arith);
+      comes = next mixed 1 _ 3 (between twice 1 true _ (again once 1 1 (start [] 0 begins)) refl) (omega arith);
       more = omega arith;
       first = refl;
       again = refl;

@@ -14,8 +14,10 @@ pub returns-in-Some-clause-flow : goal.returns-in-Some-clause-flow
 returns-in-Some-clause-flow c =
     let s = c.args.self.now in
     let b = c.args.block.now in
-    let given : is_given s.last b.header ≡ false = rw (← c.header-header.ensures.value) (sym c.is_given.ensures ∙ c.if-is_given.false) in
-    let foreign : is_foreign s.receiver b.header ≡ false = rw (← c.header-header.ensures.value) (sym c.is_foreign.ensures ∙ c.if-is_foreign.false) in
+    let given : is_given s.last b.header ≡ false =
+    rw (← c.header-header.ensures.value) (sym c.is_given.ensures ∙ c.if-is_given.false) in
+    let foreign : is_foreign s.receiver b.header ≡ false =
+    rw (← c.header-header.ensures.value) (sym c.is_foreign.ensures ∙ c.if-is_foreign.false) in
     let e : position (has_key b.header) s.partials ≡ Some c.in-Some.place =
     rw (← c.header-header.ensures.value) (sym c.place_of.ensures ∙ c.in-Some.is) in
     let at = position-some (has_key b.header) s.partials c.in-Some.place e in
@@ -45,9 +47,12 @@ pub returns-in-None-clause-flow : goal.returns-in-None-clause-flow
 returns-in-None-clause-flow c =
     let s = c.args.self.now in
     let b = c.args.block.now in
-    let given : is_given s.last b.header ≡ false = rw (← c.header-header.ensures.value) (sym c.is_given.ensures ∙ c.if-is_given.false) in
-    let foreign : is_foreign s.receiver b.header ≡ false = rw (← c.header-header.ensures.value) (sym c.is_foreign.ensures ∙ c.if-is_foreign.false) in
-    let e : position (has_key b.header) s.partials ≡ None = rw (← c.header-header.ensures.value) (sym c.place_of.ensures ∙ c.in-None.is) in
+    let given : is_given s.last b.header ≡ false =
+    rw (← c.header-header.ensures.value) (sym c.is_given.ensures ∙ c.if-is_given.false) in
+    let foreign : is_foreign s.receiver b.header ≡ false =
+    rw (← c.header-header.ensures.value) (sym c.is_foreign.ensures ∙ c.if-is_foreign.false) in
+    let e : position (has_key b.header) s.partials ≡ None =
+    rw (← c.header-header.ensures.value) (sym c.place_of.ensures ∙ c.in-None.is) in
     let none = find-none (has_key b.header) s.partials e in
     IfOk-weaker c.begin.result _ _
     (λ flow h. h ∙ sym (flow_of-found s.receiver s.last s.partials b None given foreign none)) c.begin.ensures.flow
@@ -56,7 +61,8 @@ pub returns-in-None-clause-partials : goal.returns-in-None-clause-partials
 returns-in-None-clause-partials c =
     let s = c.args.self.now in
     let b = c.args.block.now in
-    let e : position (has_key b.header) s.partials ≡ None = rw (← c.header-header.ensures.value) (sym c.place_of.ensures ∙ c.in-None.is) in
+    let e : position (has_key b.header) s.partials ≡ None =
+    rw (← c.header-header.ensures.value) (sym c.place_of.ensures ∙ c.in-None.is) in
     let none = find-none (has_key b.header) s.partials e in
     IfOk-weaker c.begin.result _ _
     (λ flow h. h ∙ ap (λ (ps : List Partial). record s { partials = ps })

@@ -16,22 +16,27 @@ returns-in_err-place-clause-answer c =
 pub returns-clause-answer : goal.returns-clause-answer
 returns-clause-answer c =
     let s = c.args.self.now in
-    let at = position-some (is_due c.args.now) s.partials c.in_ok-place.place (sym c.first_due.ensures ∙ c.in_ok-place.was) in
+    let at = position-some (is_due c.args.now) s.partials c.in_ok-place.place
+    (sym c.first_due.ensures ∙ c.in_ok-place.was) in
     let same = ap (λ (v : AssemblyView). v.partials) c.self.view_is in
-    let value = c.remove.ensures.value ∙ ap (λ (ps : List Partial). get_or ps c.in_ok-place.place c.remove.result) same in
+    let value = c.remove.ensures.value
+    ∙ ap (λ (ps : List Partial). get_or ps c.in_ok-place.place c.remove.result) same in
     let found = found-place (is_due c.args.now) s.partials c.in_ok-place.place c.remove.result at in
     rw (found ∙ ap (λ (p : Partial). Some p) (sym value)) refl
 
 pub returns-clause-stands : goal.returns-clause-stands
 returns-clause-stands c = λ entries stands.
     let s = c.args.self.now in
-    let at = position-some (is_due c.args.now) s.partials c.in_ok-place.place (sym c.first_due.ensures ∙ c.in_ok-place.was) in
+    let at = position-some (is_due c.args.now) s.partials c.in_ok-place.place
+    (sym c.first_due.ensures ∙ c.in_ok-place.was) in
     let same = ap (λ (v : AssemblyView). v.partials) c.self.view_is in
-    let value = c.remove.ensures.value ∙ ap (λ (ps : List Partial). get_or ps c.in_ok-place.place c.remove.result) same in
+    let value = c.remove.ensures.value
+    ∙ ap (λ (ps : List Partial). get_or ps c.in_ok-place.place c.remove.result) same in
     let found = found-place (is_due c.args.now) s.partials c.in_ok-place.place c.remove.result at in
     stands_dropped s _ entries c.args.now c.remove.result stands (found ∙ ap (λ (p : Partial). Some p) (sym value))
     (ap (λ (v : AssemblyView). v.receiver) c.self.view_is) (ap (λ (v : AssemblyView). v.last) c.self.view_is)
-    (c.remove.ensures.items ∙ ap (λ (ps : List Partial). remove ps c.in_ok-place.place) same ∙ ap (remove s.partials) at.is)
+    (c.remove.ensures.items ∙ ap (λ (ps : List Partial). remove ps c.in_ok-place.place) same
+    ∙ ap (remove s.partials) at.is)
 
 pub returns-in_err-place-clause-dropped : goal.returns-in_err-place-clause-dropped
 returns-in_err-place-clause-dropped c = λ entries stands.

@@ -17,7 +17,9 @@ invariant_of-self-else-header c =
     let first = c.in_ok-first.first.now in
     let short : 0 < length c.self.inside.waiting.items = search rules in
     let is : IsWaiting first =
-    rw (c.in_ok-first.ensures.value) (All-get_or IsWaiting c.self.inside.waiting.items 0 first short c.self.invariant.waiting) in
-    let last = ap (λ (h : Header). h.last) (c.header.ensures.value ∙ ap (λ (b : BlockView). b.header) c.block-block.ensures.value) in
+    rw (c.in_ok-first.ensures.value)
+    (All-get_or IsWaiting c.self.inside.waiting.items 0 first short c.self.invariant.waiting) in
+    let last = ap (λ (h : Header). h.last)
+    (c.header.ensures.value ∙ ap (λ (b : BlockView). b.header) c.block-block.ensures.value) in
     front-turned _ _ c.self.inside.waiting.items _ _ c.self.invariant
     (one-more-gone first _ is last c.if-header.false) c.rotate_left.ensures.items

@@ -1,0 +1,5 @@
+use Rattle.message_flow.proofs.Making.{make-messages}
+use Rattle.message_flow.proofs.laws.blocks_make_messages.Goals as goal
+
+pub returns : goal.returns
+returns c = make-messages

@@ -1,0 +1,5 @@
+use Rattle.message_flow.proofs.Standing.{goes-on}
+use Rattle.message_flow.proofs.laws.standing_goes_on.Goals as goal
+
+pub returns : goal.returns
+returns c = goes-on
