@@ -9,7 +9,8 @@ use Rattle.gl_base.specs.declared.side.Side.{Side}
 use Rattle.line_schedule.specs.declared.event.Event.{Event}
 use Rattle.line_schedule.specs.declared.event.Event.TheVariants.{To, Settle, Wait}
 use Rattle.line_schedule.specs.Commands.{is_add, is_alarm, is_bare_tool_command, is_body, is_change, is_choice, is_cut, is_event, is_function, is_host_command, is_later_line, is_lose, is_message_name, is_send, is_set, is_terminal, is_tool_command}
-use Rattle.line_schedule.specs.Grammar.{After, AfterSide, AnyFromTo, IsAdd, IsAlarm, IsBareToolCommand, IsBody, IsChange, IsChoice, IsCut, IsEvent, IsEventLine, IsHostCommand, IsLaterLine, IsLose, IsMessageName, IsNumber, IsPassedOver, IsSend, IsSet, IsTerminal, IsToolCommand, Later, Meaning, Means, OddFunction, PassedOver, Tells, letter_of}
+use Rattle.gl_base.specs.Side.{side_letter}
+use Rattle.line_schedule.specs.Grammar.{After, AfterSide, AnyFromTo, IsAdd, IsAlarm, IsBareToolCommand, IsBody, IsChange, IsChoice, IsCut, IsEvent, IsEventLine, IsHostCommand, IsLaterLine, IsLose, IsMessageName, IsNumber, IsPassedOver, IsSend, IsSet, IsTerminal, IsToolCommand, Later, Meaning, Means, OddFunction, PassedOver, Tells}
 use Rattle.line_schedule.specs.Meaning.{event_in, is_passed_over, line_meaning, settle_in, to_in, wait_in}
 use Rattle.line_schedule.specs.Words.{after, after_side, number_of, number_up_to, side_and_number}
 use Rattle.line_schedule.proofs.Decisions.{IsTestOf, after_there, behind, either, parted, word}
@@ -116,7 +117,7 @@ side_number_there text side n e = go (after_side text) refl e where
     inner s rest there (Some m) is same =
         let pair : ◌≡◌ {A = Side × ℕ} (s, m) (side, n) = cc in
         let number : number_of rest ≡ Some n = is ∙ ap (λ (x : Side × ℕ). Some x.1) pair in
-        (rest, letter_there text s rest there ∙ ap (λ (x : Side × ℕ). letter_of x.0 ∷ 32 ∷ rest) pair, number_there (2 ^ 32 - 1) n rest number)
+        (rest, letter_there text s rest there ∙ ap (λ (x : Side × ℕ). side_letter x.0 ∷ 32 ∷ rest) pair, number_there (2 ^ 32 - 1) n rest number)
 
 side_number_again : (text : List ℕ) (side : Side) (n : ℕ) → AfterSide side (IsNumber 0 (2 ^ 32 - 1) n) text →
     side_and_number text ≡ Some (side, n)

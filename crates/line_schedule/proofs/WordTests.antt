@@ -20,7 +20,8 @@ use Rattle.secs_text.specs.Reading.{fault_of, read_text}
 use Rattle.secs_text.proofs.FaultLaws.{met_fault}
 use Rattle.secs_text.proofs.TextLaws.{as_read, reads_as}
 use Rattle.line_schedule.specs.Commands.{found, is_item, is_text, is_text_item, is_text_kind, item_in}
-use Rattle.line_schedule.specs.Grammar.{AfterAnySide, Any, AnyFromTo, AnyItem, AnyText, HexByte, IsNumber, letter_of}
+use Rattle.gl_base.specs.Side.{side_letter}
+use Rattle.line_schedule.specs.Grammar.{AfterAnySide, Any, AnyFromTo, AnyItem, AnyText, HexByte, IsNumber}
 use Rattle.line_schedule.specs.Words.{after, after_side, is_from_to, is_hex_byte, is_number, is_numeral, number_of, number_up_to, value_of}
 use Rattle.line_schedule.proofs.Decisions.{IsTestOf, after_there, and_both}
 use Rattle.line_schedule.proofs.Places.{Lacks}
@@ -104,21 +105,21 @@ number_lacks wanted none least most text (n, is) = digits_lack wanted none text 
 -- ---- ends
 
 -- an end's letter in front
-pub letter_again : (side : Side) (rest : List ℕ) → after_side (letter_of side ∷ 32 ∷ rest) ≡ Some (side, rest)
+pub letter_again : (side : Side) (rest : List ℕ) → after_side (side_letter side ∷ 32 ∷ rest) ≡ Some (side, rest)
 letter_again Equipment rest = refl
 letter_again Host rest = refl
 
 pub letter_there : (text : List ℕ) (side : Side) (rest : List ℕ) → after_side text ≡ Some (side, rest) →
-    text ≡ letter_of side ∷ 32 ∷ rest
+    text ≡ side_letter side ∷ 32 ∷ rest
 letter_there text side rest e = go (after (codes "E ") text) (after (codes "H ") text) refl refl e where
   go : (first second : Option (List ℕ)) → after (codes "E ") text ≡ first → after (codes "H ") text ≡ second →
-      option_or {T = Side × List ℕ} (option_map (λ r. (Equipment, r)) first) (option_map (λ r. (Host, r)) second) ≡ Some (side, rest) → text ≡ letter_of side ∷ 32 ∷ rest
+      option_or {T = Side × List ℕ} (option_map (λ r. (Equipment, r)) first) (option_map (λ r. (Host, r)) second) ≡ Some (side, rest) → text ≡ side_letter side ∷ 32 ∷ rest
   go (Some r) second here there same =
       let is : ◌≡◌ {A = Side × List ℕ} (Equipment, r) (side, rest) = cc in
-      after_there (codes "E ") text r here ∙ ap (λ (x : Side × List ℕ). letter_of x.0 ∷ 32 ∷ x.1) is
+      after_there (codes "E ") text r here ∙ ap (λ (x : Side × List ℕ). side_letter x.0 ∷ 32 ∷ x.1) is
   go None (Some r) here there same =
       let is : ◌≡◌ {A = Side × List ℕ} (Host, r) (side, rest) = cc in
-      after_there (codes "H ") text r there ∙ ap (λ (x : Side × List ℕ). letter_of x.0 ∷ 32 ∷ x.1) is
+      after_there (codes "H ") text r there ∙ ap (λ (x : Side × List ℕ). side_letter x.0 ∷ 32 ∷ x.1) is
   go None None here there same = absurd cc
 
 pub sided : {f : List ℕ → Bool} {P : List ℕ → Type 0} → IsTestOf f P →

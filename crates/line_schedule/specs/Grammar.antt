@@ -3,7 +3,7 @@ use Rattle.std.specs.Prelude.{◌≡◌, ◌⊎◌, ℕ, ◌-◌, ◌^◌, ◌%�
 use Rattle.std.specs.Char.{is_ascii_digit, is_ascii_hexdigit}
 use Rattle.std.specs.List.{list_all}
 use Rattle.gl_base.specs.declared.side.Side.{Side}
-use Rattle.gl_base.specs.declared.side.Side.TheVariants.{Equipment, Host}
+use Rattle.gl_base.specs.Side.{side_letter}
 use Rattle.secs_items.specs.declared.item.Item.{Item}
 use Rattle.secs_items.specs.declared.item.Item.TheVariants as item
 use Rattle.secs_text.specs.Grammar.{ReadsAs}
@@ -46,13 +46,8 @@ Any = AnyFromTo 0 (2 ^ 32 - 1)
 abbrev pub HexByte : List ℕ → Type 0
 HexByte text = (length text ≡ 2) × (list_all is_ascii_hexdigit text ≡ true)
 
--- the letter of an end
-abbrev pub letter_of : Side → ℕ
-letter_of Equipment = 69
-letter_of Host = 72
-
 abbrev pub AfterSide : Side → (List ℕ → Type 0) → List ℕ → Type 0
-AfterSide side = After (letter_of side ∷ 32 ∷ [])
+AfterSide side = After (side_letter side ∷ 32 ∷ [])
 
 abbrev pub AfterAnySide : (List ℕ → Type 0) → List ℕ → Type 0
 AfterAnySide Is text = (side : Side) × AfterSide side Is text
@@ -94,7 +89,9 @@ IsAdd = After (codes "add ") (AfterAnySide HexByte)
 
 -- `old`, `new`, `fill b` or `first n`
 abbrev pub IsChoice : List ℕ → Type 0
-IsChoice text = (text ≡ codes "old") ⊎ (text ≡ codes "new") ⊎ After (codes "fill ") HexByte text ⊎ After (codes "first ") Any text
+IsChoice text =
+    (text ≡ codes "old") ⊎ (text ≡ codes "new") ⊎ After (codes "fill ") HexByte text
+    ⊎ After (codes "first ") Any text
 
 -- `cut k choice`
 abbrev pub IsCut : List ℕ → Type 0

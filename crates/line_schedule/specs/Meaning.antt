@@ -19,7 +19,8 @@ abbrev pub settle_in : List ℕ → Option Event
 settle_in line = if bytes_eq line (codes "settle") then Some Settle else None
 
 abbrev pub wait_in : List ℕ → Option Event
-wait_in line = option_and_then (λ rest. option_map (λ ms. Wait ms) (number_up_to 1000000 rest)) (after (codes "wait ") line)
+wait_in line =
+    option_and_then (λ rest. option_map (λ ms. Wait ms) (number_up_to 1000000 rest)) (after (codes "wait ") line)
 
 abbrev pub event_in : List ℕ → Option Event
 event_in line = option_or (to_in line) (option_or (settle_in line) (wait_in line))

@@ -36,7 +36,9 @@ fault_in number (Some Later) = Some (fault.NotBuilt number)
 
 -- a line past the last that a schedule may have is outside the grammar
 abbrev pub fault_at : ℕ → List ℕ → Option ScheduleFault
-fault_at number line = if nat_lt most_lines number then Some (fault.Line number) else fault_in number (line_meaning line)
+fault_at number line =
+    if nat_lt most_lines number then Some (fault.Line number)
+    else fault_in number (line_meaning line)
 
 -- the fault of the first line that has one, where so many lines stand before
 abbrev pub first_fault : ℕ → List (List ℕ) → Option ScheduleFault

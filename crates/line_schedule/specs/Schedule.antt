@@ -17,7 +17,8 @@ abbrev pub Tell : List (List ℕ) → List Event → Type 0
 Tell [] events = events ≡ []
 Tell (line ∷ lines) events =
     (Means PassedOver line × Tell lines events)
-    ⊎ ((event : Event) × (others : List Event) × (events ≡ event ∷ others) × Means (Tells event) line × Tell lines others)
+    ⊎ ((event : Event) × (others : List Event) × (events ≡ event ∷ others)
+    × Means (Tells event) line × Tell lines others)
 
 -- the text is a schedule of these events
 pub record IsSchedule (text : List ℕ) (events : List Event) : Type 0 where
@@ -38,7 +39,8 @@ pub record StopsAt (text : List ℕ) (number : ℕ) (Is : List ℕ → Type 0) :
 
 -- that line is outside the grammar, or past the last that a schedule may have
 abbrev pub OutsideAt : List ℕ → ℕ → Type 0
-OutsideAt text number = StopsAt text number (λ line. (most_lines < number) ⊎ ((meaning : Meaning) → Means meaning line → ⊥))
+OutsideAt text number =
+    StopsAt text number (λ line. (most_lines < number) ⊎ ((meaning : Meaning) → Means meaning line → ⊥))
 
 -- that line is of the grammar and not carried out yet
 abbrev pub LaterAt : List ℕ → ℕ → Type 0

@@ -20,7 +20,8 @@ split_at wanted text = option_map (λ at. (take at text, drop (at + 1) text)) (p
 
 -- two parts of a text around the first such byte, each of which passes a test
 abbrev pub are_split : ℕ → (List ℕ → Bool) → (List ℕ → Bool) → List ℕ → Bool
-are_split wanted first second text = option_map_or (λ parts. first parts.0 && second parts.1) (split_at wanted text) false
+are_split wanted first second text =
+    option_map_or (λ parts. first parts.0 && second parts.1) (split_at wanted text) false
 
 -- the value of decimal digits behind a number
 abbrev pub value_from : ℕ → List ℕ → ℕ

@@ -1,5 +1,5 @@
 use super::*;
-use gl_base::Side;
+use gl_base::{NoMemory, Row, Side};
 use std::alloc::Global;
 use std::test::Fail;
 
@@ -176,6 +176,30 @@ fn lines_outside_the_grammar(rt: HostRuntime) -> Result<(), Fail> {
     ] {
         assert!(rt; is_outside(alloc, line));
     }
+    Ok(())
+}
+
+// `tool set 1` with so many nested lists.
+fn tool_sets_lists(alloc: Global, depth: usize) -> Result<Row<u8>, NoMemory> {
+    let mut line = Row::new(alloc);
+    line.extend(b"tool set 1 ")?;
+    for _ in 0..depth {
+        line.extend(b"<L ")?;
+    }
+    for _ in 0..depth {
+        line.extend(b">")?;
+    }
+    Ok(line)
+}
+
+// A list may stand in 63 others.
+#[test]
+fn lists_nest_64_deep(rt: HostRuntime) -> Result<(), Fail> {
+    let alloc = rt.alloc();
+    let deepest = tool_sets_lists(alloc, 64)?;
+    assert!(rt; is_not_built(alloc, deepest.as_slice()));
+    let deeper = tool_sets_lists(alloc, 65)?;
+    assert!(rt; is_outside(alloc, deeper.as_slice()));
     Ok(())
 }
 
