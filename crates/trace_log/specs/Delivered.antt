@@ -1,14 +1,14 @@
--- What is said of the messages of a log. The newest entry comes first: what stands before an entry is the rest of the list.
+-- What is said of the messages of a log. The newest entry comes first: what stands before an entry is the rest of the
+-- list.
 use Rattle.std.specs.Prelude.{◌≡◌, ℕ, Bool, true, false, ◌==◌, ◌%◌, ◌&&◌, List, [], ◌∷◌, All, if◌then◌else◌}
 use Rattle.std.specs.List.{Contains}
 use Rattle.gl_base.specs.declared.side.Side.{Side}
-use Rattle.trace_log.specs.Log.{Entry, Happening, Message, across, is_same_side}
+use Rattle.gl_base.specs.Side.{is_same_side, other_side}
+use Rattle.message_flow.specs.declared.message.Message.{Message}
+use Rattle.message_flow.specs.Message.{is_primary}
+use Rattle.trace_log.specs.Log.{Entry, Happening}
 use Rattle.trace_log.specs.Log.Entry.{Noted}
 use Rattle.trace_log.specs.Log.Happening.{EquipmentStarted, HostStarted, Sent, Received}
-
--- its function is odd (SEMI E5, primary message)
-abbrev pub is_primary : Message → Bool
-is_primary message = message.function % 2 == 1
 
 abbrev pub is_start : Happening → Bool
 is_start (EquipmentStarted found base) = true
@@ -47,7 +47,7 @@ pub record WasSent (side : Side) (message : Message) (before : List Entry) : Typ
 -- a message that is delivered to an end was sent by the other one before, and is the only one with its system bytes and
 -- the parity of its function since that end's start (this profile)
 pub record IsDelivery (side : Side) (message : Message) (before : List Entry) : Type 0 where
-  pub sent : WasSent (across side) message before
+  pub sent : WasSent (other_side side) message before
   pub once : All (λ entry. delivers_like side message entry ≡ false) (since_start side before)
 
 -- the system bytes of a primary are new, over all starts of the end that sends it (SEMI E5, system bytes; this profile)

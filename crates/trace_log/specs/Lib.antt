@@ -1,3 +1,6 @@
+pub mod Commands
 pub mod Delivered
+pub mod Laws
 pub mod Log
+pub mod Names
 pub mod Text

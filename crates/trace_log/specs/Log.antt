@@ -1,17 +1,16 @@
 -- The log of a run: what both ends note, in its order.
-use Rattle.std.specs.Prelude.{ℕ, Bool, true, false, List, Option}
+use Rattle.std.specs.Prelude.{ℕ, Bool, List, Option}
 use Rattle.block_codec.specs.Block.{BlockView}
 use Rattle.block_codec.specs.declared.header.Header.{Header}
 use Rattle.gl_base.specs.declared.side.Side.{Side}
-use Rattle.gl_base.specs.declared.side.Side.TheVariants.{Equipment, Host}
-
--- a message: its name, its system bytes and its text (SEMI E5, message)
-pub record Message : Type 0 where
-  pub stream : ℕ
-  pub function : ℕ
-  pub wait : Bool
-  pub system : ℕ
-  pub body : List ℕ
+use Rattle.message_flow.specs.declared.message.Message.{Message}
+use Rattle.trace_log.specs.declared.commands.ToolCommand.{ToolCommand}
+use Rattle.trace_log.specs.declared.names.Cause.{Cause}
+use Rattle.trace_log.specs.declared.names.CommsName.{CommsName}
+use Rattle.trace_log.specs.declared.names.ControlName.{ControlName}
+use Rattle.trace_log.specs.declared.names.Name.{Name}
+use Rattle.trace_log.specs.declared.names.Title.{Title}
+use Rattle.trace_log.specs.Names.{Spooled}
 
 -- the message that a block carries alone (SEMI E4, block)
 abbrev pub message_of : BlockView → Message
@@ -23,17 +22,63 @@ message_of block = record {
   body = block.body;
 }
 
--- what an end notes (this profile): its start, the equipment's with the messages that its spool holds, each with its
--- number, and the first number that it may draw; a message given to the line's queue, and one delivered; the characters
--- that a step has written; a block like the one before it; a message that could not be sent
+-- what counts when the equipment looks back on its start: a command of the tool that was carried out or refused, and a
+-- request of the host that was acted on (this profile)
+pub data Past : Type 0 where
+  Commanded : (command : ToolCommand) → Past
+  Asked : (request : Message) → Past
+
+-- what an end notes (this profile); each is one line of the trace, but `Recorded`, which prints none
 pub data Happening : Type 0 where
-  EquipmentStarted : (found : List (ℕ × Message)) (base : ℕ) → Happening
+  -- a start; of the equipment's, the messages that its spool holds, each with its number, and the first number that it
+  -- may draw
+  EquipmentStarted : (found : List (ℕ × Spooled)) (base : ℕ) → Happening
   HostStarted : Happening
+  -- power was lost; the peer has closed the connection
+  Power : Happening
+  Closed : Happening
+  -- a message was given to the line's queue; a message was delivered; a step has written these characters
   Sent : (message : Message) → Happening
   Received : (message : Message) → Happening
   Wrote : (characters : List ℕ) → Happening
+  -- a state has changed to this one
+  Comms : (state : CommsName) → Happening
+  Control : (state : ControlName) → Happening
+  Spool : (active : Bool) → Happening
+  -- a variable was set; an event happened, with its number within the start; an alarm was set or cleared; a remote
+  -- command was accepted; a terminal displays a text; a command of the tool was refused
+  Set : (vid : ℕ) → Happening
+  Event : (ceid dataid : ℕ) → Happening
+  Alarm : (alid : ℕ) (set : Bool) → Happening
+  Carried : (rcmd : List ℕ) → Happening
+  Display : (tid : ℕ) (text : List ℕ) → Happening
+  Refused : Happening
+  -- before and after a message is put into the spool, and before and after one is removed; a message of the spool was
+  -- read and goes out next, with these system bytes
+  Storing : (number : ℕ) (message : Spooled) → Happening
+  Stored : (number : ℕ) → Happening
+  Leaving : (number : ℕ) (cause : Cause) → Happening
+  Gone : (number : ℕ) → Happening
+  Try : (number system : ℕ) → Happening
+  -- what a block that arrived was, where it is no part of a message; T4 has dropped the message of this last block
   Duplicate : (header : Header) → Happening
-  Failed : (message : Message) → Happening
+  Unexpected : (header : Header) → Happening
+  Foreign : (header : Header) → Happening
+  TooLongBlock : (header : Header) → Happening
+  Crowded : (header : Header) → Happening
+  DroppedByT4 : (header : Header) → Happening
+  -- a message could not be sent; no reply came in time; a reply to nothing that is open came
+  Failed : (title : Title) → Happening
+  TimedOut : (title : Title) → Happening
+  Stranger : (title : Title) → Happening
+  -- a message isn't sent, or isn't stored: for the state of its end, denied by the peer, the spool being full, for its
+  -- length, and for want of room among those that are open
+  Dropped : (name : Name) → Happening
+  Denied : (name : Name) → Happening
+  Discarded : (name : Name) → Happening
+  TooLong : (name : Name) → Happening
+  Full : (name : Name) → Happening
+  Recorded : (past : Past) → Happening
 
 -- an entry of a log, with its moment in milliseconds: what an end has noted; the characters of a block that are no
 -- frame's, with the number of the frame of the first of them; the end of the run (this profile)
@@ -41,14 +86,3 @@ pub data Entry : Type 0 where
   Noted : (moment : ℕ) (side : Side) (what : Happening) → Entry
   Slipped : (moment : ℕ) (side : Side) (frame : Option ℕ) (characters : List ℕ) → Entry
   Ended : (moment : ℕ) → Entry
-
--- the other end
-abbrev pub across : Side → Side
-across Equipment = Host
-across Host = Equipment
-
-abbrev pub is_same_side : Side → Side → Bool
-is_same_side Equipment Equipment = true
-is_same_side Equipment Host = false
-is_same_side Host Equipment = false
-is_same_side Host Host = true

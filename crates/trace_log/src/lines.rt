@@ -1,25 +1,25 @@
 ghost use Rattle.std.specs.Prelude.{◌≡◌, ℕ, ◌+◌, ◌++◌, ◌≤◌, List, [], ◌∷◌, length, Option, Some};
-ghost use Rattle.std.specs.Int.{w32, to_be_bytes};
 ghost use Rattle.arrayvec.specs.ArrayVec.{array_vec_len};
-ghost use Rattle.block_codec.specs.Block.{BlockView};
 ghost use Rattle.block_codec.specs.Header.{Fits};
-ghost use Rattle.trace_log.specs.Log.{Message, message_of};
+ghost use Rattle.trace_log.specs.Log.{message_of};
 ghost use Rattle.trace_log.specs.Log.Entry.{Noted, Slipped, Ended};
-ghost use Rattle.trace_log.specs.Log.Happening.{EquipmentStarted, HostStarted, Sent, Received, Wrote, Duplicate, Failed};
-ghost use Rattle.trace_log.specs.Text.{body_text, entry_text, frame_text, head_text, message_text, side_text, title_text};
+ghost use Rattle.trace_log.specs.Log.Happening.{HostStarted, Sent, Received, Wrote, Duplicate};
+ghost use Rattle.trace_log.specs.Text.{IsFailedLine, IsStartLine, body_text, entry_text, head_text, message_text};
 ghost use Rattle.gl_base.specs.declared.side.Side.TheVariants as sides;
 
+use crate::entries::{put_frame, put_head};
+use crate::names::{Title, put_title};
 use arrayvec::ArrayVec;
 use block_codec::{Block, Header};
 use gl_base::Side;
-use short_text::{put, put_hex, put_name, put_number};
+use short_text::{put, put_hex, put_number};
 
 /// Room for one line of a log: two digits for each of 1,024 characters, and what stands before them.
 pub type Line = ArrayVec<u8, 2304>;
 
 /// The line of a start of the equipment that finds so many messages in its spool.
 pub fn equipment_start_line(moment: u64, len: u64, base: u64) -> Line
-    ensures { (found : List (ℕ × Message)) → length found ≡ len → result.items ≡ entry_text (Noted moment sides.Equipment (EquipmentStarted found base)) }
+    ensures { IsStartLine moment len base result.items }
 {
     let mut line = head(moment, Side::Equipment);
     put(&mut line, b"start len=");
@@ -87,11 +87,11 @@ pub fn duplicate_line(moment: u64, side: Side, header: &Header) -> Line
 
 /// The line of a message that could not be sent, whose blocks have such a header.
 pub fn failed_line(moment: u64, side: Side, header: &Header) -> Line
-    ensures { (block : BlockView) → block.header ≡ header.now → result.items ≡ entry_text (Noted moment side (Failed (message_of block))) }
+    ensures { IsFailedLine moment side header.now result.items }
 {
     let mut line = head(moment, side);
     put(&mut line, b"failed ");
-    put_title(&mut line, header);
+    put_title(&mut line, Title::of_block(header));
     put(&mut line, b"\n");
     line
 }
@@ -126,21 +126,8 @@ fn head(moment: u64, side: Side) -> Line
     ensures len { array_vec_len result ≤ 23 }
 {
     let mut line = Line::new();
-    put_number(&mut line, moment);
-    put(&mut line, b" ");
-    put(&mut line, side_word(side));
-    put(&mut line, b" ");
+    put_head(&mut line, moment, side);
     line
-}
-
-fn side_word(side: Side) -> &'static [u8]
-    ensures text { result.now ≡ side_text side }
-    ensures len { length result.now ≡ 1 }
-{
-    match side {
-        Side::Equipment => b"E",
-        Side::Host => b"H",
-    }
 }
 
 // Puts the message of a block at the end of a line that has room for it.
@@ -149,20 +136,9 @@ fn put_message(line: &mut Line, block: &Block)
     ensures items { line.new.items ≡ line.old.items ++ message_text (message_of block.now) }
     ensures len { array_vec_len line.new ≤ array_vec_len line.old + 600 }
 {
-    put_title(line, &block.header());
+    put_title(line, Title::of_block(&block.header()));
     put(line, b" ");
     put_body(line, block.body());
-}
-
-// Puts a message's name and system bytes at the end of a line that has room for them.
-fn put_title(line: &mut Line, header: &Header)
-    requires { array_vec_len line.old ≤ 100 }
-    ensures items { line.new.items ≡ line.old.items ++ title_text (message_of (record { header = header.now; body = [] })) }
-    ensures len { array_vec_len line.new ≤ array_vec_len line.old + 53 }
-{
-    put_name(line, header.stream, header.function, header.wait);
-    put(line, b" ");
-    put_hex(line, &header.system.to_be_bytes());
 }
 
 // Puts a message's text at the end of a line that has room for it.
@@ -176,17 +152,5 @@ fn put_body(line: &mut Line, body: &[u8])
         put(line, b"-");
     } else {
         put_hex(line, body);
-    }
-}
-
-// Puts the number of a frame, or what stands for none.
-fn put_frame(line: &mut Line, frame: Option<u64>)
-    requires { array_vec_len line.old ≤ 100 }
-    ensures items { line.new.items ≡ line.old.items ++ frame_text frame }
-    ensures len { array_vec_len line.new ≤ array_vec_len line.old + 20 }
-{
-    match frame {
-        None => put(line, b"-"),
-        Some(frame) => put_number(line, frame),
     }
 }
