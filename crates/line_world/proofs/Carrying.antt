@@ -25,6 +25,7 @@ use Rattle.trace_log.specs.Delivered.{WasSent}
 use Rattle.trace_log.specs.Log.{Entry}
 use Rattle.trace_log.specs.Log.Entry.{Noted}
 use Rattle.trace_log.specs.Log.Happening.{Duplicate, Failed}
+use Rattle.trace_log.specs.Names.{title_of}
 use Rattle.line_world.specs.Ends as ends
 use Rattle.line_world.specs.Ends.{Ends, Part, and_then, bare_after, called_at, greeting, greeting_block, heard_of, hears, is_idle, noted, notes_of, offered, sent_of, state_at, way_to}
 use Rattle.line_world.specs.World.{slips_now}
@@ -40,7 +41,7 @@ no_arrival s call none block told =
     let same : [] ≡ came.byte ∷ [] = sym none ∙ came.taken in
     absurd (omega (arith, ap length same))
 
-failed_plain : (now : ℕ) → IsPlain (Noted now Equipment (Failed greeting))
+failed_plain : (now : ℕ) → IsPlain (Noted now Equipment (Failed (title_of greeting)))
 failed_plain now = record { sends = refl; delivers = refl; goes_on = λ before. tt {0} }
 
 duplicate_plain : (now : ℕ) (block : BlockView) → IsPlain (Noted now Host (Duplicate block.header))
@@ -52,7 +53,7 @@ notes_equipment : (plan : LinePlan) (now : ℕ) (e : Ends) (told : LineEvent) (l
 notes_equipment plan now e event.Nothing log good = good
 notes_equipment plan now e (event.Arrived block) log good = good
 notes_equipment plan now e event.Sent log good = good
-notes_equipment plan now e event.Failed log good = plain_more plan e (Noted now Equipment (Failed greeting)) log (failed_plain now) good
+notes_equipment plan now e event.Failed log good = plain_more plan e (Noted now Equipment (Failed (title_of greeting))) log (failed_plain now) good
 notes_equipment plan now e (event.Refused cause) log good = good
 
 -- what the host notes where no block arrives

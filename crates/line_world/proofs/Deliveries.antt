@@ -9,7 +9,8 @@ use Rattle.line_order.specs.Acts.{Deed, CanDo, IsRun, line_after, line_after_dee
 use Rattle.line_order.specs.Line.{Line, given_at, new_line}
 use Rattle.line_order.proofs.Given.{contains-more}
 use Rattle.trace_log.specs.Delivered.{Delivered, GoesOn, WasSent, delivers_like, sends_like, since_start, starts}
-use Rattle.trace_log.specs.Log.{Entry, Message, message_of}
+use Rattle.message_flow.specs.declared.message.Message.{Message}
+use Rattle.trace_log.specs.Log.{Entry, message_of}
 use Rattle.trace_log.specs.Log.Entry.{Noted}
 use Rattle.trace_log.specs.Log.Happening.{Received, Sent}
 use Rattle.line_world.specs.Ends.{Ends, greeting, greeting_block}

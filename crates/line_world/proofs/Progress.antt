@@ -1,9 +1,12 @@
 -- How far a run has come.
-use Rattle.std.proofs.Common.{◌≡◌, ℕ, ◌+◌, ◌*◌, ◌<◌, ◌≤◌, List, [], ◌∷◌, ◌++◌, length, take, drop, get_or, Option, Some, None, refl, sym, ap, subst, ◌∙◌, arith, append_assoc, append-nil, length-append, drop-cons, add-one}
-use Rattle.std.proofs.Math.Seq.{take-append-add}
-use Rattle.std.proofs.lemmas.List.{take-append-le, drop_all}
-use Rattle.gl_base.specs.Sink.{IsWrittenOn, SinkHealth, SinkTold, WriteFault, WrotePart, WroteText, appended, sink_told}
-use Rattle.gl_base.proofs.Copying.{appended-append}
+use Rattle.std.proofs.Common.{◌≡◌, ℕ, ◌+◌, ◌*◌, ◌<◌, ◌≤◌, List, [], ◌∷◌, ◌++◌, length, drop, get_or, Option, refl, sym, ap, subst, ◌∙◌, arith, append_assoc, append-nil, drop-cons, add-one}
+use Rattle.std.proofs.lemmas.List.{drop_all}
+use Rattle.gl_base.specs.Sending.{IsUnderWay, Passes, Sends, WrotePart, WroteShort, WroteText}
+use Rattle.gl_base.specs.Sink.{SinkHealth}
+use Rattle.gl_base.specs.Told.{SinkTold}
+use Rattle.gl_base.specs.declared.copying.SinkAnswer.{SinkAnswer}
+use Rattle.gl_base.specs.declared.copying.SinkAnswer.TheVariants.{Done, Failed}
+use Rattle.gl_base.proofs.Appending.{copies_behind, cut_before, finished, part_before, passes_behind, told, under_way_first}
 use Rattle.line_end.specs.declared.plan.LinePlan.{LinePlan}
 use Rattle.line_schedule.specs.declared.event.Event.{Event}
 use Rattle.line_schedule.specs.declared.schedule.Schedule.{Schedule}
@@ -11,76 +14,29 @@ use Rattle.trace_log.specs.Text.{text_of}
 use Rattle.line_world.specs.declared.course.Course.{Course}
 use Rattle.line_world.specs.declared.course.Course.TheVariants.{GoesOn, Slips, Turns}
 use Rattle.line_world.specs.declared.running.RunEnd.{RunEnd}
-use Rattle.line_world.specs.declared.running.RunEnd.TheVariants as end
 use Rattle.line_world.specs.Run.{Runs, course_of, end_of, end_text, piece_of, trace_text, whole_log}
 use Rattle.line_world.specs.World.{Piece, World, after_event, after_events, begun}
 use Rattle.line_world.proofs.Texts.{IsLeft, left_done, left_further}
 
--- what was sent, what the page holds, and the events that are left
-pub record IsAt (plan : LinePlan) (schedule : Schedule) (i : ℕ) (world : World) (page : List ℕ) (was now : Option (List ℕ)) (health health_now : SinkHealth) : Type 0 where
-  pub sent : List ℕ
-  pub received : now ≡ appended was sent
-  pub health_is : IsWrittenOn health health_now (length sent)
-  pub left : IsLeft (after_events (drop i schedule.events) world) (sent ++ page) (piece_of plan schedule).world (text_of (piece_of plan schedule).entries)
+-- what was sent and what the page holds, the lines behind it, and the events that are left
+pub record IsAt (plan : LinePlan) (schedule : Schedule) (i : ℕ) (world : World) (lines page : List ℕ) (out : SinkTold) : Type 0 where
+  pub text : List ℕ
+  pub under : IsUnderWay out text page
+  pub left : IsLeft (after_events (drop i schedule.events) world) (text ++ lines) (piece_of plan schedule).world (text_of (piece_of plan schedule).entries)
   pub moment : world.moment ≤ 1000000 * i
 
-appended-nil : (received : Option (List ℕ)) → received ≡ appended received []
-appended-nil None = refl
-appended-nil (Some bytes) = ap Some (sym (append-nil bytes))
-
-pub at_first : (plan : LinePlan) (schedule : Schedule) (world : World) (empty page : List ℕ) (received : Option (List ℕ)) (health : SinkHealth)
-    → empty ≡ [] → world ≡ (begun plan).world → page ≡ empty ++ text_of (begun plan).entries → world.moment ≡ 0
-    → IsAt plan schedule 0 world page received received health health
-at_first plan schedule world empty page received health none is_world is_page moment = record {
-  sent = [];
-  received = appended-nil received;
-  health_is = record { later = omega arith; used = omega arith };
+-- at the start
+pub at_first : {was : Option (List ℕ)} {a : SinkHealth} (plan : LinePlan) (schedule : Schedule) (world : World) (empty lines page : List ℕ)
+    → page ≡ [] → empty ≡ [] → world ≡ (begun plan).world → lines ≡ empty ++ text_of (begun plan).entries → world.moment ≡ 0
+    → IsAt plan schedule 0 world lines page (told was was a a)
+at_first plan schedule world empty lines page no_page none is_world is_lines moment = record {
+  text = [];
+  under = under_way_first page no_page;
   left =
-      left_further (begun plan) (after_events schedule.events) world [] page _ _ is_world
-      (is_page ∙ ap (λ (t : List ℕ). t ++ text_of (begun plan).entries) none) (record { world = refl; text = refl });
+      left_further (begun plan) (after_events schedule.events) world [] lines _ _ is_world
+      (is_lines ∙ ap (λ (t : List ℕ). t ++ text_of (begun plan).entries) none) (record { world = refl; text = refl });
   moment = omega (arith, moment);
 }
-
--- an event is carried out
-pub past_event : (plan : LinePlan) (schedule : Schedule) (i : ℕ) (event : Event) (world world' : World) (empty lines slice page page' : List ℕ) (was now : Option (List ℕ)) (health health_now : SinkHealth)
-    → drop i schedule.events ≡ event ∷ drop (i + 1) schedule.events
-    → empty ≡ [] → world' ≡ (after_event event world).world → lines ≡ empty ++ text_of (after_event event world).entries
-    → slice ≡ lines → page' ≡ page ++ slice → world'.moment ≤ world.moment + 1000000
-    → IsAt plan schedule i world page was now health health_now → IsAt plan schedule (i + 1) world' page' was now health health_now
-past_event plan schedule i event world world' empty lines slice page page' was now health health_now is_event none is_world is_lines is_slice is_page moment here =
-    record {
-      sent = here.sent;
-      received = here.received;
-      health_is = here.health_is;
-      left =
-          left_further (after_event event world) (after_events (drop (i + 1) schedule.events)) world' (here.sent ++ page) (here.sent ++ page') _ _ is_world
-          (ap (λ (t : List ℕ). here.sent ++ t)
-          (is_page ∙ ap (λ (t : List ℕ). page ++ t) (is_slice ∙ is_lines ∙ ap (λ (t : List ℕ). t ++ text_of (after_event event world).entries) none))
-          ∙ sym (append_assoc here.sent page (text_of (after_event event world).entries)))
-          (subst (λ (events : List Event). IsLeft (after_events events world) (here.sent ++ page) (piece_of plan schedule).world (text_of (piece_of plan schedule).entries)) is_event here.left);
-      moment = omega (arith, moment, here.moment);
-    }
-
--- the page went out
-pub past_page : (plan : LinePlan) (schedule : Schedule) (i : ℕ) (world : World) (page page' slice : List ℕ) (was now after : Option (List ℕ)) (health health_now health_after : SinkHealth)
-    → slice ≡ page → after ≡ appended now slice → IsWrittenOn health_now health_after (length slice) → page' ≡ []
-    → IsAt plan schedule i world page was now health health_now → IsAt plan schedule i world page' was after health health_after
-past_page plan schedule i world page page' slice was now after health health_now health_after is_page went written empty here =
-    let used = here.health_is in
-    record {
-      sent = here.sent ++ page;
-      received =
-          went ∙ ap (appended now) is_page ∙ ap (λ (r : Option (List ℕ)). appended r page) here.received
-          ∙ appended-append was here.sent page;
-      health_is = record {
-        later = omega (arith, used.later, written.later);
-        used = omega (arith, used.used, written.used, ap length is_page, length-append here.sent page);
-      };
-      left =
-          subst (λ (text : List ℕ). IsLeft (after_events (drop i schedule.events) world) text (piece_of plan schedule).world (text_of (piece_of plan schedule).entries))
-          (sym (ap (λ (p : List ℕ). (here.sent ++ page) ++ p) empty ∙ append-nil (here.sent ++ page))) here.left;
-      moment = here.moment;
-    }
 
 -- the text of the whole log
 whole_text : (piece : Piece) → text_of (whole_log piece) ≡ text_of piece.entries ++ end_text piece.world.course piece.world.moment
@@ -92,144 +48,97 @@ whole_text piece = go piece.world.course refl
     go Slips is = rw is (sym (append-nil (text_of piece.entries)))
     go Turns is = rw is (sym (append-nil (text_of piece.entries)))
 
--- only so much of a text was sent
-part : (was now after : Option (List ℕ)) (health health_after : SinkHealth) (sent page rest text : List ℕ) (n : ℕ)
-    → text ≡ (sent ++ page) ++ rest → now ≡ appended was sent → n ≤ length page → after ≡ appended now (take n page)
-    → health.faults ≤ health_after.faults → WrotePart (sink_told was after health health_after) text
-part was now after health health_after sent page rest text n is_text is_now some went later = record {
-  count = length sent + n;
-  received =
-      went ∙ ap (λ (r : Option (List ℕ)). appended r (take n page)) is_now ∙ appended-append was sent (take n page)
-      ∙ ap (appended was) (sym (ap (λ (t : List ℕ). take (length sent + n) t) (is_text ∙ append_assoc sent page rest)
-      ∙ take-append-add sent (page ++ rest) n ∙ ap (λ (t : List ℕ). sent ++ t) (take-append-le n page rest some)));
-  later = later;
-}
+-- the whole text begins with what was sent, the page, and the lines behind it
+trace_is : (plan : LinePlan) (schedule : Schedule) (i : ℕ) (world : World) (text lines : List ℕ)
+    → IsLeft (after_events (drop i schedule.events) world) (text ++ lines) (piece_of plan schedule).world (text_of (piece_of plan schedule).entries)
+    → trace_text plan schedule ≡ (text ++ lines) ++ (text_of (after_events (drop i schedule.events) world).entries ++ end_text (course_of plan schedule) (piece_of plan schedule).world.moment)
+trace_is plan schedule i world text lines left =
+    let tail = end_text (course_of plan schedule) (piece_of plan schedule).world.moment in
+    whole_text (piece_of plan schedule) ∙ ap (λ (t : List ℕ). t ++ tail) (sym left.text)
+    ∙ append_assoc (text ++ lines) (text_of (after_events (drop i schedule.events) world).entries) tail
 
--- the whole text begins with what was sent and the page
-pub trace_is : (plan : LinePlan) (schedule : Schedule) (i : ℕ) (world : World) (page : List ℕ) (was now : Option (List ℕ)) (health health_now : SinkHealth)
-    → (here : IsAt plan schedule i world page was now health health_now)
-    → trace_text plan schedule ≡ (here.sent ++ page) ++ (text_of (after_events (drop i schedule.events) world).entries ++ end_text (piece_of plan schedule).world.course (piece_of plan schedule).world.moment)
-trace_is plan schedule i world page was now health health_now here =
-    let tail = end_text (piece_of plan schedule).world.course (piece_of plan schedule).world.moment in
-    whole_text (piece_of plan schedule) ∙ ap (λ (t : List ℕ). t ++ tail) (sym here.left.text)
-    ∙ append_assoc (here.sent ++ page) (text_of (after_events (drop i schedule.events) world).entries) tail
+module _ {was mid : Option (List ℕ)} {a b : SinkHealth} (plan : LinePlan) (schedule : Schedule) (i : ℕ) (world : World) (lines page : List ℕ) (here : IsAt plan schedule i world lines page (told was mid a b)) where
+  -- what is cut short of the lines so far is cut short of the trace
+  cut : {out : SinkTold} → WroteShort out (here.text ++ lines) → WroteShort out (trace_text plan schedule)
+  cut {out} short =
+      subst (λ (t : List ℕ). WroteShort out t) (sym (trace_is plan schedule i world here.text lines here.left)) (cut_before (here.text ++ lines) _ short)
 
--- memory ran out, and nothing more went out
-pub stopped_by_memory : (plan : LinePlan) (schedule : Schedule) (i : ℕ) (world : World) (page : List ℕ) (was now : Option (List ℕ)) (health health_now : SinkHealth)
-    → IsAt plan schedule i world page was now health health_now
-    → Runs (sink_told was now health health_now) (trace_text plan schedule) (course_of plan schedule) end.NoMemory
-stopped_by_memory plan schedule i world page was now health health_now here =
-    part was now now health health_now here.sent page _ (trace_text plan schedule) 0
-    (trace_is plan schedule i world page was now health health_now here) here.received (omega arith) (appended-nil now) here.health_is.later
+  -- the events are carried out
+  over : length schedule.events ≤ i → (world ≡ (piece_of plan schedule).world) × (here.text ++ lines ≡ text_of (piece_of plan schedule).entries)
+  over past =
+      left_done (after_events (drop i schedule.events) world) world (here.text ++ lines) _ _
+      (ap (λ (events : List Event). after_events events world) (drop_all i schedule.events past)) here.left
 
-pub stopped_at_once : (plan : LinePlan) (schedule : Schedule) (was : Option (List ℕ)) (health : SinkHealth)
-    → Runs (sink_told was was health health) (trace_text plan schedule) (course_of plan schedule) end.NoMemory
-stopped_at_once plan schedule was health =
-    part was was was health health [] [] (trace_text plan schedule) (trace_text plan schedule) 0 refl (appended-nil was) (omega arith) (appended-nil was) (omega arith)
+  pub done_course : length schedule.events ≤ i → world.course ≡ course_of plan schedule
+  done_course past = ap (λ (w : World). w.course) (over past).0
 
--- a write failed in the middle of a page, behind which more is left
-fault_in : (was now after : Option (List ℕ)) (health health_now health_after : SinkHealth) (sent page slice rest text : List ℕ) (n : ℕ)
-    → text ≡ (sent ++ page) ++ rest → now ≡ appended was sent → IsWrittenOn health health_now (length sent)
-    → slice ≡ page → n < length slice → after ≡ appended now (take n slice) → health_now.faults ≤ health_after.faults
-    → WriteFault health_now health_after (length slice)
-    → WrotePart (sink_told was after health health_after) text × WriteFault health health_after (length text)
-fault_in was now after health health_now health_after sent page slice rest text n is_text is_now used is_page some went later fault =
-    let long = ap length is_page in
-    let lines = ap length is_text in (
-      part was now after health health_after sent page rest text n is_text is_now (omega arith)
-          (went ∙ ap (λ (s : List ℕ). appended now (take n s)) is_page) (omega (arith, used.later, later)),
-      record {
-        rose = omega (arith, used.later, fault.rose);
-        crowded = omega (arith, lines, used.used, long, fault.crowded, length-append (sent ++ page) rest, length-append sent page);
-      },
-    )
+  -- the page, the lines and the end were to go out
+  pub rest_sent : (now : Option (List ℕ)) (c : SinkHealth) (slice : List ℕ) (answer : SinkAnswer) → length schedule.events ≤ i → slice ≡ lines
+      → Sends (told mid now b c) ((page ++ slice) ++ end_text world.course world.moment) answer
+      → Sends (told was now a c) (trace_text plan schedule) answer
+  rest_sent now c slice answer past is_slice sends =
+      let sent = here.under.sent in
+      let piece = piece_of plan schedule in
+      let tail = end_text piece.world.course piece.world.moment in
+      let all : trace_text plan schedule ≡ sent ++ ((page ++ slice) ++ end_text world.course world.moment) =
+      whole_text piece ∙ ap (λ (t : List ℕ). t ++ tail) (sym (over past).1)
+      ∙ ap (λ (t : List ℕ). (t ++ lines) ++ tail) here.under.whole
+      ∙ ap (λ (t : List ℕ). t ++ tail) (append_assoc sent page lines)
+      ∙ append_assoc sent (page ++ lines) tail
+      ∙ ap (λ (s : List ℕ). sent ++ ((page ++ s) ++ tail)) (sym is_slice)
+      ∙ ap (λ (w : World). sent ++ ((page ++ slice) ++ end_text w.course w.moment)) (sym (over past).0) in
+      subst (λ (t : List ℕ). Sends (told was now a c) t answer) (sym all)
+      (copies_behind now c sent ((page ++ slice) ++ end_text world.course world.moment) answer here.under.wrote sends)
 
-pub stopped_by_fault : (plan : LinePlan) (schedule : Schedule) (i : ℕ) (world : World) (page slice : List ℕ) (was now after : Option (List ℕ)) (health health_now health_after : SinkHealth) (n : ℕ)
-    → slice ≡ page → n < length slice → after ≡ appended now (take n slice) → health_now.faults ≤ health_after.faults
-    → WriteFault health_now health_after (length slice)
-    → IsAt plan schedule i world page was now health health_now
-    → Runs (sink_told was after health health_after) (trace_text plan schedule) (course_of plan schedule) end.WriteFailed
-stopped_by_fault plan schedule i world page slice was now after health health_now health_after n is_page some went later fault here =
-    fault_in was now after health health_now health_after here.sent page slice _ (trace_text plan schedule) n
-    (trace_is plan schedule i world page was now health health_now here) here.received here.health_is is_page some went later fault
+  -- the lines are put to the page
+  put : (now : Option (List ℕ)) (c : SinkHealth) (slice page' : List ℕ) (answer : SinkAnswer) → slice ≡ lines
+      → Passes (told mid now b c) (page ++ slice) page' answer → Passes (told was now a c) (here.text ++ lines) page' answer
+  put now c slice page' answer is_slice passes =
+      passes_behind now c here.text page lines page' answer here.under
+      (subst (λ (s : List ℕ). Passes (told mid now b c) (page ++ s) page' answer) is_slice passes)
 
--- the events are carried out, and the page has the end
-pub record IsDone (plan : LinePlan) (schedule : Schedule) (page : List ℕ) (was now : Option (List ℕ)) (health health_now : SinkHealth) : Type 0 where
-  pub sent : List ℕ
-  pub received : now ≡ appended was sent
-  pub health_is : IsWrittenOn health health_now (length sent)
-  pub text : trace_text plan schedule ≡ sent ++ page
-
-pub over : (plan : LinePlan) (schedule : Schedule) (i : ℕ) (world : World) (page : List ℕ) (was now : Option (List ℕ)) (health health_now : SinkHealth)
-    → length schedule.events ≤ i → IsAt plan schedule i world page was now health health_now
-    → (here : IsAt plan schedule i world page was now health health_now)
-    → (world ≡ (piece_of plan schedule).world) × (here.sent ++ page ≡ text_of (piece_of plan schedule).entries)
-over plan schedule i world page was now health health_now past ignored here =
-    left_done (after_events (drop i schedule.events) world) world (here.sent ++ page) _ _
-    (ap (λ (events : List Event). after_events events world) (drop_all i schedule.events past)) here.left
-
-pub at_end : (plan : LinePlan) (schedule : Schedule) (i : ℕ) (world : World) (page page' : List ℕ) (was now : Option (List ℕ)) (health health_now : SinkHealth)
-    → length schedule.events ≤ i → page' ≡ page ++ end_text world.course world.moment
-    → IsAt plan schedule i world page was now health health_now → IsDone plan schedule page' was now health health_now
-at_end plan schedule i world page page' was now health health_now past is_page here =
-    let done = over plan schedule i world page was now health health_now past here here in
-    let piece = piece_of plan schedule in
-    record {
-      sent = here.sent;
-      received = here.received;
-      health_is = here.health_is;
-      text =
-          whole_text piece ∙ ap (λ (t : List ℕ). t ++ end_text piece.world.course piece.world.moment) (sym done.1)
-          ∙ append_assoc here.sent page (end_text piece.world.course piece.world.moment)
-          ∙ ap (λ (t : List ℕ). here.sent ++ t)
-          (ap (λ (w : World). page ++ end_text w.course w.moment) (sym done.0) ∙ sym is_page);
+  module _ {now : Option (List ℕ)} {c : SinkHealth} (slice page' : List ℕ) (is_slice : slice ≡ lines) where
+    -- and the next event is carried out
+    pub past_event : (event : Event) (world' : World) (empty lines' : List ℕ)
+        → drop i schedule.events ≡ event ∷ drop (i + 1) schedule.events → IsUnderWay (told mid now b c) (page ++ slice) page'
+        → empty ≡ [] → world' ≡ (after_event event world).world → lines' ≡ empty ++ text_of (after_event event world).entries
+        → world'.moment ≤ world.moment + 1000000 → IsAt plan schedule (i + 1) world' lines' page' (told was now a c)
+    past_event event world' empty lines' is_event passes none is_world is_lines moment = record {
+      text = here.text ++ lines;
+      under = put now c slice page' Done is_slice passes;
+      left =
+          left_further (after_event event world) (after_events (drop (i + 1) schedule.events)) world' (here.text ++ lines) ((here.text ++ lines) ++ lines') _ _ is_world
+          (ap (λ (t : List ℕ). (here.text ++ lines) ++ t) (is_lines ∙ ap (λ (t : List ℕ). t ++ text_of (after_event event world).entries) none))
+          (subst (λ (events : List Event). IsLeft (after_events events world) (here.text ++ lines) (piece_of plan schedule).world (text_of (piece_of plan schedule).entries)) is_event here.left);
+      moment = omega (arith, moment, here.moment);
     }
 
-pub done_course : (plan : LinePlan) (schedule : Schedule) (i : ℕ) (world : World) (page : List ℕ) (was now : Option (List ℕ)) (health health_now : SinkHealth)
-    → length schedule.events ≤ i → IsAt plan schedule i world page was now health health_now → world.course ≡ course_of plan schedule
-done_course plan schedule i world page was now health health_now past here =
-    ap (λ (w : World). w.course) (over plan schedule i world page was now health health_now past here here).0
+    -- they weren't: a write failed
+    pub put_failed : WroteShort (told mid now b c) (page ++ slice) → WroteShort (told was now a c) (trace_text plan schedule)
+    put_failed short = cut (put now c slice page' Failed is_slice short)
+
+    -- they were put, and memory ran out: the page goes out
+    pub gave_up : {after : Option (List ℕ)} {d : SinkHealth} → IsUnderWay (told mid now b c) (page ++ slice) page'
+        → WroteText (told now after c d) page' → WrotePart (told was after a d) (trace_text plan schedule)
+    gave_up {after} {d} passes wrote =
+        subst (λ (t : List ℕ). WrotePart (told was after a d) t) (sym (trace_is plan schedule i world here.text lines here.left))
+        (part_before (here.text ++ lines) _ (finished after d (here.text ++ lines) page' Done (put now c slice page' Done is_slice passes) wrote))
+
+    pub gave_up_failed : {after : Option (List ℕ)} {d : SinkHealth} → IsUnderWay (told mid now b c) (page ++ slice) page'
+        → WroteShort (told now after c d) page' → WroteShort (told was after a d) (trace_text plan schedule)
+    gave_up_failed {after} {d} passes short = cut (finished after d (here.text ++ lines) page' Failed (put now c slice page' Done is_slice passes) short)
 
 -- all of it went out
-pub ran_whole : (plan : LinePlan) (schedule : Schedule) (course : Course) (result : RunEnd) (page slice : List ℕ) (was now after : Option (List ℕ)) (health health_now health_after : SinkHealth)
-    → slice ≡ page → after ≡ appended now slice → IsWrittenOn health_now health_after (length slice)
-    → course ≡ course_of plan schedule → result ≡ end_of course → IsDone plan schedule page was now health health_now
-    → Runs (sink_told was after health health_after) (trace_text plan schedule) (course_of plan schedule) result
-ran_whole plan schedule course result page slice was now after health health_now health_after is_page went written is_course is_result here =
-    subst (λ (r : RunEnd). Runs out text (course_of plan schedule) r) (sym (is_result ∙ ap end_of is_course)) (go (course_of plan schedule))
+pub ran_whole : {out : SinkTold} (plan : LinePlan) (schedule : Schedule) (course : Course) (result : RunEnd)
+    → course ≡ course_of plan schedule → result ≡ end_of course → WroteText out (trace_text plan schedule)
+    → Runs out (trace_text plan schedule) (course_of plan schedule) result
+ran_whole {out} plan schedule course result is_course is_result wrote =
+    subst (λ (r : RunEnd). Runs out (trace_text plan schedule) (course_of plan schedule) r) (sym (is_result ∙ ap end_of is_course)) (go (course_of plan schedule))
   where
-    out : SinkTold
-    out = sink_told was after health health_after
-
-    text : List ℕ
-    text = trace_text plan schedule
-
-    wrote : WroteText out text
-    wrote =
-        let used = here.health_is in
-        let long = ap length here.text in
-        record {
-          received =
-              went ∙ ap (appended now) is_page ∙ ap (λ (r : Option (List ℕ)). appended r page) here.received
-              ∙ appended-append was here.sent page ∙ ap (appended was) (sym here.text);
-          health = record {
-            later = omega (arith, used.later, written.later);
-            used = omega (arith, used.used, written.used, ap length is_page, long, length-append here.sent page);
-          };
-        }
-
-    go : (c : Course) → Runs out text c (end_of c)
+    go : (c : Course) → Runs out (trace_text plan schedule) c (end_of c)
     go GoesOn = (refl, wrote)
     go Slips = (refl, wrote)
     go Turns = (refl, wrote)
-
-pub done_by_fault : (plan : LinePlan) (schedule : Schedule) (page slice : List ℕ) (was now after : Option (List ℕ)) (health health_now health_after : SinkHealth) (n : ℕ)
-    → slice ≡ page → n < length slice → after ≡ appended now (take n slice) → health_now.faults ≤ health_after.faults
-    → WriteFault health_now health_after (length slice) → IsDone plan schedule page was now health health_now
-    → Runs (sink_told was after health health_after) (trace_text plan schedule) (course_of plan schedule) end.WriteFailed
-done_by_fault plan schedule page slice was now after health health_now health_after n is_page some went later fault here =
-    fault_in was now after health health_now health_after here.sent page slice [] (trace_text plan schedule) n
-    (here.text ∙ sym (append-nil (here.sent ++ page))) here.received here.health_is is_page some went later fault
 
 pub next_event : (items events : List Event) (i : ℕ) (d : Event) → items ≡ events → i < length items
     → drop i events ≡ get_or items i d ∷ drop (i + 1) events

@@ -24,7 +24,8 @@ use Rattle.line_schedule.specs.declared.event.Event.{Event}
 use Rattle.line_schedule.specs.declared.event.Event.TheVariants as happens
 use Rattle.line_schedule.specs.declared.schedule.Schedule.{Schedule}
 use Rattle.trace_log.specs.Delivered.{Delivered, IsSending}
-use Rattle.trace_log.specs.Log.{Entry, Message, message_of}
+use Rattle.message_flow.specs.declared.message.Message.{Message}
+use Rattle.trace_log.specs.Log.{Entry, message_of}
 use Rattle.trace_log.specs.Log.Entry.{Noted}
 use Rattle.trace_log.specs.Log.Happening.{EquipmentStarted, HostStarted, Wrote, Sent}
 use Rattle.line_world.specs.declared.course.Course.{Course}

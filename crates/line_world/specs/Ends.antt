@@ -19,8 +19,10 @@ use Rattle.line_order.specs.Acts.Act.{Hand, Call}
 use Rattle.line_order.specs.Characters.{Character, Origin}
 use Rattle.line_order.specs.Characters.Origin.{Framed, Control, Noise}
 use Rattle.line_order.specs.Line.{Line, Station, View, seen_by, seen_from}
-use Rattle.trace_log.specs.Log.{Entry, Happening, Message, message_of}
+use Rattle.message_flow.specs.declared.message.Message.{Message}
+use Rattle.trace_log.specs.Log.{Entry, Happening, message_of}
 use Rattle.trace_log.specs.Log.Entry.{Noted, Slipped}
+use Rattle.trace_log.specs.Names.{title_of}
 use Rattle.trace_log.specs.Text.{text_of}
 use Rattle.trace_log.specs.Log.Happening.{Sent, Received, Wrote, Duplicate, Failed}
 
@@ -109,7 +111,7 @@ hears (Some first) block =
 -- could not be sent
 abbrev pub notes_of : Side → Option (List ℕ) → LineEvent → List Happening
 notes_of Host heard (event.Arrived block) = hears heard block
-notes_of Equipment heard event.Failed = Failed greeting ∷ []
+notes_of Equipment heard event.Failed = Failed (title_of greeting) ∷ []
 notes_of _ heard _ = []
 
 abbrev pub heard_of : Side → Option (List ℕ) → LineEvent → Option (List ℕ)

@@ -1,6 +1,7 @@
 -- The run of a schedule, and what it writes.
-use Rattle.std.specs.Prelude.{◌≡◌, ℕ, List, [], ◌∷◌, length}
-use Rattle.gl_base.specs.Sink.{SinkTold, WriteFault, WrotePart, WroteText}
+use Rattle.std.specs.Prelude.{◌≡◌, ℕ, List, [], ◌∷◌}
+use Rattle.gl_base.specs.Sending.{WrotePart, WroteShort, WroteText}
+use Rattle.gl_base.specs.Told.{SinkTold}
 use Rattle.line_end.specs.declared.plan.LinePlan.{LinePlan}
 use Rattle.line_schedule.specs.declared.schedule.Schedule.{Schedule}
 use Rattle.trace_log.specs.Log.{Entry}
@@ -48,11 +49,10 @@ log_of plan schedule = whole_log (piece_of plan schedule)
 abbrev pub trace_text : LinePlan → Schedule → List ℕ
 trace_text plan schedule = text_of (log_of plan schedule)
 
--- the whole text, and how the world went; or a part of the text. A write fails only with a fault
+-- the whole text, and how the world went; or a part of the text
 abbrev pub Runs : SinkTold → List ℕ → Course → RunEnd → Type 0
 Runs out text course end.Whole = (course ≡ GoesOn) × WroteText out text
 Runs out text course end.Slip = (course ≡ Slips) × WroteText out text
 Runs out text course end.Turns = (course ≡ Turns) × WroteText out text
 Runs out text course end.NoMemory = WrotePart out text
-Runs out text course end.WriteFailed =
-    WrotePart out text × WriteFault out.health out.health_after (length text)
+Runs out text course end.WriteFailed = WroteShort out text

@@ -4,6 +4,7 @@ ghost use Rattle.arrayvec.specs.ArrayVec.{array_vec_len};
 ghost use Rattle.line_end.specs.Plan.{LinePlanFits};
 ghost use Rattle.line_world.specs.Ends.{gathered_with, greeting, greeting_block, greeting_header, handed, heard_after, heard_of, hears, note_text, notes_of, offered, ticked, took, way_to, written_entries};
 ghost use Rattle.line_world.specs.Kept.{IsSlipIn, Stepped, TookOver};
+ghost use Rattle.trace_log.specs.Names.{title_of};
 ghost use Rattle.trace_log.specs.Text.{text_of};
 ghost use Rattle.line_world.specs.World.{at_start, is_under_way, slipped_characters, slips_in, slips_now};
 ghost use Rattle.gl_base.specs.declared.side.Side.TheVariants as sides;
@@ -343,7 +344,7 @@ fn note_equipment(event: &LineEvent, now: u64, lines: &mut Row<u8>) -> Result<()
 
 // Puts the line of the equipment's message that could not be sent.
 fn put_failed(now: u64, lines: &mut Row<u8>) -> Result<(), NoMemory>
-    ensures { OnOk result (lines.new ≡ lines.old ++ note_text sides.Equipment now (Failed greeting ∷ [])) }
+    ensures { OnOk result (lines.new ≡ lines.old ++ note_text sides.Equipment now (Failed (title_of greeting) ∷ [])) }
 {
     lines.extend(&failed_line(now, Side::Equipment, &greeting_header(0)))
 }

@@ -1,14 +1,15 @@
-ghost use Rattle.std.specs.Prelude.{◌≡◌, ◌++◌, ◌+◌, OnErr, OnOk};
+ghost use Rattle.std.specs.Prelude.{◌≡◌, ◌++◌};
 ghost use Rattle.line_end.specs.Plan.{LinePlanFits};
 ghost use Rattle.line_schedule.specs.Schedule.{Fits};
-ghost use Rattle.gl_base.specs.Sink.{sink_told};
+ghost use Rattle.gl_base.specs.Sending.{Passes, Sends};
+ghost use Rattle.gl_base.specs.Told.{sink_told};
 ghost use Rattle.line_world.specs.Run.{Runs, course_of, end_of, end_text, log_of, trace_text};
 ghost use Rattle.trace_log.specs.Delivered.{Delivered};
 
 use crate::course::Course;
 use crate::laws::deliveries_were_sent;
 use crate::world::World;
-use gl_base::{NoMemory, Row, Sink, SinkAnswer, copy_out};
+use gl_base::{Page, Row, Sink, SinkAnswer};
 use line_end::LinePlan;
 use line_schedule::Schedule;
 use std::alloc::Global;
@@ -29,9 +30,6 @@ pub enum RunEnd {
     WriteFailed,
 }
 
-/// How many bytes are gathered before they are written.
-const PAGE: usize = 65536;
-
 /// Carries out a schedule on a line between an equipment that has one message to send and a host that only receives, and
 /// writes the trace of what both ends note. In that trace each message delivered was sent.
 ///
@@ -40,7 +38,7 @@ pub fn run<W: Sink>(alloc: Global, plan: &LinePlan, schedule: &Schedule, out: &m
     requires plan { LinePlanFits plan.now }
     requires schedule { Fits schedule.now }
     ensures text { Runs
-        (sink_told (W.received out.old) (W.received out.new) (W.health out.old) (W.health out.new))
+        (sink_told W.Sink out.old out.new)
         (trace_text plan.now schedule.now)
         (course_of plan.now schedule.now)
         result }
@@ -55,48 +53,61 @@ fn write_trace<W: Sink>(alloc: Global, plan: &LinePlan, schedule: &Schedule, out
     requires plan { LinePlanFits plan.now }
     requires schedule { Fits schedule.now }
     ensures text { Runs
-        (sink_told (W.received out.old) (W.received out.new) (W.health out.old) (W.health out.new))
+        (sink_told W.Sink out.old out.new)
         (trace_text plan.now schedule.now)
         (course_of plan.now schedule.now)
         result }
 {
-    let mut page = Row::new(alloc);
-    let Ok(mut world) = World::begin(alloc, plan, &mut page) else {
+    let mut page = Page::new();
+    let mut lines = Row::new(alloc);
+    let Ok(mut world) = World::begin(alloc, plan, &mut lines) else {
         return RunEnd::NoMemory;
     };
-    let mut lines = Row::new(alloc);
     'events: for event in schedule.events.as_slice() {
+        let SinkAnswer::Done = page.put(out, lines.as_slice()) else {
+            return RunEnd::WriteFailed;
+        };
         lines.truncate(0);
         let Ok(()) = world.carry_out(alloc, event, &mut lines) else {
+            let SinkAnswer::Done = page.send(out) else {
+                return RunEnd::WriteFailed;
+            };
             return RunEnd::NoMemory;
         };
-        let Ok(()) = page.extend(lines.as_slice()) else {
-            return RunEnd::NoMemory;
-        };
-        if page.len() >= PAGE {
-            match copy_out(out, page.as_slice()) {
-                SinkAnswer::Done => page.truncate(0),
-                SinkAnswer::Failed => return RunEnd::WriteFailed,
-            }
-        }
     }
-    let Ok(()) = put_end(&world, &mut page) else {
-        return RunEnd::NoMemory;
-    };
-    match copy_out(out, page.as_slice()) {
+    match write_rest(&world, lines.as_slice(), &mut page, out) {
         SinkAnswer::Done => end_of(world.course()),
         SinkAnswer::Failed => RunEnd::WriteFailed,
     }
 }
 
+// Sends what the page holds, these lines, and the line of the end of a world that has gone on to it.
+fn write_rest<W: Sink>(world: &World, lines: &[u8], page: &mut Page, out: &mut W) -> SinkAnswer
+    ensures { Sends
+        (sink_told W.Sink out.old out.new)
+        ((page.old.bytes.items ++ lines.now) ++ end_text world.now.course world.now.moment)
+        result }
+{
+    let SinkAnswer::Done = page.put(out, lines) else {
+        return SinkAnswer::Failed;
+    };
+    let SinkAnswer::Done = put_end(world, page, out) else {
+        return SinkAnswer::Failed;
+    };
+    page.send(out)
+}
+
 // Puts the line of the end of a world that has gone on to it.
-fn put_end(world: &World, page: &mut Row<u8>) -> Result<(), NoMemory>
-    ensures ok { OnOk result (page.new ≡ page.old ++ end_text world.now.course world.now.moment) }
-    ensures err { OnErr result (page.new ≡ page.old) }
+fn put_end<W: Sink>(world: &World, page: &mut Page, out: &mut W) -> SinkAnswer
+    ensures { Passes
+        (sink_told W.Sink out.old out.new)
+        (page.old.bytes.items ++ end_text world.now.course world.now.moment)
+        page.new.bytes.items
+        result }
 {
     match world.course() {
-        Course::GoesOn => page.extend(&end_line(world.moment())),
-        Course::Slips | Course::Turns => Ok(()),
+        Course::GoesOn => page.put(out, &end_line(world.moment())),
+        Course::Slips | Course::Turns => page.put(out, &[]),
     }
 }
 

@@ -63,7 +63,7 @@ const TO_EQUIPMENT: Event = Event::To(Side::Equipment, 1);
 
 /// After these the host takes an ENQ inside a frame, whose sum begins so, as the equipment's asking, and the rest of some
 /// frames as one whose sum is right.
-const FALSE_BLOCK: [Event; 40] = [
+const SLIPPED: [Event; 40] = [
     TO_HOST,
     Event::Wait(200),
     TO_HOST,
@@ -121,7 +121,7 @@ fn a_false_block_ends_the_trace(rt: HostRuntime) -> Result<(), Fail> {
     let slip =
         "3800 H slip 0 7D0518B1FE810D8001000000000102410747454D4C494E45410131057D0505050505050505050505050518B1FE810D8001000000000102410747454D4C494E45410131057D0518B1FE810D8001000000000102410747454D4C494E45410131057D0518B1FE810D8001000000000102410747454D4C494E45410131057D0518B1\n";
     let mut out = MemSink::new(rt.alloc(), 10_000)?;
-    let end = run_of(rt.alloc(), &plan, &FALSE_BLOCK, &mut out)?;
+    let end = run_of(rt.alloc(), &plan, &SLIPPED, &mut out)?;
     assert_eq!(rt; end, RunEnd::Slip);
     assert!(rt; out.bytes().ends_with(slip.as_bytes()));
     Ok(())
