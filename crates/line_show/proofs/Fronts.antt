@@ -11,12 +11,16 @@ split_at_length : (n : ℕ) (bytes front : List ℕ) → take n bytes ≡ front 
 split_at_length n bytes front is_front =
     sym (take-append-drop (length front) bytes)
     ∙ ap (λ (xs : List ℕ). xs ++ drop (length front) bytes)
-    (ap (λ (xs : List ℕ). take (length xs) bytes) (sym is_front) ∙ ap (λ (k : ℕ). take k bytes) (length-take n bytes) ∙ take_min n bytes ∙ is_front)
+    (ap (λ (xs : List ℕ). take (length xs) bytes) (sym is_front) ∙ ap (λ (k : ℕ). take k bytes) (length-take n bytes)
+    ∙ take_min n bytes ∙ is_front)
 
-pub Framed-at : (capture rest front : List ℕ) (at n : ℕ) (block : BlockView) → rest ≡ drop at capture → front ≡ take n rest →
-    IsBlock block → front ≡ frame_bytes block → IsFront (drop at capture) (Framed block) (drop (at + length (frame_bytes block)) capture)
+pub Framed-at : (capture rest front : List ℕ) (at n : ℕ) (block : BlockView) → rest ≡ drop at capture
+    → front ≡ take n rest →
+    IsBlock block → front ≡ frame_bytes block
+    → IsFront (drop at capture) (Framed block) (drop (at + length (frame_bytes block)) capture)
 Framed-at capture rest front at n block is_rest is_front is_block is_frame =
-    let taken : take n (drop at capture) ≡ frame_bytes block = ap (λ (xs : List ℕ). take n xs) (sym is_rest) ∙ sym is_front ∙ is_frame in
+    let taken : take n (drop at capture) ≡ frame_bytes block = ap (λ (xs : List ℕ). take n xs) (sym is_rest)
+    ∙ sym is_front ∙ is_frame in
     record {
       stands = is_block;
       whole = split_at_length n (drop at capture) (frame_bytes block) taken

@@ -18,7 +18,8 @@ abbrev fault_in : Result Item ItemFault → Option ItemFault
 fault_in (Ok item) = None
 fault_in (Err e) = Some e
 
-same_fault : (total : ℕ) (read : Result (Item × List ℕ) ItemFault) → fault_in (all_of total read) ≡ fault_after total (rest_of read)
+same_fault : (total : ℕ) (read : Result (Item × List ℕ) ItemFault)
+    → fault_in (all_of total read) ≡ fault_after total (rest_of read)
 same_fault total (Err e) = refl
 same_fault total (Ok (item, [])) = refl
 same_fault total (Ok (item, b ∷ rest)) = refl
@@ -26,7 +27,8 @@ same_fault total (Ok (item, b ∷ rest)) = refl
 first_fault_in : (bytes : List ℕ) → fault_in (item_of bytes) ≡ first_fault bytes
 unfolding first_fault
 first_fault_in bytes =
-    same_fault (length bytes) (item_at (length bytes) 64 bytes) ∙ ap (fault_after (length bytes)) (sym (item_rest (length bytes) 64 bytes))
+    same_fault (length bytes) (item_at (length bytes) 64 bytes)
+    ∙ ap (fault_after (length bytes)) (sym (item_rest (length bytes) 64 bytes))
 
 is_fault : (read : Result Item ItemFault) (fault : ItemFault) → fault_in read ≡ Some fault → read ≡ Err fault
 is_fault (Ok item) fault is = cc
@@ -55,7 +57,8 @@ some_spelled item body spelled nothing =
     cc
 
 pub body_text-item : (item : Item) (body : List ℕ) → Spells item body → body_text body ≡ text_of item
-body_text-item item body spelled = body_text-some body (some_spelled item body spelled) ∙ ap read_text (item_of-spelled item body spelled)
+body_text-item item body spelled = body_text-some body (some_spelled item body spelled)
+    ∙ ap read_text (item_of-spelled item body spelled)
 
 pub body_text-fault : (body : List ℕ) (fault : ItemFault) → body ≢ [] → first_fault body ≡ Some fault
     → body_text body ≡ codes "bad " ++ fault_text fault
@@ -65,8 +68,10 @@ something : (body : List ℕ) → length body == 0 ≡ false → body ≢ []
 something body some nothing = let none : length body == 0 ≡ true = ap (λ (all : List ℕ). length all == 0) nothing in cc
 
 -- a text of which the fault was put
-pub bad_shown : (body page page' : List ℕ) (found : ItemFault) (result : Result (Unit {0}) NoMemory) → length body == 0 ≡ false →
-    (found ≢ fault.NoMemory → first_fault body ≡ Some found) → OnOk result (page' ≡ page ++ (codes "bad " ++ fault_text found)) →
+pub bad_shown : (body page page' : List ℕ) (found : ItemFault) (result : Result (Unit {0}) NoMemory)
+    → length body == 0 ≡ false →
+    (found ≢ fault.NoMemory → first_fault body ≡ Some found)
+    → OnOk result (page' ≡ page ++ (codes "bad " ++ fault_text found)) →
     OnOk result (found ≢ fault.NoMemory) → OnOk result (page' ≡ page ++ body_text body)
 bad_shown body page page' found (Ok done) some first put named =
     put ∙ ap (λ (text : List ℕ). page ++ text) (sym (body_text-fault body found (something body some) (first named)))

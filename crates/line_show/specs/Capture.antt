@@ -1,8 +1,9 @@
 -- A capture: frames and characters of the handshake one after another, read until a frame is broken (this profile).
-use Rattle.std.specs.Prelude.{◌≡◌, ◌≢◌, ◌==◌, ◌||◌, ◌+◌, ℕ, Bool, true, false, List, [], ◌∷◌, ◌++◌, length, take, slice_index, Option, Some, None}
+use Rattle.std.specs.Prelude.{◌≡◌, ◌≢◌, ◌==◌, ◌||◌, ◌+◌, ℕ, Bool, true, false, List, [], ◌∷◌, ◌++◌, length, take, drop, slice_index, Option, Some, None}
 use Rattle.block_codec.specs.Block.{IsBlock}
 use Rattle.block_codec.specs.Fault.{fault_of}
 use Rattle.block_codec.specs.Frame.{frame_bytes}
+use Rattle.block_codec.specs.Protocol.{ack, enq, eot, nak}
 use Rattle.block_codec.specs.declared.frame.BlockFault.{BlockFault}
 use Rattle.block_codec.specs.declared.frame.BlockFault.TheVariants as fault
 use Rattle.line_show.specs.declared.capture.Break.{Break}
@@ -14,7 +15,7 @@ use Rattle.line_show.specs.declared.capture.Piece.TheVariants.{Character, Framed
 
 -- ENQ, EOT, ACK or NAK, which stand between frames (SEMI E4, handshake)
 abbrev pub is_character : ℕ → Bool
-is_character byte = byte == 5 || byte == 4 || byte == 6 || byte == 21
+is_character byte = byte == enq || byte == eot || byte == ack || byte == nak
 
 -- the bytes that a frame in front has by its length byte, or what there is of them
 abbrev pub front_frame : List ℕ → List ℕ
@@ -29,8 +30,8 @@ abbrev pub piece_bytes : Piece → List ℕ
 piece_bytes (Character byte) = byte ∷ []
 piece_bytes (Framed block) = frame_bytes block
 
--- A piece may stand in front of these bytes: a block as its frame, and a character where no good frame begins, as one may
--- with 21, which is NAK and a length.
+-- A piece may stand in front of these bytes: a block as its frame, and a character where no good frame begins, as one
+-- may with 21, which is NAK and a length.
 abbrev pub MayStand : Piece → List ℕ → Type 0
 MayStand (Character byte) bytes = (is_character byte ≡ true) × HasFault bytes
 MayStand (Framed block) bytes = IsBlock block
@@ -54,16 +55,21 @@ break_of place end (fault.Long came) = None
 break_of place end (fault.Sum got want) = Some (break.Sum place want got)
 
 -- what stands at a place ends the reading: nothing, or a broken frame
-abbrev pub Ends : ℕ → List ℕ → Ending → Type 0
-Ends place bytes Whole = bytes ≡ []
-Ends place bytes (Broken named) = (fault : BlockFault) × HasBreak bytes fault × (break_of place (place + length bytes) fault ≡ Some named)
+abbrev pub EndsAs : ℕ → List ℕ → Ending → Type 0
+EndsAs place bytes Whole = bytes ≡ []
+EndsAs place bytes (Broken named) =
+    (fault : BlockFault) × HasBreak bytes fault × (break_of place (place + length bytes) fault ≡ Some named)
 
 -- the pieces stand from a place on, one after another, and then what ends the reading
 abbrev pub ReadsFrom : ℕ → List ℕ → List Piece → Ending → Type 0
-ReadsFrom place bytes [] ending = Ends place bytes ending
+ReadsFrom place bytes [] ending = EndsAs place bytes ending
 ReadsFrom place bytes (piece ∷ pieces) ending =
     (more : List ℕ) × IsFront bytes piece more × ReadsFrom (place + length (piece_bytes piece)) more pieces ending
 
 -- a capture is these pieces and this ending
 abbrev pub Reads : List ℕ → List Piece → Ending → Type 0
 Reads capture pieces ending = ReadsFrom 0 capture pieces ending
+
+-- a piece is in front at a place of a capture
+abbrev pub IsFrontAt : ℕ → List ℕ → Piece → Type 0
+IsFrontAt at capture piece = IsFront (drop at capture) piece (drop (at + length (piece_bytes piece)) capture)

@@ -12,7 +12,9 @@ use Rattle.line_show.specs.declared.capture.Piece.{Piece}
 
 -- each capture is pieces and an ending
 abbrev pub CapturesRead : Type 0
-CapturesRead = (capture : List ℕ) → All (λ byte. byte < 256) capture → (pieces : List Piece) × (ending : Ending) × Reads capture pieces ending
+CapturesRead =
+    (capture : List ℕ) → All (λ byte. byte < 256) capture
+    → (pieces : List Piece) × (ending : Ending) × Reads capture pieces ending
 
 -- and in one way only
 abbrev pub CapturesReadInOneWay : Type 0
@@ -24,4 +26,5 @@ CapturesReadInOneWay =
 pub record BodiesAreShown : Type 0 where
   pub items : (item : Item) (body : List ℕ) → Spells item body → body_text body ≡ text_of item
   pub faults :
-      (body : List ℕ) (fault : ItemFault) → body ≢ [] → first_fault body ≡ Some fault → body_text body ≡ codes "bad " ++ fault_text fault
+      (body : List ℕ) (fault : ItemFault) → body ≢ [] → first_fault body ≡ Some fault
+      → body_text body ≡ codes "bad " ++ fault_text fault

@@ -3,6 +3,7 @@ use Rattle.std.specs.Prelude.{ℕ, ◌+◌, ◌==◌, Bool, List, [], ◌∷◌,
 use Rattle.std.specs.Int.{w32, to_be_bytes}
 use Rattle.hex.specs.Hex.{encode_upper}
 use Rattle.block_codec.specs.Block.{BlockView}
+use Rattle.block_codec.specs.Protocol.{ack, enq, eot}
 use Rattle.block_codec.specs.declared.header.Header.{Header}
 use Rattle.message_flow.specs.declared.flow.Flow.{Flow}
 use Rattle.message_flow.specs.declared.flow.Flow.TheVariants.{Part, Whole, Duplicate, Foreign, Unexpected, TooLong, Crowded}
@@ -27,7 +28,8 @@ abbrev pub block_text : ℕ → Header → ℕ → List ℕ
 block_text place header size =
     decimal place ++ codes " BLOCK " ++ direction header.from_equipment ++ codes " dev=" ++ decimal header.device
     ++ codes " " ++ name_of header.stream header.function header.wait ++ codes " n=" ++ decimal header.number
-    ++ flag header.last (codes " E") ++ codes " sys=" ++ system_of header.system ++ codes " bytes=" ++ decimal size ++ codes "\n"
+    ++ flag header.last (codes " E") ++ codes " sys=" ++ system_of header.system
+    ++ codes " bytes=" ++ decimal size ++ codes "\n"
 
 -- place, direction, name and system bytes of a message
 abbrev pub message_head : ℕ → Bool → Message → List ℕ
@@ -40,7 +42,8 @@ abbrev pub message_text : ℕ → Bool → Message → List ℕ
 message_text place from_equipment message =
     message_head place from_equipment message ++ body_text message.body ++ codes "\n"
 
--- What is written of what a block is. A part says nothing of its own. No block is foreign, since each direction has its receiver.
+-- What is written of what a block is. A part says nothing of its own. No block is foreign, since each direction has its
+-- receiver.
 abbrev pub flow_text : ℕ → Bool → Flow → List ℕ
 flow_text place from_equipment Part = []
 flow_text place from_equipment (Whole message) = message_text place from_equipment message
@@ -50,17 +53,43 @@ flow_text place from_equipment Unexpected = decimal place ++ codes " unexpected\
 flow_text place from_equipment TooLong = decimal place ++ codes " too long\n"
 flow_text place from_equipment Crowded = decimal place ++ codes " crowded\n"
 
+-- the same up to a message's text, and from there to the end of its line
+abbrev pub flow_head : ℕ → Bool → Flow → List ℕ
+flow_head place from_equipment Part = []
+flow_head place from_equipment (Whole message) = message_head place from_equipment message
+flow_head place from_equipment Duplicate = decimal place ++ codes " duplicate\n"
+flow_head place from_equipment (Foreign address) = []
+flow_head place from_equipment Unexpected = decimal place ++ codes " unexpected\n"
+flow_head place from_equipment TooLong = decimal place ++ codes " too long\n"
+flow_head place from_equipment Crowded = decimal place ++ codes " crowded\n"
+
+abbrev pub flow_rest : Flow → List ℕ
+flow_rest Part = []
+flow_rest (Whole message) = body_text message.body ++ codes "\n"
+flow_rest Duplicate = []
+flow_rest (Foreign address) = []
+flow_rest Unexpected = []
+flow_rest TooLong = []
+flow_rest Crowded = []
+
 -- the name of a character; no other byte stands between frames (SEMI E4, handshake)
 abbrev pub character_name : ℕ → List ℕ
 character_name byte =
-    if byte == 5 then codes "ENQ" else if byte == 4 then codes "EOT" else if byte == 6 then codes "ACK" else codes "NAK"
+    if byte == enq then codes "ENQ" else if byte == eot then codes "EOT"
+    else if byte == ack then codes "ACK" else codes "NAK"
 
 abbrev pub character_text : ℕ → ℕ → List ℕ
 character_text place byte = decimal place ++ codes " " ++ character_name byte ++ codes "\n"
 
 -- the lines of a block at a place, which is this
 abbrev pub block_lines : ℕ → BlockView → Flow → List ℕ
-block_lines place block flow = block_text place block.header (length block.body) ++ flow_text place block.header.from_equipment flow
+block_lines place block flow =
+    block_text place block.header (length block.body) ++ flow_text place block.header.from_equipment flow
+
+-- the same up to a message's text
+abbrev pub block_head : ℕ → BlockView → Flow → List ℕ
+block_head place block flow =
+    block_text place block.header (length block.body) ++ flow_head place block.header.from_equipment flow
 
 -- the lines of a piece at a place, behind these blocks
 abbrev pub piece_lines : ℕ → List BlockView → Piece → List ℕ

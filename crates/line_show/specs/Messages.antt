@@ -2,10 +2,11 @@
 use Rattle.std.specs.Prelude.{◌≡◌, Bool, true, false, List, [], ◌∷◌, ◌++◌, filter, map, None, if◌then◌else◌}
 use Rattle.std.specs.Bool.{beq}
 use Rattle.block_codec.specs.Block.{BlockView}
+use Rattle.block_codec.specs.Protocol.{longest_text}
 use Rattle.gl_base.specs.declared.side.Side.TheVariants.{Equipment, Host}
 use Rattle.message_flow.specs.declared.flow.Flow.{Flow}
-use Rattle.message_flow.specs.Entries.{Entry, StandsFor}
-use Rattle.message_flow.specs.Entries.Entry.{Given}
+use Rattle.message_flow.specs.Entries.{FlowEntry, StandsFor}
+use Rattle.message_flow.specs.Entries.FlowEntry.{Given}
 use Rattle.message_flow.specs.History.{flow_at}
 use Rattle.message_flow.specs.Receiver.{Receiver}
 use Rattle.line_show.specs.declared.capture.Piece.{Piece}
@@ -19,21 +20,21 @@ receiver_in from_equipment = record {
   side = if from_equipment then Host else Equipment;
   device = None;
   t4 = 120000;
-  max_body = 7995148;
+  max_body = longest_text;
 }
 
--- a block goes in this direction
-abbrev pub goes : Bool → BlockView → Bool
-goes from_equipment block = beq block.header.from_equipment from_equipment
+-- whether a block's R bit is this
+abbrev pub has_r_bit : Bool → BlockView → Bool
+has_r_bit from_equipment block = beq block.header.from_equipment from_equipment
 
--- the blocks that were given in a direction, the oldest first
-abbrev pub given_in : Bool → List BlockView → List Entry
-given_in from_equipment before = map (λ block. Given block 0) (filter (goes from_equipment) before)
+-- the blocks of a direction, in their order
+abbrev pub entries_in : Bool → List BlockView → List FlowEntry
+entries_in from_equipment before = map (λ block. Given block 0) (filter (has_r_bit from_equipment) before)
 
 -- what a block is behind these (SEMI E4, receive)
 abbrev pub flow_in : List BlockView → BlockView → Flow
 flow_in before block =
-    flow_at (receiver_in block.header.from_equipment) (given_in block.header.from_equipment before) block
+    flow_at (receiver_in block.header.from_equipment) (entries_in block.header.from_equipment before) block
 
 -- the blocks so far, with those of one piece more
 abbrev pub with_piece : List BlockView → Piece → List BlockView
@@ -43,6 +44,6 @@ with_piece before (Framed block) = before ++ block ∷ []
 -- the two receivers have met these blocks
 pub record HaveMet (receivers : Receivers) (before : List BlockView) : Type 0 where
   pub host : receivers.host.receiver ≡ receiver_in true
-  pub host_met : StandsFor receivers.host (given_in true before)
+  pub host_met : StandsFor receivers.host (entries_in true before)
   pub equipment : receivers.equipment.receiver ≡ receiver_in false
-  pub equipment_met : StandsFor receivers.equipment (given_in false before)
+  pub equipment_met : StandsFor receivers.equipment (entries_in false before)

@@ -1,7 +1,7 @@
 ghost use Rattle.std.specs.Prelude.{◌≡◌, ◌+◌, ◌≤◌, drop, length, take, IfErr, IfOk};
-ghost use Rattle.line_show.specs.Capture.{Ends, IsFront, break_of, is_character, piece_bytes};
+ghost use Rattle.line_show.specs.Capture.{EndsAs, IsFrontAt, break_of, is_character, piece_bytes};
 
-use block_codec::{Block, BlockFault, block_of};
+use block_codec::{ACK, Block, BlockFault, ENQ, EOT, NAK, SHORTEST_FRAME, block_of};
 
 /// A broken frame of a capture. A short one is named at the capture's length, another at its first byte.
 #[derive(Clone, Copy, Debug, PartialEq, Eq)]
@@ -41,7 +41,7 @@ impl Piece {
     {
         match self {
             Piece::Character(_) => 1,
-            Piece::Framed(block) => 13 + block.body().len(),
+            Piece::Framed(block) => SHORTEST_FRAME + block.body().len(),
         }
     }
 }
@@ -49,8 +49,8 @@ impl Piece {
 /// The piece at a place of the capture, or how the capture ends there.
 pub(crate) fn front_of(capture: &[u8], at: usize) -> Result<Piece, Ending>
     requires { at ≤ length capture.now }
-    ensures piece { IfOk result (λ piece. IsFront (drop at capture.now) piece (drop (at + length (piece_bytes piece)) capture.now)) }
-    ensures ending { IfErr result (λ ending. Ends at (drop at capture.now) ending) }
+    ensures piece { IfOk result (λ piece. IsFrontAt at capture.now piece) }
+    ensures ending { IfErr result (λ ending. EndsAs at (drop at capture.now) ending) }
 {
     let (_, rest) = capture.split_at(at);
     if rest.is_empty() {
@@ -77,7 +77,7 @@ pub(crate) fn front_of(capture: &[u8], at: usize) -> Result<Piece, Ending>
 fn is_character(byte: u8) -> bool
     ensures { result ≡ is_character byte }
 {
-    byte == 0x05 || byte == 0x04 || byte == 0x06 || byte == 0x15
+    byte == ENQ || byte == EOT || byte == ACK || byte == NAK
 }
 
 // The first n bytes, or all where there are fewer.

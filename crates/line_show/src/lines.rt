@@ -1,82 +1,127 @@
 ghost use Rattle.std.specs.Prelude.{◌≡◌, ◌+◌, ◌++◌, ◌≤◌, length, decimal};
 ghost use Rattle.arrayvec.specs.ArrayVec.{array_vec_len};
 ghost use Rattle.line_show.specs.Capture.{is_character};
-ghost use Rattle.line_show.specs.Lines.{block_text, character_name, character_text, direction, message_head};
+ghost use Rattle.line_show.specs.Lines.{block_head, block_text, character_name, character_text, direction, flow_head, message_head};
 
 use arrayvec::ArrayVec;
-use block_codec::Header;
-use message_flow::Message;
+use block_codec::{ACK, Block, ENQ, EOT, Header};
+use message_flow::{Flow, Message};
 use short_text::{put, put_flag, put_hex, put_name, put_number};
 
 /// Room for one line of text, but for a message's text.
 pub type Line = ArrayVec<u8, 256>;
 
-/// The line of a block that begins at a place of the capture and has so many bytes of body.
-pub(crate) fn block_line(place: usize, header: &Header, size: usize) -> Line
-    ensures { result.items ≡ block_text place header.now size }
+/// Puts the lines of a block at a place of the capture, up to the text of a message that it completes, behind what
+/// stands in a page with room for 512 bytes more.
+pub(crate) fn put_block_head<const N: usize>(
+    line: &mut ArrayVec<u8, N>,
+    place: usize,
+    block: &Block,
+    flow: &Flow,
+)
+    requires { array_vec_len line.old + 512 ≤ N }
+    ensures { line.new.items ≡ line.old.items ++ block_head place block.now flow.now }
 {
-    let mut line = Line::new();
-    put_number(&mut line, place as u64);
-    put(&mut line, b" BLOCK ");
-    put_direction(&mut line, header.from_equipment);
-    put(&mut line, b" dev=");
-    put_number(&mut line, u64::from(header.device));
-    put(&mut line, b" ");
-    put_name(&mut line, header.stream, header.function, header.wait);
-    put(&mut line, b" n=");
-    put_number(&mut line, u64::from(header.number));
-    put_flag(&mut line, header.last, b" E");
-    put(&mut line, b" sys=");
-    put_hex(&mut line, &header.system.to_be_bytes());
-    put(&mut line, b" bytes=");
-    put_number(&mut line, size as u64);
-    put(&mut line, b"\n");
-    line
+    let header = block.header();
+    put_block_line(line, place, &header, block.body().len());
+    put_flow_head(line, place, header.from_equipment, flow);
 }
 
-/// The line of a message whose last block begins at a place of the capture, up to the message's text.
-pub(crate) fn message_line(place: usize, from_equipment: bool, message: &Message) -> Line
-    ensures { result.items ≡ message_head place from_equipment message.now }
+// Puts the line of a block that has so many bytes of body.
+fn put_block_line<const N: usize>(
+    line: &mut ArrayVec<u8, N>,
+    place: usize,
+    header: &Header,
+    size: usize,
+)
+    requires { array_vec_len line.old + 256 ≤ N }
+    ensures items { line.new.items ≡ line.old.items ++ block_text place header.now size }
+    ensures len { array_vec_len line.new ≤ array_vec_len line.old + 256 }
 {
-    let mut line = Line::new();
-    put_number(&mut line, place as u64);
-    put(&mut line, b" MESSAGE ");
-    put_direction(&mut line, from_equipment);
-    put(&mut line, b" ");
-    put_name(&mut line, message.stream, message.function, message.wait);
-    put(&mut line, b" sys=");
-    put_hex(&mut line, &message.system.to_be_bytes());
-    put(&mut line, b" ");
-    line
+    put_number(line, place as u64);
+    put(line, b" BLOCK ");
+    put_direction(line, header.from_equipment);
+    put(line, b" dev=");
+    put_number(line, u64::from(header.device));
+    put(line, b" ");
+    put_name(line, header.stream, header.function, header.wait);
+    put(line, b" n=");
+    put_number(line, u64::from(header.number));
+    put_flag(line, header.last, b" E");
+    put(line, b" sys=");
+    put_hex(line, &header.system.to_be_bytes());
+    put(line, b" bytes=");
+    put_number(line, size as u64);
+    put(line, b"\n");
 }
 
-/// The line of a character of the handshake at a place of the capture.
-pub(crate) fn character_line(place: usize, byte: u8) -> Line
-    ensures { result.items ≡ character_text place byte }
+// Puts what is shown of what a block is, up to a message's text.
+fn put_flow_head<const N: usize>(
+    line: &mut ArrayVec<u8, N>,
+    place: usize,
+    from_equipment: bool,
+    flow: &Flow,
+)
+    requires { array_vec_len line.old + 256 ≤ N }
+    ensures { line.new.items ≡ line.old.items ++ flow_head place from_equipment flow.now }
+{
+    match flow {
+        Flow::Part | Flow::Foreign(_) => {}
+        Flow::Whole(message) => put_message_head(line, place, from_equipment, message),
+        Flow::Duplicate => put_place(line, place, b" duplicate\n"),
+        Flow::Unexpected => put_place(line, place, b" unexpected\n"),
+        Flow::TooLong => put_place(line, place, b" too long\n"),
+        Flow::Crowded => put_place(line, place, b" crowded\n"),
+    }
+}
+
+// Puts the line of a message whose last block begins at a place of the capture, up to the message's text.
+fn put_message_head<const N: usize>(
+    line: &mut ArrayVec<u8, N>,
+    place: usize,
+    from_equipment: bool,
+    message: &Message,
+)
+    requires { array_vec_len line.old + 256 ≤ N }
+    ensures { line.new.items ≡ line.old.items ++ message_head place from_equipment message.now }
+{
+    put_number(line, place as u64);
+    put(line, b" MESSAGE ");
+    put_direction(line, from_equipment);
+    put(line, b" ");
+    put_name(line, message.stream, message.function, message.wait);
+    put(line, b" sys=");
+    put_hex(line, &message.system.to_be_bytes());
+    put(line, b" ");
+}
+
+/// Puts the line of a character of the handshake at a place of the capture.
+pub(crate) fn put_character_line<const N: usize>(line: &mut ArrayVec<u8, N>, place: usize, byte: u8)
+    requires { array_vec_len line.old + 256 ≤ N }
+    ensures { line.new.items ≡ line.old.items ++ character_text place byte }
 {
     let name: &[u8] = match byte {
-        0x05 => b" ENQ\n",
-        0x04 => b" EOT\n",
-        0x06 => b" ACK\n",
+        ENQ => b" ENQ\n",
+        EOT => b" EOT\n",
+        ACK => b" ACK\n",
         _ => b" NAK\n",
     };
-    place_line(place, name)
+    put_place(line, place, name);
 }
 
-/// A place of the capture and a few words about it.
-pub(crate) fn place_line(place: usize, words: &[u8]) -> Line
-    requires { length words.now ≤ 100 }
-    ensures { result.items ≡ decimal place ++ words.now }
+// Puts a place of the capture and a few words about it.
+fn put_place<const N: usize>(line: &mut ArrayVec<u8, N>, place: usize, words: &[u8])
+    requires words { length words.now ≤ 100 }
+    requires room { array_vec_len line.old + 256 ≤ N }
+    ensures { line.new.items ≡ line.old.items ++ (decimal place ++ words.now) }
 {
-    let mut line = Line::new();
-    put_number(&mut line, place as u64);
-    put(&mut line, words);
-    line
+    put_number(line, place as u64);
+    put(line, words);
 }
 
 // Puts where a block goes from and to.
-fn put_direction(line: &mut Line, from_equipment: bool)
-    requires { array_vec_len line.old + 3 ≤ 256 }
+fn put_direction<const N: usize>(line: &mut ArrayVec<u8, N>, from_equipment: bool)
+    requires { array_vec_len line.old + 3 ≤ N }
     ensures items { line.new.items ≡ line.old.items ++ direction from_equipment }
     ensures len { array_vec_len line.new ≡ array_vec_len line.old + 3 }
 {

@@ -1,19 +1,19 @@
-ghost use Rattle.std.specs.Prelude.{◌≡◌, ◌++◌, ◌∷◌, [], List, OnErr, OnOk};
+ghost use Rattle.std.specs.Prelude.{◌≡◌, ◌⊎◌, ◌++◌, ◌∷◌, [], Err, List, OnOk};
 ghost use Rattle.block_codec.specs.Block.{BlockView};
-ghost use Rattle.secs_text.specs.Printing.{Puts};
-ghost use Rattle.gl_base.specs.Sink.{sink_told};
-ghost use Rattle.line_show.specs.Lines.{block_lines, flow_text, message_text, piece_lines};
+ghost use Rattle.gl_base.specs.Sending.{WroteShort, WroteText};
+ghost use Rattle.gl_base.specs.Told.{sink_told};
+ghost use Rattle.line_show.specs.Lines.{block_lines, character_text, flow_rest, piece_lines};
 ghost use Rattle.line_show.specs.Messages.{HaveMet, with_piece};
 ghost use Rattle.line_show.specs.declared.capture.Piece.TheVariants as pieces;
-ghost use Rattle.line_show.specs.Show.{HasStopCause, Shows};
+ghost use Rattle.line_show.specs.Show.{HasStopCause, PutsLines, Shows};
 
 use crate::bodies::put_body;
 use crate::capture::{Ending, Piece, front_of};
-use crate::lines::{block_line, character_line, message_line, place_line};
+use crate::lines::{put_block_head, put_character_line};
 use crate::receivers::Receivers;
 use block_codec::Block;
-use gl_base::{NoMemory, Row, Sink, SinkAnswer, copy_out};
-use message_flow::{Flow, Message};
+use gl_base::{NoMemory, Page, Row, Sink, SinkAnswer};
+use message_flow::Flow;
 use std::alloc::Global;
 
 /// Why a capture was not shown up to its ending.
@@ -24,147 +24,154 @@ pub enum Stop {
     WriteFailed,
 }
 
-/// How many bytes are gathered before they are written.
-const PAGE: usize = 65536;
+// How many bytes the lines of a piece have at most, but for a message's text.
+const LINES: usize = 512;
 
-/// Writes the lines of a capture's pieces up to its ending, and answers the ending. On `Stop` a part
-/// of the lines from the front was written.
+/// Writes the lines of a capture's pieces up to its ending, and answers the ending. On `Stop` a part of the lines, from
+/// the front, was written: where memory ran out, all lines of the pieces before.
 pub fn show<W: Sink>(alloc: Global, capture: &[u8], out: &mut W) -> Result<Ending, Stop>
-    ensures lines { Shows
-        (sink_told (W.received out.old) (W.received out.new) (W.health out.old) (W.health out.new))
-        capture.now
-        result }
-    ensures cause { HasStopCause
-        (sink_told (W.received out.old) (W.received out.new) (W.health out.old) (W.health out.new))
-        result }
+    ensures lines { Shows (sink_told W.Sink out.old out.new) capture.now result }
+    ensures cause { HasStopCause (sink_told W.Sink out.old out.new) result }
 {
-    let mut page = Row::new(alloc);
+    let mut page = Page::new();
+    let mut text = Row::new(alloc);
     let mut receivers = Receivers::new(alloc);
     let mut at = 0;
     'pieces: loop {
         match front_of(capture, at) {
             Ok(piece) => {
-                let Ok(()) = put_piece(alloc, &mut page, &mut receivers, at, &piece) else {
-                    match copy_out(out, page.as_slice()) {
-                        SinkAnswer::Done => return Err(Stop::NoMemory),
-                        SinkAnswer::Failed => return Err(Stop::WriteFailed),
-                    }
-                };
-                at += piece.size();
+                match put_piece(alloc, &mut page, &mut text, &mut receivers, out, at, &piece) {
+                    Ok(()) => at += piece.size(),
+                    Err(Stop::NoMemory) => return finish(&mut page, out, Err(Stop::NoMemory)),
+                    Err(Stop::WriteFailed) => return Err(Stop::WriteFailed),
+                }
             }
-            Err(ending) => match copy_out(out, page.as_slice()) {
-                SinkAnswer::Done => return Ok(ending),
-                SinkAnswer::Failed => return Err(Stop::WriteFailed),
-            },
-        }
-        if page.len() >= PAGE {
-            match copy_out(out, page.as_slice()) {
-                SinkAnswer::Done => page.truncate(0),
-                SinkAnswer::Failed => return Err(Stop::WriteFailed),
-            }
+            Err(ending) => return finish(&mut page, out, Ok(ending)),
         }
     }
 }
 
-// Puts the lines of a piece at a place of the capture. Where memory runs out the page stays as it was.
-fn put_piece(
+// Sends what the page holds, and answers this, or that a write failed.
+fn finish<W: Sink>(
+    page: &mut Page,
+    out: &mut W,
+    answer: Result<Ending, Stop>,
+) -> Result<Ending, Stop>
+    ensures { ((result ≡ answer) × WroteText (sink_told W.Sink out.old out.new) page.old.bytes.items)
+        ⊎ ((result ≡ Err Stop.WriteFailed) × WroteShort (sink_told W.Sink out.old out.new) page.old.bytes.items) }
+{
+    match page.send(out) {
+        SinkAnswer::Done => answer,
+        SinkAnswer::Failed => Err(Stop::WriteFailed),
+    }
+}
+
+// Puts the lines of a piece at a place of the capture.
+fn put_piece<W: Sink>(
     alloc: Global,
-    page: &mut Row<u8>,
+    page: &mut Page,
+    text: &mut Row<u8>,
     receivers: &mut Receivers,
+    out: &mut W,
     at: usize,
     piece: &Piece,
-) -> Result<(), NoMemory>
-    ensures ok { (before : List BlockView) → HaveMet receivers.old before → OnOk result (page.new ≡ page.old ++ piece_lines at before piece.now) }
-    ensures met { (before : List BlockView) → HaveMet receivers.old before → OnOk result (HaveMet receivers.new (with_piece before piece.now)) }
-    ensures err { OnErr result (page.new ≡ page.old) }
+) -> Result<(), Stop>
+    ensures lines { (before : List BlockView) → HaveMet receivers.old before
+        → PutsLines
+        (sink_told W.Sink out.old out.new)
+        page.old.bytes.items
+        (piece_lines at before piece.now)
+        page.new.bytes.items
+        result }
+    ensures met { (before : List BlockView) → HaveMet receivers.old before
+        → OnOk result (HaveMet receivers.new (with_piece before piece.now)) }
 {
     match piece {
-        Piece::Character(byte) => page.extend(&character_line(at, *byte)),
-        Piece::Framed(block) => put_block(alloc, page, receivers, at, block),
+        Piece::Character(byte) => put_character(page, out, at, *byte),
+        Piece::Framed(block) => put_block(alloc, page, text, receivers, out, at, block),
     }
 }
 
-// Puts the lines of a block. Where memory runs out the page stays as it was.
-fn put_block(
+// Puts the line of a character.
+fn put_character<W: Sink>(page: &mut Page, out: &mut W, at: usize, byte: u8) -> Result<(), Stop>
+    ensures { PutsLines
+        (sink_told W.Sink out.old out.new)
+        page.old.bytes.items
+        (character_text at byte)
+        page.new.bytes.items
+        result }
+{
+    match page.make_room(out, LINES) {
+        SinkAnswer::Done => put_character_line(&mut page.bytes, at, byte),
+        SinkAnswer::Failed => return Err(Stop::WriteFailed),
+    }
+    Ok(())
+}
+
+// Puts the lines of a block. Its message's text is made before anything is put: where memory runs out nothing is.
+fn put_block<W: Sink>(
     alloc: Global,
-    page: &mut Row<u8>,
+    page: &mut Page,
+    text: &mut Row<u8>,
     receivers: &mut Receivers,
+    out: &mut W,
     at: usize,
     block: &Block,
-) -> Result<(), NoMemory>
-    ensures ok { (before : List BlockView) → HaveMet receivers.old before → OnOk result (page.new ≡ page.old ++ piece_lines at before (pieces.Framed block.now)) }
-    ensures met { (before : List BlockView) → HaveMet receivers.old before → OnOk result (HaveMet receivers.new (before ++ block.now ∷ [])) }
-    ensures err { OnErr result (page.new ≡ page.old) }
+) -> Result<(), Stop>
+    ensures lines { (before : List BlockView) → HaveMet receivers.old before
+        → PutsLines
+        (sink_told W.Sink out.old out.new)
+        page.old.bytes.items
+        (piece_lines at before (pieces.Framed block.now))
+        page.new.bytes.items
+        result }
+    ensures met { (before : List BlockView) → HaveMet receivers.old before
+        → OnOk result (HaveMet receivers.new (before ++ block.now ∷ [])) }
 {
-    let flow = receivers.accept(block)?;
-    put_lines(alloc, page, at, block, &flow)
+    let Ok(flow) = receivers.accept(block) else {
+        return Err(Stop::NoMemory);
+    };
+    let Ok(()) = make_rest(alloc, text, &flow) else {
+        return Err(Stop::NoMemory);
+    };
+    put_lines(page, out, at, block, &flow, text.as_slice())
 }
 
-// Puts the line of a block and what is shown of what it is. Where memory runs out the page stays as it was.
-fn put_lines(
-    alloc: Global,
-    page: &mut Row<u8>,
-    at: usize,
-    block: &Block,
-    flow: &Flow,
-) -> Result<(), NoMemory>
-    ensures ok { OnOk result (page.new ≡ page.old ++ block_lines at block.now flow.now) }
-    ensures err { OnErr result (page.new ≡ page.old) }
+// Makes the text of a message, to the end of its line.
+fn make_rest(alloc: Global, text: &mut Row<u8>, flow: &Flow) -> Result<(), NoMemory>
+    ensures { OnOk result (text.new ≡ flow_rest flow.now) }
 {
-    let before = page.len();
-    let put = add_lines(alloc, page, at, block, flow);
-    if put.is_err() {
-        page.truncate(before);
+    text.truncate(0);
+    if let Flow::Whole(message) = flow {
+        put_body(alloc, text, message.body.as_slice())?;
+        text.push(b'\n')?;
     }
-    put
+    Ok(())
 }
 
-// Puts these lines, or a part of them where memory runs out.
-fn add_lines(
-    alloc: Global,
-    page: &mut Row<u8>,
+// Puts the lines of a block, with the text of its message.
+fn put_lines<W: Sink>(
+    page: &mut Page,
+    out: &mut W,
     at: usize,
     block: &Block,
     flow: &Flow,
-) -> Result<(), NoMemory>
-    ensures { Puts (block_lines at block.now flow.now) page.old page.new result }
+    rest: &[u8],
+) -> Result<(), Stop>
+    ensures { rest.now ≡ flow_rest flow.now
+        → PutsLines
+        (sink_told W.Sink out.old out.new)
+        page.old.bytes.items
+        (block_lines at block.now flow.now)
+        page.new.bytes.items
+        result }
 {
-    let header = block.header();
-    page.extend(&block_line(at, &header, block.body().len()))?;
-    put_flow(alloc, page, at, header.from_equipment, flow)
-}
-
-// Puts what is shown of what a block is.
-fn put_flow(
-    alloc: Global,
-    page: &mut Row<u8>,
-    at: usize,
-    from_equipment: bool,
-    flow: &Flow,
-) -> Result<(), NoMemory>
-    ensures { Puts (flow_text at from_equipment flow.now) page.old page.new result }
-{
-    match flow {
-        Flow::Part | Flow::Foreign(_) => Ok(()),
-        Flow::Whole(message) => put_message(alloc, page, at, from_equipment, message),
-        Flow::Duplicate => page.extend(&place_line(at, b" duplicate\n")),
-        Flow::Unexpected => page.extend(&place_line(at, b" unexpected\n")),
-        Flow::TooLong => page.extend(&place_line(at, b" too long\n")),
-        Flow::Crowded => page.extend(&place_line(at, b" crowded\n")),
+    match page.make_room(out, LINES) {
+        SinkAnswer::Done => put_block_head(&mut page.bytes, at, block, flow),
+        SinkAnswer::Failed => return Err(Stop::WriteFailed),
     }
-}
-
-// Puts the line of a message.
-fn put_message(
-    alloc: Global,
-    page: &mut Row<u8>,
-    at: usize,
-    from_equipment: bool,
-    message: &Message,
-) -> Result<(), NoMemory>
-    ensures { Puts (message_text at from_equipment message.now) page.old page.new result }
-{
-    page.extend(&message_line(at, from_equipment, message))?;
-    put_body(alloc, page, message.body.as_slice())?;
-    page.push(b'\n')
+    match page.put(out, rest) {
+        SinkAnswer::Done => Ok(()),
+        SinkAnswer::Failed => Err(Stop::WriteFailed),
+    }
 }

@@ -2,16 +2,13 @@ ghost use Rattle.std.specs.Prelude.{◌≡◌, ◌∷◌, ◌++◌, [], IfOk, Li
 ghost use Rattle.block_codec.specs.Block.{BlockView};
 ghost use Rattle.line_show.specs.Messages.{HaveMet, flow_in};
 
-use block_codec::Block;
+use block_codec::{Block, LONGEST_TEXT};
 use gl_base::{NoMemory, Side};
 use message_flow::{Assembly, Flow};
 use std::alloc::Global;
 
 /// The longest time that T4 may be, in milliseconds. Nothing waits in a capture.
 const T4: u32 = 120_000;
-
-/// The longest text that a message may have, in bytes.
-const LONGEST: u32 = 7_995_148;
 
 /// Who receives the blocks of a capture: the host those of the equipment, the equipment those of the host.
 #[derive(Debug, Drop)]
@@ -26,15 +23,17 @@ impl Receivers {
         ensures { HaveMet result [] }
     {
         Receivers {
-            host: Assembly::new(alloc, Side::Host, None, T4, LONGEST),
-            equipment: Assembly::new(alloc, Side::Equipment, None, T4, LONGEST),
+            host: Assembly::new(alloc, Side::Host, None, T4, LONGEST_TEXT),
+            equipment: Assembly::new(alloc, Side::Equipment, None, T4, LONGEST_TEXT),
         }
     }
 
     /// What a block is behind those that were given so far.
     pub fn accept(&mut self, block: &Block) -> Result<Flow, NoMemory>
-        ensures flow { (before : List BlockView) → HaveMet self.old before → IfOk result (λ flow. flow ≡ flow_in before block.now) }
-        ensures met { (before : List BlockView) → HaveMet self.old before → OnOk result (HaveMet self.new (before ++ block.now ∷ [])) }
+        ensures flow { (before : List BlockView) → HaveMet self.old before
+            → IfOk result (λ flow. flow ≡ flow_in before block.now) }
+        ensures met { (before : List BlockView) → HaveMet self.old before
+            → OnOk result (HaveMet self.new (before ++ block.now ∷ [])) }
     {
         if block.header().from_equipment {
             self.host.accept(block, 0)

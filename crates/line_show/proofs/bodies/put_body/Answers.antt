@@ -7,6 +7,7 @@ returns-in-Ok-clause-ok c = rw (body_text-item _ _ c.in-Ok.ensures.found) (c.pri
 
 pub returns-in-Err : goal.returns-in-Err
 returns-in-Err c = record {
-  ok = bad_shown _ _ _ _ _ (sym c.if-is_empty.ensures) c.in-Err.ensures.fault c.put_bad.ensures.ok c.put_bad.ensures.named;
+  ok = bad_shown _ _ _ _ _
+      (sym c.if-is_empty.ensures) c.in-Err.ensures.fault c.put_bad.ensures.ok c.put_bad.ensures.named;
   err = c.put_bad.ensures.err;
 }
