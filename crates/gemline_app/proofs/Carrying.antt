@@ -1,21 +1,14 @@
 -- What commands answer.
-use Rattle.std.proofs.Common.{◌≡◌, ℕ, List, None, Result, Ok, Err}
-use Rattle.gl_base.specs.Sink.{SinkTold}
-use Rattle.line_show.specs.Show.{HasStopCause, Shows}
-use Rattle.line_show.specs.declared.capture.Ending.{Ending}
-use Rattle.line_show.specs.declared.printer.Stop.{Stop}
-use Rattle.gemline_app.specs.Outcome.{shown_outcome}
-use Rattle.gemline_app.specs.declared.words.Command.{Command}
-use Rattle.gemline_app.specs.declared.words.Command.TheVariants.{Show}
-use Rattle.gemline_app.specs.Gemline.{WasDone, HexAnswers, HexRefuses, ItemAnswers, ItemRefuses}
+use Rattle.std.proofs.Common.{ℕ, List, None, Result, Ok, Err}
+use Rattle.gemline_app.specs.Gemline.{HexAnswers, HexRefuses, ItemAnswers, ItemRefuses}
 use Rattle.gemline_app.specs.HexInput.{HexMeans}
-use Rattle.gemline_app.specs.HexReading.{Gives, digits_from}
+use Rattle.gemline_app.specs.HexReading.{Gives, bytes_from}
 use Rattle.gemline_app.specs.Spelling.{refusal_of}
 use Rattle.gemline_app.specs.declared.hex_input.HexFault.{HexFault}
 use Rattle.gemline_app.specs.declared.hex_input.HexFault.TheVariants as hex_fault
 use Rattle.gemline_app.proofs.HexLaws.{read_break}
 use Rattle.gemline_app.specs.declared.outcome.Outcome.{Outcome}
-use Rattle.gemline_app.specs.declared.outcome.Outcome.TheVariants.{Done, Usage, BadFrame, BadText, BadHex, BadItem, BadLine, Longer, FileLonger, FileFailed, ReadFailed, NoMemory, WriteFailed, TurnsSpent, Slipped, PlanNotBuilt, LineNotBuilt}
+use Rattle.gemline_app.specs.declared.outcome.Outcome.TheVariants.{Done, Usage, BadFrame, BadText, BadHex, BadItem, BadLine, Longer, FileLonger, FileFailed, ReadFailed, NoMemory, WriteFailed, TurnsSpent, Slip, PlanNotBuilt, LineNotBuilt}
 
 hex_refuses : (digits bytes : List ℕ) (refusal : Outcome) → HexMeans bytes digits → ItemRefuses bytes refusal → HexRefuses digits refusal
 hex_refuses digits bytes Done means refuses = absurd refuses
@@ -32,7 +25,7 @@ hex_refuses digits bytes (BadLine number) means refuses = absurd refuses
 hex_refuses digits bytes (FileLonger which) means refuses = absurd refuses
 hex_refuses digits bytes (FileFailed which) means refuses = absurd refuses
 hex_refuses digits bytes TurnsSpent means refuses = absurd refuses
-hex_refuses digits bytes Slipped means refuses = absurd refuses
+hex_refuses digits bytes Slip means refuses = absurd refuses
 hex_refuses digits bytes PlanNotBuilt means refuses = absurd refuses
 hex_refuses digits bytes (LineNotBuilt number) means refuses = absurd refuses
 
@@ -42,11 +35,6 @@ pub hex_answers : (digits bytes : List ℕ) (answer : Result (List ℕ) Outcome)
 hex_answers digits bytes (Ok line) means (item, spelled, is) = (item, (bytes, means, spelled), is)
 hex_answers digits bytes (Err refusal) means refuses = hex_refuses digits bytes refusal means refuses
 
-pub shown_done : (command : Command) (capture : List ℕ) (out : SinkTold) (result : Result Ending Stop) (outcome : Outcome) → command ≡ Show →
-    outcome ≡ shown_outcome result → Shows out capture result → HasStopCause out result → WasDone command capture out outcome
-shown_done command capture out result outcome is_show is shown cause =
-    rw is_show (record { result = result; outcome_is = is; shown = shown; cause = cause })
-
-pub hex_refusal : (digits : List ℕ) (fault : HexFault) → Gives (Err fault) (digits_from None 0 digits) → HexRefuses digits (refusal_of fault)
+pub hex_refusal : (digits : List ℕ) (fault : HexFault) → Gives (Err fault) (bytes_from None 0 digits) → HexRefuses digits (refusal_of fault)
 hex_refusal digits (hex_fault.Break at) gives = read_break digits at gives
 hex_refusal digits hex_fault.NoMemory gives = tt

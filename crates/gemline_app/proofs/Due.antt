@@ -1,7 +1,8 @@
 -- Which outcome is due, and when another one comes in its place.
-use Rattle.std.proofs.Common.{◌≡◌, ◌⊎◌, ◌≤◌, ℕ, true, List, length, Option, Some, Result, Ok, Err, refl, sym, ap, subst, ◌∙◌, inl, inr, arith}
+use Rattle.std.proofs.Common.{◌≡◌, ◌⊎◌, ◌≤◌, ℕ, true, List, length, Option, Some, None, Result, Ok, Err, refl, sym, ap, subst, ◌∙◌, inl, inr, arith}
 use Rattle.gl_base.specs.Input.{ReadsAll, ReadsAllOf}
-use Rattle.gl_base.specs.Sink.{SinkTold, appended}
+use Rattle.gl_base.specs.Sink.{with_bytes}
+use Rattle.gl_base.specs.Told.{FilesTold, SinkTold, SourceTold}
 use Rattle.gl_base.specs.declared.input.Input.{Input}
 use Rattle.gl_base.specs.declared.input.Input.TheVariants as input
 use Rattle.line_show.specs.Capture.{Reads}
@@ -21,33 +22,30 @@ use Rattle.secs_text.specs.Faults.{HasFault}
 use Rattle.secs_text.specs.declared.text_fault.TextFault.{TextFault}
 use Rattle.secs_text.proofs.FaultLaws.{no_fault_read}
 use Rattle.secs_text.proofs.FaultPlaces.{one_fault}
-use Rattle.gemline_app.specs.Gemline.{ComesFrom, HexRefuses, IsRun, SourceTold, TextRefuses, WasCarriedOut, WasDone, WasNotRead, WasRead, WasWritten}
+use Rattle.gemline_app.specs.Gemline.{ComesFrom, ComesOnInput, HexRefuses, InputRefuses, IsRun, TextRefuses, WasPrinted, WasRead, WasShown, WasSpelled, WasWritten}
 use Rattle.gemline_app.specs.HexInput.{HexMeans}
-use Rattle.gemline_app.specs.Laws.{Asks, HexAsks, Hinders, IsDue, TextAsks}
-use Rattle.gemline_app.specs.Outcome.{shown_outcome, status_of}
+use Rattle.gemline_app.specs.Laws.{BytesAsk, CaptureAsks, HexAsks, Hinders, IsDue, IsInputDue, TextAsks}
+use Rattle.gemline_app.specs.Outcome.{outcome_of_show, status_of}
 use Rattle.gemline_app.specs.Spelling.{text_place}
-use Rattle.gemline_app.specs.Replay.{FilesTold}
-use Rattle.gemline_app.specs.Words.{Asked, asked_of, limit_of}
-use Rattle.gemline_app.specs.Words.Asked.{Nothing, OnInput, Replays}
+use Rattle.gemline_app.specs.Words.{capture_limit, command_of, item_limit, name_in}
+use Rattle.gemline_app.specs.declared.outcome.FileRole.TheVariants as role
 use Rattle.gemline_app.specs.declared.outcome.Outcome.{Outcome}
-use Rattle.gemline_app.specs.declared.outcome.Outcome.TheVariants.{Done, Usage, BadFrame, BadText, BadHex, BadItem, BadLine, Longer, FileLonger, FileFailed, ReadFailed, NoMemory, WriteFailed, TurnsSpent, Slipped, PlanNotBuilt, LineNotBuilt}
+use Rattle.gemline_app.specs.declared.outcome.Outcome.TheVariants.{Done, Usage, BadFrame, BadText, BadHex, BadItem, BadLine, Longer, FileLonger, FileFailed, ReadFailed, NoMemory, WriteFailed, TurnsSpent, Slip, PlanNotBuilt, LineNotBuilt}
 use Rattle.gemline_app.specs.declared.words.Command.{Command}
-use Rattle.gemline_app.specs.declared.words.Command.TheVariants.{Show, Spell, SpellHex}
+use Rattle.gemline_app.specs.declared.words.Command.TheVariants.{Show, Spell, SpellHex, Replay}
 use Rattle.gemline_app.proofs.HexLaws.{means_read, one_break}
+use Rattle.gemline_app.proofs.ReplayDue.{Comes, replay_due}
 
 -- ---- a command of its whole input
 
-abbrev Comes : SourceTold → FilesTold → SinkTold → Outcome → Outcome → Type 0
-Comes source files out outcome due = (outcome ≡ due) ⊎ Hinders source files out outcome
-
 shown_due : (source : SourceTold) (files : FilesTold) (out : SinkTold) (capture : List ℕ) (pieces : List Piece) (ending : Ending) (outcome due : Outcome) (result : Result Ending Stop) →
-    outcome ≡ shown_outcome result → Shows out capture result → HasStopCause out result → Reads capture pieces ending → due ≡ shown_outcome (Ok ending) → Comes source files out outcome due
+    outcome ≡ outcome_of_show result → Shows out capture result → HasStopCause out result → Reads capture pieces ending → due ≡ outcome_of_show (Ok ending) → Comes source files out outcome due
 shown_due source files out capture pieces ending outcome due (Ok found) is shows cause reads is_due =
-    inl (is ∙ ap (λ (e : Ending). shown_outcome (Ok e)) (shows pieces ending reads).0 ∙ sym is_due)
+    inl (is ∙ ap (λ (e : Ending). outcome_of_show (Ok e)) (shows pieces ending reads).0 ∙ sym is_due)
 shown_due source files out capture pieces ending outcome due (Err stop.NoMemory) is shows cause reads is_due =
     inr (subst (Hinders source files out) (sym is) tt)
 shown_due source files out capture pieces ending outcome due (Err stop.WriteFailed) is shows cause reads is_due =
-    inr (subst (Hinders source files out) (sym is) cause.1)
+    inr (subst (Hinders source files out) (sym is) cause)
 
 -- a line was written, or a write failed
 written_due : (source : SourceTold) (files : FilesTold) (out : SinkTold) (line : List ℕ) (outcome : Outcome) → WasWritten line out outcome
@@ -66,7 +64,7 @@ written_due source files out line (BadLine number) written = absurd written
 written_due source files out line (FileLonger which) written = absurd written
 written_due source files out line (FileFailed which) written = absurd written
 written_due source files out line TurnsSpent written = absurd written
-written_due source files out line Slipped written = absurd written
+written_due source files out line Slip written = absurd written
 written_due source files out line PlanNotBuilt written = absurd written
 written_due source files out line (LineNotBuilt number) written = absurd written
 
@@ -87,11 +85,11 @@ text_refused text (BadLine number) refuses = absurd refuses
 text_refused text (FileLonger which) refuses = absurd refuses
 text_refused text (FileFailed which) refuses = absurd refuses
 text_refused text TurnsSpent refuses = absurd refuses
-text_refused text Slipped refuses = absurd refuses
+text_refused text Slip refuses = absurd refuses
 text_refused text PlanNotBuilt refuses = absurd refuses
 text_refused text (LineNotBuilt number) refuses = absurd refuses
 
-hex_refused : (digits : List ℕ) (refusal : Outcome) → HexRefuses digits refusal →
+pub hex_refused : (digits : List ℕ) (refusal : Outcome) → HexRefuses digits refusal →
     (refusal ≡ NoMemory) ⊎ HexAsks digits refusal
 hex_refused digits Done refuses = absurd refuses
 hex_refused digits Usage refuses = absurd refuses
@@ -107,7 +105,7 @@ hex_refused digits (BadLine number) refuses = absurd refuses
 hex_refused digits (FileLonger which) refuses = absurd refuses
 hex_refused digits (FileFailed which) refuses = absurd refuses
 hex_refused digits TurnsSpent refuses = absurd refuses
-hex_refused digits Slipped refuses = absurd refuses
+hex_refused digits Slip refuses = absurd refuses
 hex_refused digits PlanNotBuilt refuses = absurd refuses
 hex_refused digits (LineNotBuilt number) refuses = absurd refuses
 
@@ -119,10 +117,6 @@ one_text text a b (inr (fault, has, is)) (inl (item, reads, is')) = absurd (no_f
 one_text text a b (inr (fault, has, is)) (inr (fault', has', is')) =
     is ∙ ap (λ (f : TextFault). BadText (text_place f)) (one_fault text fault fault' has has') ∙ sym is'
 
-abbrev BytesAsk : List ℕ → Outcome → Type 0
-BytesAsk bytes due =
-    ((item : Item) × Spells item bytes × (due ≡ Done)) ⊎ ((fault : ItemFault) × (first_fault bytes ≡ Some fault) × (due ≡ BadItem fault))
-
 one_item : (bytes : List ℕ) (a b : Outcome) → BytesAsk bytes a → BytesAsk bytes b → a ≡ b
 one_item bytes a b (inl (item, spelled, is)) (inl (item', spelled', is')) = is ∙ sym is'
 one_item bytes a b (inl (item, spelled, is)) (inr (fault, some, is')) = let none = spells_none item bytes spelled in cc
@@ -131,7 +125,7 @@ one_item bytes a b (inr (fault, some, is)) (inr (fault', some', is')) =
     let same : fault ≡ fault' = cc in
     is ∙ ap (λ (f : ItemFault). BadItem f) same ∙ sym is'
 
-one_bytes : (digits bytes bytes' : List ℕ) → HexMeans bytes digits → HexMeans bytes' digits → bytes ≡ bytes'
+pub one_bytes : (digits bytes bytes' : List ℕ) → HexMeans bytes digits → HexMeans bytes' digits → bytes ≡ bytes'
 one_bytes digits bytes bytes' means means' =
     let both : Ok bytes ≡ Ok bytes' = sym (means_read digits bytes means) ∙ means_read digits bytes' means' in
     cc
@@ -149,7 +143,7 @@ refused_due : (source : SourceTold) (files : FilesTold) (out : SinkTold) (outcom
 refused_due source files out outcome refusal due A is one (inl memory) asks = inr (subst (Hinders source files out) (sym (is ∙ memory)) tt)
 refused_due source files out outcome refusal due A is one (inr why) asks = inl (is ∙ one refusal due why asks)
 
-text_why : (text : List ℕ) (refusal : Outcome) → TextRefuses text refusal → (refusal ≡ NoMemory) ⊎ TextAsks text refusal
+pub text_why : (text : List ℕ) (refusal : Outcome) → TextRefuses text refusal → (refusal ≡ NoMemory) ⊎ TextAsks text refusal
 text_why text refusal refuses = elim (text_refused text refusal refuses) [ inl memory ↦ inl memory | inr why ↦ inr (inr why) ]
 
 line_due : (source : SourceTold) (files : FilesTold) (out : SinkTold) (line : List ℕ) (outcome due : Outcome) → WasWritten line out outcome
@@ -157,74 +151,88 @@ line_due : (source : SourceTold) (files : FilesTold) (out : SinkTold) (line : Li
 line_due source files out line outcome due written is =
     subst (Comes source files out outcome) (sym is) (written_due source files out line outcome written)
 
-done_due : (command : Command) (bytes : List ℕ) (source : SourceTold) (files : FilesTold) (out : SinkTold) (outcome due : Outcome) →
-    WasDone command bytes out outcome → Asks command bytes due → Comes source files out outcome due
-done_due Show capture source files out outcome due was (pieces, ending, reads, is) =
-    shown_due source files out capture pieces ending outcome due was.result was.outcome_is was.shown was.cause reads is
-done_due Spell text source files out outcome due (Ok line, (item, reads, is), written) asks =
+spelled_due : (text : List ℕ) (source : SourceTold) (files : FilesTold) (out : SinkTold) (outcome due : Outcome) →
+    WasSpelled text out outcome → TextAsks text due → Comes source files out outcome due
+spelled_due text source files out outcome due (Ok line, (item, reads, is), written) asks =
     line_due source files out line outcome due written (one_text text due Done asks (inl (item, reads, refl)))
-done_due Spell text source files out outcome due (Err refusal, refuses, (is, untouched)) asks =
+spelled_due text source files out outcome due (Err refusal, refuses, (is, untouched)) asks =
     refused_due source files out outcome refusal due (TextAsks text) is (one_text text) (text_why text refusal refuses) asks
-done_due SpellHex digits source files out outcome due (Ok line, (item, (bytes, means, spelled), is), written) asks =
+
+printed_due : (digits : List ℕ) (source : SourceTold) (files : FilesTold) (out : SinkTold) (outcome due : Outcome) →
+    WasPrinted digits out outcome → HexAsks digits due → Comes source files out outcome due
+printed_due digits source files out outcome due (Ok line, (item, (bytes, means, spelled), is), written) asks =
     line_due source files out line outcome due written (one_hex digits due Done asks (inl (bytes, means, inl (item, spelled, refl))))
-done_due SpellHex digits source files out outcome due (Err refusal, refuses, (is, untouched)) asks =
+printed_due digits source files out outcome due (Err refusal, refuses, (is, untouched)) asks =
     refused_due source files out outcome refusal due (HexAsks digits) is (one_hex digits) (hex_refused digits refusal refuses) asks
+
+captured_due : (capture : List ℕ) (source : SourceTold) (files : FilesTold) (out : SinkTold) (outcome due : Outcome) →
+    WasShown capture out outcome → CaptureAsks capture due → Comes source files out outcome due
+captured_due capture source files out outcome due was (pieces, ending, reads, is) =
+    shown_due source files out capture pieces ending outcome due was.result was.outcome_is was.shown was.cause reads is
 
 -- ---- a run
 
 -- what reading came to, where the source told its bytes
-read_of : (limit : ℕ) (source : SourceTold) (bytes : List ℕ) (answer : Input) → source.before ≡ Some bytes → WasRead limit source answer →
+pub read_of : (limit : ℕ) (source : SourceTold) (bytes : List ℕ) (answer : Input) → source.before ≡ Some bytes → WasRead limit source answer →
     ReadsAllOf limit bytes source.after answer
 read_of limit source bytes answer told read = subst (λ (b : Option (List ℕ)). ReadsAll limit b source.after answer) told read.bytes
 
 -- what was not read
-unread_due : (command : Command) (source : SourceTold) (files : FilesTold) (out : SinkTold) (bytes : List ℕ) (outcome due : Outcome)
-    → source.before ≡ Some bytes →
-    WasNotRead command source out outcome → IsDue (OnInput command) bytes due → Comes source files out outcome due
-unread_due command source files out bytes Longer due told (read, untouched) (inl (past, is)) = inl (sym is)
-unread_due command source files out bytes Longer due told (read, untouched) (inr (within, asks)) =
-    let past = (read_of (limit_of command) source bytes input.Longer told read).0 in absurd (omega arith)
-unread_due command source files out bytes ReadFailed due told (read, untouched) is_due = inr read.cause.1.rose
-unread_due command source files out bytes NoMemory due told (read, untouched) is_due = inr tt
-unread_due command source files out bytes Done due told was is_due = absurd was
-unread_due command source files out bytes Usage due told was is_due = absurd was
-unread_due command source files out bytes (BadFrame named) due told was is_due = absurd was
-unread_due command source files out bytes (BadText at) due told was is_due = absurd was
-unread_due command source files out bytes (BadHex at) due told was is_due = absurd was
-unread_due command source files out bytes (BadItem fault) due told was is_due = absurd was
-unread_due command source files out bytes WriteFailed due told was is_due = absurd was
-unread_due command source files out bytes (BadLine number) due told was is_due = absurd was
-unread_due command source files out bytes (FileLonger which) due told was is_due = absurd was
-unread_due command source files out bytes (FileFailed which) due told was is_due = absurd was
-unread_due command source files out bytes TurnsSpent due told was is_due = absurd was
-unread_due command source files out bytes Slipped due told was is_due = absurd was
-unread_due command source files out bytes PlanNotBuilt due told was is_due = absurd was
-unread_due command source files out bytes (LineNotBuilt number) due told was is_due = absurd was
+unread_due : (limit : ℕ) (Asks : List ℕ → Outcome → Type 0) (source : SourceTold) (files : FilesTold) (out : SinkTold) (outcome due : Outcome) →
+    InputRefuses limit source outcome → IsInputDue limit Asks source due → Comes source files out outcome due
+unread_due limit Asks source files out Longer due read (bytes, told, inl (past, is)) = inl (sym is)
+unread_due limit Asks source files out Longer due read (bytes, told, inr (within, asks)) =
+    let past = (read_of limit source bytes input.Longer told read).0 in absurd (omega arith)
+unread_due limit Asks source files out ReadFailed due read is_due = inr read.cause.rose
+unread_due limit Asks source files out NoMemory due read is_due = inr tt
+unread_due limit Asks source files out Done due was is_due = absurd was
+unread_due limit Asks source files out Usage due was is_due = absurd was
+unread_due limit Asks source files out (BadFrame named) due was is_due = absurd was
+unread_due limit Asks source files out (BadText at) due was is_due = absurd was
+unread_due limit Asks source files out (BadHex at) due was is_due = absurd was
+unread_due limit Asks source files out (BadItem fault) due was is_due = absurd was
+unread_due limit Asks source files out WriteFailed due was is_due = absurd was
+unread_due limit Asks source files out (BadLine number) due was is_due = absurd was
+unread_due limit Asks source files out (FileLonger which) due was is_due = absurd was
+unread_due limit Asks source files out (FileFailed which) due was is_due = absurd was
+unread_due limit Asks source files out TurnsSpent due was is_due = absurd was
+unread_due limit Asks source files out Slip due was is_due = absurd was
+unread_due limit Asks source files out PlanNotBuilt due was is_due = absurd was
+unread_due limit Asks source files out (LineNotBuilt number) due was is_due = absurd was
 
-carried_due : (command : Command) (source : SourceTold) (files : FilesTold) (out : SinkTold) (bytes : List ℕ) (outcome due : Outcome)
-    → source.before ≡ Some bytes →
-    WasCarriedOut command source out outcome → IsDue (OnInput command) bytes due → Comes source files out outcome due
-carried_due command source files out bytes outcome due told (whole, read, done) (inl (past, is)) =
-    let within = (read_of (limit_of command) source bytes (input.Whole whole) told read).0 in absurd (omega arith)
-carried_due command source files out bytes outcome due told (whole, read, done) (inr (within, asks)) =
-    let same = (read_of (limit_of command) source bytes (input.Whole whole) told read).1 in
-    done_due command bytes source files out outcome due (subst (λ (all : List ℕ). WasDone command all out outcome) same done) asks
+-- a command over the input, of which it is shown what it does with the whole of it
+input_due : (limit : ℕ) (Was : List ℕ → SinkTold → Outcome → Type 0) (Asks : List ℕ → Outcome → Type 0)
+    (source : SourceTold) (files : FilesTold) (out : SinkTold) (outcome due : Outcome) →
+    ((bytes : List ℕ) → Was bytes out outcome → Asks bytes due → Comes source files out outcome due) →
+    ComesOnInput limit Was source out outcome → IsInputDue limit Asks source due → Comes source files out outcome due
+input_due limit Was Asks source files out outcome due each (inl (refuses, untouched)) is_due =
+    unread_due limit Asks source files out outcome due refuses is_due
+input_due limit Was Asks source files out outcome due each (inr (whole, read, was)) (bytes, told, inl (past, is)) =
+    let within = (read_of limit source bytes (input.Whole whole) told read).0 in absurd (omega arith)
+input_due limit Was Asks source files out outcome due each (inr (whole, read, was)) (bytes, told, inr (within, asks)) =
+    let same = (read_of limit source bytes (input.Whole whole) told read).1 in
+    each bytes (subst (λ (all : List ℕ). Was all out outcome) same was) asks
 
-comes_due : (asked : Asked) (source : SourceTold) (files : FilesTold) (out : SinkTold) (bytes : List ℕ) (outcome due : Outcome)
-    → source.before ≡ Some bytes →
-    ComesFrom asked source files out outcome → IsDue asked bytes due → Comes source files out outcome due
-comes_due Nothing source files out bytes outcome due told refused is = inl (refused.usage ∙ sym is)
-comes_due (OnInput command) source files out bytes outcome due told (files_unread, inl unread) is_due =
-    unread_due command source files out bytes outcome due told unread is_due
-comes_due (OnInput command) source files out bytes outcome due told (files_unread, inr carried) is_due =
-    carried_due command source files out bytes outcome due told carried is_due
-comes_due (Replays plan schedule) source files out bytes outcome due told comes is_due = absurd is_due
+comes_due : (command : Option Command) (words : List (List ℕ)) (source : SourceTold) (files : FilesTold) (out : SinkTold) (outcome due : Outcome) →
+    ComesFrom command words source files out outcome → IsDue command words source files due → Comes source files out outcome due
+comes_due None words source files out outcome due refused is = inl (refused.usage ∙ sym is)
+comes_due (Some Show) words source files out outcome due (files_unread, comes) is_due =
+    input_due capture_limit WasShown CaptureAsks source files out outcome due
+    (λ capture was asks. captured_due capture source files out outcome due was asks) comes is_due
+comes_due (Some Spell) words source files out outcome due (files_unread, comes) is_due =
+    input_due item_limit WasSpelled TextAsks source files out outcome due
+    (λ text was asks. spelled_due text source files out outcome due was asks) comes is_due
+comes_due (Some SpellHex) words source files out outcome due (files_unread, comes) is_due =
+    input_due item_limit WasPrinted HexAsks source files out outcome due
+    (λ digits was asks. printed_due digits source files out outcome due was asks) comes is_due
+comes_due (Some Replay) words source files out outcome due (unread, comes) (bytes, told, is_due) =
+    replay_due source files out (name_in words role.Plan) (name_in words role.Schedule) bytes outcome due told comes is_due
 
-pub due_outcome : (words : List (List ℕ)) (source : SourceTold) (files : FilesTold) (out err : SinkTold) (status : ℕ) (bytes : List ℕ) (due : Outcome)
-    → (run : IsRun words source files out err status) → source.before ≡ Some bytes → IsDue (asked_of words) bytes due
+pub due_outcome : (words : List (List ℕ)) (source : SourceTold) (files : FilesTold) (out err : SinkTold) (status : ℕ) (due : Outcome)
+    → (run : IsRun words source files out err status) → IsDue (command_of words) words source files due
     → (run.outcome ≡ due) ⊎ Hinders source files out run.outcome
-due_outcome words source files out err status bytes due run told is_due =
-    comes_due (asked_of words) source files out bytes run.outcome due told run.comes is_due
+due_outcome words source files out err status due run is_due =
+    comes_due (command_of words) words source files out run.outcome due run.comes is_due
 
 -- ---- over objects that do not fail
 
@@ -232,17 +240,17 @@ module _ (source : SourceTold) (files : FilesTold) (out : SinkTold) (capture : L
     (told : source.before ≡ Some capture) (within : length capture ≤ 16777216) (reliable : source.health.reliable ≡ true)
     (reads : Reads capture pieces Whole) (room : length (lines_of pieces) ≤ out.health.room) where
   abbrev Ends : Outcome → Type 0
-  Ends outcome = (status_of outcome ≡ 71) ⊎ ((status_of outcome ≡ 0) × (out.after ≡ appended out.before (lines_of pieces)))
+  Ends outcome = (status_of outcome ≡ 71) ⊎ ((status_of outcome ≡ 0) × (out.after ≡ with_bytes out.before (lines_of pieces)))
 
-  by_result : (result : Result Ending Stop) (outcome : Outcome) → outcome ≡ shown_outcome result → Shows out capture result → Ends outcome
+  by_result : (result : Result Ending Stop) (outcome : Outcome) → outcome ≡ outcome_of_show result → Shows out capture result → Ends outcome
   by_result (Ok Whole) outcome is shows = rw is (inr (refl, (shows pieces Whole reads).1.received))
   by_result (Ok (Broken named)) outcome is shows = let no = (shows pieces Whole reads).0 in cc
   by_result (Err stop.NoMemory) outcome is shows = rw is (inl refl)
-  by_result (Err stop.WriteFailed) outcome is shows = let crowded = (shows pieces Whole reads).1.crowded in absurd (omega arith)
+  by_result (Err stop.WriteFailed) outcome is shows = let crowded = (shows pieces Whole reads).fault.crowded in absurd (omega arith)
 
-  unread_ends : (outcome : Outcome) → WasNotRead Show source out outcome → Ends outcome
-  unread_ends Longer was = let past = (read_of 16777216 source capture input.Longer told was.0).0 in absurd (omega arith)
-  unread_ends ReadFailed was = let no = was.0.cause.1.unreliable in cc
+  unread_ends : (outcome : Outcome) → InputRefuses 16777216 source outcome → Ends outcome
+  unread_ends Longer was = let past = (read_of 16777216 source capture input.Longer told was).0 in absurd (omega arith)
+  unread_ends ReadFailed was = let no = was.cause.unreliable in cc
   unread_ends NoMemory was = inl refl
   unread_ends Done was = absurd was
   unread_ends Usage was = absurd was
@@ -255,21 +263,21 @@ module _ (source : SourceTold) (files : FilesTold) (out : SinkTold) (capture : L
   unread_ends (FileLonger which) was = absurd was
   unread_ends (FileFailed which) was = absurd was
   unread_ends TurnsSpent was = absurd was
-  unread_ends Slipped was = absurd was
+  unread_ends Slip was = absurd was
   unread_ends PlanNotBuilt was = absurd was
   unread_ends (LineNotBuilt number) was = absurd was
 
-  show_ends : (outcome : Outcome) → ComesFrom (OnInput Show) source files out outcome → Ends outcome
-  show_ends outcome (files_unread, inl unread) = unread_ends outcome unread
-  show_ends outcome (files_unread, inr (whole, read, done)) =
+  show_ends : (words : List (List ℕ)) (outcome : Outcome) → ComesFrom (Some Show) words source files out outcome → Ends outcome
+  show_ends words outcome (files_unread, inl (refuses, untouched)) = unread_ends outcome refuses
+  show_ends words outcome (files_unread, inr (whole, read, done)) =
       let same = (read_of 16777216 source capture (input.Whole whole) told read).1 in
       by_result done.result outcome done.outcome_is (subst (λ (all : List ℕ). Shows out all done.result) same done.shown)
 
-pub whole_capture : (words : List (List ℕ)) (source : SourceTold) (files : FilesTold) (out err : SinkTold) (status : ℕ) (capture : List ℕ) (pieces : List Piece)
-    → IsRun words source files out err status → asked_of words ≡ OnInput Show
-    → source.before ≡ Some capture → length capture ≤ 16777216 → source.health.reliable ≡ true
-    → Reads capture pieces Whole → length (lines_of pieces) ≤ out.health.room
-    → (status ≡ 71) ⊎ ((status ≡ 0) × (out.after ≡ appended out.before (lines_of pieces)))
-whole_capture words source files out err status capture pieces run shows told within reliable reads room =
-    rw run.status_is (show_ends source files out capture pieces told within reliable reads room run.outcome
-    (subst (λ (asked : Asked). ComesFrom asked source files out run.outcome) shows run.comes))
+pub whole_capture : (words : List (List ℕ)) (source : SourceTold) (files : FilesTold) (out err : SinkTold) (status : ℕ)
+    → IsRun words source files out err status → command_of words ≡ Some Show
+    → (capture : List ℕ) (pieces : List Piece) → source.before ≡ Some capture → length capture ≤ 16777216
+    → source.health.reliable ≡ true → Reads capture pieces Whole → length (lines_of pieces) ≤ out.health.room
+    → (status ≡ 71) ⊎ ((status ≡ 0) × (out.after ≡ with_bytes out.before (lines_of pieces)))
+whole_capture words source files out err status run shows capture pieces told within reliable reads room =
+    rw run.status_is (show_ends source files out capture pieces told within reliable reads room words run.outcome
+    (subst (λ (asked : Option Command). ComesFrom asked words source files out run.outcome) shows run.comes))

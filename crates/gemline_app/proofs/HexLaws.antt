@@ -6,7 +6,7 @@ use Rattle.std.specs.Option.{option_map}
 use Rattle.hex.specs.Hex.{hex_digit_value}
 use Rattle.secs_text.specs.Grammar.{IsHexByte}
 use Rattle.gemline_app.specs.HexInput.{HexMeans, IsHexBreak, is_gap}
-use Rattle.gemline_app.specs.HexReading.{after_digit, behind, digits_from, go_on}
+use Rattle.gemline_app.specs.HexReading.{after_digit, with_front, bytes_from, reading_behind}
 
 -- the bytes that an input means behind a first digit, or outside of pairs
 abbrev MeansFrom : Option ℕ → List ℕ → List ℕ → Type 0
@@ -124,14 +124,14 @@ back None c (b ∷ bytes) rest (g ∷ gaps, pair, tail, split, are, is, means) =
 -- ---- the whole input
 
 abbrev Sound : List ℕ → Type 0
-Sound input = (high : Option ℕ) (at : ℕ) (bytes : List ℕ) → digits_from high at input ≡ Ok bytes → MeansFrom high bytes input
+Sound input = (high : Option ℕ) (at : ℕ) (bytes : List ℕ) → bytes_from high at input ≡ Ok bytes → MeansFrom high bytes input
 
 sound_step : (high : Option ℕ) (at c : ℕ) (rest bytes : List ℕ) → Sound rest → (after : Option (Option ℕ × List ℕ)) → after_digit high c ≡ after →
-    go_on at after (λ next. digits_from next (at + 1) rest) ≡ Ok bytes → MeansFrom high bytes (c ∷ rest)
+    reading_behind at after (λ next. bytes_from next (at + 1) rest) ≡ Ok bytes → MeansFrom high bytes (c ∷ rest)
 sound_step high at c rest bytes each None is read = cc
-sound_step high at c rest bytes each (Some (next, put)) is read = go (digits_from next (at + 1) rest) refl read
+sound_step high at c rest bytes each (Some (next, put)) is read = go (bytes_from next (at + 1) rest) refl read
   where
-    go : (later : Result (List ℕ) ℕ) → digits_from next (at + 1) rest ≡ later → behind put later ≡ Ok bytes → MeansFrom high bytes (c ∷ rest)
+    go : (later : Result (List ℕ) ℕ) → bytes_from next (at + 1) rest ≡ later → with_front put later ≡ Ok bytes → MeansFrom high bytes (c ∷ rest)
     go (Err place) is_later whole = cc
     go (Ok more) is_later whole =
         let same : put ++ more ≡ bytes = cc in
@@ -142,7 +142,7 @@ sound [] None at bytes read = let none : bytes ≡ [] = cc in subst (λ (all : L
 sound [] (Some h) at bytes read = cc
 sound (c ∷ rest) high at bytes read = sound_step high at c rest bytes (sound rest) (after_digit high c) refl read
 
-complete : (input : List ℕ) (high : Option ℕ) (at : ℕ) (bytes : List ℕ) → MeansFrom high bytes input → digits_from high at input ≡ Ok bytes
+complete : (input : List ℕ) (high : Option ℕ) (at : ℕ) (bytes : List ℕ) → MeansFrom high bytes input → bytes_from high at input ≡ Ok bytes
 complete [] None at [] means = refl
 complete [] None at (b ∷ bytes) ([], [], tail, split, are, is, means) = absurd is
 complete [] None at (b ∷ bytes) ([], x ∷ pair, tail, split, are, is, means) = cc
@@ -151,14 +151,14 @@ complete [] (Some h) at [] means = absurd means
 complete [] (Some h) at (b ∷ bytes) (digit, low, tail, split, is_low, is_byte, means) = cc
 complete (c ∷ rest) high at bytes means =
     let was = back high c bytes rest means in
-    ap (λ (after : Option (Option ℕ × List ℕ)). go_on at after (λ next. digits_from next (at + 1) rest)) was.after
-    ∙ ap (behind was.put) (complete rest was.next (at + 1) was.tail was.means)
+    ap (λ (after : Option (Option ℕ × List ℕ)). reading_behind at after (λ next. bytes_from next (at + 1) rest)) was.after
+    ∙ ap (with_front was.put) (complete rest was.next (at + 1) was.tail was.means)
     ∙ ap (λ (all : List ℕ). Ok all) (sym was.whole)
 
-pub read_means : (input bytes : List ℕ) → digits_from None 0 input ≡ Ok bytes → HexMeans bytes input
+pub read_means : (input bytes : List ℕ) → bytes_from None 0 input ≡ Ok bytes → HexMeans bytes input
 read_means input bytes read = sound input None 0 bytes read
 
-pub means_read : (input bytes : List ℕ) → HexMeans bytes input → digits_from None 0 input ≡ Ok bytes
+pub means_read : (input bytes : List ℕ) → HexMeans bytes input → bytes_from None 0 input ≡ Ok bytes
 means_read input bytes means = complete input None 0 bytes means
 
 -- ---- breaks
@@ -202,10 +202,10 @@ break_behind high at c place rest next put is later = record {
 }
 
 abbrev Broken : List ℕ → Type 0
-Broken input = (high : Option ℕ) (at place : ℕ) → digits_from high at input ≡ Err place → Breaks high at input place
+Broken input = (high : Option ℕ) (at place : ℕ) → bytes_from high at input ≡ Err place → Breaks high at input place
 
 break_step : (high : Option ℕ) (at c place : ℕ) (rest : List ℕ) → Broken rest → (after : Option (Option ℕ × List ℕ)) → after_digit high c ≡ after →
-    go_on at after (λ next. digits_from next (at + 1) rest) ≡ Err place → Breaks high at (c ∷ rest) place
+    reading_behind at after (λ next. bytes_from next (at + 1) rest) ≡ Err place → Breaks high at (c ∷ rest) place
 break_step high at c place rest each None is read =
     let same : place ≡ at = cc in
     break_here high at place (c ∷ rest) same (λ next tail later others split means.
@@ -215,9 +215,9 @@ break_step high at c place rest each None is read =
     let none : after_digit high next ≡ None = ap (after_digit high) (sym first) ∙ is in
     let both : does was.next was.put ≡ None = sym some ∙ none in
     cc)
-break_step high at c place rest each (Some (next, put)) is read = go (digits_from next (at + 1) rest) refl read
+break_step high at c place rest each (Some (next, put)) is read = go (bytes_from next (at + 1) rest) refl read
   where
-    go : (later : Result (List ℕ) ℕ) → digits_from next (at + 1) rest ≡ later → behind put later ≡ Err place → Breaks high at (c ∷ rest) place
+    go : (later : Result (List ℕ) ℕ) → bytes_from next (at + 1) rest ≡ later → with_front put later ≡ Err place → Breaks high at (c ∷ rest) place
     go (Ok more) is_later whole = cc
     go (Err found) is_later whole =
         let same : found ≡ place = cc in
@@ -230,7 +230,7 @@ broken [] (Some h) at place read =
     break_here (Some h) at place [] same (λ next tail later others split means. cc)
 broken (c ∷ rest) high at place read = break_step high at c place rest (broken rest) (after_digit high c) refl read
 
-pub read_break : (input : List ℕ) (at : ℕ) → digits_from None 0 input ≡ Err at → IsHexBreak input at
+pub read_break : (input : List ℕ) (at : ℕ) → bytes_from None 0 input ≡ Err at → IsHexBreak input at
 read_break input at read =
     let found = broken input None 0 at read in
     record {
@@ -249,9 +249,9 @@ read_break input at read =
     }
 
 -- bytes put in two parts
-pub behind-append : (one two : List ℕ) (read : Result (List ℕ) ℕ) → behind (one ++ two) read ≡ behind one (behind two read)
-behind-append one two (Ok more) = ap (λ (all : List ℕ). Ok all) (append_assoc one two more)
-behind-append one two (Err at) = refl
+pub with_front-append : (one two : List ℕ) (read : Result (List ℕ) ℕ) → with_front (one ++ two) read ≡ with_front one (with_front two read)
+with_front-append one two (Ok more) = ap (λ (all : List ℕ). Ok all) (append_assoc one two more)
+with_front-append one two (Err at) = refl
 
 -- ---- one break
 

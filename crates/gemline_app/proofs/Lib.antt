@@ -1,9 +1,10 @@
 mod Carrying
 mod Due
+mod FaultsTold
 mod FirstExchange
 mod HexLaws
+mod ReadBack
 mod ReplayDue
 mod Replaying
-mod Sending
 mod SpelledBytes
 mod TextItems

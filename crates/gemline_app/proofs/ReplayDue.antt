@@ -5,20 +5,18 @@ use Rattle.gl_base.specs.Files.{ReadsFile, ReadsFileOf, told_file}
 use Rattle.gl_base.specs.declared.files.FileAnswer.{FileAnswer}
 use Rattle.gl_base.specs.declared.files.FileAnswer.TheVariants as file
 use Rattle.gl_base.specs.declared.files.MemFile.{MemFile}
-use Rattle.gl_base.specs.Sink.{SinkTold}
+use Rattle.gl_base.specs.Told.{FilesTold, SinkTold, SourceTold}
 use Rattle.line_world.specs.Run.{Runs, course_of, trace_text}
 use Rattle.line_world.specs.declared.course.Course.{Course}
 use Rattle.line_world.specs.declared.running.RunEnd.{RunEnd}
 use Rattle.line_world.specs.declared.running.RunEnd.TheVariants as end
-use Rattle.gemline_app.specs.Gemline.{ComesFrom, IsRun, SourceTold}
-use Rattle.gemline_app.specs.Laws.{Hinders, IsReplayDue, IsScheduleDue, ScheduleAsks, outcome_of_course}
-use Rattle.gemline_app.specs.Replay.{FileRefuses, FilesTold, ReplayComes, ScheduleComes, TextRuns, WasFile, empty_plan, files_told, limit_of, outcome_of_end}
-use Rattle.gemline_app.specs.Words.{Asked, asked_of}
-use Rattle.gemline_app.specs.Words.Asked.{Replays}
+use Rattle.gemline_app.specs.Laws.{Hinders, IsPlanDue, IsScheduleDue, ScheduleAsks, outcome_of_course}
+use Rattle.gemline_app.specs.Replay.{FileRefuses, ReplayComes, ScheduleComes, TextRuns, WasFile, empty_plan, files_since, files_until, outcome_of_end}
+use Rattle.gemline_app.specs.Words.{file_limit}
 use Rattle.gemline_app.specs.declared.outcome.FileRole.{FileRole}
 use Rattle.gemline_app.specs.declared.outcome.FileRole.TheVariants as role
 use Rattle.gemline_app.specs.declared.outcome.Outcome.{Outcome}
-use Rattle.gemline_app.specs.declared.outcome.Outcome.TheVariants.{Done, Usage, BadFrame, BadText, BadHex, BadItem, BadLine, Longer, FileLonger, FileFailed, ReadFailed, NoMemory, WriteFailed, TurnsSpent, Slipped, PlanNotBuilt, LineNotBuilt}
+use Rattle.gemline_app.specs.declared.outcome.Outcome.TheVariants.{Done, Usage, BadFrame, BadText, BadHex, BadItem, BadLine, Longer, FileLonger, FileFailed, ReadFailed, NoMemory, WriteFailed, TurnsSpent, Slip, PlanNotBuilt, LineNotBuilt}
 
 -- what reading a file came to, where the files tell its bytes
 told_answer : (limit : ℕ) (name bytes : List ℕ) (told : Option (List MemFile)) (answer : FileAnswer) → told_file name told ≡ Some bytes →
@@ -29,18 +27,18 @@ told_answer limit name bytes (Some files) answer is reads = subst (λ (f : Optio
 -- a file was longer than its limit, or its reading failed, or memory ran out
 abbrev Refused : FileRole → List ℕ → FilesTold → Outcome → Type 0
 Refused which bytes files outcome =
-    ((outcome ≡ FileLonger which) × (limit_of which < length bytes))
+    ((outcome ≡ FileLonger which) × (file_limit which < length bytes))
     ⊎ (((found : FileRole) × (outcome ≡ FileFailed found) × Rose files.health.faults files.health_after.faults) ⊎ (outcome ≡ NoMemory))
 
 longer_than : (limit : ℕ) (bytes found : List ℕ) → Some bytes ≡ Some found → limit < length found → limit < length bytes
 longer_than limit bytes found same past = let is : bytes ≡ found = cc in omega (arith, ap length is)
 
-refused : (which : FileRole) (name bytes : List ℕ) (files : FilesTold) (outcome : Outcome) → told_file name files.told ≡ Some bytes →
+refused : (which : FileRole) (name bytes : List ℕ) (files : FilesTold) (outcome : Outcome) → told_file name files.before ≡ Some bytes →
     FileRefuses which name files outcome → Refused which bytes files outcome
 refused which name bytes files (FileLonger found) told (same, was) =
-    let read = told_answer (limit_of which) name bytes files.told file.Longer told was.bytes in
-    inl (ap (λ (w : FileRole). FileLonger w) same, longer_than (limit_of which) bytes read.0 read.1 read.2)
-refused which name bytes files (FileFailed found) told (same, was) = inr (inl (found, refl, was.cause.1.rose))
+    let read = told_answer (file_limit which) name bytes files.before file.Longer told was.bytes in
+    inl (ap (λ (w : FileRole). FileLonger w) same, longer_than (file_limit which) bytes read.0 read.1 read.2)
+refused which name bytes files (FileFailed found) told (same, was) = inr (inl (found, refl, was.cause.rose))
 refused which name bytes files NoMemory told was = inr (inr refl)
 refused which name bytes files Done told refuses = absurd refuses
 refused which name bytes files Usage told refuses = absurd refuses
@@ -53,22 +51,23 @@ refused which name bytes files Longer told refuses = absurd refuses
 refused which name bytes files ReadFailed told refuses = absurd refuses
 refused which name bytes files WriteFailed told refuses = absurd refuses
 refused which name bytes files TurnsSpent told refuses = absurd refuses
-refused which name bytes files Slipped told refuses = absurd refuses
+refused which name bytes files Slip told refuses = absurd refuses
 refused which name bytes files PlanNotBuilt told refuses = absurd refuses
 refused which name bytes files (LineNotBuilt number) told refuses = absurd refuses
 
 -- a file that was read whole
-whole_is : (which : FileRole) (name bytes found : List ℕ) (files : FilesTold) → told_file name files.told ≡ Some bytes →
-    WasFile which name files (file.Whole found) → (bytes ≡ found) × (length bytes ≤ limit_of which)
+whole_is : (which : FileRole) (name bytes found : List ℕ) (files : FilesTold) → told_file name files.before ≡ Some bytes →
+    WasFile which name files (file.Whole found) → (bytes ≡ found) × (length bytes ≤ file_limit which)
 whole_is which name bytes found files told was =
-    let read = told_answer (limit_of which) name bytes files.told (file.Whole found) told was.bytes in
+    let read = told_answer (file_limit which) name bytes files.before (file.Whole found) told was.bytes in
     let same : bytes ≡ found = go read.0 in
     (same, omega (arith, ap length same, read.1))
   where
     go : Some bytes ≡ Some found → bytes ≡ found
     go is = cc
 
-abbrev Comes : SourceTold → FilesTold → SinkTold → Outcome → Outcome → Type 0
+-- the outcome is the one that is due, or hinders it
+abbrev pub Comes : SourceTold → FilesTold → SinkTold → Outcome → Outcome → Type 0
 Comes source files out outcome due = (outcome ≡ due) ⊎ Hinders source files out outcome
 
 hindered : (source : SourceTold) (files : FilesTold) (out : SinkTold) (outcome : Outcome) → outcome ≡ NoMemory → Hinders source files out outcome
@@ -86,8 +85,8 @@ ended_due source files out text course end.Whole outcome due is (at, wrote) is_d
 ended_due source files out text course end.Slip outcome due is (at, wrote) is_due = inl (is ∙ sym (is_due ∙ ap outcome_of_course at))
 ended_due source files out text course end.Turns outcome due is (at, wrote) is_due = inl (is ∙ sym (is_due ∙ ap outcome_of_course at))
 ended_due source files out text course end.NoMemory outcome due is part is_due = inr (hindered source files out outcome is)
-ended_due source files out text course end.WriteFailed outcome due is (part, fault) is_due =
-    inr (subst (Hinders source files out) (sym is) fault.rose)
+ended_due source files out text course end.WriteFailed outcome due is short is_due =
+    inr (subst (Hinders source files out) (sym is) short.fault.rose)
 
 text_due : (source : SourceTold) (files : FilesTold) (out : SinkTold) (text : List ℕ) (outcome due : Outcome) → TextRuns text out outcome
     → ScheduleAsks text due →
@@ -107,12 +106,8 @@ text_due source files out text outcome due runs (inr (inr (number, at, is_due)))
 
 -- ---- both files
 
--- a fault behind another moment is a fault
-rose_since : (before mid now : ℕ) → before ≤ mid → Rose mid now → Rose before now
-rose_since before mid now later rose = omega (arith, later, rose)
-
 schedule_due : (source : SourceTold) (files later : FilesTold) (out : SinkTold) (name text : List ℕ) (outcome due : Outcome) →
-    files.health.faults ≤ later.health.faults → later.health_after ≡ files.health_after → told_file name later.told ≡ Some text →
+    later.health.faults ≡ files.health.faults → later.health_after ≡ files.health_after → told_file name later.before ≡ Some text →
     ScheduleComes name later out outcome → IsScheduleDue text due → Comes source files out outcome due
 schedule_due source files later out name text outcome due since same told (inl (refuses, untouched)) is_due =
     go (refused role.Schedule name text later outcome told refuses) is_due
@@ -122,24 +117,24 @@ schedule_due source files later out name text outcome due since same told (inl (
     go (inl (longer, past)) (inr (within, asks)) = absurd (omega arith)
     go (inr (inl (found, is, rose))) due_is =
         inr (failed source files out outcome found is
-        (rose_since files.health.faults later.health.faults files.health_after.faults since (subst (λ h. Rose later.health.faults h.faults) same rose)))
+        (subst (λ (n : ℕ). Rose n files.health_after.faults) since (subst (λ h. Rose later.health.faults h.faults) same rose)))
     go (inr (inr memory)) due_is = inr (hindered source files out outcome memory)
 schedule_due source files later out name text outcome due since same told (inr (whole, was, runs)) is_due = go is_due
   where
-    read : (text ≡ whole) × (length text ≤ limit_of role.Schedule)
+    read : (text ≡ whole) × (length text ≤ file_limit role.Schedule)
     read = whole_is role.Schedule name text whole later told was
 
     go : IsScheduleDue text due → Comes source files out outcome due
     go (inl (past, is)) = let within = read.1 in absurd (omega arith)
     go (inr (within, asks)) = text_due source files out text outcome due (subst (λ (t : List ℕ). TextRuns t out outcome) (sym read.0) runs) asks
 
-replay_due : (source : SourceTold) (files : FilesTold) (out : SinkTold) (plan schedule bytes : List ℕ) (outcome due : Outcome) →
-    told_file plan files.told ≡ Some bytes → ReplayComes plan schedule files out outcome → IsReplayDue schedule files bytes due →
+pub replay_due : (source : SourceTold) (files : FilesTold) (out : SinkTold) (plan schedule bytes : List ℕ) (outcome due : Outcome) →
+    told_file plan files.before ≡ Some bytes → ReplayComes plan schedule files out outcome → IsPlanDue schedule files bytes due →
     Comes source files out outcome due
 replay_due source files out plan schedule bytes outcome due told (inl (refuses, untouched)) is_due =
     go (refused role.Plan plan bytes files outcome told refuses) is_due
   where
-    go : Refused role.Plan bytes files outcome → IsReplayDue schedule files bytes due → Comes source files out outcome due
+    go : Refused role.Plan bytes files outcome → IsPlanDue schedule files bytes due → Comes source files out outcome due
     go (inl (longer, past)) (inl (_, is)) = inl (longer ∙ sym is)
     go (inl (longer, past)) (inr (inl (within, some, is))) = absurd (omega arith)
     go (inl (longer, past)) (inr (inr (empty, text, also, rest))) = let long = ap length empty in absurd (omega arith)
@@ -147,32 +142,24 @@ replay_due source files out plan schedule bytes outcome due told (inl (refuses, 
     go (inr (inr memory)) due_is = inr (hindered source files out outcome memory)
 replay_due source files out plan schedule bytes outcome due told (inr (inl (found, was, some, is, untouched))) is_due = go is_due
   where
-    read : (bytes ≡ found) × (length bytes ≤ limit_of role.Plan)
+    read : (bytes ≡ found) × (length bytes ≤ file_limit role.Plan)
     read = whole_is role.Plan plan bytes found files told was
 
-    go : IsReplayDue schedule files bytes due → Comes source files out outcome due
+    go : IsPlanDue schedule files bytes due → Comes source files out outcome due
     go (inl (past, is_longer)) = let within = read.1 in absurd (omega arith)
     go (inr (inl (within, something, is_due'))) = inl (is ∙ sym is_due')
     go (inr (inr (empty, text, also, rest))) = absurd (some (sym read.0 ∙ empty))
 replay_due source files out plan schedule bytes outcome due told (inr (inr over)) is_due = go is_due
   where
     first : FilesTold
-    first = files_told files.told over.told files.health over.health
+    first = files_until files over.told over.health
 
-    read : (bytes ≡ []) × (length bytes ≤ limit_of role.Plan)
+    read : (bytes ≡ []) × (length bytes ≤ file_limit role.Plan)
     read = whole_is role.Plan plan bytes [] first told over.read
 
-    go : IsReplayDue schedule files bytes due → Comes source files out outcome due
+    go : IsPlanDue schedule files bytes due → Comes source files out outcome due
     go (inl (past, is_longer)) = let within = read.1 in absurd (omega arith)
     go (inr (inl (within, something, is_due'))) = absurd (something read.0)
     go (inr (inr (empty, text, also, rest))) =
-        schedule_due source files (files_told over.told files.told_after over.health files.health_after) out schedule text outcome due
-        over.read.cause.later refl (ap (told_file schedule) over.read.same ∙ also) over.rest rest
-
-pub replays_due : (words : List (List ℕ)) (source : SourceTold) (files : FilesTold) (out err : SinkTold) (status : ℕ) (plan schedule bytes : List ℕ) (due : Outcome)
-    → (run : IsRun words source files out err status) → asked_of words ≡ Replays plan schedule
-    → told_file plan files.told ≡ Some bytes → IsReplayDue schedule files bytes due
-    → (run.outcome ≡ due) ⊎ Hinders source files out run.outcome
-replays_due words source files out err status plan schedule bytes due run asks told is_due =
-    replay_due source files out plan schedule bytes run.outcome due told
-    (subst (λ (asked : Asked). ComesFrom asked source files out run.outcome) asks run.comes).1 is_due
+        schedule_due source files (files_since files over.told over.health) out schedule text outcome due
+        over.read.cause.same refl (ap (told_file schedule) over.read.same ∙ also) over.rest rest

@@ -6,7 +6,7 @@ use Rattle.line_schedule.specs.declared.schedule.Schedule.{Schedule}
 use Rattle.line_schedule.specs.declared.schedule.ScheduleFault.{ScheduleFault}
 use Rattle.line_schedule.specs.declared.schedule.ScheduleFault.TheVariants as schedule_fault
 use Rattle.line_end.specs.declared.plan.LinePlan.{LinePlan}
-use Rattle.gl_base.specs.Sink.{SinkTold}
+use Rattle.gl_base.specs.Told.{SinkTold}
 use Rattle.line_world.specs.Run.{Runs, course_of, log_of, trace_text}
 use Rattle.line_world.specs.declared.running.RunEnd.{RunEnd}
 use Rattle.trace_log.specs.Delivered.{Delivered}

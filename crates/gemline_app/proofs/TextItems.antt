@@ -19,7 +19,8 @@ use Rattle.secs_items.specs.Ranges.{HasRanges, InRange}
 use Rattle.secs_items.specs.Spelling.{shortest_head, shortest_spelling}
 use Rattle.secs_items.proofs.RangeLaws.{layer_in_range}
 use Rattle.secs_text.specs.Grammar.{AfterBlanks, HasElements, InTurn, IsHexByte, IsHexBytes, IsItemText, IsQuoted, IsShown, IsSigned, IsText, IsUnsigned, Kept, ReadsAs, ReadsWithin}
-use Rattle.secs_text.specs.Names.{name_of, stands_for_itself}
+use Rattle.secs_text.specs.Names.{name_of}
+use Rattle.short_text.specs.Shown.{stands_for_itself}
 use Rattle.secs_text.proofs.Quotes.{digit_small}
 
 -- ---- values one after another

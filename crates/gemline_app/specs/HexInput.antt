@@ -14,7 +14,8 @@ AreGaps = AllByRecursion (λ byte. is_gap byte ≡ true)
 abbrev pub HexMeans : List ℕ → List ℕ → Type 0
 HexMeans [] input = AreGaps input
 HexMeans (byte ∷ bytes) input =
-    (gaps : List ℕ) × (pair : List ℕ) × (rest : List ℕ) × (input ≡ gaps ++ (pair ++ rest)) × AreGaps gaps × IsHexByte byte pair × HexMeans bytes rest
+    (gaps : List ℕ) × (pair : List ℕ) × (rest : List ℕ) × (input ≡ gaps ++ (pair ++ rest))
+    × AreGaps gaps × IsHexByte byte pair × HexMeans bytes rest
 
 -- The input is good up to this place and no further: what stands before it begins an input that means bytes, and no
 -- such input goes on with the byte that stands here. Where no byte stands here, the input ends with half a pair.

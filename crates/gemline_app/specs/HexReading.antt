@@ -6,30 +6,31 @@ use Rattle.gemline_app.specs.HexInput.{is_gap}
 use Rattle.gemline_app.specs.declared.hex_input.HexFault.{HexFault}
 use Rattle.gemline_app.specs.declared.hex_input.HexFault.TheVariants.{Break, NoMemory}
 
--- What a byte does behind a first digit, or outside of pairs: the first digit then, and the byte that is whole. Nothing where
--- it is no digit and, outside of pairs, no gap either.
+-- What a byte does behind a first digit, or outside of pairs: the first digit then, and the byte that is whole. Nothing
+-- where it is no digit and, outside of pairs, no gap either.
 abbrev pub after_digit : Option ℕ → ℕ → Option (Option ℕ × List ℕ)
 after_digit (Some high) byte = option_map (λ low. (None, (16 * high + low) ∷ [])) (hex_digit_value byte)
-after_digit None byte = if is_gap byte then Some (None, []) else option_map (λ high. (Some high, [])) (hex_digit_value byte)
+after_digit None byte =
+    if is_gap byte then Some (None, []) else option_map (λ high. (Some high, [])) (hex_digit_value byte)
 
 -- these bytes in front of what was read
-abbrev pub behind : List ℕ → Result (List ℕ) ℕ → Result (List ℕ) ℕ
-behind bytes (Ok more) = Ok (bytes ++ more)
-behind bytes (Err at) = Err at
+abbrev pub with_front : List ℕ → Result (List ℕ) ℕ → Result (List ℕ) ℕ
+with_front bytes (Ok more) = Ok (bytes ++ more)
+with_front bytes (Err at) = Err at
 
-abbrev pub go_on : ℕ → Option (Option ℕ × List ℕ) → (Option ℕ → Result (List ℕ) ℕ) → Result (List ℕ) ℕ
-go_on at None next = Err at
-go_on at (Some (high, put)) next = behind put (next high)
+abbrev pub reading_behind : ℕ → Option (Option ℕ × List ℕ) → (Option ℕ → Result (List ℕ) ℕ) → Result (List ℕ) ℕ
+reading_behind at None next = Err at
+reading_behind at (Some (high, put)) next = with_front put (next high)
 
 -- an input ends outside of pairs
-abbrev pub at_end : ℕ → Option ℕ → Result (List ℕ) ℕ
-at_end at None = Ok []
-at_end at (Some high) = Err at
+abbrev pub reading_at_end : ℕ → Option ℕ → Result (List ℕ) ℕ
+reading_at_end at None = Ok []
+reading_at_end at (Some high) = Err at
 
 -- the bytes of an input from a place on, or the place where no input can go on
-abbrev pub digits_from : Option ℕ → ℕ → List ℕ → Result (List ℕ) ℕ
-digits_from high at [] = at_end at high
-digits_from high at (byte ∷ rest) = go_on at (after_digit high byte) (λ next. digits_from next (at + 1) rest)
+abbrev pub bytes_from : Option ℕ → ℕ → List ℕ → Result (List ℕ) ℕ
+bytes_from high at [] = reading_at_end at high
+bytes_from high at (byte ∷ rest) = reading_behind at (after_digit high byte) (λ next. bytes_from next (at + 1) rest)
 
 -- what a function returned is what reading gives, unless memory ran out
 abbrev pub Gives : Result (List ℕ) HexFault → Result (List ℕ) ℕ → Type 0

@@ -1,7 +1,8 @@
 -- What holds of all runs.
-use Rattle.std.specs.Prelude.{◌≡◌, ◌≢◌, ◌<◌, ◌≤◌, ◌⊎◌, ℕ, true, List, [], length, Some, Ok}
+use Rattle.std.specs.Prelude.{◌≡◌, ◌≢◌, ◌<◌, ◌≤◌, ◌⊎◌, ℕ, Bool, true, false, List, [], length, Option, Some, None, Ok}
 use Rattle.gl_base.specs.Faults.{Rose}
-use Rattle.gl_base.specs.Sink.{SinkTold, appended}
+use Rattle.gl_base.specs.Sink.{with_bytes}
+use Rattle.gl_base.specs.Told.{FilesTold, SinkTold, SourceTold}
 use Rattle.gl_base.specs.Files.{told_file}
 use Rattle.line_schedule.specs.Schedule.{IsSchedule, LaterAt, OutsideAt}
 use Rattle.line_schedule.specs.declared.schedule.Schedule.{Schedule}
@@ -20,23 +21,22 @@ use Rattle.secs_items.specs.declared.item_fault.ItemFault.{ItemFault}
 use Rattle.secs_text.specs.Faults.{HasFault}
 use Rattle.secs_text.specs.Grammar.{ReadsAs}
 use Rattle.secs_text.specs.declared.text_fault.TextFault.{TextFault}
-use Rattle.gemline_app.specs.Gemline.{IsRun, SourceTold}
+use Rattle.gemline_app.specs.Gemline.{IsRun}
 use Rattle.gemline_app.specs.HexInput.{HexMeans, IsHexBreak}
-use Rattle.gemline_app.specs.Outcome.{shown_outcome}
-use Rattle.gemline_app.specs.Spelling.{HexSpells, spelled_line, text_place}
-use Rattle.gemline_app.specs.Replay as replay
-use Rattle.gemline_app.specs.Replay.{FilesTold, empty_plan}
-use Rattle.gemline_app.specs.Words.{Asked, asked_of, limit_of}
-use Rattle.gemline_app.specs.Words.Asked.{Nothing, OnInput, Replays}
+use Rattle.gemline_app.specs.Outcome.{outcome_of_show}
+use Rattle.gemline_app.specs.Spelling.{HexSpells, spelled_line, text_line, text_place}
+use Rattle.gemline_app.specs.Replay.{empty_plan}
+use Rattle.gemline_app.specs.Words.{capture_limit, command_of, file_limit, item_limit, name_in}
 use Rattle.gemline_app.specs.declared.outcome.FileRole.TheVariants as role
 use Rattle.gemline_app.specs.declared.outcome.Outcome.{Outcome}
-use Rattle.gemline_app.specs.declared.outcome.Outcome.TheVariants.{Done, Usage, BadText, BadHex, BadItem, BadLine, Longer, FileLonger, FileFailed, ReadFailed, NoMemory, WriteFailed, TurnsSpent, Slipped, PlanNotBuilt, LineNotBuilt}
+use Rattle.gemline_app.specs.declared.outcome.Outcome.TheVariants.{Done, Usage, BadText, BadHex, BadItem, BadLine, Longer, FileLonger, FileFailed, ReadFailed, NoMemory, WriteFailed, TurnsSpent, Slip, PlanNotBuilt, LineNotBuilt}
 use Rattle.gemline_app.specs.declared.words.Command.{Command}
-use Rattle.gemline_app.specs.declared.words.Command.TheVariants.{Show, Spell, SpellHex}
+use Rattle.gemline_app.specs.declared.words.Command.TheVariants.{Show, Spell, SpellHex, Replay}
 
 -- what a capture asks for: its pieces, and the outcome of how they end
 abbrev pub CaptureAsks : List ℕ → Outcome → Type 0
-CaptureAsks capture due = (pieces : List Piece) × (ending : Ending) × Reads capture pieces ending × (due ≡ shown_outcome (Ok ending))
+CaptureAsks capture due =
+    (pieces : List Piece) × (ending : Ending) × Reads capture pieces ending × (due ≡ outcome_of_show (Ok ending))
 
 -- what a text asks for: its item, or its fault
 abbrev pub TextAsks : List ℕ → Outcome → Type 0
@@ -44,48 +44,63 @@ TextAsks text due =
     ((item : Item) × ReadsAs text item × (due ≡ Done))
     ⊎ ((fault : TextFault) × HasFault text fault × (due ≡ BadText (text_place fault)))
 
--- what hex asks for: the item that its bytes spell, their first fault, or the break of the hex itself
+-- what the bytes of an item ask for: the item that they spell, or their first fault
+abbrev pub BytesAsk : List ℕ → Outcome → Type 0
+BytesAsk bytes due =
+    ((item : Item) × Spells item bytes × (due ≡ Done))
+    ⊎ ((fault : ItemFault) × (first_fault bytes ≡ Some fault) × (due ≡ BadItem fault))
+
+-- what hex asks for: what its bytes ask for, or the break of the hex itself
 abbrev pub HexAsks : List ℕ → Outcome → Type 0
 HexAsks digits due =
-    ((bytes : List ℕ) × HexMeans bytes digits
-    × (((item : Item) × Spells item bytes × (due ≡ Done)) ⊎ ((fault : ItemFault) × (first_fault bytes ≡ Some fault) × (due ≡ BadItem fault))))
+    ((bytes : List ℕ) × HexMeans bytes digits × BytesAsk bytes due)
     ⊎ ((at : ℕ) × IsHexBreak digits at × (due ≡ BadHex at))
 
-abbrev pub Asks : Command → List ℕ → Outcome → Type 0
-Asks Show = CaptureAsks
-Asks Spell = TextAsks
-Asks SpellHex = HexAsks
-
--- the outcome that is due of words and of an input, where they ask for nothing that there is or for a command over the input
-abbrev pub IsDue : Asked → List ℕ → Outcome → Type 0
-IsDue Nothing bytes due = due ≡ Usage
-IsDue (OnInput command) bytes due =
-    ((limit_of command < length bytes) × (due ≡ Longer)) ⊎ ((length bytes ≤ limit_of command) × Asks command bytes due)
-IsDue (Replays plan schedule) bytes due = ⊥
+-- the outcome that is due of an input with a limit, where the input is told
+abbrev pub IsInputDue : ℕ → (List ℕ → Outcome → Type 0) → SourceTold → Outcome → Type 0
+IsInputDue limit Asks source due =
+    (bytes : List ℕ) × (source.before ≡ Some bytes)
+    × (((limit < length bytes) × (due ≡ Longer)) ⊎ ((length bytes ≤ limit) × Asks bytes due))
 
 -- what the text of a schedule asks for: its trace, or its first line that can't be carried out
 abbrev pub outcome_of_course : Course → Outcome
 outcome_of_course GoesOn = Done
-outcome_of_course Slips = Slipped
+outcome_of_course Slips = Slip
 outcome_of_course Turns = TurnsSpent
 
 abbrev pub ScheduleAsks : List ℕ → Outcome → Type 0
 ScheduleAsks text due =
-    ((schedule : Schedule) × IsSchedule text schedule.events × (due ≡ outcome_of_course (course_of empty_plan schedule)))
-    ⊎ (((number : ℕ) × OutsideAt text number × (due ≡ BadLine number)) ⊎ ((number : ℕ) × LaterAt text number × (due ≡ LineNotBuilt number)))
+    ((schedule : Schedule) × IsSchedule text schedule.events
+    × (due ≡ outcome_of_course (course_of empty_plan schedule)))
+    ⊎ (((number : ℕ) × OutsideAt text number × (due ≡ BadLine number))
+    ⊎ ((number : ℕ) × LaterAt text number × (due ≡ LineNotBuilt number)))
 
 -- the outcome that is due of a schedule's text
 abbrev pub IsScheduleDue : List ℕ → Outcome → Type 0
 IsScheduleDue text due =
-    ((replay.limit_of role.Schedule < length text) × (due ≡ FileLonger role.Schedule))
-    ⊎ ((length text ≤ replay.limit_of role.Schedule) × ScheduleAsks text due)
+    ((file_limit role.Schedule < length text) × (due ≡ FileLonger role.Schedule))
+    ⊎ ((length text ≤ file_limit role.Schedule) × ScheduleAsks text due)
 
--- the outcome that is due of a plan, and of the schedule of this name where the plan is empty
-abbrev pub IsReplayDue : List ℕ → FilesTold → List ℕ → Outcome → Type 0
-IsReplayDue schedule files plan due =
-    ((replay.limit_of role.Plan < length plan) × (due ≡ FileLonger role.Plan))
-    ⊎ (((length plan ≤ replay.limit_of role.Plan) × (plan ≢ []) × (due ≡ PlanNotBuilt))
-    ⊎ ((plan ≡ []) × (text : List ℕ) × (told_file schedule files.told ≡ Some text) × IsScheduleDue text due))
+-- the outcome that is due of a plan's text, and of the schedule of this name where the plan is empty
+abbrev pub IsPlanDue : List ℕ → FilesTold → List ℕ → Outcome → Type 0
+IsPlanDue schedule files plan due =
+    ((file_limit role.Plan < length plan) × (due ≡ FileLonger role.Plan))
+    ⊎ (((length plan ≤ file_limit role.Plan) × (plan ≢ []) × (due ≡ PlanNotBuilt))
+    ⊎ ((plan ≡ []) × (text : List ℕ) × (told_file schedule files.before ≡ Some text) × IsScheduleDue text due))
+
+-- the outcome that is due of two files, where the plan is told, and the schedule if it is read
+abbrev pub IsReplayDue : List ℕ → List ℕ → FilesTold → Outcome → Type 0
+IsReplayDue plan schedule files due =
+    (bytes : List ℕ) × (told_file plan files.before ≡ Some bytes) × IsPlanDue schedule files bytes due
+
+-- the outcome that is due of words: usage where they are no command's, else what the command's input or files ask for
+abbrev pub IsDue : Option Command → List (List ℕ) → SourceTold → FilesTold → Outcome → Type 0
+IsDue None words source files due = due ≡ Usage
+IsDue (Some Show) words source files due = IsInputDue capture_limit CaptureAsks source due
+IsDue (Some Spell) words source files due = IsInputDue item_limit TextAsks source due
+IsDue (Some SpellHex) words source files due = IsInputDue item_limit HexAsks source due
+IsDue (Some Replay) words source files due =
+    IsReplayDue (name_in words role.Plan) (name_in words role.Schedule) files due
 
 -- an outcome that may come in place of the one that is due: memory ran out, or a count of faults rose
 abbrev pub Hinders : SourceTold → FilesTold → SinkTold → Outcome → Type 0
@@ -95,30 +110,88 @@ Hinders source files out (FileFailed which) = Rose files.health.faults files.hea
 Hinders source files out WriteFailed = Rose out.health.faults out.health_after.faults
 Hinders source files out _ = ⊥
 
+-- which object's fault an outcome is
+abbrev pub is_read_fault : Outcome → Bool
+is_read_fault ReadFailed = true
+is_read_fault _ = false
+
+abbrev pub is_file_fault : Outcome → Bool
+is_file_fault (FileFailed which) = true
+is_file_fault _ = false
+
+abbrev pub is_write_fault : Outcome → Bool
+is_write_fault WriteFailed = true
+is_write_fault _ = false
+
+-- a count of faults rose by one where this is the object's fault, and stands otherwise
+abbrev pub IsCounted : Bool → ℕ → ℕ → Type 0
+IsCounted true before now = Rose before now
+IsCounted false before now = now ≡ before
+
+-- each fault of the input, the files and the output is the outcome
+pub record CountsFaults (source : SourceTold) (files : FilesTold) (out : SinkTold) (outcome : Outcome) : Type 0 where
+  pub read : IsCounted (is_read_fault outcome) source.health.faults source.health_after.faults
+  pub file : IsCounted (is_file_fault outcome) files.health.faults files.health_after.faults
+  pub write : IsCounted (is_write_fault outcome) out.health.faults out.health_after.faults
+
+abbrev pub FaultsAreTold : Type 0
+FaultsAreTold =
+    (words : List (List ℕ)) (source : SourceTold) (files : FilesTold) (out err : SinkTold) (status : ℕ)
+    → (run : IsRun words source files out err status) → CountsFaults source files out run.outcome
+
 -- the outcome that is due comes, unless one hinders it
 abbrev pub OutcomesAreDue : Type 0
 OutcomesAreDue =
-    (words : List (List ℕ)) (source : SourceTold) (files : FilesTold) (out err : SinkTold) (status : ℕ) (bytes : List ℕ) (due : Outcome)
-    → (run : IsRun words source files out err status) → source.before ≡ Some bytes → IsDue (asked_of words) bytes due
+    (words : List (List ℕ)) (source : SourceTold) (files : FilesTold) (out err : SinkTold) (status : ℕ) (due : Outcome)
+    → (run : IsRun words source files out err status) → IsDue (command_of words) words source files due
     → (run.outcome ≡ due) ⊎ Hinders source files out run.outcome
 
--- the same of `replay`, where the files tell of the plan, and of the schedule if it is read
-abbrev pub ReplaysAreDue : Type 0
-ReplaysAreDue =
-    (words : List (List ℕ)) (source : SourceTold) (files : FilesTold) (out err : SinkTold) (status : ℕ) (plan schedule bytes : List ℕ) (due : Outcome)
-    → (run : IsRun words source files out err status) → asked_of words ≡ Replays plan schedule
-    → told_file plan files.told ≡ Some bytes → IsReplayDue schedule files bytes due
-    → (run.outcome ≡ due) ⊎ Hinders source files out run.outcome
-
--- over objects that do not fail, `show` of a capture without a break ends with status 0 and its lines, but for want of memory
+-- over objects that do not fail, `show` of a capture without a break ends with status 0 and its lines, but for want of
+-- memory
 abbrev pub ShowsWholeCaptures : Type 0
 ShowsWholeCaptures =
-    (words : List (List ℕ)) (source : SourceTold) (files : FilesTold) (out err : SinkTold) (status : ℕ) (capture : List ℕ) (pieces : List Piece)
-    → IsRun words source files out err status → asked_of words ≡ OnInput Show
-    → source.before ≡ Some capture → length capture ≤ limit_of Show → source.health.reliable ≡ true
-    → Reads capture pieces Whole → length (lines_of pieces) ≤ out.health.room
-    → (status ≡ 71) ⊎ ((status ≡ 0) × (out.after ≡ appended out.before (lines_of pieces)))
+    (words : List (List ℕ)) (source : SourceTold) (files : FilesTold) (out err : SinkTold) (status : ℕ)
+    → IsRun words source files out err status → command_of words ≡ Some Show
+    → (capture : List ℕ) (pieces : List Piece) → source.before ≡ Some capture → length capture ≤ capture_limit
+    → source.health.reliable ≡ true → Reads capture pieces Whole → length (lines_of pieces) ≤ out.health.room
+    → (status ≡ 71) ⊎ ((status ≡ 0) × (out.after ≡ with_bytes out.before (lines_of pieces)))
+
+-- an input of hex means one list of bytes
+abbrev pub HexMeansOne : Type 0
+HexMeansOne = (digits first second : List ℕ) → HexMeans first digits → HexMeans second digits → first ≡ second
+
+-- and is the hex of one item
+abbrev pub HexSpellsOne : Type 0
+HexSpellsOne =
+    (digits : List ℕ) (first second : Item) → HexSpells first digits → HexSpells second digits → first ≡ second
 
 -- what `spell` writes of a text that is within its limit is hex of bytes that spell its item
+abbrev pub SpelledIsHex : Type 0
+SpelledIsHex =
+    (text : List ℕ) (item : Item) → ReadsAs text item → length text ≤ item_limit → HexSpells item (spelled_line item)
+
+-- A run ended with status 0, and to an output that was empty it wrote this line of a text's item.
+pub record WroteSpelling (text line : List ℕ) : Type 0 where
+  pub words : List (List ℕ)
+  pub source : SourceTold
+  pub files : FilesTold
+  pub out : SinkTold
+  pub err : SinkTold
+  pub run : IsRun words source files out err 0
+  pub asks : command_of words ≡ Some Spell
+  pub told : source.before ≡ Some text
+  pub empty : out.before ≡ Some []
+  pub after : out.after ≡ Some line
+
+-- a run ended well and wrote the text of this item
+pub record ReadsBack (item : Item) (out : SinkTold) (outcome : Outcome) : Type 0 where
+  pub done : outcome ≡ Done
+  pub after : out.after ≡ with_bytes out.before (text_line item)
+
+-- what one run of `spell` wrote, each run of `spell --hex` with an input of that length reads as the text's own item
 abbrev pub SpelledReadsBack : Type 0
-SpelledReadsBack = (text : List ℕ) (item : Item) → ReadsAs text item → length text ≤ limit_of Spell → HexSpells item (spelled_line item)
+SpelledReadsBack =
+    (text line : List ℕ) (item : Item) → ReadsAs text item → WroteSpelling text line → length line ≤ item_limit
+    → (words : List (List ℕ)) (source : SourceTold) (files : FilesTold) (out err : SinkTold) (status : ℕ)
+    → (run : IsRun words source files out err status) → command_of words ≡ Some SpellHex → source.before ≡ Some line
+    → ReadsBack item out run.outcome ⊎ Hinders source files out run.outcome

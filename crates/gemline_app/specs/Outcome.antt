@@ -1,5 +1,5 @@
 -- The statuses that the program ends with, and the line that tells of each (this profile).
-use Rattle.std.specs.Prelude.{ℕ, List, [], ◌++◌, get_or, codes, decimal, Result, Ok, Err}
+use Rattle.std.specs.Prelude.{ℕ, List, [], ◌++◌, codes, decimal, Result, Ok, Err}
 use Rattle.std.specs.Int.{w16, to_be_bytes}
 use Rattle.hex.specs.Hex.{encode_upper}
 use Rattle.line_show.specs.Bodies.{fault_text}
@@ -9,17 +9,16 @@ use Rattle.line_show.specs.declared.capture.Ending.{Ending}
 use Rattle.line_show.specs.declared.capture.Ending.TheVariants.{Whole, Broken}
 use Rattle.line_show.specs.declared.printer.Stop.{Stop}
 use Rattle.line_show.specs.declared.printer.Stop.TheVariants as stop
-use Rattle.gemline_app.specs.declared.outcome.FileRole.{FileRole}
-use Rattle.gemline_app.specs.declared.outcome.FileRole.TheVariants.{Plan, Schedule}
+use Rattle.gemline_app.specs.Words.{name_in}
 use Rattle.gemline_app.specs.declared.outcome.Outcome.{Outcome}
-use Rattle.gemline_app.specs.declared.outcome.Outcome.TheVariants.{Done, Usage, BadFrame, BadText, BadHex, BadItem, BadLine, Longer, FileLonger, FileFailed, ReadFailed, NoMemory, WriteFailed, TurnsSpent, Slipped, PlanNotBuilt, LineNotBuilt}
+use Rattle.gemline_app.specs.declared.outcome.Outcome.TheVariants.{Done, Usage, BadFrame, BadText, BadHex, BadItem, BadLine, Longer, FileLonger, FileFailed, ReadFailed, NoMemory, WriteFailed, TurnsSpent, Slip, PlanNotBuilt, LineNotBuilt}
 
--- what a capture that was read came to
-abbrev pub shown_outcome : Result Ending Stop → Outcome
-shown_outcome (Ok Whole) = Done
-shown_outcome (Ok (Broken named)) = BadFrame named
-shown_outcome (Err stop.NoMemory) = NoMemory
-shown_outcome (Err stop.WriteFailed) = WriteFailed
+-- what showing a capture came to
+abbrev pub outcome_of_show : Result Ending Stop → Outcome
+outcome_of_show (Ok Whole) = Done
+outcome_of_show (Ok (Broken named)) = BadFrame named
+outcome_of_show (Err stop.NoMemory) = NoMemory
+outcome_of_show (Err stop.WriteFailed) = WriteFailed
 
 abbrev pub status_of : Outcome → ℕ
 status_of Done = 0
@@ -36,20 +35,19 @@ status_of ReadFailed = 68
 status_of NoMemory = 71
 status_of WriteFailed = 73
 status_of TurnsSpent = 75
-status_of Slipped = 76
+status_of Slip = 76
 status_of PlanNotBuilt = 79
 status_of (LineNotBuilt number) = 79
 
+-- a checksum, in four hex digits
+abbrev pub sum_text : ℕ → List ℕ
+sum_text sum = encode_upper (to_be_bytes w16 sum)
+
+-- a broken frame's place, and what is wrong with it
 abbrev pub break_text : Break → List ℕ
 break_text (Length at n) = decimal at ++ codes ": length " ++ decimal n
 break_text (Short at) = decimal at ++ codes ": short"
-break_text (Sum at want found) =
-    decimal at ++ codes ": sum " ++ encode_upper (to_be_bytes w16 want) ++ codes " found " ++ encode_upper (to_be_bytes w16 found)
-
--- the name of a file of `replay`, which is the second or the third word
-abbrev pub name_in : List (List ℕ) → FileRole → List ℕ
-name_in words Plan = get_or words 1 []
-name_in words Schedule = get_or words 2 []
+break_text (Sum at want found) = decimal at ++ codes ": sum " ++ sum_text want ++ codes " found " ++ sum_text found
 
 -- the name of the file that an outcome speaks of, if it speaks of one
 abbrev pub file_of : List (List ℕ) → Outcome → List ℕ
@@ -73,7 +71,7 @@ head_of ReadFailed = codes "gemline: 68 read\n"
 head_of NoMemory = codes "gemline: 71 memory\n"
 head_of WriteFailed = codes "gemline: 73 write\n"
 head_of TurnsSpent = codes "gemline: 75 turns\n"
-head_of Slipped = codes "gemline: 76 slip\n"
+head_of Slip = codes "gemline: 76 slip\n"
 head_of PlanNotBuilt = codes "gemline: 79 not built in plan\n"
 head_of (LineNotBuilt number) = codes "gemline: 79 not built at line " ++ decimal number ++ codes "\n"
 

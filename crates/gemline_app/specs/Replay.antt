@@ -9,16 +9,17 @@ use Rattle.line_schedule.specs.Schedule.{IsSchedule, LaterAt, OutsideAt}
 use Rattle.line_schedule.specs.declared.schedule.Schedule.{Schedule}
 use Rattle.line_schedule.specs.declared.schedule.ScheduleFault.{ScheduleFault}
 use Rattle.line_schedule.specs.declared.schedule.ScheduleFault.TheVariants as schedule_fault
-use Rattle.gl_base.specs.Sink.{SinkTold}
+use Rattle.gl_base.specs.Told.{FilesTold, SinkTold}
 use Rattle.line_world.specs.Run.{Runs, course_of, log_of, trace_text}
 use Rattle.line_world.specs.declared.running.RunEnd.{RunEnd}
 use Rattle.line_world.specs.declared.running.RunEnd.TheVariants as end
 use Rattle.trace_log.specs.Delivered.{Delivered}
+use Rattle.gemline_app.specs.Words.{file_limit}
 use Rattle.gemline_app.specs.Written.{IsUntouched}
 use Rattle.gemline_app.specs.declared.outcome.FileRole.{FileRole}
 use Rattle.gemline_app.specs.declared.outcome.FileRole.TheVariants as role
 use Rattle.gemline_app.specs.declared.outcome.Outcome.{Outcome}
-use Rattle.gemline_app.specs.declared.outcome.Outcome.TheVariants.{Done, BadLine, LineNotBuilt, PlanNotBuilt, FileLonger, FileFailed, TurnsSpent, Slipped, NoMemory, WriteFailed}
+use Rattle.gemline_app.specs.declared.outcome.Outcome.TheVariants.{Done, BadLine, LineNotBuilt, PlanNotBuilt, FileLonger, FileFailed, TurnsSpent, Slip, NoMemory, WriteFailed}
 
 -- the parameters of an empty plan
 abbrev pub empty_plan : LinePlan
@@ -30,26 +31,11 @@ empty_plan = record {
   max_body = 1048576;
 }
 
--- how long a file may be, in bytes: a plan 1 MiB, a schedule 4 MiB
-abbrev pub limit_of : FileRole → ℕ
-limit_of role.Plan = 1048576
-limit_of role.Schedule = 4194304
-
--- what files told before a run and after it
-pub record FilesTold : Type 0 where
-  pub told : Option (List MemFile)
-  pub told_after : Option (List MemFile)
-  pub health : FilesHealth
-  pub health_after : FilesHealth
-
-abbrev pub files_told : Option (List MemFile) → Option (List MemFile) → FilesHealth → FilesHealth → FilesTold
-files_told told told_after health health_after = record { told = told; told_after = told_after; health = health; health_after = health_after }
-
 -- reading a file within its limit came to this
 pub record WasFile (which : FileRole) (name : List ℕ) (files : FilesTold) (answer : FileAnswer) : Type 0 where
-  pub bytes : ReadsFile (limit_of which) name files.told answer
-  pub same : files.told_after ≡ files.told
-  pub cause : HasFileCause (told_file name files.told) files.health files.health_after answer
+  pub bytes : ReadsFile (file_limit which) name files.before answer
+  pub same : files.after ≡ files.before
+  pub cause : HasFileCause (told_file name files.before) files.health files.health_after answer
 
 -- why a file was not read whole
 abbrev pub FileRefuses : FileRole → List ℕ → FilesTold → Outcome → Type 0
@@ -66,13 +52,13 @@ FileAnswers which name files (Err refusal) = FileRefuses which name files refusa
 -- what the end of a run is an outcome of
 abbrev pub outcome_of_end : RunEnd → Outcome
 outcome_of_end end.Whole = Done
-outcome_of_end end.Slip = Slipped
+outcome_of_end end.Slip = Slip
 outcome_of_end end.Turns = TurnsSpent
 outcome_of_end end.NoMemory = NoMemory
 outcome_of_end end.WriteFailed = WriteFailed
 
--- A schedule was carried out: its trace was written, or a part of it, and each message that its log notes as delivered was
--- sent, whole, and once (SEMI E4, E5; this profile).
+-- A schedule was carried out: its trace was written, or a part of it, and each message that its log notes as delivered
+-- was sent, whole, and once (SEMI E4, E5; this profile).
 pub record WasReplayed (schedule : Schedule) (out : SinkTold) (outcome : Outcome) : Type 0 where
   pub ended : RunEnd
   pub outcome_is : outcome ≡ outcome_of_end ended
@@ -102,7 +88,8 @@ pub record TextRuns (text : List ℕ) (out : SinkTold) (outcome : Outcome) : Typ
       ⊎ ((fault : ScheduleFault) × ScheduleRefuses text out fault × (outcome ≡ schedule_refusal fault))
   pub outside : (number : ℕ) → OutsideAt text number → ComesOnly (BadLine number) out outcome
   pub later : (number : ℕ) → LaterAt text number → ComesOnly (LineNotBuilt number) out outcome
-  pub only : (schedule : Schedule) → IsSchedule text schedule.events → WasReplayed schedule out outcome ⊎ ((outcome ≡ NoMemory) × IsUntouched out)
+  pub only : (schedule : Schedule) → IsSchedule text schedule.events
+      → WasReplayed schedule out outcome ⊎ ((outcome ≡ NoMemory) × IsUntouched out)
 
 -- what `replay` came to from its schedule on
 abbrev pub ScheduleComes : List ℕ → FilesTold → SinkTold → Outcome → Type 0
@@ -110,17 +97,27 @@ ScheduleComes name files out outcome =
     (FileRefuses role.Schedule name files outcome × IsUntouched out)
     ⊎ ((text : List ℕ) × WasFile role.Schedule name files (file.Whole text) × TextRuns text out outcome)
 
+-- what files told up to a moment, and from then on
+abbrev pub files_until : FilesTold → Option (List MemFile) → FilesHealth → FilesTold
+files_until files told health =
+    record { before = files.before; after = told; health = files.health; health_after = health }
+
+abbrev pub files_since : FilesTold → Option (List MemFile) → FilesHealth → FilesTold
+files_since files told health =
+    record { before = told; after = files.after; health = health; health_after = files.health_after }
+
 -- the plan was read and is empty, and then the schedule
 pub record PlanIsEmpty (plan schedule : List ℕ) (files : FilesTold) (out : SinkTold) (outcome : Outcome) : Type 0 where
   pub told : Option (List MemFile)
   pub health : FilesHealth
-  pub read : WasFile role.Plan plan (files_told files.told told files.health health) (file.Whole [])
-  pub rest : ScheduleComes schedule (files_told told files.told_after health files.health_after) out outcome
+  pub read : WasFile role.Plan plan (files_until files told health) (file.Whole [])
+  pub rest : ScheduleComes schedule (files_since files told health) out outcome
 
 -- the plan was read and has some text, which isn't built yet
 abbrev pub PlanHasText : List ℕ → FilesTold → SinkTold → Outcome → Type 0
 PlanHasText plan files out outcome =
-    (bytes : List ℕ) × WasFile role.Plan plan files (file.Whole bytes) × (bytes ≢ []) × (outcome ≡ PlanNotBuilt) × IsUntouched out
+    (bytes : List ℕ) × WasFile role.Plan plan files (file.Whole bytes) × (bytes ≢ [])
+    × (outcome ≡ PlanNotBuilt) × IsUntouched out
 
 -- what `replay` came to
 abbrev pub ReplayComes : List ℕ → List ℕ → FilesTold → SinkTold → Outcome → Type 0

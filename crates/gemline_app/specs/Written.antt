@@ -1,6 +1,6 @@
 -- What a command leaves of its output (this profile).
 use Rattle.std.specs.Prelude.{◌≡◌}
-use Rattle.gl_base.specs.Sink.{SinkTold}
+use Rattle.gl_base.specs.Told.{SinkTold}
 
 -- nothing was written
 pub record IsUntouched (out : SinkTold) : Type 0 where

@@ -2,7 +2,7 @@
 
 ghost use Rattle.std.specs.Prelude.{◌≡◌, ◌<◌, IfErr, IfOk, IfSome, None};
 ghost use Rattle.gemline_app.specs.HexInput.{HexMeans, IsHexBreak, is_gap};
-ghost use Rattle.gemline_app.specs.HexReading.{Gives, TakesDigit, after_digit, digits_from};
+ghost use Rattle.gemline_app.specs.HexReading.{Gives, TakesDigit, after_digit, bytes_from};
 ghost use Rattle.gemline_app.specs.declared.hex_input.HexFault.TheVariants as faults;
 
 use gl_base::{NoMemory, Row};
@@ -27,7 +27,7 @@ impl From<NoMemory> for HexFault {
 
 /// The bytes that an input of hex digits means.
 pub(crate) fn hex_bytes(alloc: Global, input: &[u8]) -> Result<Row<u8>, HexFault>
-    ensures { Gives result (digits_from None 0 input.now) }
+    ensures { Gives result (bytes_from None 0 input.now) }
 {
     let mut bytes = Row::new(alloc);
     let mut high = None;

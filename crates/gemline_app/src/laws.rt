@@ -1,9 +1,16 @@
-ghost use Rattle.gemline_app.specs.Laws.{OutcomesAreDue, ReplaysAreDue, ShowsWholeCaptures, SpelledReadsBack};
+ghost use Rattle.gemline_app.specs.Laws.{FaultsAreTold, HexMeansOne, HexSpellsOne, OutcomesAreDue, ShowsWholeCaptures};
+ghost use Rattle.gemline_app.specs.Laws.{SpelledIsHex, SpelledReadsBack};
 
-/// Usage, an input that is too long, its fault and its end are told exactly where they are due, unless memory runs out or
-/// a count of faults rises.
+/// The outcome that is due of the words and of what they have read comes exactly there, unless memory runs out or a
+/// count of faults rises: usage, an input or a file that is too long, its first fault, the end of its work.
 pub fn outcomes_are_due()
     ensures { OutcomesAreDue }
+{}
+
+/// No fault is passed over, but one of the errors: the count of the input, of the files and of the output rises where
+/// the outcome is its fault, by one, and stands otherwise.
+pub fn faults_are_told()
+    ensures { FaultsAreTold }
 {}
 
 /// Over objects that do not fail, `show` of a capture without a break ends with status 0 and all its
@@ -12,14 +19,15 @@ pub fn shows_whole_captures()
     ensures { ShowsWholeCaptures }
 {}
 
-/// The refusal of a plan or a schedule, and what its trace ends with, are told exactly where they are due, unless memory runs
-/// out or a count of faults rises.
-pub fn replays_are_due()
-    ensures { ReplaysAreDue }
+/// An input of hex means one list of bytes, and is the hex of one item.
+pub fn hex_means_one_item()
+    ensures bytes { HexMeansOne }
+    ensures item { HexSpellsOne }
 {}
 
-/// What `spell` writes is hex of bytes that spell the item of the text, which `spell --hex` reads as the same item within its
-/// limit.
+/// What `spell` writes is hex of bytes that spell the item of the text. Where it is within the limit of `spell --hex`,
+/// each run of that over it ends well with the text of this item, unless memory runs out or a count of faults rises.
 pub fn spelled_reads_back()
-    ensures { SpelledReadsBack }
+    ensures spelled { SpelledIsHex }
+    ensures again { SpelledReadsBack }
 {}

@@ -44,8 +44,8 @@ pub enum Outcome {
     WriteFailed,
     /// The schedule takes more steps than a run makes.
     TurnsSpent,
-    /// A false block arrived, which length and sum don't show.
-    Slipped,
+    /// A slip arrived: a block with right length and sum that isn't one whole frame of the other end.
+    Slip,
     /// The plan has some text, which isn't built yet.
     PlanNotBuilt,
     /// The line of this number, from 1, is of a kind that isn't built yet.
@@ -74,7 +74,7 @@ impl Outcome {
             Outcome::NoMemory => 71,
             Outcome::WriteFailed => 73,
             Outcome::TurnsSpent => 75,
-            Outcome::Slipped => 76,
+            Outcome::Slip => 76,
             Outcome::PlanNotBuilt | Outcome::LineNotBuilt { .. } => 79,
         }
     }
@@ -109,7 +109,7 @@ impl Outcome {
             Outcome::NoMemory => put(&mut line, b"gemline: 71 memory\n"),
             Outcome::WriteFailed => put(&mut line, b"gemline: 73 write\n"),
             Outcome::TurnsSpent => put(&mut line, b"gemline: 75 turns\n"),
-            Outcome::Slipped => put(&mut line, b"gemline: 76 slip\n"),
+            Outcome::Slip => put(&mut line, b"gemline: 76 slip\n"),
             Outcome::PlanNotBuilt => put(&mut line, b"gemline: 79 not built in plan\n"),
             Outcome::LineNotBuilt { number } => {
                 put_place(

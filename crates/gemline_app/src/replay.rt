@@ -1,8 +1,10 @@
 //! A schedule carried out over two ends and the line between them.
 
 ghost use Rattle.std.specs.Prelude.{◌≡◌, List, Ok};
-ghost use Rattle.gemline_app.specs.Replay.{FileAnswers, ReplayComes, ScheduleComes, TextRuns, empty_plan, files_told, limit_of, outcome_of_end, schedule_refusal};
-ghost use Rattle.gl_base.specs.Sink.{sink_told};
+ghost use Rattle.gemline_app.specs.Replay.{FileAnswers, ReplayComes, ScheduleComes, TextRuns, empty_plan};
+ghost use Rattle.gemline_app.specs.Replay.{outcome_of_end, schedule_refusal};
+ghost use Rattle.gemline_app.specs.Words.{file_limit};
+ghost use Rattle.gl_base.specs.Told.{files_told, sink_told};
 
 use crate::outcome::{FileRole, Outcome};
 use gl_base::{FileAnswer, Files, Row, Sink};
@@ -20,8 +22,8 @@ pub(crate) fn replay<F: Files, W: Sink>(
     out: &mut W,
 ) -> Outcome
     ensures { ReplayComes plan.now schedule.now
-        (files_told (F.told files.old) (F.told files.new) (F.health files.old) (F.health files.new))
-        (sink_told (W.received out.old) (W.received out.new) (W.health out.old) (W.health out.new))
+        (files_told F.Files files.old files.new)
+        (sink_told W.Sink out.old out.new)
         result }
 {
     match whole_file(alloc, FileRole::Plan, plan, files) {
@@ -44,8 +46,8 @@ fn replay_over_empty<F: Files, W: Sink>(
     out: &mut W,
 ) -> Outcome
     ensures { ScheduleComes schedule.now
-        (files_told (F.told files.old) (F.told files.new) (F.health files.old) (F.health files.new))
-        (sink_told (W.received out.old) (W.received out.new) (W.health out.old) (W.health out.new))
+        (files_told F.Files files.old files.new)
+        (sink_told W.Sink out.old out.new)
         result }
 {
     match whole_file(alloc, FileRole::Schedule, schedule, files) {
@@ -62,10 +64,10 @@ fn whole_file<F: Files>(
     files: &mut F,
 ) -> Result<Row<u8>, Outcome>
     ensures { FileAnswers which name.now
-        (files_told (F.told files.old) (F.told files.new) (F.health files.old) (F.health files.new))
+        (files_told F.Files files.old files.new)
         result }
 {
-    match files.read_file(alloc, name, limit_of(which)) {
+    match files.read_file(alloc, name, file_limit(which)) {
         FileAnswer::Whole(bytes) => Ok(bytes),
         FileAnswer::Longer => Err(Outcome::FileLonger(which)),
         FileAnswer::Failed => Err(Outcome::FileFailed(which)),
@@ -74,8 +76,8 @@ fn whole_file<F: Files>(
 }
 
 // How long a file may be, in bytes.
-fn limit_of(which: FileRole) -> usize
-    ensures { result ≡ limit_of which }
+fn file_limit(which: FileRole) -> usize
+    ensures { result ≡ file_limit which }
 {
     match which {
         FileRole::Plan => 1024 * 1024,
@@ -86,7 +88,7 @@ fn limit_of(which: FileRole) -> usize
 // Writes the trace of the schedule that a text means.
 fn run_text<W: Sink>(alloc: Global, text: &[u8], out: &mut W) -> Outcome
     ensures { TextRuns text.now
-        (sink_told (W.received out.old) (W.received out.new) (W.health out.old) (W.health out.new))
+        (sink_told W.Sink out.old out.new)
         result }
 {
     match read_schedule(alloc, text) {
@@ -117,7 +119,7 @@ fn outcome_of_end(end: RunEnd) -> Outcome
 {
     match end {
         RunEnd::Whole => Outcome::Done,
-        RunEnd::Slip => Outcome::Slipped,
+        RunEnd::Slip => Outcome::Slip,
         RunEnd::Turns => Outcome::TurnsSpent,
         RunEnd::NoMemory => Outcome::NoMemory,
         RunEnd::WriteFailed => Outcome::WriteFailed,

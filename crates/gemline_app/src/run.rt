@@ -1,17 +1,25 @@
-ghost use Rattle.std.specs.Prelude.{◌≡◌, ◌≤◌, ◌++◌, length, map, string_bytes};
-ghost use Rattle.gemline_app.specs.Gemline.{ComesFrom, ComesOnInput, IsRun, WasDone, WereSent, source_told};
-ghost use Rattle.gemline_app.specs.Outcome.{file_of, line_of, name_in, shown_outcome, status_of};
-ghost use Rattle.gemline_app.specs.Replay.{files_told};
-ghost use Rattle.gemline_app.specs.Words.{asked_of, limit_of};
-ghost use Rattle.gl_base.specs.Sink.{sink_told};
+ghost use Rattle.std.specs.Prelude.{◌≡◌, ◌++◌, map, string_bytes};
+ghost use Rattle.gemline_app.specs.Gemline.{ComesFrom, ComesOnInput, InputAnswers, IsRun, WasPrinted, WasShown};
+ghost use Rattle.gemline_app.specs.Gemline.{WasSpelled, WereSent};
+ghost use Rattle.gemline_app.specs.Outcome.{file_of, line_of, outcome_of_show, status_of};
+ghost use Rattle.gemline_app.specs.Replay.{ReplayComes};
+ghost use Rattle.gemline_app.specs.Words.{capture_limit, command_of, item_limit, name_in};
+ghost use Rattle.gemline_app.specs.declared.outcome.FileRole.TheVariants as roles;
+ghost use Rattle.gl_base.specs.Told.{files_told, sink_told, source_told};
 
 use crate::outcome::{FileRole, Outcome};
 use crate::replay::replay;
 use crate::spelling::{spell, spell_hex};
-use crate::words::{Command, command_of};
-use gl_base::{Files, Input, Sink, SinkAnswer, Source, copy_out, read_all};
+use crate::words::{Command, command_of, name_in};
+use gl_base::{Files, Input, Row, Sink, SinkAnswer, Source, copy_out, read_all};
 use line_show::{Ending, Stop, show};
 use std::alloc::Global;
+
+/// How long a capture may be, in bytes.
+const CAPTURE_LIMIT: usize = 16 * 1024 * 1024;
+
+/// How long an item's text may be, or its bytes in hex.
+const ITEM_LIMIT: usize = 1024 * 1024;
 
 /// Runs the command of the words, without the program's name, and answers the status to end with.
 ///
@@ -30,10 +38,10 @@ pub fn gemline<F: Files, R: Source, W: Sink, E: Sink>(
 ) -> u8
     // the words, what input, files, output and errors told, and the status
     ensures run { IsRun (map string_bytes words.now)
-        (source_told (R.left input.old) (R.left input.new) (R.health input.old) (R.health input.new))
-        (files_told (F.told files.old) (F.told files.new) (F.health files.old) (F.health files.new))
-        (sink_told (W.received out.old) (W.received out.new) (W.health out.old) (W.health out.new))
-        (sink_told (E.received err.old) (E.received err.new) (E.health err.old) (E.health err.new))
+        (source_told R.Source input.old input.new)
+        (files_told F.Files files.old files.new)
+        (sink_told W.Sink out.old out.new)
+        (sink_told E.Sink err.old err.new)
         result }
 {
     let outcome = run(alloc, words, files, input, out);
@@ -44,7 +52,7 @@ pub fn gemline<F: Files, R: Source, W: Sink, E: Sink>(
 pub fn report<E: Sink>(outcome: &Outcome, words: &[String], err: &mut E) -> u8
     ensures status { result ≡ status_of outcome.now }
     ensures line { WereSent (line_of (file_of (map string_bytes words.now) outcome.now) outcome.now)
-        (sink_told (E.received err.old) (E.received err.new) (E.health err.old) (E.health err.new)) }
+        (sink_told E.Sink err.old err.new) }
 {
     send(
         &outcome.head(),
@@ -58,7 +66,7 @@ pub fn report<E: Sink>(outcome: &Outcome, words: &[String], err: &mut E) -> u8
 // Sends three parts of a line, one after another.
 fn send<E: Sink>(head: &[u8], name: &[u8], tail: &[u8], err: &mut E)
     ensures { WereSent (head.now ++ (name.now ++ tail.now))
-        (sink_told (E.received err.old) (E.received err.new) (E.health err.old) (E.health err.new)) }
+        (sink_told E.Sink err.old err.new) }
 {
     match copy_out(err, head) {
         SinkAnswer::Done => send_two(name, tail, err),
@@ -68,7 +76,7 @@ fn send<E: Sink>(head: &[u8], name: &[u8], tail: &[u8], err: &mut E)
 
 fn send_two<E: Sink>(name: &[u8], tail: &[u8], err: &mut E)
     ensures { WereSent (name.now ++ tail.now)
-        (sink_told (E.received err.old) (E.received err.new) (E.health err.old) (E.health err.new)) }
+        (sink_told E.Sink err.old err.new) }
 {
     match copy_out(err, name) {
         SinkAnswer::Done => send_one(tail, err),
@@ -78,7 +86,7 @@ fn send_two<E: Sink>(name: &[u8], tail: &[u8], err: &mut E)
 
 fn send_one<E: Sink>(bytes: &[u8], err: &mut E)
     ensures { WereSent bytes.now
-        (sink_told (E.received err.old) (E.received err.new) (E.health err.old) (E.health err.new)) }
+        (sink_told E.Sink err.old err.new) }
 {
     let _ = copy_out(err, bytes);
 }
@@ -88,21 +96,10 @@ fn file_of<'a>(words: &'a [String], outcome: &Outcome) -> &'a [u8]
     ensures { result.now ≡ file_of (map string_bytes words.now) outcome.now }
 {
     match outcome {
-        Outcome::FileLonger(which) | Outcome::FileFailed(which) => name_in(words, *which),
+        Outcome::FileLonger(which) | Outcome::FileFailed(which) => {
+            name_in(words, *which).as_bytes()
+        }
         _ => b"",
-    }
-}
-
-fn name_in(words: &[String], which: FileRole) -> &[u8]
-    ensures { result.now ≡ name_in (map string_bytes words.now) which }
-{
-    let place = match which {
-        FileRole::Plan => 1,
-        FileRole::Schedule => 2,
-    };
-    match words.get(place) {
-        Some(word) => word.as_bytes(),
-        None => b"",
     }
 }
 
@@ -114,64 +111,109 @@ fn run<F: Files, R: Source, W: Sink>(
     input: &mut R,
     out: &mut W,
 ) -> Outcome
-    ensures { ComesFrom (asked_of (map string_bytes words.now))
-        (source_told (R.left input.old) (R.left input.new) (R.health input.old) (R.health input.new))
-        (files_told (F.told files.old) (F.told files.new) (F.health files.old) (F.health files.new))
-        (sink_told (W.received out.old) (W.received out.new) (W.health out.old) (W.health out.new))
+    ensures { ComesFrom (command_of (map string_bytes words.now)) (map string_bytes words.now)
+        (source_told R.Source input.old input.new)
+        (files_told F.Files files.old files.new)
+        (sink_told W.Sink out.old out.new)
         result }
 {
-    match words {
-        [word, plan, schedule] => {
-            if word.as_str() == "replay" {
-                replay(alloc, plan.as_str(), schedule.as_str(), files, out)
-            } else {
-                Outcome::Usage
-            }
-        }
-        _ => match command_of(words) {
-            Some(command) => run_on_input(alloc, command, input, out),
-            None => Outcome::Usage,
-        },
+    match command_of(words) {
+        Some(Command::Show) => show_input(alloc, input, out),
+        Some(Command::Spell) => spell_input(alloc, input, out),
+        Some(Command::SpellHex) => spell_hex_input(alloc, input, out),
+        Some(Command::Replay) => replay_files(alloc, words, files, out),
+        None => Outcome::Usage,
     }
 }
 
-// Runs a command over the input.
-fn run_on_input<R: Source, W: Sink>(
+// Shows the capture that the input is.
+fn show_input<R: Source, W: Sink>(alloc: Global, input: &mut R, out: &mut W) -> Outcome
+    ensures { ComesOnInput capture_limit WasShown
+        (source_told R.Source input.old input.new)
+        (sink_told W.Sink out.old out.new)
+        result }
+{
+    match whole_input(alloc, input, CAPTURE_LIMIT) {
+        Ok(capture) => show_capture(alloc, capture.as_slice(), out),
+        Err(refusal) => refusal,
+    }
+}
+
+// Spells the item whose text the input is.
+fn spell_input<R: Source, W: Sink>(alloc: Global, input: &mut R, out: &mut W) -> Outcome
+    ensures { ComesOnInput item_limit WasSpelled
+        (source_told R.Source input.old input.new)
+        (sink_told W.Sink out.old out.new)
+        result }
+{
+    match whole_input(alloc, input, ITEM_LIMIT) {
+        Ok(text) => spell(alloc, text.as_slice(), out),
+        Err(refusal) => refusal,
+    }
+}
+
+// Writes the text of the item whose hex the input is.
+fn spell_hex_input<R: Source, W: Sink>(alloc: Global, input: &mut R, out: &mut W) -> Outcome
+    ensures { ComesOnInput item_limit WasPrinted
+        (source_told R.Source input.old input.new)
+        (sink_told W.Sink out.old out.new)
+        result }
+{
+    match whole_input(alloc, input, ITEM_LIMIT) {
+        Ok(digits) => spell_hex(alloc, digits.as_slice(), out),
+        Err(refusal) => refusal,
+    }
+}
+
+// Carries out the schedule over the plan that the words name.
+fn replay_files<F: Files, W: Sink>(
     alloc: Global,
-    command: Command,
-    input: &mut R,
+    words: &[String],
+    files: &mut F,
     out: &mut W,
 ) -> Outcome
-    ensures { ComesOnInput command
-        (source_told (R.left input.old) (R.left input.new) (R.health input.old) (R.health input.new))
-        (sink_told (W.received out.old) (W.received out.new) (W.health out.old) (W.health out.new))
+    ensures { ReplayComes
+        (name_in (map string_bytes words.now) roles.Plan)
+        (name_in (map string_bytes words.now) roles.Schedule)
+        (files_told F.Files files.old files.new)
+        (sink_told W.Sink out.old out.new)
         result }
 {
-    match read_all(alloc, input, command.limit()) {
-        Input::Whole(bytes) => carry_out(alloc, command, bytes.as_slice(), out),
-        Input::Longer => Outcome::Longer,
-        Input::Failed => Outcome::ReadFailed,
-        Input::NoMemory => Outcome::NoMemory,
+    replay(
+        alloc,
+        name_in(words, FileRole::Plan),
+        name_in(words, FileRole::Schedule),
+        files,
+        out,
+    )
+}
+
+// All bytes of the input, or why there are none.
+fn whole_input<R: Source>(alloc: Global, input: &mut R, limit: usize) -> Result<Row<u8>, Outcome>
+    ensures { InputAnswers limit
+        (source_told R.Source input.old input.new)
+        result }
+{
+    match read_all(alloc, input, limit) {
+        Input::Whole(bytes) => Ok(bytes),
+        Input::Longer => Err(Outcome::Longer),
+        Input::Failed => Err(Outcome::ReadFailed),
+        Input::NoMemory => Err(Outcome::NoMemory),
     }
 }
 
-// Carries out a command, whose whole input this is.
-fn carry_out<W: Sink>(alloc: Global, command: Command, bytes: &[u8], out: &mut W) -> Outcome
-    requires { length bytes.now ≤ limit_of command }
-    ensures { WasDone command bytes.now
-        (sink_told (W.received out.old) (W.received out.new) (W.health out.old) (W.health out.new))
+// Shows a capture.
+fn show_capture<W: Sink>(alloc: Global, capture: &[u8], out: &mut W) -> Outcome
+    ensures { WasShown capture.now
+        (sink_told W.Sink out.old out.new)
         result }
 {
-    match command {
-        Command::Show => outcome_of(show(alloc, bytes, out)),
-        Command::Spell => spell(alloc, bytes, out),
-        Command::SpellHex => spell_hex(alloc, bytes, out),
-    }
+    outcome_of_show(show(alloc, capture, out))
 }
 
-// What a capture that was read came to.
-fn outcome_of(shown: Result<Ending, Stop>) -> Outcome
-    ensures { result ≡ shown_outcome shown }
+// What showing a capture came to.
+fn outcome_of_show(shown: Result<Ending, Stop>) -> Outcome
+    ensures { result ≡ outcome_of_show shown }
 {
     match shown {
         Ok(Ending::Whole) => Outcome::Done,

@@ -2,7 +2,7 @@
 
 ghost use Rattle.std.specs.Prelude.{◌≡◌, ◌≤◌, ◌++◌, codes, length, string_bytes, IfErr, IfOk, None};
 ghost use Rattle.hex.specs.Hex.{encode_upper};
-ghost use Rattle.gl_base.specs.Sink.{sink_told};
+ghost use Rattle.gl_base.specs.Told.{sink_told};
 ghost use Rattle.secs_items.specs.Encoding.{encode_fault};
 ghost use Rattle.gemline_app.specs.Gemline.{HexAnswers, ItemAnswers, SpellAnswers, WasPrinted, WasSpelled, WasWritten};
 ghost use Rattle.gemline_app.specs.Spelling.{refusal_of, spelled_line, text_line};
@@ -19,7 +19,7 @@ use std::alloc::Global;
 pub(crate) fn spell<W: Sink>(alloc: Global, text: &[u8], out: &mut W) -> Outcome
     requires { length text.now ≤ 1048576 }
     ensures { WasSpelled text.now
-        (sink_told (W.received out.old) (W.received out.new) (W.health out.old) (W.health out.new))
+        (sink_told W.Sink out.old out.new)
         result }
 {
     match spelled(alloc, text) {
@@ -31,7 +31,7 @@ pub(crate) fn spell<W: Sink>(alloc: Global, text: &[u8], out: &mut W) -> Outcome
 /// Writes a line of text for hex digits: the item that their bytes spell.
 pub(crate) fn spell_hex<W: Sink>(alloc: Global, digits: &[u8], out: &mut W) -> Outcome
     ensures { WasPrinted digits.now
-        (sink_told (W.received out.old) (W.received out.new) (W.health out.old) (W.health out.new))
+        (sink_told W.Sink out.old out.new)
         result }
 {
     match printed(alloc, digits) {
@@ -43,7 +43,7 @@ pub(crate) fn spell_hex<W: Sink>(alloc: Global, digits: &[u8], out: &mut W) -> O
 // Writes a line.
 fn write_line<W: Sink>(line: &[u8], out: &mut W) -> Outcome
     ensures { WasWritten line.now
-        (sink_told (W.received out.old) (W.received out.new) (W.health out.old) (W.health out.new))
+        (sink_told W.Sink out.old out.new)
         result }
 {
     match copy_out(out, line) {

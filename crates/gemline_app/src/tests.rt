@@ -1,16 +1,16 @@
-ghost use Rattle.std.specs.Prelude.{◌≡◌, ◌⊎◌, IfOk, Some, map, string_bytes, true};
-ghost use Rattle.gemline_app.specs.FirstExchange.{first_lines};
-ghost use Rattle.gemline_app.specs.declared.words.Command.TheVariants as commands;
-ghost use Rattle.gemline_app.specs.Words.{asked_of};
-ghost use Rattle.gemline_app.specs.Words.Asked.{OnInput};
+ghost use Rattle.std.specs.Prelude.{None, false};
+ghost use Rattle.gl_base.specs.Files.{FileIsWithin};
+ghost use Rattle.gemline_app.specs.FirstExchange.{ShowsTheFirst};
 
 use super::*;
-use gl_base::{
-    MemFile, MemFiles, MemSink, MemSource, NoMemory, ReadAnswer, Row, Sink, Source, WriteAnswer,
-};
+use gl_base::{FileAnswer, Files, NoMemory, ReadAnswer, Row, Sink, Source, WriteAnswer};
 use std::alloc::Global;
-use std::process::Abort;
 use std::test::Fail;
+
+/// What the definitions make of the first exchange of the worked examples.
+fn shows_the_first_exchange()
+    ensures { ShowsTheFirst }
+{}
 
 /// The frame of an S1F1 with W from the host, block 1 with E, system bytes 1.
 const S1F1: [u8; 13] = [
@@ -20,59 +20,387 @@ const S1F1: [u8; 13] = [
 const S1F1_LINES: &str =
     "0 BLOCK H>E dev=0 S1F1 W n=1 E sys=00000001 bytes=0\n0 MESSAGE H>E S1F1 W sys=00000001 -\n";
 
-fn row(alloc: Global, bytes: &[u8]) -> Result<Row<u8>, NoMemory>
-    ensures { IfOk result (λ row. row ≡ bytes.now) }
+/// An input that gives at most so many bytes a read, and of which the read of this number fails.
+#[derive(Drop)]
+struct TestInput<'a> {
+    left: &'a [u8],
+    step: usize,
+    fails: u32,
+}
+
+impl<'a> Source for TestInput<'a> {
+    ghost left = { λ _. None };
+
+    ghost health = { λ _. record { faults = 18446744073709551615; reliable = false } };
+
+    fn read(&mut self, into: &mut [u8]) -> ReadAnswer {
+        if is_due(&mut self.fails) {
+            return ReadAnswer::Failed;
+        }
+        let n = self.left.len().min(into.len()).min(self.step);
+        if n == 0 {
+            return ReadAnswer::End;
+        }
+        let (front, rest) = self.left.split_at(n);
+        into[..n].copy_from_slice(front);
+        self.left = rest;
+        ReadAnswer::Took(n)
+    }
+}
+
+/// Counts a call, and tells whether it is the one.
+fn is_due(call: &mut u32) -> bool {
+    let due = *call == 1;
+    *call = call.saturating_sub(1);
+    due
+}
+
+/// A plan and a schedule, of which the reading of this number fails.
+#[derive(Drop)]
+struct TestFiles<'a> {
+    plan: &'a [u8],
+    schedule: &'a [u8],
+    fails: u32,
+}
+
+impl<'a> TestFiles<'a> {
+    fn bytes_of(&self, name: &str) -> Option<&'a [u8]> {
+        if name == "plan" {
+            Some(self.plan)
+        } else if name == "schedule" {
+            Some(self.schedule)
+        } else {
+            None
+        }
+    }
+}
+
+impl<'a> Files for TestFiles<'a> {
+    ghost told = { λ _. None };
+
+    ghost health = { λ _. record { faults = 18446744073709551615; reliable = false } };
+
+    fn read_file(&mut self, alloc: Global, name: &str, limit: usize) -> FileAnswer {
+        if is_due(&mut self.fails) {
+            return FileAnswer::Failed;
+        }
+        match self.bytes_of(name) {
+            Some(bytes) => whole(alloc, bytes, limit),
+            None => FileAnswer::Failed,
+        }
+    }
+}
+
+fn whole(alloc: Global, bytes: &[u8], limit: usize) -> FileAnswer
+    ensures { FileIsWithin limit result }
 {
-    let mut row = Row::new(alloc);
-    row.extend(bytes)?;
-    Ok(row)
+    if bytes.len() > limit {
+        return FileAnswer::Longer;
+    }
+    match Row::of(alloc, bytes) {
+        Ok(row) => FileAnswer::Whole(row),
+        Err(NoMemory) => FileAnswer::NoMemory,
+    }
 }
 
-fn numbers(alloc: Global, number: u32) -> Result<Row<u32>, NoMemory> {
-    let mut row = Row::new(alloc);
-    row.push(number)?;
-    Ok(row)
+/// An output that takes at most so many bytes a write, and of which the write of this number fails.
+#[derive(Drop)]
+struct TestOutput {
+    bytes: Row<u8>,
+    step: usize,
+    fails: u32,
 }
 
-fn no_files(alloc: Global) -> MemFiles {
-    MemFiles::new(Row::new(alloc))
+impl Sink for TestOutput {
+    ghost received = { λ _. None };
+
+    ghost health = { λ _. record { faults = 18446744073709551615; room = 0 } };
+
+    fn write(&mut self, bytes: &[u8]) -> WriteAnswer {
+        let n = bytes.len().min(self.step);
+        if is_due(&mut self.fails) || n == 0 || self.bytes.extend(&bytes[..n]).is_err() {
+            return WriteAnswer::Failed;
+        }
+        WriteAnswer::Took(n)
+    }
 }
 
-fn show_word(alloc: Global) -> Result<Vec<String>, NoMemory>
-    ensures { IfOk result (λ words. asked_of (map string_bytes words.items) ≡ OnInput commands.Show) }
-{
-    let mut words = Vec::new(alloc);
-    words.push(String::from_str(alloc, "show")?)?;
-    Ok(words)
+fn output(alloc: Global, step: usize, fails: u32) -> TestOutput {
+    TestOutput {
+        bytes: Row::new(alloc),
+        step,
+        fails,
+    }
 }
 
-/// Shows the first exchange over memory with room. From the contract of the top call alone: either
-/// all lines are there and the status is 0, or memory ran out.
-fn first_exchange(alloc: Global) -> Result<(u8, MemSink), NoMemory>
-    ensures { IfOk result (λ end. (end.0 ≡ 71) ⊎ ((end.0 ≡ 0) × (end.1.received ≡ first_lines))) }
-{
-    let words = show_word(alloc)?;
-    let mut input = MemSource::new(row(alloc, &S1F1)?);
-    let mut out = MemSink::new(alloc, 100)?;
-    let mut err = MemSink::new(alloc, 100)?;
-    let status = gemline(
-        alloc,
-        &words,
-        &mut no_files(alloc),
-        &mut input,
-        &mut out,
-        &mut err,
-    );
-    Ok((status, out))
-}
+/// A front, a piece so many times, and what stands behind it.
+type Bytes = (&'static [u8], &'static [u8], usize, &'static [u8]);
 
-#[test]
-fn shows_the_first_exchange(rt: HostRuntime) -> Result<(), Fail> {
-    let (status, out) = first_exchange(rt.alloc())?;
-    assert_eq!(rt; status, 0);
-    assert_eq!(rt; out.bytes(), S1F1_LINES.as_bytes());
-    Ok(())
-}
+/// The status that a run ends with, what its output received, and the line on the errors.
+type End = (u8, &'static str, &'static str);
+
+/// An input, and how a command over it ends.
+type Case = (Bytes, End);
+
+/// `show`, up to the longest capture and past it.
+static SHOWS: [Case; 8] = [
+    ((b"", &S1F1, 1, b""), (0, S1F1_LINES, "")),
+    ((b"", b"", 1, b""), (0, "", "")),
+    (
+        (b"", &[0x09], 1, b""),
+        (65, "", "gemline: 65 frame at 0: length 9\n"),
+    ),
+    (
+        (b"", &[0xff], 1, b""),
+        (65, "", "gemline: 65 frame at 0: length 255\n"),
+    ),
+    (
+        (b"", &[0x0a, 0x00], 1, b""),
+        (65, "", "gemline: 65 frame at 2: short\n"),
+    ),
+    (
+        (
+            b"",
+            &[
+                0x0a, 0x00, 0x00, 0x81, 0x01, 0x80, 0x01, 0x00, 0x00, 0x00, 0x01, 0x01, 0x05,
+            ],
+            1,
+            b"",
+        ),
+        (65, "", "gemline: 65 frame at 0: sum 0104 found 0105\n"),
+    ),
+    (
+        (b"", &[0; 16], 1_048_576, b""),
+        (65, "", "gemline: 65 frame at 0: length 0\n"),
+    ),
+    (
+        (b"", &[0; 16], 1_048_576, b"\0"),
+        (65, "", "gemline: 65 input longer\n"),
+    ),
+];
+
+/// `spell`, likewise.
+static SPELLS: [Case; 8] = [
+    ((b"", b"<U4 5>", 1, b""), (0, "B10400000005\n", "")),
+    (
+        (b"", b" <L <A \"a\\x0A\">>\n", 1, b""),
+        (0, "01014102610A\n", ""),
+    ),
+    (
+        (b"", b"<U1 256>", 1, b""),
+        (65, "", "gemline: 65 text at 4\n"),
+    ),
+    ((b"", b"<U1 1", 1, b""), (65, "", "gemline: 65 text at 5\n")),
+    ((b"", b"", 1, b""), (65, "", "gemline: 65 text at 0\n")),
+    (
+        (b"", b"<L ", 65, LISTS_END),
+        (65, "", "gemline: 65 text at 192\n"),
+    ),
+    (
+        (b"", b"                ", 65_536, b""),
+        (65, "", "gemline: 65 text at 1048576\n"),
+    ),
+    (
+        (b"", b"                ", 65_536, b" "),
+        (65, "", "gemline: 65 input longer\n"),
+    ),
+];
+
+/// `spell --hex`, likewise.
+static HEXES: [Case; 7] = [
+    ((b"", b"B10400000005\n", 1, b""), (0, "<U4 5>\n", "")),
+    ((b"", b" b2 00 04\n00000005", 1, b""), (0, "<U4 5>\n", "")),
+    (
+        (b"", b"B1 0 400000005", 1, b""),
+        (65, "", "gemline: 65 hex at 4\n"),
+    ),
+    ((b"", b"B104\t", 1, b""), (65, "", "gemline: 65 hex at 4\n")),
+    ((b"", b"B10", 1, b""), (65, "", "gemline: 65 hex at 3\n")),
+    (
+        (b"", b"                ", 65_536, b""),
+        (65, "", "gemline: 65 item Short at 0\n"),
+    ),
+    (
+        (b"", b"                ", 65_536, b" "),
+        (65, "", "gemline: 65 input longer\n"),
+    ),
+];
+
+/// The first fault of an item, in hex.
+static FAULTS: [Case; 7] = [
+    (
+        (b"", b" \n", 1, b""),
+        (65, "", "gemline: 65 item Short at 0\n"),
+    ),
+    (
+        (b"", b"410241", 1, b""),
+        (65, "", "gemline: 65 item Short at 3\n"),
+    ),
+    (
+        (b"", b"B0", 1, b""),
+        (65, "", "gemline: 65 item NoLengthBytes at 0\n"),
+    ),
+    (
+        (b"", b"B103000000", 1, b""),
+        (65, "", "gemline: 65 item Uneven at 0\n"),
+    ),
+    (
+        (b"", b"4900", 1, b""),
+        (65, "", "gemline: 65 item BadCode at 0\n"),
+    ),
+    (
+        (b"", b"010000", 1, b""),
+        (65, "", "gemline: 65 item Trailing at 2\n"),
+    ),
+    (
+        (b"", b"0101", 64, b"0100"),
+        (65, "", "gemline: 65 item TooDeep at 128\n"),
+    ),
+];
+
+/// `replay` of a schedule over an empty plan.
+static SCHEDULES: [Case; 7] = [
+    ((b"", b"settle\n", 1, b""), (0, FIRST_MESSAGE, "")),
+    ((b"", b"# all\n\nsettle", 1, b""), (0, FIRST_MESSAGE, "")),
+    ((b"", b"wait 10000\n", 4, b""), (0, NO_ANSWER, "")),
+    (
+        (b"", b"wait 1\njump", 1, b""),
+        (65, "", "gemline: 65 schedule line 2\n"),
+    ),
+    (
+        (b"", b"wait 1\nlose H 1", 1, b""),
+        (79, "", "gemline: 79 not built at line 2\n"),
+    ),
+    (
+        (b"", b"\n", 131_072, b"settle"),
+        (65, "", "gemline: 65 schedule line 131073\n"),
+    ),
+    (
+        (b"", b"                ", 262_144, b" "),
+        (65, "", "gemline: 65 file schedule longer\n"),
+    ),
+];
+
+/// Schedules whose one line sends a message, the item of which is so many lists.
+static LISTS: [Case; 2] = [
+    (
+        (
+            b"host send S1F1 W ",
+            b"<L ",
+            64,
+            b">>>>>>>>>>>>>>>>>>>>>>>>>>>>>>>>>>>>>>>>>>>>>>>>>>>>>>>>>>>>>>>>",
+        ),
+        (79, "", "gemline: 79 not built at line 1\n"),
+    ),
+    (
+        (b"host send S1F1 W ", b"<L ", 65, LISTS_END),
+        (65, "", "gemline: 65 schedule line 1\n"),
+    ),
+];
+
+/// A plan that is not empty, and a schedule outside of the grammar.
+static PLANS: [Case; 3] = [
+    (
+        (b"", b" ", 1, b""),
+        (79, "", "gemline: 79 not built in plan\n"),
+    ),
+    (
+        (b"", b"                ", 65_536, b""),
+        (79, "", "gemline: 79 not built in plan\n"),
+    ),
+    (
+        (b"", b"                ", 65_536, b" "),
+        (65, "", "gemline: 65 file plan longer\n"),
+    ),
+];
+
+/// Words, an input, which call of the input, of the files and of the output fails, and the end.
+type Failing = (&'static [&'static str], &'static [u8], [u32; 3], End);
+
+/// Calls that fail, and some that are not made.
+static FAILURES: [Failing; 6] = [
+    (&["show"], &S1F1, [1, 0, 1], (68, "", "gemline: 68 read\n")),
+    (&["show"], &S1F1, [2, 0, 1], (68, "", "gemline: 68 read\n")),
+    (&["show"], &S1F1, [3, 1, 1], (73, "", "gemline: 73 write\n")),
+    (&["show"], &S1F1, [3, 1, 2], (0, S1F1_LINES, "")),
+    (
+        &["spell"],
+        b"<U4 5>",
+        [0, 0, 1],
+        (73, "", "gemline: 73 write\n"),
+    ),
+    (
+        &["spell", "--hex"],
+        b"B10400000005",
+        [0, 0, 1],
+        (73, "", "gemline: 73 write\n"),
+    ),
+];
+
+/// The same of files.
+static FILE_FAILURES: [Failing; 6] = [
+    (
+        &["replay", "plan", "schedule"],
+        b"",
+        [1, 1, 1],
+        (66, "", "gemline: 66 file plan\n"),
+    ),
+    (
+        &["replay", "plan", "schedule"],
+        b"",
+        [1, 2, 1],
+        (66, "", "gemline: 66 file schedule\n"),
+    ),
+    (
+        &["replay", "plan", "schedule"],
+        b"",
+        [1, 3, 1],
+        (73, "", "gemline: 73 write\n"),
+    ),
+    (
+        &["replay", "plan", "schedule"],
+        b"",
+        [1, 3, 0],
+        (0, FIRST_MESSAGE, ""),
+    ),
+    (
+        &["replay", "plan", "other"],
+        b"",
+        [1, 0, 1],
+        (66, "", "gemline: 66 file other\n"),
+    ),
+    (
+        &["replay", "other", "schedule"],
+        b"",
+        [1, 0, 1],
+        (66, "", "gemline: 66 file other\n"),
+    ),
+];
+
+/// Words that are no command's.
+static OTHER_WORDS: [&'static [&'static str]; 9] = [
+    &[],
+    &[""],
+    &["shwo"],
+    &["--help"],
+    &["show", "show"],
+    &["spell", "hex"],
+    &["spell", "--hex", "--hex"],
+    &["replay", "plan"],
+    &["replay", "plan", "schedule", "schedule"],
+];
+
+const FIRST_MESSAGE: &str = "0 E start len=0 base=0\n0 H start\n\
+    0 E sent S1F13 W 00000000 0102410747454D4C494E45410131\n0 E tx 05\n0 H tx 04\n\
+    0 E tx 188000810D8001000000000102410747454D4C494E45410131044E\n\
+    0 H rx S1F13 W 00000000 0102410747454D4C494E45410131\n0 H tx 06\n0 end\n";
+
+const NO_ANSWER: &str = "0 E start len=0 base=0\n0 H start\n\
+    0 E sent S1F13 W 00000000 0102410747454D4C494E45410131\n0 E tx 05\n\
+    10000 E tx 05\n20000 E tx 05\n30000 E tx 05\n40000 E failed S1F13 W 00000000\n40000 end\n";
+
+/// The ends of 65 lists.
+const LISTS_END: &[u8] = b">>>>>>>>>>>>>>>>>>>>>>>>>>>>>>>>>>>>>>>>>>>>>>>>>>>>>>>>>>>>>>>>>";
 
 fn words_of(alloc: Global, words: &[&str]) -> Result<Vec<String>, NoMemory> {
     let mut texts = Vec::new(alloc);
@@ -82,302 +410,215 @@ fn words_of(alloc: Global, words: &[&str]) -> Result<Vec<String>, NoMemory> {
     Ok(texts)
 }
 
-/// Whether it could be asked, and is so.
-fn holds(answer: Result<bool, NoMemory>) -> bool {
-    answer == Ok(true)
-}
-
-/// Whether the words over these objects end with a status, an output and a line on the errors.
-fn is_run_over(
-    alloc: Global,
-    words: &[&str],
-    mut files: MemFiles,
-    mut input: MemSource,
-    mut out: MemSink,
-    end: (u8, &str, &str),
-) -> Result<bool, NoMemory> {
-    let words = words_of(alloc, words)?;
-    let mut err = MemSink::new(alloc, 100)?;
-    let status = gemline(alloc, &words, &mut files, &mut input, &mut out, &mut err);
-    let (wanted, lines, line) = end;
-    Ok(status == wanted && out.bytes() == lines.as_bytes() && err.bytes() == line.as_bytes())
-}
-
-/// The same over an input that does not fail.
-fn is_run(
-    alloc: Global,
-    words: &[&str],
-    input: &[u8],
-    end: (u8, &str, &str),
-) -> Result<bool, NoMemory> {
-    let input = MemSource::new(row(alloc, input)?);
-    let out = MemSink::new(alloc, 2000)?;
-    is_run_over(alloc, words, no_files(alloc), input, out, end)
-}
-
-#[test]
-fn names_breaks(rt: HostRuntime) -> Result<(), Fail> {
-    let alloc = rt.alloc();
-    let show = ["show"];
-    let mut wrong_sum = S1F1;
-    wrong_sum[12] = 0x05;
-    let sum = "gemline: 65 frame at 0: sum 0104 found 0105\n";
-    assert!(rt; holds(is_run(alloc, &show, &[], (0, "", ""))));
-    assert!(rt; holds(is_run(alloc, &show, &wrong_sum, (65, "", sum))));
-    assert!(rt;
-        holds(is_run(
-            alloc,
-            &show,
-            &[0x09],
-            (65, "", "gemline: 65 frame at 0: length 9\n")
-        ))
-    );
-    assert!(rt;
-        holds(is_run(
-            alloc,
-            &show,
-            &[0xff],
-            (65, "", "gemline: 65 frame at 0: length 255\n")
-        ))
-    );
-    assert!(rt;
-        holds(is_run(
-            alloc,
-            &show,
-            &[0x0a, 0x00],
-            (65, "", "gemline: 65 frame at 2: short\n")
-        ))
-    );
-    Ok(())
-}
-
-#[test]
-fn spells_items(rt: HostRuntime) -> Result<(), Fail> {
-    let alloc = rt.alloc();
-    let spell = ["spell"];
-    assert!(rt; holds(is_run(alloc, &spell, b"<U4 5>", (0, "B10400000005\n", ""))));
-    assert!(rt;
-        holds(is_run(
-            alloc,
-            &spell,
-            b" <L <A \"a\\x0A\">>\n",
-            (0, "01014102610A\n", "")
-        ))
-    );
-    assert!(rt;
-        holds(is_run(
-            alloc,
-            &spell,
-            b"<U1 256>",
-            (65, "", "gemline: 65 text at 4\n")
-        ))
-    );
-    assert!(rt; holds(is_run(alloc, &spell, b"<U1 1", (65, "", "gemline: 65 text at 5\n"))));
-    assert!(rt; holds(is_run(alloc, &spell, b"", (65, "", "gemline: 65 text at 0\n"))));
-    Ok(())
-}
-
-#[test]
-fn reads_hex_as_items(rt: HostRuntime) -> Result<(), Fail> {
-    let alloc = rt.alloc();
-    let hex = ["spell", "--hex"];
-    assert!(rt; holds(is_run(alloc, &hex, b"B10400000005\n", (0, "<U4 5>\n", ""))));
-    assert!(rt; holds(is_run(alloc, &hex, b" b2 00 04\n00000005", (0, "<U4 5>\n", ""))));
-    assert!(rt;
-        holds(is_run(
-            alloc,
-            &hex,
-            b"B1 0 400000005",
-            (65, "", "gemline: 65 hex at 4\n")
-        ))
-    );
-    assert!(rt; holds(is_run(alloc, &hex, b"B104\t", (65, "", "gemline: 65 hex at 4\n"))));
-    assert!(rt; holds(is_run(alloc, &hex, b"B10", (65, "", "gemline: 65 hex at 3\n"))));
-    Ok(())
-}
-
-#[test]
-fn names_the_faults_of_items(rt: HostRuntime) -> Result<(), Fail> {
-    let alloc = rt.alloc();
-    let hex = ["spell", "--hex"];
-    assert!(rt;
-        holds(is_run(
-            alloc,
-            &hex,
-            b" \n",
-            (65, "", "gemline: 65 item Short at 0\n")
-        ))
-    );
-    assert!(rt;
-        holds(is_run(
-            alloc,
-            &hex,
-            b"B0",
-            (65, "", "gemline: 65 item NoLengthBytes at 0\n")
-        ))
-    );
-    assert!(rt;
-        holds(is_run(
-            alloc,
-            &hex,
-            b"B103000000",
-            (65, "", "gemline: 65 item Uneven at 0\n")
-        ))
-    );
-    assert!(rt;
-        holds(is_run(
-            alloc,
-            &hex,
-            b"410241",
-            (65, "", "gemline: 65 item Short at 3\n")
-        ))
-    );
-    assert!(rt;
-        holds(is_run(
-            alloc,
-            &hex,
-            b"4900",
-            (65, "", "gemline: 65 item BadCode at 0\n")
-        ))
-    );
-    assert!(rt;
-        holds(is_run(
-            alloc,
-            &hex,
-            b"010000",
-            (65, "", "gemline: 65 item Trailing at 2\n")
-        ))
-    );
-    Ok(())
-}
-
-/// So many pages of 4,096 bytes 00, and some more.
-fn zeros(alloc: Global, pages: usize, more: usize) -> Result<Row<u8>, NoMemory> {
-    let mut row = Row::new(alloc);
-    for _ in 0..pages {
-        row.extend(&[0; 4096])?;
+fn pieces_of(alloc: Global, bytes: &Bytes) -> Result<Row<u8>, NoMemory> {
+    let (front, piece, times, more) = *bytes;
+    let mut row = Row::of(alloc, front)?;
+    for _ in 0..times {
+        row.extend(piece)?;
     }
-    for _ in 0..more {
-        row.push(0)?;
-    }
+    row.extend(more)?;
     Ok(row)
 }
 
-#[test]
-fn a_capture_has_a_limit(rt: HostRuntime) -> Result<(), Fail> {
-    let alloc = rt.alloc();
-    let longest = zeros(alloc, 4096, 0)?;
-    let longer = zeros(alloc, 4096, 1)?;
-    let end = (65, "", "gemline: 65 frame at 0: length 0\n");
-    assert!(rt; holds(is_run(alloc, &["show"], longest.as_slice(), end)));
-    let end = (65, "", "gemline: 65 input longer\n");
-    assert!(rt; holds(is_run(alloc, &["show"], longer.as_slice(), end)));
-    Ok(())
+/// Whether these words over this input and these files end so, with what the output took.
+fn ends_so(
+    alloc: Global,
+    words: &[String],
+    files: &mut TestFiles,
+    input: &mut TestInput,
+    out: &mut TestOutput,
+    end: &End,
+) -> bool {
+    let mut err = output(alloc, 100, 0);
+    let status = gemline(alloc, words, files, input, out, &mut err);
+    let (wanted, text, line) = *end;
+    status == wanted
+        && out.bytes.as_slice() == text.as_bytes()
+        && err.bytes.as_slice() == line.as_bytes()
 }
 
-#[test]
-fn other_words_are_refused(rt: HostRuntime) -> Result<(), Fail> {
-    let alloc = rt.alloc();
-    let usage = (64, "", "gemline: 64 usage\n");
-    assert!(rt; holds(is_run(alloc, &[], &S1F1, usage)));
-    assert!(rt; holds(is_run(alloc, &["shwo"], &S1F1, usage)));
-    assert!(rt; holds(is_run(alloc, &["show", "show"], &S1F1, usage)));
-    assert!(rt; holds(is_run(alloc, &["spell", "hex"], &S1F1, usage)));
-    assert!(rt; holds(is_run(alloc, &["spell", "--hex", "--hex"], &S1F1, usage)));
-    assert!(rt; holds(is_run(alloc, &["replay", "plan"], &S1F1, usage)));
-    assert!(rt; holds(is_run(alloc, &["--help"], &S1F1, usage)));
-    assert!(rt; holds(is_run(alloc, &[""], &S1F1, usage)));
-    Ok(())
+/// Whether the words over this input end so.
+fn is_answered(alloc: Global, words: &[String], input: &[u8], end: &End) -> bool {
+    let mut files = TestFiles {
+        plan: b"",
+        schedule: b"settle",
+        fails: 0,
+    };
+    let mut input = TestInput {
+        left: input,
+        step: 65536,
+        fails: 0,
+    };
+    ends_so(
+        alloc,
+        words,
+        &mut files,
+        &mut input,
+        &mut output(alloc, 2000, 0),
+        end,
+    )
 }
 
-/// Whether the first exchange over an input that fails at this read, and an output that fails at this write, ends so.
-fn fails_as(alloc: Global, read: u32, write: u32, end: (u8, &str, &str)) -> Result<bool, NoMemory> {
-    let input = MemSource::failing(row(alloc, &S1F1)?, numbers(alloc, read)?);
-    let out = MemSink::failing(alloc, 100, numbers(alloc, write)?)?;
-    is_run_over(alloc, &["show"], no_files(alloc), input, out, end)
-}
-
-#[test]
-fn a_read_or_a_write_fails(rt: HostRuntime) -> Result<(), Fail> {
-    let alloc = rt.alloc();
-    assert!(rt; holds(fails_as(alloc, 1, 9, (68, "", "gemline: 68 read\n"))));
-    assert!(rt; holds(fails_as(alloc, 2, 9, (68, "", "gemline: 68 read\n"))));
-    assert!(rt; holds(fails_as(alloc, 3, 1, (73, "", "gemline: 73 write\n"))));
-    assert!(rt; holds(fails_as(alloc, 3, 2, (0, S1F1_LINES, ""))));
-    Ok(())
-}
-
-#[test]
-fn a_fault_of_the_errors_is_passed_over(rt: HostRuntime) -> Result<(), Fail> {
-    let alloc = rt.alloc();
-    let words = show_word(alloc)?;
-    let mut input = MemSource::new(row(alloc, &[0x09])?);
-    let mut out = MemSink::new(alloc, 0)?;
-    let mut err = MemSink::new(alloc, 0)?;
-    assert_eq!(rt;
-        gemline(
-            alloc,
-            &words,
-            &mut no_files(alloc),
-            &mut input,
-            &mut out,
-            &mut err
-        ),
-        65
-    );
-    Ok(())
-}
-
-/// Passes each call on with one byte.
-#[derive(Drop)]
-struct OneByte<T>(T);
-
-impl<R: Source> Source for OneByte<R> {
-    ghost left = { λ s. R.left s.0 };
-
-    ghost health = { λ s. R.health s.0 };
-
-    fn read(&mut self, into: &mut [u8]) -> ReadAnswer {
-        self.0.read(&mut into[..1])
+fn is_case(alloc: Global, words: &[String], case: &Case) -> bool {
+    match pieces_of(alloc, &case.0) {
+        Ok(input) => is_answered(alloc, words, input.as_slice(), &case.1),
+        Err(NoMemory) => false,
     }
 }
 
-/// Takes one byte at a time, into memory.
-#[derive(Drop)]
-struct Narrow(Row<u8>);
-
-impl Sink for Narrow {
-    ghost received = { λ s. Some s.0 };
-
-    ghost health = { λ s. record { faults = 18446744073709551615; room = 0 } };
-
-    fn write(&mut self, bytes: &[u8]) -> WriteAnswer {
-        match self.0.push(bytes[0]) {
-            Ok(()) => WriteAnswer::Took(1),
-            Err(_) => WriteAnswer::Failed,
+fn are_cases(alloc: Global, words: &[&str], cases: &[Case]) -> bool {
+    let Ok(words) = words_of(alloc, words) else {
+        return false;
+    };
+    for case in cases {
+        if !is_case(alloc, &words, case) {
+            return false;
         }
     }
+    true
 }
 
 #[test]
-fn pieces_make_no_difference(rt: HostRuntime) -> Result<(), Fail> {
+fn commands_answer_their_input(rt: HostRuntime) -> Result<(), Fail> {
     let alloc = rt.alloc();
-    let words = show_word(alloc)?;
-    let mut input = OneByte(MemSource::new(row(alloc, &S1F1)?));
-    let mut out = Narrow(Row::new(alloc));
-    let mut err = MemSink::new(alloc, 100)?;
-    assert_eq!(rt;
-        gemline(
-            alloc,
-            &words,
-            &mut no_files(alloc),
-            &mut input,
-            &mut out,
-            &mut err
+    assert!(rt; are_cases(alloc, &["show"], &SHOWS));
+    assert!(rt; are_cases(alloc, &["spell"], &SPELLS));
+    assert!(rt; are_cases(alloc, &["spell", "--hex"], &HEXES));
+    assert!(rt; are_cases(alloc, &["spell", "--hex"], &FAULTS));
+    Ok(())
+}
+
+/// Whether `replay` over these files ends so.
+fn is_replayed(alloc: Global, words: &[String], plan: &[u8], schedule: &[u8], end: &End) -> bool {
+    let mut files = TestFiles {
+        plan,
+        schedule,
+        fails: 0,
+    };
+    let mut input = TestInput {
+        left: b"",
+        step: 1,
+        fails: 1,
+    };
+    ends_so(
+        alloc,
+        words,
+        &mut files,
+        &mut input,
+        &mut output(alloc, 2000, 0),
+        end,
+    )
+}
+
+fn is_schedule(alloc: Global, words: &[String], case: &Case) -> bool {
+    match pieces_of(alloc, &case.0) {
+        Ok(schedule) => is_replayed(alloc, words, b"", schedule.as_slice(), &case.1),
+        Err(NoMemory) => false,
+    }
+}
+
+fn are_schedules(alloc: Global, words: &[String], cases: &[Case]) -> bool {
+    for case in cases {
+        if !is_schedule(alloc, words, case) {
+            return false;
+        }
+    }
+    true
+}
+
+fn is_plan(alloc: Global, words: &[String], case: &Case) -> bool {
+    match pieces_of(alloc, &case.0) {
+        Ok(plan) => is_replayed(alloc, words, plan.as_slice(), b"jump", &case.1),
+        Err(NoMemory) => false,
+    }
+}
+
+fn are_plans(alloc: Global, words: &[String], cases: &[Case]) -> bool {
+    for case in cases {
+        if !is_plan(alloc, words, case) {
+            return false;
+        }
+    }
+    true
+}
+
+/// Whether the schedules and the plans are answered so.
+fn are_answered(alloc: Global, words: &[String]) -> bool {
+    are_schedules(alloc, words, &SCHEDULES)
+        && are_schedules(alloc, words, &LISTS)
+        && are_plans(alloc, words, &PLANS)
+}
+
+#[test]
+fn replay_answers_its_files(rt: HostRuntime) -> Result<(), Fail> {
+    let words = words_of(rt.alloc(), &["replay", "plan", "schedule"])?;
+    assert!(rt; are_answered(rt.alloc(), &words));
+    Ok(())
+}
+
+/// Whether a run of which these calls fail ends so.
+fn is_failing(alloc: Global, case: &Failing) -> bool {
+    let (words, input, [read, file, write], end) = *case;
+    let Ok(words) = words_of(alloc, words) else {
+        return false;
+    };
+    let mut files = TestFiles {
+        plan: b"",
+        schedule: b"settle",
+        fails: file,
+    };
+    let mut input = TestInput {
+        left: input,
+        step: 65536,
+        fails: read,
+    };
+    ends_so(
+        alloc,
+        &words,
+        &mut files,
+        &mut input,
+        &mut output(alloc, 2000, write),
+        &end,
+    )
+}
+
+fn are_failing(alloc: Global, cases: &[Failing]) -> bool {
+    for case in cases {
+        if !is_failing(alloc, case) {
+            return false;
+        }
+    }
+    true
+}
+
+/// Whether these words are refused, before anything is read.
+fn is_refused(alloc: Global, words: &'static [&'static str]) -> bool {
+    is_failing(
+        alloc,
+        &(
+            words,
+            b"B10400000005",
+            [1, 1, 1],
+            (64, "", "gemline: 64 usage\n"),
         ),
-        0
-    );
-    assert_eq!(rt; out.0.as_slice(), S1F1_LINES.as_bytes());
+    )
+}
+
+fn are_refused(alloc: Global, all: &[&'static [&'static str]]) -> bool {
+    for words in all {
+        if !is_refused(alloc, words) {
+            return false;
+        }
+    }
+    true
+}
+
+#[test]
+fn faults_and_other_words_are_told(rt: HostRuntime) -> Result<(), Fail> {
+    let alloc = rt.alloc();
+    assert!(rt; are_failing(alloc, &FAILURES));
+    assert!(rt; are_failing(alloc, &FILE_FAILURES));
+    assert!(rt; are_refused(alloc, &OTHER_WORDS));
     Ok(())
 }
 
@@ -394,128 +635,90 @@ fn frames(alloc: Global, count: u16) -> Result<Row<u8>, NoMemory> {
     Ok(capture)
 }
 
-#[test]
-fn many_frames_pass_through_pages(rt: HostRuntime) -> Result<(), Fail> {
-    let alloc = rt.alloc();
-    let words = show_word(alloc)?;
-    let mut input = MemSource::new(frames(alloc, 2000)?);
-    let mut out = MemSink::new(alloc, 1_000_000)?;
-    let mut err = MemSink::new(alloc, 100)?;
-    let status = gemline(
+/// The status of `show` over a capture in pieces of so many bytes, to errors that take nothing.
+fn status_of_show(
+    alloc: Global,
+    words: &[String],
+    capture: &[u8],
+    step: usize,
+    out: &mut TestOutput,
+) -> u8 {
+    let mut files = TestFiles {
+        plan: b"",
+        schedule: b"",
+        fails: 1,
+    };
+    let mut input = TestInput {
+        left: capture,
+        step,
+        fails: 0,
+    };
+    gemline(
         alloc,
-        &words,
-        &mut no_files(alloc),
+        words,
+        &mut files,
         &mut input,
-        &mut out,
-        &mut err,
-    );
-    assert_eq!(rt; status, 0);
-    let lines = out.bytes().iter().filter(|byte| **byte == b'\n').count();
-    assert_eq!(rt; lines, 4000);
-    assert!(rt;
-        out.bytes()
-            .ends_with(b"25987 MESSAGE H>E S1F1 W sys=000007CF -\n")
-    );
-    Ok(())
+        out,
+        &mut output(alloc, 0, 0),
+    )
 }
 
-const REPLAY: [&str; 3] = ["replay", "plan", "schedule"];
-
-/// These two files, which fail at the reading of this number.
-fn files_of(alloc: Global, plan: &[u8], schedule: &[u8], fails: u32) -> Result<MemFiles, NoMemory> {
-    let plan = MemFile {
-        name: row(alloc, b"plan")?,
-        bytes: row(alloc, plan)?,
-    };
-    let schedule = MemFile {
-        name: row(alloc, b"schedule")?,
-        bytes: row(alloc, schedule)?,
-    };
-    let mut files = Row::new(alloc);
-    files.push(plan)?;
-    files.push(schedule)?;
-    Ok(MemFiles::failing(files, numbers(alloc, fails)?))
+/// Whether the lines of these frames go out whole, and up to the page of which the write fails.
+fn is_cut_in_the_middle(alloc: Global, words: &[String], capture: &[u8]) -> bool {
+    let mut whole = output(alloc, 100_000, 0);
+    let mut part = output(alloc, 100_000, 2);
+    status_of_show(alloc, words, capture, 65536, &mut whole) == 0
+        && status_of_show(alloc, words, capture, 65536, &mut part) == 73
+        && are_all_lines(whole.bytes.as_slice())
+        && whole.bytes.as_slice().starts_with(part.bytes.as_slice())
+        && part.bytes.len() > 60_000
+        && part.bytes.len() < 70_000
 }
 
-/// Whether `replay` over these two files ends so.
-fn is_replayed(
-    alloc: Global,
-    plan: &[u8],
-    schedule: &[u8],
-    end: (u8, &str, &str),
-) -> Result<bool, NoMemory> {
-    let files = files_of(alloc, plan, schedule, 9)?;
-    let input = MemSource::new(Row::new(alloc));
-    let out = MemSink::new(alloc, 2000)?;
-    is_run_over(alloc, &REPLAY, files, input, out, end)
+/// Whether these are the lines of 2,000 frames.
+fn are_all_lines(bytes: &[u8]) -> bool {
+    bytes.iter().filter(|byte| **byte == b'\n').count() == 4000
+        && bytes.ends_with(b"25987 MESSAGE H>E S1F1 W sys=000007CF -\n")
+}
+
+/// Whether pieces of one byte make no difference.
+fn is_shown_in_pieces(alloc: Global, words: &[String]) -> bool {
+    let mut out = output(alloc, 1, 0);
+    status_of_show(alloc, words, &S1F1, 1, &mut out) == 0
+        && out.bytes.as_slice() == S1F1_LINES.as_bytes()
+        && status_of_show(alloc, words, &[0x09], 1, &mut out) == 65
+}
+
+fn are_shown(alloc: Global, words: &[String], capture: &[u8]) -> bool {
+    is_cut_in_the_middle(alloc, words, capture) && is_shown_in_pieces(alloc, words)
 }
 
 #[test]
-fn replays_a_schedule(rt: HostRuntime) -> Result<(), Fail> {
-    let alloc = rt.alloc();
-    let lines = "0 E start len=0 base=0\n0 H start\n\
-        0 E sent S1F13 W 00000000 0102410747454D4C494E45410131\n0 E tx 05\n0 H tx 04\n\
-        0 E tx 188000810D8001000000000102410747454D4C494E45410131044E\n\
-        0 H rx S1F13 W 00000000 0102410747454D4C494E45410131\n0 H tx 06\n0 end\n";
-    assert!(rt; holds(is_replayed(alloc, b"", b"settle\n", (0, lines, ""))));
-    assert!(rt; holds(is_replayed(alloc, b"", b"# all\n\nsettle", (0, lines, ""))));
+fn pages_and_pieces(rt: HostRuntime) -> Result<(), Fail> {
+    let words = words_of(rt.alloc(), &["show"])?;
+    let capture = frames(rt.alloc(), 2000)?;
+    assert!(rt; are_shown(rt.alloc(), &words, capture.as_slice()));
     Ok(())
 }
 
-#[test]
-fn replays_until_the_last_try(rt: HostRuntime) -> Result<(), Fail> {
-    let lines = "0 E start len=0 base=0\n0 H start\n\
-        0 E sent S1F13 W 00000000 0102410747454D4C494E45410131\n0 E tx 05\n\
-        10000 E tx 05\n20000 E tx 05\n30000 E tx 05\n40000 E failed S1F13 W 00000000\n40000 end\n";
-    let schedule = b"wait 10000\nwait 10000\nwait 10000\nwait 10000\n";
-    assert!(rt; holds(is_replayed(rt.alloc(), b"", schedule, (0, lines, ""))));
-    Ok(())
+/// What no run of today comes to, and its line.
+static REPORTS: [(Outcome, u8, &str); 4] = [
+    (Outcome::Done, 0, ""),
+    (Outcome::NoMemory, 71, "gemline: 71 memory\n"),
+    (Outcome::TurnsSpent, 75, "gemline: 75 turns\n"),
+    (Outcome::Slip, 76, "gemline: 76 slip\n"),
+];
+
+/// Whether an outcome is told with this status and this line.
+fn is_reported(alloc: Global, case: &(Outcome, u8, &str)) -> bool {
+    let mut err = output(alloc, 100, 0);
+    report(&case.0, &[], &mut err) == case.1 && err.bytes.as_slice() == case.2.as_bytes()
 }
 
 #[test]
-fn refuses_plans_and_schedules(rt: HostRuntime) -> Result<(), Fail> {
-    let alloc = rt.alloc();
-    let longer = zeros(alloc, 256, 1)?;
-    let end = (65, "", "gemline: 65 file plan longer\n");
-    assert!(rt; holds(is_replayed(alloc, longer.as_slice(), b"jump", end)));
-    let end = (79, "", "gemline: 79 not built in plan\n");
-    assert!(rt; holds(is_replayed(alloc, b" ", b"jump", end)));
-    let end = (65, "", "gemline: 65 schedule line 2\n");
-    assert!(rt; holds(is_replayed(alloc, b"", b"wait 1\njump", end)));
-    let end = (79, "", "gemline: 79 not built at line 2\n");
-    assert!(rt; holds(is_replayed(alloc, b"", b"wait 1\nlose H 1", end)));
-    Ok(())
-}
-
-#[test]
-fn a_schedule_has_a_limit(rt: HostRuntime) -> Result<(), Fail> {
-    let alloc = rt.alloc();
-    let longer = zeros(alloc, 1024, 1)?;
-    let end = (65, "", "gemline: 65 file schedule longer\n");
-    assert!(rt; holds(is_replayed(alloc, b"", longer.as_slice(), end)));
-    Ok(())
-}
-
-/// Whether `replay` over files that fail at this reading, and an output that fails at its first write, ends so.
-fn replay_fails_as(
-    alloc: Global,
-    words: &[&str],
-    fails: u32,
-    end: (u8, &str, &str),
-) -> Result<bool, NoMemory> {
-    let files = files_of(alloc, b"", b"settle", fails)?;
-    let input = MemSource::new(Row::new(alloc));
-    let out = MemSink::failing(alloc, 2000, numbers(alloc, 1)?)?;
-    is_run_over(alloc, words, files, input, out, end)
-}
-
-#[test]
-fn a_file_or_the_trace_fails(rt: HostRuntime) -> Result<(), Fail> {
-    let alloc = rt.alloc();
-    let other = ["replay", "plan", "other"];
-    assert!(rt; holds(replay_fails_as(alloc, &REPLAY, 1, (66, "", "gemline: 66 file plan\n"))));
-    assert!(rt; holds(replay_fails_as(alloc, &REPLAY, 2, (66, "", "gemline: 66 file schedule\n"))));
-    assert!(rt; holds(replay_fails_as(alloc, &other, 9, (66, "", "gemline: 66 file other\n"))));
-    assert!(rt; holds(replay_fails_as(alloc, &REPLAY, 9, (73, "", "gemline: 73 write\n"))));
+fn reports_outcomes(rt: HostRuntime) -> Result<(), Fail> {
+    for case in &REPORTS {
+        assert!(rt; is_reported(rt.alloc(), case));
+    }
     Ok(())
 }

@@ -1,5 +1,7 @@
 ghost use Rattle.std.specs.Prelude.{◌≡◌, ◌∷◌, [], map, string_bytes};
-ghost use Rattle.gemline_app.specs.Words.{command_of, limit_of};
+ghost use Rattle.gemline_app.specs.Words.{command_of, command_of_word, name_in};
+
+use crate::outcome::FileRole;
 
 /// What the program is asked to do.
 #[derive(Clone, Copy, Debug, PartialEq, Eq)]
@@ -10,18 +12,8 @@ pub enum Command {
     Spell,
     /// Write the text of an item's bytes in hex.
     SpellHex,
-}
-
-impl Command {
-    /// How long its input may be, in bytes.
-    pub fn limit(&self) -> usize
-        ensures { result ≡ limit_of self.now }
-    {
-        match self {
-            Command::Show => 16 * 1024 * 1024,
-            Command::Spell | Command::SpellHex => 1024 * 1024,
-        }
-    }
+    /// Write the trace of a schedule over a plan.
+    Replay,
 }
 
 /// The command of the words, without the program's name; `None` exactly where they are no command's.
@@ -29,15 +21,16 @@ pub(crate) fn command_of(words: &[String]) -> Option<Command>
     ensures { result ≡ command_of (map string_bytes words.now) }
 {
     match words {
-        [word] => command_named(word.as_str()),
+        [word] => command_of_word(word.as_str()),
         [word, flag] => command_with(word.as_str(), flag.as_str()),
+        [word, plan, schedule] => command_over(word.as_str(), plan.as_str(), schedule.as_str()),
         _ => None,
     }
 }
 
 // The command that is one word.
-fn command_named(word: &str) -> Option<Command>
-    ensures { result ≡ command_of (word.now ∷ []) }
+fn command_of_word(word: &str) -> Option<Command>
+    ensures { result ≡ command_of_word word.now }
 {
     if word == "show" {
         Some(Command::Show)
@@ -56,5 +49,30 @@ fn command_with(word: &str, flag: &str) -> Option<Command>
         Some(Command::SpellHex)
     } else {
         None
+    }
+}
+
+// The command that is a word and two files.
+fn command_over(word: &str, plan: &str, schedule: &str) -> Option<Command>
+    ensures { result ≡ command_of (word.now ∷ plan.now ∷ schedule.now ∷ []) }
+{
+    if word == "replay" {
+        Some(Command::Replay)
+    } else {
+        None
+    }
+}
+
+/// The name of a file of `replay`, the second or the third word.
+pub(crate) fn name_in(words: &[String], which: FileRole) -> &str
+    ensures { result.now ≡ name_in (map string_bytes words.now) which }
+{
+    let place = match which {
+        FileRole::Plan => 1,
+        FileRole::Schedule => 2,
+    };
+    match words.get(place) {
+        Some(word) => word.as_str(),
+        None => "",
     }
 }

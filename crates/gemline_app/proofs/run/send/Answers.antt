@@ -1,11 +1,11 @@
-use Rattle.gemline_app.proofs.Sending.{sent_both, sent_part}
+use Rattle.gl_base.specs.declared.copying.SinkAnswer.TheVariants.{Failed}
+use Rattle.gl_base.proofs.Appending.{copies_behind, cut_before}
 use Rattle.gemline_app.proofs.run.send.Goals as goal
 
 pub returns-in-Done : goal.returns-in-Done
-returns-in-Done g c = sent_both _ _ _ _ _ _ _ _ c.in-Done.ensures.bytes c.in-Done.ensures.cause c.send_two.ensures
+returns-in-Done g c =
+    let sent = c.send_two.ensures in
+    (sent.0, copies_behind _ _ _ _ sent.0 c.in-Done.ensures sent.1)
 
 pub returns-in-Failed : goal.returns-in-Failed
-returns-in-Failed g c =
-    let went = c.in-Failed.ensures.bytes in
-    let cause = c.in-Failed.ensures.cause in
-    sent_part _ _ _ _ _ _ _ went.1 went.2 cause.0 cause.1
+returns-in-Failed g c = (Failed, cut_before _ _ c.in-Failed.ensures)
