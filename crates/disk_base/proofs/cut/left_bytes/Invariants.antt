@@ -1,0 +1,8 @@
+use Rattle.std.proofs.Common.{◌≡◌, ◌++◌, drop}
+use Rattle.disk_base.specs.Cut.{bytes_left}
+use Rattle.disk_base.proofs.cut.left_bytes.Given as goal
+
+abbrev pub invariant-loop-place : goal.invariant-loop-place
+invariant-loop-place l =
+    l.image.items ++ bytes_left l.choice (drop l.place l.marks) (drop l.place l.settled) (drop l.place l.now)
+    ≡ bytes_left l.fn.choice l.marks l.settled l.now

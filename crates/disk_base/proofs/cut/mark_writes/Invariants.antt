@@ -1,0 +1,15 @@
+use Rattle.std.proofs.Common.{◌≡◌, ℕ, List, [], fold, length}
+use Rattle.disk_base.specs.Cut.{marks_of}
+use Rattle.disk_base.specs.Log.{AreSized, loose_behind}
+use Rattle.disk_base.proofs.cut.mark_writes.Given as goal
+
+abbrev pub invariant-loop-entries : goal.invariant-loop-entries
+invariant-loop-entries l =
+    AreSized (length l.marks) l.entries
+    × ((loose : List (ℕ × ℕ))
+    × (l.marks ≡ marks_of (length l.marks) loose)
+    × (fold loose_behind loose l.entries ≡ fold loose_behind [] l.fn.entries))
+    × (length l.marks ≡ length l.fn.marks)
+
+abbrev pub decreases-loop-entries : goal.decreases-loop-entries
+decreases-loop-entries l = length l.entries

@@ -1,0 +1,13 @@
+pub mod Calls
+pub mod Cut
+pub mod Disk
+pub mod Faults
+pub mod Images
+pub mod Kept
+pub mod Log
+pub mod MemDisk
+pub mod Plan
+pub mod Settle
+pub mod SizeLaws
+pub mod Story
+pub mod Through

@@ -1,0 +1,97 @@
+-- A disk in memory (this profile).
+use Rattle.std.specs.Prelude.{ℕ, ◌+◌, ◌-◌, Bool, ◌||◌, nat_le, nat_lt, List, [], ◌∷◌, ◌++◌, length, if◌then◌else◌}
+use Rattle.disk_base.specs.Calls.{DiskCall, attach_call, read_call, sync_call, write_call}
+use Rattle.disk_base.specs.Cut.{image_of}
+use Rattle.disk_base.specs.Faults.{DiskHealth, one_more}
+use Rattle.disk_base.specs.Log.{next_story}
+use Rattle.disk_base.specs.Plan.{is_safe, next_answer, next_plan, no_faults}
+use Rattle.disk_base.specs.Story.{Story, settled_story}
+use Rattle.disk_base.specs.declared.cut.CutChoice.{CutChoice}
+use Rattle.disk_base.specs.declared.disk.DiskAnswer.{DiskAnswer}
+use Rattle.disk_base.specs.declared.disk.DiskAnswer.TheVariants.{Done, Failed}
+use Rattle.disk_base.specs.declared.fault_plan.FaultPlan.{FaultPlan}
+
+-- the bytes of every moment, the list of calls, how many bytes they were to write, for how many calls and such bytes
+-- the list has room, which calls to come fail, and the count of faults
+pub record DiskState : Type 0 where
+  pub story : Story
+  pub calls : List DiskCall
+  pub used : ℕ
+  pub most : ℕ
+  pub room : ℕ
+  pub plan : FaultPlan
+  pub faults : ℕ
+
+-- settled bytes, and no call yet
+abbrev pub disk_with : List ℕ → ℕ → ℕ → DiskState
+disk_with bytes most room = record {
+  story = settled_story bytes;
+  calls = [];
+  used = 0;
+  most = most;
+  room = room;
+  plan = no_faults;
+  faults = 0;
+}
+
+abbrev pub disk_size : DiskState → ℕ
+disk_size s = length s.story.now.bytes
+
+-- sure room is only where no call is to fail
+abbrev pub disk_health : DiskState → DiskHealth
+disk_health s = record {
+  faults = s.faults;
+  calls = if is_safe s.plan then s.most - length s.calls else 0;
+  room = s.room - s.used;
+}
+
+-- the list has no room for one more call that writes n bytes
+abbrev pub is_full : ℕ → DiskState → Bool
+is_full n s = nat_le s.most (length s.calls) || nat_lt (s.room - s.used) n
+
+-- what a call that writes n bytes answers
+abbrev pub answer_to : ℕ → DiskState → DiskAnswer
+answer_to n s = if is_full n s then Failed else next_answer s.plan
+
+-- a call that isn't in the list
+abbrev pub after_refusal : DiskState → DiskState
+after_refusal s = record s { plan = next_plan s.plan; faults = one_more s.faults }
+
+abbrev pub faults_after : DiskAnswer → ℕ → ℕ
+faults_after Done faults = faults
+faults_after Failed faults = one_more faults
+
+-- a call that is in the list; it changes nothing where the disk has stopped before it
+abbrev pub after_entry : DiskCall → DiskState → DiskState
+after_entry call s = record s {
+  story = if s.plan.stopped then s.story else next_story s.story call;
+  calls = s.calls ++ call ∷ [];
+  used = s.used + length call.bytes;
+  plan = next_plan s.plan;
+  faults = faults_after call.answer s.faults;
+}
+
+-- the disk after a call, with the answer that it gave
+abbrev pub after_call : DiskCall → DiskState → DiskState
+after_call call s = if is_full (length call.bytes) s then after_refusal s else after_entry call s
+
+-- an attaching fails also where it asks for more bytes than there are
+abbrev pub answer_to_attach : ℕ → DiskState → DiskAnswer
+answer_to_attach grow s = if nat_lt (disk_size s) grow then Failed else answer_to 0 s
+
+abbrev pub after_attach : ℕ → DiskState → DiskState
+after_attach grow s =
+    if nat_lt (disk_size s) grow then after_refusal s else after_call (attach_call grow (next_answer s.plan)) s
+
+abbrev pub after_read : ℕ → ℕ → DiskState → DiskState
+after_read at size s = after_call (read_call at size (next_answer s.plan)) s
+
+abbrev pub after_write : ℕ → List ℕ → DiskState → DiskState
+after_write at bytes s = after_call (write_call at bytes (next_answer s.plan)) s
+
+abbrev pub after_sync : DiskState → DiskState
+after_sync s = after_call (sync_call (next_answer s.plan)) s
+
+-- the disk after a crash, whose list has the same room
+abbrev pub after_cut : CutChoice → DiskState → DiskState
+after_cut choice s = disk_with (image_of choice s.story) s.most s.room

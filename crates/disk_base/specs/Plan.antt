@@ -1,0 +1,25 @@
+-- Which of the calls to come of a disk in memory fail (this profile).
+use Rattle.std.specs.Prelude.{◌-◌, ◌==◌, Bool, false, ◌&&◌, ◌||◌, not, if◌then◌else◌}
+use Rattle.disk_base.specs.declared.disk.DiskAnswer.{DiskAnswer}
+use Rattle.disk_base.specs.declared.disk.DiskAnswer.TheVariants.{Done, Failed}
+use Rattle.disk_base.specs.declared.fault_plan.FaultPlan.{FaultPlan}
+
+-- none fails
+abbrev pub no_faults : FaultPlan
+no_faults = record { fail_in = 0; stop_in = 0; stopped = false }
+
+-- none fails any more
+abbrev pub is_safe : FaultPlan → Bool
+is_safe plan = plan.fail_in == 0 && (plan.stop_in == 0 && not plan.stopped)
+
+-- what the next call answers
+abbrev pub next_answer : FaultPlan → DiskAnswer
+next_answer plan = if plan.stopped || (plan.fail_in == 1 || plan.stop_in == 1) then Failed else Done
+
+-- the plan behind the next call
+abbrev pub next_plan : FaultPlan → FaultPlan
+next_plan plan = record {
+  fail_in = plan.fail_in - 1;
+  stop_in = plan.stop_in - 1;
+  stopped = plan.stopped || plan.stop_in == 1;
+}

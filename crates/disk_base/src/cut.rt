@@ -1,0 +1,97 @@
+ghost use Rattle.std.specs.Prelude.{◌≡◌, ℕ, ◌+◌, ◌≤◌, List, [], true, fold, length, replicate, IfOk};
+ghost use Rattle.disk_base.specs.Cut.{byte_left, bytes_left, choice_left, marks_of};
+ghost use Rattle.disk_base.specs.Log.{AreSized, loose_behind, loose_under};
+ghost use Rattle.disk_base.specs.Story.{with_part};
+
+use crate::disk::CallKind;
+use crate::log::LoggedCall;
+use crate::no_memory::NoMemory;
+use std::alloc::Global;
+
+/// What a crash leaves in the ranges that were written since the last good sync.
+#[derive(Clone, Copy, Debug, PartialEq, Eq)]
+pub enum CutChoice {
+    /// The settled bytes.
+    Old,
+    /// The bytes now.
+    New,
+    /// This byte everywhere.
+    Fill(u8),
+    /// The bytes now in so many of these places, the lowest ones, and the settled bytes in the rest.
+    First(u64),
+}
+
+// What a place is left with, and the choice for the places behind it.
+fn choose(choice: CutChoice, mark: bool, settled: u8, now: u8) -> (u8, CutChoice)
+    ensures byte { result.0 ≡ byte_left mark choice settled now }
+    ensures choice { result.1 ≡ choice_left mark choice }
+{
+    if !mark {
+        return (now, choice);
+    }
+    match choice {
+        CutChoice::Old => (settled, choice),
+        CutChoice::New => (now, choice),
+        CutChoice::Fill(byte) => (byte, choice),
+        CutChoice::First(0) => (settled, choice),
+        CutChoice::First(n) => (now, CutChoice::First(n - 1)),
+    }
+}
+
+/// The bytes after a crash.
+pub fn left_bytes(
+    alloc: Global,
+    choice: CutChoice,
+    marks: &[bool],
+    settled: &[u8],
+    now: &[u8],
+) -> Result<Vec<u8>, NoMemory>
+    requires marks { length marks.now ≡ length now.now }
+    requires settled { length settled.now ≡ length now.now }
+    ensures { IfOk result (λ image. image.items ≡ bytes_left choice marks.now settled.now now.now) }
+{
+    let mut image = Vec::with_capacity(alloc, now.len())?;
+    let mut choice = choice;
+    for place in 0..now.len() {
+        let (byte, next) = choose(choice, marks[place], settled[place], now[place]);
+        image.push(byte)?;
+        choice = next;
+    }
+    Ok(image)
+}
+
+// Marks a range.
+fn mark_part(marks: &mut [bool], at: usize, long: usize)
+    requires { at + long ≤ length marks.old }
+    ensures marks { marks.new ≡ with_part marks.old at (replicate long true) }
+    ensures len { length marks.new ≡ length marks.old }
+{
+    marks[at..at + long].fill(true);
+}
+
+// Marks the range of a call that is a write.
+fn mark_call(marks: &mut [bool], kind: CallKind, at: usize, count: usize)
+    requires { at + count ≤ length marks.old }
+    ensures marks { (loose : List (ℕ × ℕ)) → marks.old ≡ marks_of (length marks.old) loose →
+        marks.new ≡ marks_of (length marks.old) (loose_under kind at count loose) }
+    ensures len { length marks.new ≡ length marks.old }
+{
+    match kind {
+        CallKind::Write => mark_part(marks, at, count),
+        CallKind::Attach | CallKind::Read | CallKind::Sync => {}
+    }
+}
+
+/// Marks the ranges of the writes among these calls, where none is marked.
+pub fn mark_writes(marks: &mut [bool], entries: &[LoggedCall])
+    requires fresh { marks.old ≡ marks_of (length marks.old) [] }
+    requires within { AreSized (length marks.old) entries.now }
+    ensures marks { marks.new ≡ marks_of (length marks.old) (fold loose_behind [] entries.now) }
+    ensures len { length marks.new ≡ length marks.old }
+{
+    let mut entries = entries;
+    while let [entry, more @ ..] = entries {
+        mark_call(marks, entry.kind, entry.at as usize, entry.count);
+        entries = more;
+    }
+}

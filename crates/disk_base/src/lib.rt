@@ -1,0 +1,22 @@
+//! Disks that can lose power: what they hold, and what a crash at any moment may leave of it.
+#![tactic(auto)]
+
+mod cut;
+mod disk;
+mod fault_plan;
+mod laws;
+mod log;
+mod mem_disk;
+mod no_memory;
+mod settling;
+
+pub use cut::CutChoice;
+pub use disk::{CallKind, Disk, DiskAnswer};
+pub use fault_plan::FaultPlan;
+pub use laws::settle_keeps_other_bytes;
+pub use mem_disk::MemDisk;
+pub use no_memory::NoMemory;
+pub use settling::settle;
+
+#[cfg(test)]
+mod tests;

@@ -1,0 +1,288 @@
+ghost use Rattle.std.specs.Prelude.{◌≡◌, ◌+◌, ◌^◌, ◌<◌, ◌≤◌, ◌||◌, nat_le, nat_lt, false};
+ghost use Rattle.std.specs.Prelude.{Option, Some, [], length, replicate, refl, IfOk};
+ghost use Rattle.disk_base.specs.Calls.{Logs, attach_call, read_call, sync_call, write_call};
+ghost use Rattle.disk_base.specs.Cut.{marks_of, settled_bytes};
+ghost use Rattle.disk_base.specs.Disk.{Attaches, HasSize, Reads, Syncs, Writes};
+ghost use Rattle.disk_base.specs.Faults.{HasCause};
+ghost use Rattle.disk_base.specs.Images.{IsImage};
+ghost use Rattle.disk_base.specs.Log.{call_of};
+ghost use Rattle.disk_base.specs.MemDisk.{after_attach, after_call, after_read, after_refusal, after_sync, after_write};
+ghost use Rattle.disk_base.specs.MemDisk.{after_cut, answer_to, answer_to_attach, disk_health, disk_size, disk_with};
+ghost use Rattle.disk_base.specs.MemDisk.{faults_after as counted};
+ghost use Rattle.disk_base.specs.Plan.{next_answer};
+ghost use Rattle.disk_base.specs.declared.disk.DiskAnswer.TheVariants.{Failed};
+ghost use Rattle.disk_base.specs.SizeLaws.{told_size};
+
+use crate::cut::{CutChoice, left_bytes, mark_writes};
+use crate::disk::{CallKind, Disk, DiskAnswer};
+use crate::fault_plan::FaultPlan;
+use crate::log::{LoggedCall, count_settled, replay, run_call};
+use crate::no_memory::NoMemory;
+use std::alloc::Global;
+use std::marker::Model;
+
+/// A disk in memory. It takes all its memory when it is made. Its list of calls has room for so many calls and so
+/// many written bytes; a call past either fails, and isn't listed. Nor is an attaching that asks for more bytes than
+/// there are, which fails too.
+#[derive(Debug, Drop)]
+pub struct MemDisk {
+    // what it began with
+    base: Vec<u8>,
+    bytes: Vec<u8>,
+    entries: Vec<LoggedCall>,
+    written: Vec<u8>,
+    most: usize,
+    room: usize,
+    // how many of the calls were made before it stopped, or as it stopped
+    live: usize,
+    // how many of them lie before the last good sync, itself counted
+    synced: usize,
+    plan: FaultPlan,
+    faults: u64,
+}
+
+impl Model for MemDisk {
+    ghost use Rattle.disk_base.specs.MemDisk.{DiskState};
+
+    ghost Value = { DiskState };
+
+    ghost use Rattle.disk_base.specs.Kept.{IsMemDisk, disk_state};
+
+    ghost view = { disk_state };
+
+    ghost invariant = { IsMemDisk };
+}
+
+impl MemDisk {
+    /// A disk of `size` bytes, all 0 and settled, whose list has room for `calls` calls and `room` written bytes. No
+    /// call is to fail.
+    pub fn new(alloc: Global, size: u64, calls: u32, room: u64) -> Result<MemDisk, NoMemory>
+        ensures { IfOk result (λ disk. disk ≡ disk_with (replicate size 0) calls room) }
+    {
+        let bytes = vec![in alloc; 0; size as usize]?;
+        MemDisk::over(alloc, bytes, calls as usize, room as usize)
+    }
+
+    // A disk of these bytes.
+    fn over(alloc: Global, bytes: Vec<u8>, most: usize, room: usize) -> Result<MemDisk, NoMemory>
+        ensures { IfOk result (λ disk. disk ≡ disk_with bytes.items most room) }
+    {
+        let base = bytes.as_slice().to_vec(alloc)?;
+        let entries = Vec::with_capacity(alloc, most)?;
+        let written = Vec::with_capacity(alloc, room)?;
+        Ok(MemDisk {
+            base,
+            bytes,
+            entries,
+            written,
+            most,
+            room,
+            live: 0,
+            synced: 0,
+            plan: FaultPlan::new(),
+            faults: 0,
+        })
+    }
+
+    /// Lets the `call`-th call from now fail alone, and none for 0. It holds in place of an earlier call of this kind.
+    /// Every call but `size` counts, also one that isn't listed. A write that fails so has changed its range.
+    pub fn fail_at(&mut self, call: u32)
+        ensures { self.new ≡ record self.old { plan = record self.old.plan { fail_in = call } } }
+    {
+        self.plan.fail_in = call;
+    }
+
+    /// Lets the `call`-th call from now fail and all later ones, and none for 0. It holds in place of an earlier call
+    /// of this kind, but a disk that has stopped stays so. A write at that place has changed its range, a later one
+    /// changes nothing.
+    pub fn stop_at(&mut self, call: u32)
+        ensures { self.new ≡ record self.old { plan = record self.old.plan { stop_in = call } } }
+    {
+        self.plan.stop_in = call;
+    }
+
+    /// Whether the call was made from which on all fail.
+    pub fn stopped(&self) -> bool
+        ensures { result ≡ self.now.plan.stopped }
+    {
+        self.plan.stopped
+    }
+
+    /// The disk after a crash, with the same room for calls and written bytes. Its bytes are settled, no call is in
+    /// its list, none is to fail, and no fault was counted.
+    pub fn cut(&self, alloc: Global, choice: CutChoice) -> Result<MemDisk, NoMemory>
+        ensures state { IfOk result (λ disk. disk ≡ after_cut choice self.now) }
+        ensures image { IfOk result (λ disk. IsImage self.now.story.now disk.story.now.bytes) }
+    {
+        let settled = self.settled(alloc)?;
+        let marks = self.marks(alloc)?;
+        let image = left_bytes(alloc, choice, &marks, &settled, &self.bytes)?;
+        MemDisk::over(alloc, image, self.most, self.room)
+    }
+
+    // The settled bytes.
+    fn settled(&self, alloc: Global) -> Result<Vec<u8>, NoMemory>
+        ensures bytes { IfOk result (λ bytes. bytes.items ≡ settled_bytes self.now.story) }
+        ensures len { IfOk result (λ bytes. length bytes.items ≡ disk_size self.now) }
+    {
+        let mut bytes = self.base.as_slice().to_vec(alloc)?;
+        replay(
+            bytes.as_mut_slice(),
+            &self.entries[..self.synced],
+            &self.written,
+        );
+        Ok(bytes)
+    }
+
+    // A truth value for each place: whether it was written since.
+    fn marks(&self, alloc: Global) -> Result<Vec<bool>, NoMemory>
+        ensures marks { IfOk result (λ marks. marks.items ≡ marks_of (disk_size self.now) self.now.story.now.loose) }
+        ensures len { IfOk result (λ marks. length marks.items ≡ disk_size self.now) }
+    {
+        let mut marks = vec![in alloc; false; self.bytes.len()]?;
+        mark_writes(marks.as_mut_slice(), &self.entries[self.synced..self.live]);
+        Ok(marks)
+    }
+
+    // Makes a call that lies within the disk.
+    fn call(&mut self, kind: CallKind, at: u64, size: u64, bytes: &[u8]) -> DiskAnswer
+        requires { at + length bytes.now ≤ disk_size self.old }
+        ensures range { self.old.faults < 2 ^ 64 }
+        ensures answer { result ≡ answer_to (length bytes.now) self.old }
+        ensures state { self.new ≡ after_call (record {
+          kind = kind;
+          at = at;
+          size = size;
+          bytes = bytes.now;
+          answer = next_answer self.old.plan;
+        }) self.old }
+    {
+        let stopped = self.plan.stopped;
+        let answer = self.plan.step();
+        let room = self.room - self.written.len();
+        if is_crowded(self.entries.len(), self.most, room, bytes.len()) {
+            self.faults = self.faults.saturating_add(1);
+            return DiskAnswer::Failed;
+        }
+        let count = bytes.len();
+        let entry = LoggedCall {
+            kind,
+            at,
+            size,
+            count,
+            answer,
+        };
+        self.entries.push(entry).unwrap();
+        self.written.extend_from_slice(bytes).unwrap();
+        self.faults = faults_after(answer, self.faults);
+        if stopped {
+            return answer;
+        }
+        self.live += 1;
+        self.synced = count_settled(kind, answer, self.synced, self.live);
+        run_call(self.bytes.as_mut_slice(), kind, at as usize, bytes);
+        answer
+    }
+}
+
+// Whether a list has no room for one more call that writes n bytes.
+fn is_crowded(calls: usize, most: usize, room: usize, n: usize) -> bool
+    ensures crowded { result ≡ nat_le most calls || nat_lt room n }
+    ensures fits { result ≡ false → (calls < most) × (n ≤ room) }
+{
+    calls >= most || n > room
+}
+
+// The count of faults after a call with this answer.
+fn faults_after(answer: DiskAnswer, faults: u64) -> u64
+    ensures { result ≡ counted answer faults }
+{
+    match answer {
+        DiskAnswer::Done => faults,
+        DiskAnswer::Failed => faults.saturating_add(1),
+    }
+}
+
+impl Disk for MemDisk {
+    ghost told = { λ s. Some s.story };
+
+    ghost calls = { λ s. Some s.calls };
+
+    ghost size_is = { disk_size };
+
+    ghost health = { disk_health };
+
+    ghost name = { λ s. 0 };
+
+    ghost sized = { λ s story is. told_size s story is };
+
+    ghost listed = { λ s story is. (s.calls, refl) };
+
+    fn attach(&mut self, _file: &str, grow: u64) -> DiskAnswer
+        ensures told { Attaches grow (Some self.old.story) (Some self.new.story) }
+        ensures size { HasSize grow (disk_size self.new) result }
+        ensures calls { Logs (attach_call grow) (Some self.old.calls) (Some self.new.calls) result }
+        ensures cause { HasCause (disk_health self.old) (disk_health self.new) 1 0 (disk_size self.old < grow) result }
+        ensures answer { result ≡ answer_to_attach grow self.old }
+        ensures state { self.new ≡ after_attach grow self.old }
+    {
+        if grow > self.bytes.len() as u64 {
+            let _ = self.plan.step();
+            self.faults = self.faults.saturating_add(1);
+            return DiskAnswer::Failed;
+        }
+        self.call(CallKind::Attach, 0, grow, &[])
+    }
+
+    fn size(&self) -> u64
+        ensures { result ≡ disk_size self.now }
+    {
+        self.bytes.len() as u64
+    }
+
+    fn read(&mut self, at: u64, into: &mut [u8]) -> DiskAnswer
+        requires { at + length into.old ≤ disk_size self.old }
+        ensures bytes { Reads (Some self.old.story) at into.new result }
+        ensures told { Some self.new.story ≡ Some self.old.story }
+        ensures size { disk_size self.new ≡ disk_size self.old }
+        ensures calls { Logs (read_call at (length into.old)) (Some self.old.calls) (Some self.new.calls) result }
+        ensures cause { HasCause (disk_health self.old) (disk_health self.new) 1 0 ⊥ result }
+        ensures answer { result ≡ answer_to 0 self.old }
+        ensures state { self.new ≡ after_read at (length into.old) self.old }
+        ensures kept { result ≡ Failed → into.new ≡ into.old }
+    {
+        let answer = self.call(CallKind::Read, at, into.len() as u64, &[]);
+        match answer {
+            DiskAnswer::Done => {
+                let at = at as usize;
+                into.copy_from_slice(&self.bytes[at..at + into.len()]);
+            }
+            DiskAnswer::Failed => {}
+        }
+        answer
+    }
+
+    fn write(&mut self, at: u64, bytes: &[u8]) -> DiskAnswer
+        requires { at + length bytes.now ≤ disk_size self.old }
+        ensures told { Writes (Some self.old.story) at bytes.now (Some self.new.story) result }
+        ensures size { disk_size self.new ≡ disk_size self.old }
+        ensures calls { Logs (write_call at bytes.now) (Some self.old.calls) (Some self.new.calls) result }
+        ensures cause { HasCause (disk_health self.old) (disk_health self.new) 1 (length bytes.now)
+            ((disk_health self.old).room < length bytes.now) result }
+        ensures answer { result ≡ answer_to (length bytes.now) self.old }
+        ensures state { self.new ≡ after_write at bytes.now self.old }
+    {
+        self.call(CallKind::Write, at, bytes.len() as u64, bytes)
+    }
+
+    fn sync(&mut self) -> DiskAnswer
+        ensures told { Syncs (Some self.old.story) (Some self.new.story) result }
+        ensures size { disk_size self.new ≡ disk_size self.old }
+        ensures calls { Logs sync_call (Some self.old.calls) (Some self.new.calls) result }
+        ensures cause { HasCause (disk_health self.old) (disk_health self.new) 1 0 ⊥ result }
+        ensures answer { result ≡ answer_to 0 self.old }
+        ensures state { self.new ≡ after_sync self.old }
+    {
+        self.call(CallKind::Sync, 0, 0, &[])
+    }
+}

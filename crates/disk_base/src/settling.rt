@@ -1,0 +1,23 @@
+ghost use Rattle.std.specs.Prelude.{◌≡◌, ◌+◌, ◌<◌, ◌≤◌, length};
+ghost use Rattle.disk_base.specs.Faults.{HasCause};
+ghost use Rattle.disk_base.specs.Settle.{LogsBoth, Settles};
+
+use crate::disk::{Disk, DiskAnswer};
+
+/// Writes bytes over those from a place on and syncs: two calls. Where it fails, nothing was written, or the bytes or
+/// some others in their place, and all that was loose is so still.
+pub fn settle<D: Disk>(disk: &mut D, at: u64, bytes: &[u8]) -> DiskAnswer
+    requires { at + length bytes.now ≤ D.size_is disk.old }
+    ensures told { Settles (D.told disk.old) at bytes.now (D.told disk.new) result }
+    ensures size { D.size_is disk.new ≡ D.size_is disk.old }
+    ensures calls { LogsBoth at bytes.now (D.calls disk.old) (D.calls disk.new) result }
+    ensures cause { HasCause (D.health disk.old) (D.health disk.new) 2 (length bytes.now)
+        ((D.health disk.old).room < length bytes.now) result }
+    ensures name { D.name disk.new ≡ D.name disk.old }
+{
+    match disk.write(at, bytes) {
+        DiskAnswer::Failed => return DiskAnswer::Failed,
+        DiskAnswer::Done => {}
+    }
+    disk.sync()
+}

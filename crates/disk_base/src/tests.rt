@@ -1,0 +1,66 @@
+use super::*;
+use std::alloc::Global;
+use std::test::Fail;
+
+const ROOM: &str = "room";
+
+// A disk of eight bytes, the first four settled, with three bytes over its middle that aren't.
+fn written(alloc: Global) -> Result<MemDisk, NoMemory> {
+    let mut disk = MemDisk::new(alloc, 8, 5, 12)?;
+    let _ = settle(&mut disk, 0, &[1, 2, 3, 4]);
+    let _ = disk.write(2, &[9, 8, 7]);
+    Ok(disk)
+}
+
+// Whether the bytes of a disk are these.
+fn holds<D: Disk + Drop>(mut disk: D, wanted: [u8; 8]) -> bool {
+    let mut bytes = [0; 8];
+    disk.size() == 8 && disk.read(0, &mut bytes) == DiskAnswer::Done && bytes == wanted
+}
+
+// Whether a crash leaves these bytes.
+fn leaves(alloc: Global, disk: &MemDisk, choice: CutChoice, wanted: [u8; 8]) -> bool {
+    match disk.cut(alloc, choice) {
+        Ok(cut) => holds(cut, wanted),
+        Err(NoMemory) => false,
+    }
+}
+
+#[test]
+fn a_crash_leaves_what_was_chosen(rt: HostRuntime) -> Result<(), Fail> {
+    let alloc = rt.alloc();
+    let mut disk = written(alloc).map_err(|_| ROOM)?;
+    assert!(rt; leaves(alloc, &disk, CutChoice::Old, [1, 2, 3, 4, 0, 0, 0, 0]));
+    assert!(rt; leaves(alloc, &disk, CutChoice::New, [1, 2, 9, 8, 7, 0, 0, 0]));
+    assert!(rt; leaves(alloc, &disk, CutChoice::Fill(6), [1, 2, 6, 6, 6, 0, 0, 0]));
+    assert!(rt; leaves(alloc, &disk, CutChoice::First(2), [1, 2, 9, 8, 0, 0, 0, 0]));
+    assert!(rt; holds(&mut disk, [1, 2, 9, 8, 7, 0, 0, 0]));
+    Ok(())
+}
+
+// Whether the calls of a new disk give these answers: an attaching, two writes, a sync, and a write behind them.
+fn answers(alloc: Global, fail: u32, stop: u32, wanted: [DiskAnswer; 5], stopped: bool) -> bool {
+    let Ok(mut disk) = MemDisk::new(alloc, 8, 4, 3) else {
+        return false;
+    };
+    disk.fail_at(fail);
+    disk.stop_at(stop);
+    let answers = [
+        disk.attach("spool", 8),
+        disk.write(0, &[1]),
+        disk.write(1, &[2, 3]),
+        disk.sync(),
+        disk.write(3, &[4]),
+    ];
+    answers == wanted && disk.stopped() == stopped
+}
+
+#[test]
+fn calls_fail_where_they_are_to(rt: HostRuntime) -> Result<(), Fail> {
+    use DiskAnswer::{Done, Failed};
+    let alloc = rt.alloc();
+    assert!(rt; answers(alloc, 0, 0, [Done, Done, Done, Done, Failed], false));
+    assert!(rt; answers(alloc, 2, 0, [Done, Failed, Done, Done, Failed], false));
+    assert!(rt; answers(alloc, 0, 3, [Done, Done, Failed, Failed, Failed], true));
+    Ok(())
+}
