@@ -1,0 +1,4 @@
+mod Enabling
+mod History
+mod Planned
+mod Spelled

@@ -1,0 +1,4 @@
+pub mod Alarms
+pub mod History
+pub mod Laws
+pub mod Plan
