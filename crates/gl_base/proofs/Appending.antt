@@ -1,9 +1,9 @@
 -- Text that goes to a sink behind other text, and a page on the way to it.
-use Rattle.std.proofs.Common.{◌≡◌, ℕ, ◌+◌, ◌-◌, ◌<◌, ◌≤◌, List, [], ◌++◌, length, take, drop, Option, Some, None, refl, sym, ap, subst, ◌∙◌, append_assoc, append-nil, arith, length-append, length-drop}
+use Rattle.std.proofs.Common.{◌≡◌, ℕ, ◌+◌, ◌-◌, ◌≤◌, List, [], ◌++◌, length, take, drop, Option, Some, None, refl, sym, ap, subst, ◌∙◌, append_assoc, append-nil, arith, length-append, length-drop}
 use Rattle.std.proofs.Math.Seq.{take-add, take-append-add}
 use Rattle.std.proofs.lemmas.List.{length-take-le, take-append-le, take_all}
 use Rattle.gl_base.specs.Faults.{one_more}
-use Rattle.gl_base.specs.Sink.{IsWrittenOn, SinkHealth, WriteFault, with_bytes}
+use Rattle.gl_base.specs.Sink.{IsWrittenOn, SinkHealth, with_bytes}
 use Rattle.gl_base.specs.Sending.{IsUnderWay, Passes, Sends, WrotePart, WroteShort, WroteText}
 use Rattle.gl_base.specs.Told.{SinkTold}
 use Rattle.gl_base.specs.declared.copying.SinkAnswer.{SinkAnswer}

@@ -2,9 +2,17 @@ use super::*;
 use std::alloc::Global;
 use std::test::Fail;
 
+// A row of these, or an empty one where memory runs out.
+fn row<T: Copy>(alloc: Global, from: &[T]) -> Row<T> {
+    match Row::of(alloc, from) {
+        Ok(row) => row,
+        Err(NoMemory) => Row::new(alloc),
+    }
+}
+
 #[test]
 fn a_row_is_a_list(rt: HostRuntime) -> Result<(), Fail> {
-    let mut row = Row::of(rt.alloc(), &[1u8])?;
+    let mut row = row(rt.alloc(), &[1u8]);
     row.push(2)?;
     row.extend(&[3])?;
     assert!(rt; row.as_slice() == [1, 2, 3].as_slice() && row.len() == 3);
@@ -14,15 +22,18 @@ fn a_row_is_a_list(rt: HostRuntime) -> Result<(), Fail> {
 }
 
 // What reading "abc" comes to, where the read of this number fails.
-fn read_failing(alloc: Global, number: u32, limit: usize) -> Result<Input, NoMemory> {
-    let fails = Row::of(alloc, &[number])?;
-    let mut source = MemSource::failing(Row::of(alloc, b"abc")?, fails);
-    Ok(read_all(alloc, &mut source, limit))
+fn read_failing(alloc: Global, number: u32, limit: usize) -> Input {
+    let mut source = MemSource::failing(row(alloc, b"abc"), row(alloc, &[number]));
+    read_all(alloc, &mut source, limit)
 }
 
-fn is_whole(answer: &Result<Input, NoMemory>) -> bool {
+fn read_sure(alloc: Global, limit: usize) -> Input {
+    read_all(alloc, &mut MemSource::new(row(alloc, b"abc")), limit)
+}
+
+fn is_whole(answer: &Input) -> bool {
     match answer {
-        Ok(Input::Whole(all)) => all.as_slice() == b"abc".as_slice(),
+        Input::Whole(all) => all.as_slice() == b"abc".as_slice(),
         _ => false,
     }
 }
@@ -30,18 +41,9 @@ fn is_whole(answer: &Result<Input, NoMemory>) -> bool {
 #[test]
 fn reads_to_the_end(rt: HostRuntime) -> Result<(), Fail> {
     let alloc = rt.alloc();
-    assert!(rt; is_whole(&read_failing(alloc, 3, 3)));
-    assert!(rt; matches!(read_failing(alloc, 3, 2), Ok(Input::Longer)));
-    assert!(rt; matches!(read_failing(alloc, 2, 3), Ok(Input::Failed)));
-    Ok(())
-}
-
-#[test]
-fn a_source_never_fails(rt: HostRuntime) -> Result<(), Fail> {
-    let alloc = rt.alloc();
-    let mut source = MemSource::new(Row::of(alloc, b"")?);
-    let input = read_all(alloc, &mut source, 0);
-    assert!(rt; matches!(input, Input::Whole(_)));
+    assert!(rt; is_whole(&read_failing(alloc, 3, 3)) && is_whole(&read_sure(alloc, 3)));
+    assert!(rt; matches!(read_failing(alloc, 3, 2), Input::Longer));
+    assert!(rt; matches!(read_failing(alloc, 2, 3), Input::Failed));
     Ok(())
 }
 
@@ -56,7 +58,7 @@ fn has(sink: &MemSink, bytes: &[u8]) -> bool {
 #[test]
 fn a_sink_fails_at_its_calls_and_past_its_room(rt: HostRuntime) -> Result<(), Fail> {
     let alloc = rt.alloc();
-    let mut sink = MemSink::failing(alloc, 3, Row::of(alloc, &[2])?)?;
+    let mut sink = MemSink::failing(alloc, 3, row(alloc, &[2]))?;
     assert!(rt; copies(&mut sink, b"ab") && !copies(&mut sink, b"c"));
     assert!(rt; !copies(&mut sink, b"cd") && copies(&mut sink, b"c"));
     assert!(rt; has(&sink, b"abc"));
@@ -86,16 +88,23 @@ fn a_page_goes_out_where_it_has_no_room(rt: HostRuntime) -> Result<(), Fail> {
     Ok(())
 }
 
-fn plan_file(alloc: Global) -> Result<Row<MemFile>, NoMemory> {
-    let name = Row::of(alloc, b"plan")?;
-    let bytes = Row::of(alloc, b"abc")?;
+// One file.
+fn plan_file(alloc: Global) -> Row<MemFile> {
     let mut files = Row::new(alloc);
-    files.push(MemFile { name, bytes })?;
-    Ok(files)
+    let _ = files.push(MemFile {
+        name: row(alloc, b"plan"),
+        bytes: row(alloc, b"abc"),
+    });
+    files
 }
 
-fn gives(alloc: Global, files: &mut MemFiles, name: &str, limit: usize) -> FileAnswer {
-    files.read_file(alloc, name, limit)
+// What reading a file comes to, where the call of this number fails.
+fn file_failing(alloc: Global, number: u32, limit: usize) -> FileAnswer {
+    MemFiles::failing(plan_file(alloc), row(alloc, &[number])).read_file(alloc, "plan", limit)
+}
+
+fn file_sure(alloc: Global, name: &str) -> FileAnswer {
+    MemFiles::new(plan_file(alloc)).read_file(alloc, name, 3)
 }
 
 fn is_file(answer: &FileAnswer) -> bool {
@@ -108,17 +117,9 @@ fn is_file(answer: &FileAnswer) -> bool {
 #[test]
 fn reads_files_up_to_a_limit(rt: HostRuntime) -> Result<(), Fail> {
     let alloc = rt.alloc();
-    let mut files = MemFiles::failing(plan_file(alloc)?, Row::of(alloc, &[3])?);
-    assert!(rt; is_file(&gives(alloc, &mut files, "plan", 3)));
-    assert!(rt; matches!(gives(alloc, &mut files, "plan", 2), FileAnswer::Longer));
-    assert!(rt; matches!(gives(alloc, &mut files, "plan", 3), FileAnswer::Failed));
-    Ok(())
-}
-
-#[test]
-fn a_missing_file_fails(rt: HostRuntime) -> Result<(), Fail> {
-    let alloc = rt.alloc();
-    let mut files = MemFiles::new(plan_file(alloc)?);
-    assert!(rt; matches!(gives(alloc, &mut files, "pla", 9), FileAnswer::Failed));
+    assert!(rt; is_file(&file_failing(alloc, 2, 3)) && is_file(&file_sure(alloc, "plan")));
+    assert!(rt; matches!(file_failing(alloc, 2, 2), FileAnswer::Longer));
+    assert!(rt; matches!(file_failing(alloc, 1, 3), FileAnswer::Failed));
+    assert!(rt; matches!(file_sure(alloc, "pla"), FileAnswer::Failed));
     Ok(())
 }
