@@ -18,7 +18,7 @@ use Rattle.secs_items.proofs.HeadLaws.{TakesHead, head_takes}
 use Rattle.secs_items.proofs.ItemLaws.{each_again, each_takes, head_as, is_L, item_again, item_takes}
 use Rattle.secs_items.proofs.ItemSteps.{after_head, item_leaf, item_list}
 use Rattle.secs_items.proofs.Numbers.{IsBytes}
-use Rattle.secs_items.proofs.Viewing.{items_in, items_left, kind_in, length_in, no_items_in, read_as}
+use Rattle.secs_items.proofs.Viewing.{items_count, items_in, items_left, kind_in, length_in, no_items_in, read_as}
 
 abbrev pub shown_as : Head → ℕ → ℕ → List ℕ → Viewed
 shown_as h count inner content = record { item = item_in h.kind count inner content; content = content }
@@ -288,3 +288,31 @@ child_shown self child depth total place content rest after h passed shown =
       shown = shown;
       parts = h.parts ∙ ap (λ (bs : List ℕ). h.before ++ bs) (same_ok (after_each (after_item total depth) place content) h.others rest h.skipped passed);
     }
+
+-- ---- the whole item
+
+-- items that are read from a view's content are the viewed list's, whatever the total
+pub read_whole : (depth count total : ℕ) (content rest : List ℕ) (items : List Item) → IsBytes content
+    → after_each (after_item 0 depth) count content ≡ Ok [] → items_at (item_at total depth) count content ≡ Ok (items, rest)
+    → items_read (items_at (item_at 0 depth) count content) ≡ items
+read_whole depth count total content rest items fits whole read =
+    let e = items_left 0 depth count content [] whole in
+    let taken = each_takes (item_at 0 depth) (SpellsWithin depth) (item_takes 0 depth) count content (e.0, []) fits e.1 in
+    let again = each_again (item_at total depth) (SpellsWithin depth) (item_again total depth) e.0 taken.0.front [] taken.0.spelled in
+    let here : items_at (item_at total depth) count content ≡ Ok (e.0, []) =
+    subst (λ (n : ℕ). items_at (item_at total depth) n content ≡ Ok (e.0, [])) (items_count (item_at 0 depth) count content (e.0, []) e.1)
+    (subst (λ (bs : List ℕ). items_at (item_at total depth) (length e.0) bs ≡ Ok (e.0, [])) (sym taken.0.parts) again) in
+    read_as (items_at (item_at 0 depth) count content) e.0 [] e.1
+    ∙ ap (λ (p : List Item × List ℕ). p.0) (same_ok (items_at (item_at total depth) count content) (e.0, []) (items, rest) here read)
+
+pub item_whole : (k : Kind) (count depth total : ℕ) (inside content rest : List ℕ) (items : List Item) (self : Viewed)
+    → record { item = item_in k count depth inside; content = inside } ≡ self → IsWhole k count depth inside → is_list k ≡ true
+    → content ≡ self.content → IsBytes content → items_at (item_at total depth) count content ≡ Ok (items, rest)
+    → item.L items ≡ self.item
+item_whole k count depth total inside content rest items self view whole listed same fits read =
+    let e : content ≡ inside = same ∙ sym (ap (λ (v : Viewed). v.content) view) in
+    let here : items_at (item_at total depth) count inside ≡ Ok (items, rest) =
+    subst (λ (bs : List ℕ). items_at (item_at total depth) count bs ≡ Ok (items, rest)) e read in
+    let bytes : IsBytes inside = subst IsBytes e fits in
+    ap item.L (sym (read_whole depth count total inside rest items bytes (whole.items listed) here))
+    ∙ sym (list_in k count depth inside listed) ∙ ap (λ (v : Viewed). v.item) view

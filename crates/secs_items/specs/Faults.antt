@@ -25,8 +25,8 @@ pub record EndsAt (at : ℕ) (bytes : List ℕ) : Type 0 where
   pub spelled : Spells item (take at bytes)
   pub further : at < length bytes
 
--- Where each fault stands: at the item's format byte, and the item breaks with this byte, or with the length bytes that
--- it announces.
+-- Where each fault stands: where the bytes end, or the item ends; else at the item's format byte, and the item breaks
+-- with this byte, or with the length bytes that it announces.
 abbrev pub FaultStands : List ℕ → ItemFault → Type 0
 FaultStands bytes (fault.Short at) = (at ≡ length bytes) × IsCutShort bytes
 FaultStands bytes (fault.BadCode at) = BreaksAt at 1 bytes

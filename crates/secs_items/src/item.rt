@@ -1,5 +1,8 @@
 ghost use Rattle.std.specs.Prelude.{◌≡◌, IfOk};
+ghost use Rattle.secs_items.specs.declared.item.Item.{out-Item};
+ghost use Rattle.secs_items.specs.Layers.{kind_of};
 
+use crate::kind::Kind;
 use gl_base::{NoMemory, Row};
 use std::alloc::Global;
 
@@ -27,6 +30,29 @@ pub enum Item {
 }
 
 impl Item {
+    /// The kind of its elements.
+    pub fn kind(&self) -> Kind
+        ensures { result ≡ kind_of (out-Item self.now) }
+    {
+        match self {
+            Item::L(_) => Kind::L,
+            Item::B(_) => Kind::B,
+            Item::Bool(_) => Kind::Bool,
+            Item::A(_) => Kind::A,
+            Item::J(_) => Kind::J,
+            Item::I1(_) => Kind::I1,
+            Item::I2(_) => Kind::I2,
+            Item::I4(_) => Kind::I4,
+            Item::I8(_) => Kind::I8,
+            Item::U1(_) => Kind::U1,
+            Item::U2(_) => Kind::U2,
+            Item::U4(_) => Kind::U4,
+            Item::U8(_) => Kind::U8,
+            Item::F4(_) => Kind::F4,
+            Item::F8(_) => Kind::F8,
+        }
+    }
+
     /// An item that is equal to this one.
     #[cycle(copying)]
     pub fn copy(&self, alloc: Global) -> Result<Item, NoMemory>

@@ -10,7 +10,8 @@ use crate::item::Item;
 use crate::kind::Kind;
 
 impl Item {
-    /// How many bytes the item's shortest spelling has, or `usize::MAX` where it has more.
+    /// How many bytes the item's shortest spelling has, or `usize::MAX` where it has more. Of an item that is too deep or
+    /// too long to be spelled it is the length by the same rules; `encode_into` refuses such an item.
     #[cycle(measuring)]
     pub fn spelled_len(&self) -> usize
         ensures { result ≡ capped (length (shortest_spelling self.now)) }

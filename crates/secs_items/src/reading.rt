@@ -67,7 +67,7 @@ fn item_of(
 
 /// So many items at the front, one by one, and the bytes after them.
 #[cycle(reading)]
-fn items_of(
+pub(crate) fn items_of(
     alloc: Global,
     bytes: &[u8],
     count: usize,
@@ -89,7 +89,7 @@ fn items_of(
 }
 
 /// An item that is no list, of this content.
-fn leaf(alloc: Global, kind: Kind, content: &[u8]) -> Result<Item, NoMemory>
+pub(crate) fn leaf(alloc: Global, kind: Kind, content: &[u8]) -> Result<Item, NoMemory>
     requires leaf { is_list kind ≡ false }
     requires even { length content.now % unit_of kind ≡ 0 }
     ensures { IfOk result (λ item. item ≡ leaf_of kind content.now) }

@@ -3,12 +3,61 @@
 use super::*;
 use gl_base::{NoMemory, Row};
 use std::alloc::Global;
-use std::test::Fail;
 
-fn row<T: Copy>(alloc: Global, from: &[T]) -> Result<Row<T>, NoMemory> {
-    let mut row = Row::new(alloc);
-    row.extend(from)?;
-    Ok(row)
+fn text(alloc: Global, of: &[u8]) -> Result<Item, NoMemory> {
+    Ok(Item::A(Row::of(alloc, of)?))
+}
+
+fn binary(alloc: Global, of: &[u8]) -> Result<Item, NoMemory> {
+    Ok(Item::B(Row::of(alloc, of)?))
+}
+
+fn truths(alloc: Global, of: &[u8]) -> Result<Item, NoMemory> {
+    Ok(Item::Bool(Row::of(alloc, of)?))
+}
+
+fn jis(alloc: Global, of: &[u8]) -> Result<Item, NoMemory> {
+    Ok(Item::J(Row::of(alloc, of)?))
+}
+
+fn signed_1(alloc: Global, of: &[i8]) -> Result<Item, NoMemory> {
+    Ok(Item::I1(Row::of(alloc, of)?))
+}
+
+fn signed_2(alloc: Global, of: &[i16]) -> Result<Item, NoMemory> {
+    Ok(Item::I2(Row::of(alloc, of)?))
+}
+
+fn signed_4(alloc: Global, of: &[i32]) -> Result<Item, NoMemory> {
+    Ok(Item::I4(Row::of(alloc, of)?))
+}
+
+fn signed_8(alloc: Global, of: &[i64]) -> Result<Item, NoMemory> {
+    Ok(Item::I8(Row::of(alloc, of)?))
+}
+
+fn unsigned_1(alloc: Global, of: &[u8]) -> Result<Item, NoMemory> {
+    Ok(Item::U1(Row::of(alloc, of)?))
+}
+
+fn unsigned_2(alloc: Global, of: &[u16]) -> Result<Item, NoMemory> {
+    Ok(Item::U2(Row::of(alloc, of)?))
+}
+
+fn unsigned_4(alloc: Global, of: &[u32]) -> Result<Item, NoMemory> {
+    Ok(Item::U4(Row::of(alloc, of)?))
+}
+
+fn unsigned_8(alloc: Global, of: &[u64]) -> Result<Item, NoMemory> {
+    Ok(Item::U8(Row::of(alloc, of)?))
+}
+
+fn float_4(alloc: Global, of: &[[u8; 4]]) -> Result<Item, NoMemory> {
+    Ok(Item::F4(Row::of(alloc, of)?))
+}
+
+fn float_8(alloc: Global, of: &[[u8; 8]]) -> Result<Item, NoMemory> {
+    Ok(Item::F8(Row::of(alloc, of)?))
 }
 
 /// How many items `sample` has.
@@ -16,36 +65,36 @@ const SAMPLES: usize = 20;
 
 /// An item: of each kind one of two elements, a few of none or one, and two whose heads differ in length.
 fn sample(alloc: Global, place: usize) -> Result<Item, NoMemory> {
-    Ok(match place {
-        0 => Item::L(Row::new(alloc)),
-        1 => Item::L(list(alloc)?),
-        2 => Item::A(Row::new(alloc)),
-        3 => Item::A(row(alloc, b"AB")?),
-        4 => Item::B(row(alloc, &[0, 0xFF])?),
-        5 => Item::Bool(row(alloc, &[2, 0])?),
-        6 => Item::J(row(alloc, &[0xB1, 0xB2])?),
-        7 => Item::I1(row(alloc, &[-128, 127])?),
-        8 => Item::I2(row(alloc, &[-32768, 258])?),
-        9 => Item::I4(row(alloc, &[-2147483648, 0x01020304])?),
-        10 => Item::I8(row(alloc, &[-2, 0x0102030405060708])?),
-        11 => Item::U1(row(alloc, &[0, 255])?),
-        12 => Item::U2(row(alloc, &[0xFFFF, 258])?),
-        13 => Item::U4(row(alloc, &[5])?),
-        14 => Item::U4(row(alloc, &[0x01020304, u32::MAX])?),
-        15 => Item::U8(row(alloc, &[9, u64::MAX])?),
-        16 => Item::F4(row(alloc, &[*b"abcd", *b"efgh"])?),
-        17 => Item::F8(row(alloc, &[*b"abcdefgh", *b"ijklmnop"])?),
-        18 => Item::B(row(alloc, &[7; 255])?),
-        _ => Item::B(row(alloc, &[7; 256])?),
-    })
+    match place {
+        0 => Ok(Item::L(Row::new(alloc))),
+        1 => list(alloc),
+        2 => text(alloc, b""),
+        3 => text(alloc, b"AB"),
+        4 => binary(alloc, &[0, 0xFF]),
+        5 => truths(alloc, &[2, 0]),
+        6 => jis(alloc, &[0xB1, 0xB2]),
+        7 => signed_1(alloc, &[-128, 127]),
+        8 => signed_2(alloc, &[-32768, 258]),
+        9 => signed_4(alloc, &[-2147483648, 0x01020304]),
+        10 => signed_8(alloc, &[-2, 0x0102030405060708]),
+        11 => unsigned_1(alloc, &[0, 255]),
+        12 => unsigned_2(alloc, &[0xFFFF, 258]),
+        13 => unsigned_4(alloc, &[5]),
+        14 => unsigned_4(alloc, &[0x01020304, u32::MAX]),
+        15 => unsigned_8(alloc, &[9, u64::MAX]),
+        16 => float_4(alloc, &[*b"abcd", *b"efgh"]),
+        17 => float_8(alloc, &[*b"abcdefgh", *b"ijklmnop"]),
+        18 => binary(alloc, &[7; 255]),
+        _ => binary(alloc, &[7; 256]),
+    }
 }
 
 /// U1 of 7 and an empty list.
-fn list(alloc: Global) -> Result<Row<Item>, NoMemory> {
+fn list(alloc: Global) -> Result<Item, NoMemory> {
     let mut items = Row::new(alloc);
-    items.push(Item::U1(row(alloc, &[7])?))?;
+    items.push(unsigned_1(alloc, &[7])?)?;
     items.push(Item::L(Row::new(alloc)))?;
-    Ok(items)
+    Ok(Item::L(items))
 }
 
 /// The spellings of the first of them.
@@ -89,10 +138,16 @@ fn is_copied(alloc: Global, item: &Item) -> bool {
     }
 }
 
-/// The view has the item's content, which is the bytes behind the head's two.
-fn is_viewed(bytes: &[u8]) -> bool {
+/// Whether the item comes back from the view, which has its kind and its content: the bytes behind the head's two.
+fn shows(alloc: Global, view: &ItemView<'_>, item: &Item, len: usize) -> bool {
+    view.kind() == item.kind()
+        && view.bytes().len() + 2 == len
+        && view.item(alloc).is_ok_and(|shown| shown.equals(item))
+}
+
+fn is_viewed(alloc: Global, bytes: &[u8], item: &Item) -> bool {
     match check(bytes) {
-        Ok(view) => view.bytes().len() + 2 == bytes.len(),
+        Ok(view) => shows(alloc, &view, item, bytes.len()),
         Err(_) => false,
     }
 }
@@ -104,7 +159,7 @@ fn agrees(alloc: Global, place: usize, bytes: &[u8]) -> bool {
             is_spelled(alloc, &item, bytes)
                 && is_read(alloc, bytes, &item)
                 && is_copied(alloc, &item)
-                && is_viewed(bytes)
+                && is_viewed(alloc, bytes, &item)
                 && item.spelled_len() == bytes.len()
         }
         Err(_) => false,
@@ -125,11 +180,17 @@ fn every_kind(rt: HostRuntime) {
     assert!(rt; all_agree(rt.alloc()));
 }
 
+/// Whether an item equals the sample at the place.
+fn is_sample(alloc: Global, item: &Item, place: usize) -> Option<bool> {
+    let other = sample(alloc, place).ok()?;
+    Some(item.equals(&other))
+}
+
 /// Whether two samples are equal exactly where they are the same one.
 fn are_told_apart(alloc: Global, first: usize, second: usize) -> bool {
-    match (sample(alloc, first), sample(alloc, second)) {
-        (Ok(one), Ok(other)) => one.equals(&other) == (first == second),
-        _ => false,
+    match sample(alloc, first) {
+        Ok(one) => is_sample(alloc, &one, second) == Some(first == second),
+        Err(_) => false,
     }
 }
 
@@ -222,17 +283,27 @@ fn nested(alloc: Global, lists: usize, length: u8) -> Result<Row<u8>, NoMemory> 
     Ok(bytes)
 }
 
-/// Whether 64 lists one in another, the innermost empty, are read, and 65 are not.
-fn ends_at_64(alloc: Global) -> bool {
-    let (Ok(mut most), Ok(mut deep)) = (nested(alloc, 63, 0), nested(alloc, 64, 0)) else {
-        return false;
-    };
-    most.push(0x01).is_ok()
-        && most.push(0).is_ok()
-        && deep.push(0x01).is_ok()
-        && deep.push(0).is_ok()
-        && is_as_deep(alloc, most.as_slice())
-        && is_refused(alloc, deep.as_slice(), ItemFault::TooDeep { at: 256 })
+/// So many lists, one in another, the innermost empty.
+fn nested_lists(alloc: Global, lists: usize) -> Result<Row<u8>, NoMemory> {
+    let mut bytes = nested(alloc, lists.saturating_sub(1), 0)?;
+    bytes.extend(&[0x01, 0])?;
+    Ok(bytes)
+}
+
+/// Whether 64 lists one in another are read.
+fn reads_64(alloc: Global) -> bool {
+    match nested_lists(alloc, 64) {
+        Ok(bytes) => is_as_deep(alloc, bytes.as_slice()),
+        Err(_) => false,
+    }
+}
+
+/// Whether 65 lists one in another are refused.
+fn refuses_65(alloc: Global) -> bool {
+    match nested_lists(alloc, 65) {
+        Ok(bytes) => is_refused(alloc, bytes.as_slice(), ItemFault::TooDeep { at: 256 }),
+        Err(_) => false,
+    }
 }
 
 fn is_as_deep(alloc: Global, bytes: &[u8]) -> bool {
@@ -261,7 +332,7 @@ fn is_not_put(alloc: Global, item: &Item, fault: EncodeFault) -> bool {
 
 #[test]
 fn depth(rt: HostRuntime) {
-    assert!(rt; ends_at_64(rt.alloc()));
+    assert!(rt; reads_64(rt.alloc()) && refuses_65(rt.alloc()));
 }
 
 /// Whether 64 lists that claim 16,777,215 items each are refused where the bytes end. Room for what they claim would be
@@ -294,30 +365,44 @@ fn too_long(rt: HostRuntime) {
     assert!(rt; ends_at_16_777_215(rt.alloc()));
 }
 
+fn is_as_long(alloc: Global, place: usize, len: usize) -> bool {
+    match sample(alloc, place) {
+        Ok(item) => item.spelled_len() == len,
+        Err(_) => false,
+    }
+}
+
 /// Lengths of shortest spellings where the head grows.
 #[test]
-fn longer_heads(rt: HostRuntime) -> Result<(), Fail> {
-    let alloc = rt.alloc();
-    assert_eq!(rt; sample(alloc, 18)?.spelled_len(), 257);
-    assert_eq!(rt; sample(alloc, 19)?.spelled_len(), 259);
-    Ok(())
+fn longer_heads(rt: HostRuntime) {
+    assert!(rt; is_as_long(rt.alloc(), 18, 257) && is_as_long(rt.alloc(), 19, 259));
+}
+
+/// A list of a U4 of 258, an A of `x` and a U1 of 1 and 2.
+const LIST: [u8; 16] = [
+    0x02, 0, 3, 0xB1, 4, 0, 0, 1, 2, 0x41, 1, b'x', 0xA5, 2, 1, 2,
+];
+
+fn is_list(list: &ItemView<'_>) -> bool {
+    list.kind() == Kind::L
+        && list.len() == 3
+        && list.bytes() == &LIST[3..]
+        && list.child(3).is_none()
+}
+
+/// Whether the child at the place has so many elements, this number, and no child.
+fn is_child(list: &ItemView<'_>, place: usize, len: usize, number: Option<u64>) -> bool {
+    match list.child(place) {
+        Some(child) => child.len() == len && child.number() == number && child.child(0).is_none(),
+        None => false,
+    }
+}
+
+fn has_its_parts(list: &ItemView<'_>) -> bool {
+    is_list(list) && is_child(list, 0, 1, Some(258)) && is_child(list, 2, 2, None)
 }
 
 #[test]
-fn views(rt: HostRuntime) -> Result<(), Fail> {
-    let bytes = [
-        0x02, 0, 3, 0xB1, 4, 0, 0, 1, 2, 0x41, 1, b'x', 0xA5, 2, 1, 2,
-    ];
-    let list = check(&bytes)?;
-    assert_eq!(rt; list.kind(), Kind::L);
-    assert_eq!(rt; list.len(), 3);
-    assert_eq!(rt; list.bytes(), &bytes[3..]);
-    assert!(rt; list.child(3).is_none());
-    let number = list.child(0).ok_or("the first")?;
-    assert_eq!(rt; number.number(), Some(258));
-    assert!(rt; number.child(0).is_none());
-    let both = list.child(2).ok_or("the third")?;
-    assert_eq!(rt; both.len(), 2);
-    assert_eq!(rt; both.number(), None);
-    Ok(())
+fn views(rt: HostRuntime) {
+    assert!(rt; check(&LIST).is_ok_and(|list| has_its_parts(&list)));
 }

@@ -13,9 +13,12 @@ ghost use Rattle.secs_items.specs.Views.{ChecksOnly, ShowsChild, ShowsFront, chi
 
 use crate::element::Element;
 use crate::head::{Head, head_of};
-use crate::item::MAX_DEPTH;
+use crate::item::{Item, MAX_DEPTH};
 use crate::item_fault::ItemFault;
 use crate::kind::Kind;
+use crate::reading::{items_of, leaf};
+use gl_base::NoMemory;
+use std::alloc::Global;
 use std::marker::Model;
 
 /// An item in its bytes, which were checked.
@@ -112,6 +115,27 @@ impl<'a> ItemView<'a> {
             return None;
         }
         Some(self.child_at(self.content, place))
+    }
+
+    /// The item that it shows.
+    pub fn item(&self, alloc: Global) -> Result<Item, NoMemory>
+        ensures { IfOk result (λ item. item ≡ self.now.item) }
+    {
+        self.item_of(alloc, self.content)
+    }
+
+    /// The item of this content.
+    fn item_of(&self, alloc: Global, content: &[u8]) -> Result<Item, NoMemory>
+        requires { content.now ≡ self.now.content }
+        ensures { IfOk result (λ item. item ≡ self.now.item) }
+    {
+        if !self.kind.is_list() {
+            return leaf(alloc, self.kind, content);
+        }
+        match items_of(alloc, content, self.count, self.depth, content.len()) {
+            Ok((items, _)) => Ok(Item::L(items)),
+            Err(_) => Err(NoMemory),
+        }
     }
 
     /// The item at a place that the list of this content has.
