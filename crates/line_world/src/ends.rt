@@ -91,7 +91,8 @@ impl Ends {
         note(&mut self.heard, side, &event, now, lines)
     }
 
-    /// The next character on its way to an end is given to it, where there is one. Answers the slip, where it makes one.
+    /// The next character on its way to an end is given to it, where there is one. Answers the slip, where it makes
+    /// one.
     pub(crate) fn hand(
         &mut self,
         side: Side,

@@ -30,8 +30,8 @@ pub enum RunEnd {
     WriteFailed,
 }
 
-/// Carries out a schedule on a line between an equipment that has one message to send and a host that only receives, and
-/// writes the trace of what both ends note. In that trace each message delivered was sent.
+/// Carries out a schedule on a line between an equipment that has one message to send and a host that only receives,
+/// and writes the trace of what both ends note. In that trace each message delivered was sent.
 ///
 /// The plan and the schedule must fit.
 pub fn run<W: Sink>(alloc: Global, plan: &LinePlan, schedule: &Schedule, out: &mut W) -> RunEnd

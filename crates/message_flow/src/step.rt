@@ -6,13 +6,13 @@ use gl_base::Row;
 pub enum NodeInput<'a, C> {
     /// A character came over the line.
     Char(u8),
-    /// The moment that the end waited for has come.
+    /// Time has passed, perhaps up to the moment that the end waits for. A start is followed by one, too.
     Time,
     /// A command of the end's own side.
     Command(&'a C),
 }
 
-/// One line of what an end tells of itself, without its moment and its line end.
+/// One line of what an end tells of itself, without the moment and the letter of the end.
 #[derive(Debug, Drop)]
 pub struct Note {
     /// The line's bytes.

@@ -23,7 +23,7 @@ message_of block = record {
 }
 
 -- what counts when the equipment looks back on its start: a command of the tool that was carried out or refused, and a
--- request of the host that was acted on (this profile)
+-- request of the host that came as far as its own action, whatever it was answered (this profile)
 pub data Past : Type 0 where
   Commanded : (command : ToolCommand) → Past
   Asked : (request : Message) → Past
@@ -67,12 +67,13 @@ pub data Happening : Type 0 where
   TooLongBlock : (header : Header) → Happening
   Crowded : (header : Header) → Happening
   DroppedByT4 : (header : Header) → Happening
-  -- a message could not be sent; no reply came in time; a reply to nothing that is open came
+  -- a message could not be sent, or ended with its communication; no reply came in time, or the one that had begun was
+  -- given up; a reply to nothing that is open came
   Failed : (title : Title) → Happening
   TimedOut : (title : Title) → Happening
   Stranger : (title : Title) → Happening
-  -- a message isn't sent, or isn't stored: for the state of its end, denied by the peer, the spool being full, for its
-  -- length, and for want of room among those that are open
+  -- a message isn't sent, or isn't stored: for the state of its end, for want of the peer's grant, the spool being
+  -- full, for its length, and for want of room among those that are open
   Dropped : (name : Name) → Happening
   Denied : (name : Name) → Happening
   Discarded : (name : Name) → Happening

@@ -99,7 +99,7 @@ printed_note what = Some (note_of what)
 abbrev pub note_line : ℕ → Side → Note → List ℕ
 note_line moment side note = head_text moment side ++ note.text ++ codes "\n"
 
--- a frame's number; nothing stands for a character of no frame
+-- a frame's number, and `-` for a character of no frame
 abbrev pub frame_text : Option ℕ → List ℕ
 frame_text None = codes "-"
 frame_text (Some frame) = decimal frame

@@ -266,7 +266,7 @@ pub fn failed_note(alloc: Global, title: Title) -> Result<Note, NoMemory>
     title_note(alloc, b"failed ", title)
 }
 
-/// A primary whose reply hasn't come within T3.
+/// A primary whose reply hasn't come within T3, or had begun and was given up.
 pub fn timed_out_note(alloc: Global, title: Title) -> Result<Note, NoMemory>
     ensures { IfOk result (λ note. note ≡ note_of (TimedOut title)) }
 {
@@ -287,7 +287,7 @@ pub fn dropped_note(alloc: Global, name: Name) -> Result<Note, NoMemory>
     name_note(alloc, b"dropped ", name)
 }
 
-/// A message that the peer doesn't let go out.
+/// A message that the peer doesn't let go out: it refused, or gave no answer.
 pub fn denied_note(alloc: Global, name: Name) -> Result<Note, NoMemory>
     ensures { IfOk result (λ note. note ≡ note_of (Denied name)) }
 {

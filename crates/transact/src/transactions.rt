@@ -102,8 +102,8 @@ impl<K: Copy> Transactions<K> {
         }
     }
 
-    /// The last block of the primary with these system bytes was sent at this moment, and T3 runs from then on, also
-    /// where it ran before. `true` exactly where the transaction is open; else nothing changes. Moments are in
+    /// The other end acknowledged, at this moment, the last block of the primary with these system bytes, and T3 runs
+    /// from then on, also where it ran before. `true` exactly where the transaction is open; else nothing changes. Moments are in
     /// milliseconds.
     pub fn sent(&mut self, system: u32, now: u64) -> bool
         requires { now < 2 ^ 62 }
