@@ -1,7 +1,6 @@
 -- One text put behind another.
 use Rattle.std.proofs.Common.{◌≡◌, ℕ, Bool, Option, List, ◌++◌, refl, sym, ap, subst, ◌∙◌, append_assoc, append-nil}
 use Rattle.std.specs.Prelude.{codes, decimal, length}
-use Rattle.hex.specs.Hex.{encode_upper}
 use Rattle.block_codec.specs.Block.{BlockView}
 use Rattle.gl_base.specs.Sending.{IsUnderWay, Passes}
 use Rattle.gl_base.specs.Sink.{SinkHealth}
@@ -15,12 +14,11 @@ use Rattle.line_show.specs.Lines.{block_head, block_lines, block_text, flow_head
 pub put_more : (old text more mid new : List ℕ) → mid ≡ old ++ text → new ≡ mid ++ more → new ≡ old ++ (text ++ more)
 put_more old text more mid new one two = two ∙ ap (λ (t : List ℕ). t ++ more) one ∙ append_assoc old text more
 
--- the same of digits of bytes
-pub put_digits : (old text bytes more mid new : List ℕ) → mid ≡ old ++ text → new ≡ mid ++ encode_upper bytes
-    → bytes ≡ more →
-    new ≡ old ++ (text ++ encode_upper more)
-put_digits old text bytes more mid new one two is =
-    put_more old text (encode_upper more) mid new one (two ∙ ap (λ (b : List ℕ). mid ++ encode_upper b) is)
+-- the same of a text that was made before
+pub put_made : (old text made more mid new : List ℕ) → mid ≡ old ++ text → new ≡ mid ++ made → made ≡ more
+    → new ≡ old ++ (text ++ more)
+put_made old text made more mid new one two is =
+    put_more old text more mid new one (two ∙ ap (λ (t : List ℕ). mid ++ t) is)
 
 -- the same of the digits of a number
 pub put_decimal : (old text mid new : List ℕ) (m n : ℕ) → mid ≡ old ++ text → new ≡ mid ++ decimal m → m ≡ n

@@ -15,9 +15,12 @@ use Rattle.line_show.specs.Messages.{flow_in, with_piece}
 use Rattle.line_show.specs.declared.capture.Piece.{Piece}
 use Rattle.line_show.specs.declared.capture.Piece.TheVariants.{Character, Framed}
 
--- from host to equipment, or the other way
-abbrev pub direction : Bool → List ℕ
-direction from_equipment = if from_equipment then codes "E>H" else codes "H>E"
+-- what follows the place in the line of a block, and in that of a message: from host to equipment, or the other way
+abbrev pub block_way : Bool → List ℕ
+block_way from_equipment = if from_equipment then codes " BLOCK E>H dev=" else codes " BLOCK H>E dev="
+
+abbrev pub message_way : Bool → List ℕ
+message_way from_equipment = if from_equipment then codes " MESSAGE E>H " else codes " MESSAGE H>E "
 
 -- the system bytes as eight digits
 abbrev pub system_of : ℕ → List ℕ
@@ -26,7 +29,7 @@ system_of system = encode_upper (to_be_bytes w32 system)
 -- place, direction, device, name, block number, system bytes, and how many bytes the body has
 abbrev pub block_text : ℕ → Header → ℕ → List ℕ
 block_text place header size =
-    decimal place ++ codes " BLOCK " ++ direction header.from_equipment ++ codes " dev=" ++ decimal header.device
+    decimal place ++ block_way header.from_equipment ++ decimal header.device
     ++ codes " " ++ name_of header.stream header.function header.wait ++ codes " n=" ++ decimal header.number
     ++ flag header.last (codes " E") ++ codes " sys=" ++ system_of header.system
     ++ codes " bytes=" ++ decimal size ++ codes "\n"
@@ -34,8 +37,8 @@ block_text place header size =
 -- place, direction, name and system bytes of a message
 abbrev pub message_head : ℕ → Bool → Message → List ℕ
 message_head place from_equipment message =
-    decimal place ++ codes " MESSAGE " ++ direction from_equipment ++ codes " "
-    ++ name_of message.stream message.function message.wait ++ codes " sys=" ++ system_of message.system ++ codes " "
+    decimal place ++ message_way from_equipment ++ name_of message.stream message.function message.wait
+    ++ codes " sys=" ++ system_of message.system ++ codes " "
 
 -- a message, at the place of its last block
 abbrev pub message_text : ℕ → Bool → Message → List ℕ

@@ -17,7 +17,8 @@ pub record WroteFirst (out : SinkTold) (pieces : List Piece) : Type 0 where
   pub whole : pieces ≡ first ++ rest
   pub wrote : WroteText out (lines_of first)
 
--- all lines and the ending; or the lines of some pieces, each of them whole, where memory ran out; or a part of the text
+-- all lines and the ending; or the lines of some pieces, each of them whole, where memory ran out; or a part of the
+-- text
 abbrev pub ShowsPieces : SinkTold → List Piece → Ending → Result Ending Stop → Type 0
 ShowsPieces out pieces ending (Ok found) = (found ≡ ending) × WroteText out (lines_of pieces)
 ShowsPieces out pieces ending (Err NoMemory) = WroteFirst out pieces

@@ -1,12 +1,12 @@
 ghost use Rattle.std.specs.Prelude.{◌≡◌, ◌+◌, ◌++◌, ◌≤◌, length, decimal};
 ghost use Rattle.arrayvec.specs.ArrayVec.{array_vec_len};
 ghost use Rattle.line_show.specs.Capture.{is_character};
-ghost use Rattle.line_show.specs.Lines.{block_head, block_text, character_name, character_text, direction, flow_head, message_head};
+ghost use Rattle.line_show.specs.Lines.{block_head, block_text, block_way, character_name, character_text, flow_head, message_head, message_way};
 
 use arrayvec::ArrayVec;
 use block_codec::{ACK, Block, ENQ, EOT, Header};
 use message_flow::{Flow, Message};
-use short_text::{put, put_flag, put_hex, put_name, put_number};
+use short_text::{hex_word, put, put_flag, put_name, put_number};
 
 /// Room for one line of text, but for a message's text.
 pub type Line = ArrayVec<u8, 256>;
@@ -39,9 +39,7 @@ fn put_block_line<const N: usize>(
     ensures len { array_vec_len line.new ≤ array_vec_len line.old + 256 }
 {
     put_number(line, place as u64);
-    put(line, b" BLOCK ");
-    put_direction(line, header.from_equipment);
-    put(line, b" dev=");
+    put_block_way(line, header.from_equipment);
     put_number(line, u64::from(header.device));
     put(line, b" ");
     put_name(line, header.stream, header.function, header.wait);
@@ -49,7 +47,7 @@ fn put_block_line<const N: usize>(
     put_number(line, u64::from(header.number));
     put_flag(line, header.last, b" E");
     put(line, b" sys=");
-    put_hex(line, &header.system.to_be_bytes());
+    put(line, &hex_word(header.system));
     put(line, b" bytes=");
     put_number(line, size as u64);
     put(line, b"\n");
@@ -86,12 +84,10 @@ fn put_message_head<const N: usize>(
     ensures { line.new.items ≡ line.old.items ++ message_head place from_equipment message.now }
 {
     put_number(line, place as u64);
-    put(line, b" MESSAGE ");
-    put_direction(line, from_equipment);
-    put(line, b" ");
+    put_message_way(line, from_equipment);
     put_name(line, message.stream, message.function, message.wait);
     put(line, b" sys=");
-    put_hex(line, &message.system.to_be_bytes());
+    put(line, &hex_word(message.system));
     put(line, b" ");
 }
 
@@ -119,11 +115,34 @@ fn put_place<const N: usize>(line: &mut ArrayVec<u8, N>, place: usize, words: &[
     put(line, words);
 }
 
-// Puts where a block goes from and to.
-fn put_direction<const N: usize>(line: &mut ArrayVec<u8, N>, from_equipment: bool)
-    requires { array_vec_len line.old + 3 ≤ N }
-    ensures items { line.new.items ≡ line.old.items ++ direction from_equipment }
-    ensures len { array_vec_len line.new ≡ array_vec_len line.old + 3 }
+// Puts what follows the place in the line of a block, up to the device.
+fn put_block_way<const N: usize>(line: &mut ArrayVec<u8, N>, from_equipment: bool)
+    requires { array_vec_len line.old + 15 ≤ N }
+    ensures items { line.new.items ≡ line.old.items ++ block_way from_equipment }
+    ensures len { array_vec_len line.new ≡ array_vec_len line.old + 15 }
 {
-    put(line, if from_equipment { b"E>H" } else { b"H>E" });
+    put(
+        line,
+        if from_equipment {
+            b" BLOCK E>H dev="
+        } else {
+            b" BLOCK H>E dev="
+        },
+    );
+}
+
+// Puts what follows the place in the line of a message, up to its name.
+fn put_message_way<const N: usize>(line: &mut ArrayVec<u8, N>, from_equipment: bool)
+    requires { array_vec_len line.old + 13 ≤ N }
+    ensures items { line.new.items ≡ line.old.items ++ message_way from_equipment }
+    ensures len { array_vec_len line.new ≡ array_vec_len line.old + 13 }
+{
+    put(
+        line,
+        if from_equipment {
+            b" MESSAGE E>H "
+        } else {
+            b" MESSAGE H>E "
+        },
+    );
 }

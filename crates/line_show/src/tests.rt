@@ -17,7 +17,11 @@ const CASES: [Case; 11] = [
             0x05, 0x04, 0x10, 0x00, 0x00, 0x86, 0x13, 0x80, 0x01, 0x00, 0x00, 0x00, 0x02, 0xb1,
             0x04, 0x00, 0x00, 0x00, 0x05, 0x01, 0xd6, 0x06,
         ],
-        lines: "0 ENQ\n1 EOT\n2 BLOCK H>E dev=0 S6F19 W n=1 E sys=00000002 bytes=6\n2 MESSAGE H>E S6F19 W sys=00000002 <U4 5>\n21 ACK\n",
+        lines: "0 ENQ\n\
+            1 EOT\n\
+            2 BLOCK H>E dev=0 S6F19 W n=1 E sys=00000002 bytes=6\n\
+            2 MESSAGE H>E S6F19 W sys=00000002 <U4 5>\n\
+            21 ACK\n",
         ending: Ending::Whole,
     },
     Case {
@@ -31,7 +35,10 @@ const CASES: [Case; 11] = [
             0x0a, 0x00, 0x00, 0x81, 0x01, 0x80, 0x01, 0x00, 0x00, 0x00, 0x01, 0x01, 0x04, 0x0a,
             0x00, 0x00, 0x81, 0x01, 0x80, 0x01, 0x00, 0x00, 0x00, 0x01, 0x01, 0x04,
         ],
-        lines: "0 BLOCK H>E dev=0 S1F1 W n=1 E sys=00000001 bytes=0\n0 MESSAGE H>E S1F1 W sys=00000001 -\n13 BLOCK H>E dev=0 S1F1 W n=1 E sys=00000001 bytes=0\n13 duplicate\n",
+        lines: "0 BLOCK H>E dev=0 S1F1 W n=1 E sys=00000001 bytes=0\n\
+            0 MESSAGE H>E S1F1 W sys=00000001 -\n\
+            13 BLOCK H>E dev=0 S1F1 W n=1 E sys=00000001 bytes=0\n\
+            13 duplicate\n",
         ending: Ending::Whole,
     },
     // a body with a fault
@@ -40,7 +47,8 @@ const CASES: [Case; 11] = [
             0x0d, 0x00, 0x00, 0x81, 0x01, 0x80, 0x01, 0x00, 0x00, 0x00, 0x01, 0x41, 0x02, 0x41,
             0x01, 0x88,
         ],
-        lines: "0 BLOCK H>E dev=0 S1F1 W n=1 E sys=00000001 bytes=3\n0 MESSAGE H>E S1F1 W sys=00000001 bad Short at 3\n",
+        lines: "0 BLOCK H>E dev=0 S1F1 W n=1 E sys=00000001 bytes=3\n\
+            0 MESSAGE H>E S1F1 W sys=00000001 bad Short at 3\n",
         ending: Ending::Whole,
     },
     // blocks of both directions by turns
@@ -51,7 +59,11 @@ const CASES: [Case; 11] = [
             0x01, 0x1c, 0x0d, 0x81, 0x02, 0x86, 0x0b, 0x80, 0x02, 0x00, 0x00, 0x00, 0x07, 0x6c,
             0x6c, 0x6f, 0x02, 0xe4,
         ],
-        lines: "0 BLOCK E>H dev=258 S6F11 W n=1 sys=00000007 bytes=4\n17 BLOCK H>E dev=258 S6F11 W n=1 E sys=00000007 bytes=0\n17 MESSAGE H>E S6F11 W sys=00000007 -\n30 BLOCK E>H dev=258 S6F11 W n=2 E sys=00000007 bytes=3\n30 MESSAGE E>H S6F11 W sys=00000007 <A \"hello\">\n",
+        lines: "0 BLOCK E>H dev=258 S6F11 W n=1 sys=00000007 bytes=4\n\
+            17 BLOCK H>E dev=258 S6F11 W n=1 E sys=00000007 bytes=0\n\
+            17 MESSAGE H>E S6F11 W sys=00000007 -\n\
+            30 BLOCK E>H dev=258 S6F11 W n=2 E sys=00000007 bytes=3\n\
+            30 MESSAGE E>H S6F11 W sys=00000007 <A \"hello\">\n",
         ending: Ending::Whole,
     },
     // a block that does not follow
@@ -73,7 +85,8 @@ const CASES: [Case; 11] = [
             0x15, 0x00, 0x00, 0x01, 0x03, 0x80, 0x01, 0x00, 0x00, 0x00, 0x01, 0x21, 0x09, 0x01,
             0x02, 0x03, 0x04, 0x05, 0x06, 0x07, 0x08, 0x09, 0x00, 0xdd,
         ],
-        lines: "0 BLOCK H>E dev=0 S1F3 n=1 E sys=00000001 bytes=11\n0 MESSAGE H>E S1F3 sys=00000001 <B 01 02 03 04 05 06 07 08 09>\n",
+        lines: "0 BLOCK H>E dev=0 S1F3 n=1 E sys=00000001 bytes=11\n\
+            0 MESSAGE H>E S1F3 sys=00000001 <B 01 02 03 04 05 06 07 08 09>\n",
         ending: Ending::Whole,
     },
     Case {

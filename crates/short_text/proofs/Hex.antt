@@ -1,5 +1,5 @@
 -- Hex digits, byte by byte.
-use Rattle.std.proofs.Common.{◌≡◌, ℕ, ◌+◌, ◌/◌, ◌%◌, ◌<◌, ◌≤◌, List, [], ◌∷◌, ◌++◌, length, drop, get_or, refl, sym, ap, ◌∙◌, append_assoc, add-one, append-nil, drop-cons}
+use Rattle.std.proofs.Common.{◌≡◌, ℕ, ◌+◌, ◌/◌, ◌%◌, ◌<◌, ◌≤◌, slice_index, slice_index_or, List, [], ◌∷◌, ◌++◌, length, drop, get_or, refl, sym, ap, ◌∙◌, append_assoc, add-one, append-nil, drop-cons}
 use Rattle.std.proofs.lemmas.List.{drop_all}
 use Rattle.std.specs.List.{flat_map}
 use Rattle.hex.specs.Hex.{encode_upper, encode_with, upper_digits}
@@ -41,3 +41,24 @@ pub each_in_hex : (bytes : List ℕ) → flat_map hex_byte bytes ≡ encode_uppe
 unfolding encode_with
 each_in_hex [] = refl
 each_in_hex (byte ∷ bytes) = ap (λ (rest : List ℕ). hex_byte byte ++ rest) (each_in_hex bytes)
+
+same_cons : {x y : ℕ} {xs ys : List ℕ} → x ≡ y → xs ≡ ys → x ∷ xs ≡ y ∷ ys
+same_cons {x} {y} {xs} {ys} first others = ap (λ (h : ℕ). h ∷ xs) first ∙ ap (λ (t : List ℕ). y ∷ t) others
+
+-- the digits of four bytes
+pub word_digits : (a b c d : ℕ) (bytes : List ℕ) {p q r s t u v w : ℕ} → bytes ≡ a ∷ b ∷ c ∷ d ∷ []
+    → p ≡ slice_index upper_digits (slice_index_or bytes 0 0 / 16) → q ≡ slice_index upper_digits (slice_index_or bytes 0 0 % 16)
+    → r ≡ slice_index upper_digits (slice_index_or bytes 1 0 / 16) → s ≡ slice_index upper_digits (slice_index_or bytes 1 0 % 16)
+    → t ≡ slice_index upper_digits (slice_index_or bytes 2 0 / 16) → u ≡ slice_index upper_digits (slice_index_or bytes 2 0 % 16)
+    → v ≡ slice_index upper_digits (slice_index_or bytes 3 0 / 16) → w ≡ slice_index upper_digits (slice_index_or bytes 3 0 % 16)
+    → p ∷ q ∷ r ∷ s ∷ t ∷ u ∷ v ∷ w ∷ [] ≡ encode_upper (a ∷ b ∷ c ∷ d ∷ [])
+word_digits a b c d bytes is p q r s t u v w =
+    let high : (i : ℕ) → slice_index upper_digits (slice_index_or bytes i 0 / 16)
+    ≡ slice_index upper_digits (slice_index_or (a ∷ b ∷ c ∷ d ∷ []) i 0 / 16) =
+    λ i. ap (λ (bs : List ℕ). slice_index upper_digits (slice_index_or bs i 0 / 16)) is in
+    let low : (i : ℕ) → slice_index upper_digits (slice_index_or bytes i 0 % 16)
+    ≡ slice_index upper_digits (slice_index_or (a ∷ b ∷ c ∷ d ∷ []) i 0 % 16) =
+    λ i. ap (λ (bs : List ℕ). slice_index upper_digits (slice_index_or bs i 0 % 16)) is in
+    same_cons (p ∙ high 0) (same_cons (q ∙ low 0) (same_cons (r ∙ high 1) (same_cons (s ∙ low 1)
+    (same_cons (t ∙ high 2) (same_cons (u ∙ low 2) (same_cons (v ∙ high 3) (same_cons (w ∙ low 3) refl)))))))
+    ∙ each_in_hex (a ∷ b ∷ c ∷ d ∷ [])

@@ -2,6 +2,7 @@
 #![tactic(auto)]
 
 ghost use Rattle.std.specs.Prelude.{◌≡◌, ◌+◌, ◌*◌, ◌++◌, ◌<◌, ◌≤◌, decimal, length, slice_index, IfSome};
+ghost use Rattle.std.specs.Int.{to_be_bytes, w32};
 ghost use Rattle.arrayvec.specs.ArrayVec.{array_vec_len};
 ghost use Rattle.hex.specs.Hex.{encode_upper, hex_digit_value, upper_digits};
 ghost use Rattle.short_text.specs.Name.{flag, name_of};
@@ -66,6 +67,23 @@ pub fn put_hex<const N: usize>(line: &mut ArrayVec<u8, N>, bytes: &[u8])
         line.push(hex_digit(byte / 16));
         line.push(hex_digit(byte % 16));
     }
+}
+
+/// A number of four bytes as eight upper-case hex digits.
+pub fn hex_word(word: u32) -> [u8; 8]
+    ensures { result ≡ encode_upper (to_be_bytes w32 word) }
+{
+    let [a, b, c, d] = word.to_be_bytes();
+    [
+        hex_digit(a / 16),
+        hex_digit(a % 16),
+        hex_digit(b / 16),
+        hex_digit(b % 16),
+        hex_digit(c / 16),
+        hex_digit(c % 16),
+        hex_digit(d / 16),
+        hex_digit(d % 16),
+    ]
 }
 
 /// A byte as two upper-case hex digits.

@@ -44,6 +44,7 @@ fn puts_bytes_in_hex(rt: HostRuntime) -> Result<(), Fail> {
     let mut line = Line::new();
     put_hex(&mut line, &[0x00, 0x1f, 0xa9]);
     assert!(rt; line.as_slice() == b"001FA9".as_slice());
+    assert!(rt; &hex_word(0x0123_89EF) == b"012389EF");
     Ok(())
 }
 
