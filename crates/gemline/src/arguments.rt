@@ -84,7 +84,6 @@ fn refusal_of(error: &io::Error) -> Outcome
 mod tests {
     use super::*;
     use gl_base::{MemFiles, MemSink, MemSource, Row};
-    use std::test::Fail;
 
     /// Words that a system gives, the program's name in front.
     fn arguments_of(alloc: Global, words: &[&str]) -> Result<Args, NoMemory> {
@@ -95,32 +94,63 @@ mod tests {
         Ok(all.into_iter())
     }
 
-    /// Whether a run over these arguments ends so, without a file or a byte of input.
-    fn ends_so(
+    /// The status of a run over these arguments, without a file or a byte of input.
+    fn status_of(
         alloc: Global,
         arguments: io::Result<Args>,
-        wanted: u8,
-        line: &str,
-    ) -> Result<bool, NoMemory> {
+        out: &mut MemSink,
+        err: &mut MemSink,
+    ) -> ExitCode {
         let mut files = MemFiles::new(Row::new(alloc));
         let mut input = MemSource::new(Row::new(alloc));
-        let mut out = MemSink::new(alloc, 100)?;
-        let mut err = MemSink::new(alloc, 100)?;
-        let code = run_arguments(alloc, arguments, &mut files, &mut input, &mut out, &mut err);
-        Ok(code == ExitCode::from(wanted) && err.bytes() == line.as_bytes())
+        run_arguments(alloc, arguments, &mut files, &mut input, out, err)
+    }
+
+    /// Whether such a run ends with this status and this line.
+    fn tells(
+        alloc: Global,
+        arguments: io::Result<Args>,
+        out: &mut MemSink,
+        wanted: u8,
+        line: &[u8],
+    ) -> bool {
+        match MemSink::new(alloc, 100) {
+            Ok(mut err) => {
+                status_of(alloc, arguments, out, &mut err) == ExitCode::from(wanted)
+                    && err.bytes() == line
+            }
+            Err(_) => false,
+        }
+    }
+
+    fn ends_so(alloc: Global, arguments: io::Result<Args>, wanted: u8, line: &[u8]) -> bool {
+        match MemSink::new(alloc, 100) {
+            Ok(mut out) => tells(alloc, arguments, &mut out, wanted, line),
+            Err(_) => false,
+        }
+    }
+
+    fn words_end_so(alloc: Global, words: &[&str], wanted: u8, line: &[u8]) -> bool {
+        match arguments_of(alloc, words) {
+            Ok(arguments) => ends_so(alloc, Ok(arguments), wanted, line),
+            Err(_) => false,
+        }
     }
 
     #[test]
-    fn takes_the_words_behind_the_name(rt: HostRuntime) -> Result<(), Fail> {
+    fn takes_the_words_behind_the_name(rt: HostRuntime) {
         let alloc = rt.alloc();
-        let show = arguments_of(alloc, &["gemline", "show"])?;
-        assert!(rt; ends_so(alloc, Ok(show), 0, "")?);
-        let replay = arguments_of(alloc, &["gemline", "replay", "plan", "schedule"])?;
-        assert!(rt; ends_so(alloc, Ok(replay), 66, "gemline: 66 file plan\n")?);
+        let replay = ["gemline", "replay", "plan", "schedule"];
+        assert!(rt; words_end_so(alloc, &["gemline", "show"], 0, b""));
+        assert!(rt; words_end_so(alloc, &replay, 66, b"gemline: 66 file plan\n"));
+    }
+
+    #[test]
+    fn names_why_there_are_no_words(rt: HostRuntime) {
+        let alloc = rt.alloc();
         let no_text = io::Error::from(io::ErrorKind::InvalidData);
-        assert!(rt; ends_so(alloc, Err(no_text), 64, "gemline: 64 usage\n")?);
+        assert!(rt; ends_so(alloc, Err(no_text), 64, b"gemline: 64 usage\n"));
         let no_memory = io::Error::from(io::ErrorKind::OutOfMemory);
-        assert!(rt; ends_so(alloc, Err(no_memory), 71, "gemline: 71 memory\n")?);
-        Ok(())
+        assert!(rt; ends_so(alloc, Err(no_memory), 71, b"gemline: 71 memory\n"));
     }
 }
