@@ -1,9 +1,9 @@
 -- What the calls of a disk in memory count.
-use Rattle.std.proofs.Common.{◌≡◌, ℕ, ◌+◌, ◌-◌, ◌^◌, ◌<◌, ◌≤◌, Bool, true, false, ◌&&◌, ◌||◌, ◌==◌, not, nat_le, nat_lt, [], ◌∷◌, ◌++◌, length, length-append, if◌then◌else◌, refl, sym, ap, subst, arith}
+use Rattle.std.proofs.Common.{◌≡◌, ℕ, ◌+◌, ◌-◌, ◌^◌, ◌<◌, ◌≤◌, ◌⊎◌, inl, inr, ◌∙◌, Bool, true, false, ◌&&◌, ◌||◌, ◌==◌, not, nat_le, nat_lt, [], ◌∷◌, ◌++◌, length, length-append, if◌then◌else◌, refl, sym, ap, subst, arith}
 use Rattle.std.proofs.lemmas.Bool.Decides.{nat_tests}
 use Rattle.disk_base.specs.Calls.{DiskCall}
 use Rattle.disk_base.specs.Faults.{HasCause, Rose, one_more}
-use Rattle.disk_base.specs.MemDisk.{DiskState, after_call, after_entry, after_refusal, answer_to, disk_health, faults_after, is_full}
+use Rattle.disk_base.specs.MemDisk.{DiskState, after_call, after_entry, after_refusal, answer_of, disk_health, faults_after, is_full}
 use Rattle.disk_base.specs.Plan.{is_safe, next_answer, next_plan}
 use Rattle.disk_base.specs.declared.disk.DiskAnswer.{DiskAnswer}
 use Rattle.disk_base.specs.declared.disk.DiskAnswer.TheVariants.{Done, Failed}
@@ -37,26 +37,49 @@ never true n Done good is sure = grind (arith, is)
 never true n Failed good is sure = grind (arith, good refl)
 never false n answer good is sure = omega (arith, sure)
 
+-- one that does was planned to, or something else was lacking
+why : (planned : DiskAnswer) (safe : Bool) (n : ℕ) (Lacking : Type 0) → (safe ≡ true → planned ≡ Done) → (planned ≡ Failed) ⊎ Lacking →
+    1 ≤ (if safe then n else 0) → Lacking
+why planned safe n Lacking good (inl is) sure = absurd (never safe n planned good is sure)
+why planned safe n Lacking good (inr lacking) sure = lacking
+
+-- a call that is done leaves the disk as it was, stopped or not
+going_on : (fail stop : ℕ) (stopped : Bool) → (if stopped || (fail == 1 || stop == 1) then Failed else Done) ≡ Done → (stopped || stop == 1) ≡ stopped
+going_on fail stop true is = refl
+going_on fail stop false is = by_stop (fail == 1) (stop == 1) is where
+  by_stop : (a b : Bool) → (if a || b then Failed else Done) ≡ Done → b ≡ false
+  by_stop a false is = refl
+  by_stop true true is = absurd (grind (arith, is))
+  by_stop false true is = absurd (grind (arith, is))
+
 module _ (s : DiskState) (call : DiskCall) (Lacking : Type 0) (below : s.faults < 2 ^ 64)
-    (lacking : s.room - s.used < length call.bytes → Lacking) where
-  go : (full : Bool) (answer : DiskAnswer) → is_full (length call.bytes) s ≡ full → next_answer s.plan ≡ answer → call.answer ≡ answer →
+    (lacking : s.room - s.used < length call.bytes → Lacking) (done : call.answer ≡ Done → next_answer s.plan ≡ Done)
+    (failed : call.answer ≡ Failed → (next_answer s.plan ≡ Failed) ⊎ Lacking) where
+  go : (full : Bool) (answer : DiskAnswer) → is_full (length call.bytes) s ≡ full → call.answer ≡ answer →
       HasCause (disk_health s) (disk_health (if full then after_refusal s else after_entry call s)) 1 (length call.bytes) Lacking (if full then Failed else answer)
-  go true answer full is answered = record {
+  go true answer full answered = record {
     rose = rose s.faults below;
     lacking = λ sure. lacking (crowded_of (is_safe s.plan) s.most (length s.calls) (s.room - s.used) (length call.bytes) sure full);
   }
-  go false Done full is answered = record {
+  go false Done full answered = record {
     same = ap (λ answer. faults_after answer s.faults) answered;
     calls_left = used_up (is_safe s.plan) (is_safe (next_plan s.plan)) s.most (length s.calls) (length (s.calls ++ call ∷ []))
         (safe_next s.plan.fail_in s.plan.stop_in s.plan.stopped) (length-append s.calls (call ∷ []));
     room_left = omega arith;
+    going = going_on s.plan.fail_in s.plan.stop_in s.plan.stopped (done answered);
   }
-  go false Failed full is answered = record {
+  go false Failed full answered = record {
     rose = subst (λ answer. Rose s.faults (faults_after answer s.faults)) (sym answered) (rose s.faults below);
-    lacking = λ sure. absurd (never (is_safe s.plan) (s.most - length s.calls) (next_answer s.plan)
-        (λ safe. ap (λ (b : Bool). if b then Failed else Done) (safe_answer s.plan.fail_in s.plan.stop_in s.plan.stopped safe)) is sure);
+    lacking = λ sure. why (next_answer s.plan) (is_safe s.plan) (s.most - length s.calls) Lacking
+        (λ safe. ap (λ (b : Bool). if b then Failed else Done) (safe_answer s.plan.fail_in s.plan.stop_in s.plan.stopped safe)) (failed answered) sure;
   }
 
-  pub cause : call.answer ≡ next_answer s.plan →
-      HasCause (disk_health s) (disk_health (after_call call s)) 1 (length call.bytes) Lacking (answer_to (length call.bytes) s)
-  cause answered = go (is_full (length call.bytes) s) (next_answer s.plan) refl refl answered
+  pub cause_of : HasCause (disk_health s) (disk_health (after_call call s)) 1 (length call.bytes) Lacking (answer_of call s)
+  cause_of = go (is_full (length call.bytes) s) call.answer refl refl
+
+-- a call that answers as planned
+pub cause : (s : DiskState) (call : DiskCall) (Lacking : Type 0) → s.faults < 2 ^ 64 → (s.room - s.used < length call.bytes → Lacking) →
+    call.answer ≡ next_answer s.plan →
+    HasCause (disk_health s) (disk_health (after_call call s)) 1 (length call.bytes) Lacking (answer_of call s)
+cause s call Lacking below lacking answered =
+    cause_of s call Lacking below lacking (λ is. sym answered ∙ is) (λ is. inl (sym answered ∙ is))

@@ -3,10 +3,13 @@ use Rattle.std.proofs.Common.{◌≡◌, ℕ, ◌+◌, ◌-◌, ◌≤◌, Bool,
 use Rattle.std.proofs.lemmas.List.{take_all, take-append-le}
 use Rattle.disk_base.specs.Calls.{DiskCall}
 use Rattle.disk_base.specs.Kept.{IsMemDisk, IsSettled, disk_state, effective_calls}
-use Rattle.disk_base.specs.Log.{AreLogged, bytes_under, call_of, calls_of, next_story, settled_count, story_of}
-use Rattle.disk_base.specs.MemDisk.{DiskState, answer_to, after_call, after_entry, after_refusal, faults_after, is_full}
+use Rattle.disk_base.specs.Log.{AreLogged, bytes_under, call_of, calls_of, settled_count, story_of}
+use Rattle.disk_base.specs.Listed.{next_story}
+use Rattle.disk_base.specs.MemDisk.{DiskState, answer_due, answer_planned, disk_size, after_call, after_entry, after_refusal, faults_after, is_full}
 use Rattle.disk_base.specs.Plan.{next_answer, next_plan}
 use Rattle.disk_base.specs.Story.{Story}
+use Rattle.disk_base.specs.declared.disk.CallKind.{CallKind}
+use Rattle.disk_base.specs.declared.disk.DiskAnswer.{DiskAnswer}
 use Rattle.disk_base.specs.declared.disk.DiskAnswer.TheVariants.{Failed}
 use Rattle.disk_base.specs.declared.fault_plan.FaultPlan.{FaultPlan}
 use Rattle.disk_base.specs.declared.log.LoggedCall.{LoggedCall}
@@ -175,6 +178,15 @@ module _ (d d' : Inside) (entry : LoggedCall) (bytes : List ℕ) (is : IsMemDisk
           (settled_on d.base.items d.bytes.items (effective_calls d) d.synced (call_of entry bytes) is.settled))));
     }
 
+-- what a call answers for which the list has room
+pub due_is : (d : Inside) (kind : CallKind) (size held : ℕ) (planned answer : DiskAnswer) → IsMemDisk d → held ≡ length d.bytes.items →
+    planned ≡ next_answer d.plan → answer ≡ answer_planned kind size held planned → answer ≡ answer_due kind size (disk_state d)
+due_is d kind size held planned answer is held_is planned_is judged =
+    judged
+    ∙ ap (λ (n : ℕ). answer_planned kind size n planned) (held_is ∙ sym (ap length is.settled.bytes))
+    ∙ ap (λ (a : DiskAnswer). answer_planned kind size (disk_size (disk_state d)) a) planned_is
+
 -- what a call answers, by what is counted
-pub answers : (d : Inside) (n : ℕ) (full : Bool) → is_full n (disk_state d) ≡ full → answer_to n (disk_state d) ≡ (if full then Failed else next_answer d.plan)
-answers d n full is = ap (λ (b : Bool). if b then Failed else next_answer d.plan) is
+pub answers : (d : Inside) (n : ℕ) (due : DiskAnswer) (full : Bool) → is_full n (disk_state d) ≡ full →
+    (if is_full n (disk_state d) then Failed else due) ≡ (if full then Failed else due)
+answers d n due full is = ap (λ (b : Bool). if b then Failed else due) is

@@ -5,7 +5,8 @@ use Rattle.std.proofs.lemmas.List.Sums.{fold-append}
 use Rattle.disk_base.specs.Calls.{DiskCall}
 use Rattle.disk_base.specs.Cut.{settled_bytes}
 use Rattle.disk_base.specs.Kept.{IsSettled}
-use Rattle.disk_base.specs.Log.{bytes_after, bytes_under, loose_after, loose_under, next_story, settled_count, story_of, story_under}
+use Rattle.disk_base.specs.Log.{bytes_after, bytes_under, loose_after, loose_under, settled_count, story_of}
+use Rattle.disk_base.specs.Listed.{next_story, story_under}
 use Rattle.disk_base.specs.Story.{Story, settled_story, with_sync}
 use Rattle.disk_base.specs.declared.disk.CallKind.{CallKind}
 use Rattle.disk_base.specs.declared.disk.CallKind.TheVariants.{Attach, Read, Write, Sync}

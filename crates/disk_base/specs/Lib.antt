@@ -4,6 +4,7 @@ pub mod Disk
 pub mod Faults
 pub mod Images
 pub mod Kept
+pub mod Listed
 pub mod Log
 pub mod MemDisk
 pub mod Plan

@@ -1,7 +1,8 @@
 -- The log of a disk in memory, and what its calls come to (this profile).
 use Rattle.std.specs.Prelude.{◌≡◌, ℕ, ◌+◌, ◌≤◌, List, [], ◌∷◌, length, take, drop, fold}
-use Rattle.disk_base.specs.Story.{Story, settled_story, with_part, with_sync, with_write}
+use Rattle.disk_base.specs.Story.{Story, settled_story, with_part}
 use Rattle.disk_base.specs.Calls.{DiskCall}
+use Rattle.disk_base.specs.Listed.{next_story}
 use Rattle.disk_base.specs.declared.disk.CallKind.{CallKind}
 use Rattle.disk_base.specs.declared.disk.CallKind.TheVariants.{Attach, Read, Write, Sync}
 use Rattle.disk_base.specs.declared.disk.DiskAnswer.{DiskAnswer}
@@ -64,20 +65,6 @@ loose_after loose call = loose_under call.kind call.at (length call.bytes) loose
 -- the same of a logged call
 abbrev pub loose_behind : List (ℕ × ℕ) → LoggedCall → List (ℕ × ℕ)
 loose_behind loose entry = loose_under entry.kind entry.at entry.count loose
-
-abbrev pub story_if_done : DiskAnswer → Story → Story
-story_if_done Done story = with_sync story
-story_if_done Failed story = story
-
--- a write changes bytes also where it fails, and a sync settles them where it is done
-abbrev pub story_under : CallKind → DiskAnswer → ℕ → List ℕ → Story → Story
-story_under Write answer at bytes story = with_write at bytes story
-story_under Sync answer at bytes story = story_if_done answer story
-story_under Attach answer at bytes story = story
-story_under Read answer at bytes story = story
-
-abbrev pub next_story : Story → DiskCall → Story
-next_story story call = story_under call.kind call.answer call.at call.bytes story
 
 -- the story of these calls, on a disk that began with these bytes
 abbrev pub story_of : List ℕ → List DiskCall → Story

@@ -3,10 +3,12 @@ use Rattle.std.specs.Prelude.{ℕ, ◌+◌, ◌-◌, Bool, ◌||◌, nat_le, nat
 use Rattle.disk_base.specs.Calls.{DiskCall, attach_call, read_call, sync_call, write_call}
 use Rattle.disk_base.specs.Cut.{image_of}
 use Rattle.disk_base.specs.Faults.{DiskHealth, one_more}
-use Rattle.disk_base.specs.Log.{next_story}
+use Rattle.disk_base.specs.Listed.{next_story}
 use Rattle.disk_base.specs.Plan.{is_safe, next_answer, next_plan, no_faults}
 use Rattle.disk_base.specs.Story.{Story, settled_story}
 use Rattle.disk_base.specs.declared.cut.CutChoice.{CutChoice}
+use Rattle.disk_base.specs.declared.disk.CallKind.{CallKind}
+use Rattle.disk_base.specs.declared.disk.CallKind.TheVariants.{Attach, Read, Write, Sync}
 use Rattle.disk_base.specs.declared.disk.DiskAnswer.{DiskAnswer}
 use Rattle.disk_base.specs.declared.disk.DiskAnswer.TheVariants.{Done, Failed}
 use Rattle.disk_base.specs.declared.fault_plan.FaultPlan.{FaultPlan}
@@ -43,15 +45,27 @@ disk_health s = record {
   faults = s.faults;
   calls = if is_safe s.plan then s.most - length s.calls else 0;
   room = s.room - s.used;
+  stopped = s.plan.stopped;
 }
 
 -- the list has no room for one more call that writes n bytes
 abbrev pub is_full : ℕ → DiskState → Bool
 is_full n s = nat_le s.most (length s.calls) || nat_lt (s.room - s.used) n
 
--- what a call that writes n bytes answers
-abbrev pub answer_to : ℕ → DiskState → DiskAnswer
-answer_to n s = if is_full n s then Failed else next_answer s.plan
+-- what a call answers for which the list has room: as planned, but an attaching fails that asks for more bytes than
+-- there are
+abbrev pub answer_planned : CallKind → ℕ → ℕ → DiskAnswer → DiskAnswer
+answer_planned Attach grow held planned = if nat_lt held grow then Failed else planned
+answer_planned Read size held planned = planned
+answer_planned Write size held planned = planned
+answer_planned Sync size held planned = planned
+
+abbrev pub answer_due : CallKind → ℕ → DiskState → DiskAnswer
+answer_due kind size s = answer_planned kind size (disk_size s) (next_answer s.plan)
+
+-- what a call answers that has this answer where the list has room
+abbrev pub answer_of : DiskCall → DiskState → DiskAnswer
+answer_of call s = if is_full (length call.bytes) s then Failed else call.answer
 
 -- a call that isn't in the list
 abbrev pub after_refusal : DiskState → DiskState
@@ -75,22 +89,27 @@ after_entry call s = record s {
 abbrev pub after_call : DiskCall → DiskState → DiskState
 after_call call s = if is_full (length call.bytes) s then after_refusal s else after_entry call s
 
--- an attaching fails also where it asks for more bytes than there are
-abbrev pub answer_to_attach : ℕ → DiskState → DiskAnswer
-answer_to_attach grow s = if nat_lt (disk_size s) grow then Failed else answer_to 0 s
+-- a call as it comes into the list
+abbrev pub call_due : CallKind → ℕ → ℕ → List ℕ → DiskState → DiskCall
+call_due kind at size bytes s = record {
+  kind = kind;
+  at = at;
+  size = size;
+  bytes = bytes;
+  answer = answer_due kind size s;
+}
 
-abbrev pub after_attach : ℕ → DiskState → DiskState
-after_attach grow s =
-    if nat_lt (disk_size s) grow then after_refusal s else after_call (attach_call grow (next_answer s.plan)) s
+abbrev pub next_attach : ℕ → DiskState → DiskCall
+next_attach grow s = attach_call grow (answer_due Attach grow s)
 
-abbrev pub after_read : ℕ → ℕ → DiskState → DiskState
-after_read at size s = after_call (read_call at size (next_answer s.plan)) s
+abbrev pub next_read : ℕ → ℕ → DiskState → DiskCall
+next_read at size s = read_call at size (next_answer s.plan)
 
-abbrev pub after_write : ℕ → List ℕ → DiskState → DiskState
-after_write at bytes s = after_call (write_call at bytes (next_answer s.plan)) s
+abbrev pub next_write : ℕ → List ℕ → DiskState → DiskCall
+next_write at bytes s = write_call at bytes (next_answer s.plan)
 
-abbrev pub after_sync : DiskState → DiskState
-after_sync s = after_call (sync_call (next_answer s.plan)) s
+abbrev pub next_sync : DiskState → DiskCall
+next_sync s = sync_call (next_answer s.plan)
 
 -- the disk after a crash, whose list has the same room
 abbrev pub after_cut : CutChoice → DiskState → DiskState

@@ -1,7 +1,7 @@
 -- What a crash at any moment of a stretch of time may leave on a disk (this profile).
 use Rattle.std.specs.Prelude.{◌≡◌, ℕ, List, [], ◌∷◌, ◌++◌, length, Option, Some}
 use Rattle.disk_base.specs.Images.{IsImage}
-use Rattle.disk_base.specs.Story.{Moment, Story, with_part}
+use Rattle.disk_base.specs.Story.{Moment, Story, bytes_at, with_part}
 
 -- whatever a crash at this moment leaves has P
 abbrev pub EachImage : (List ℕ → Type 0) → Moment → Type 0
@@ -23,6 +23,14 @@ pub record Through (old new : Story) (P : List ℕ → Type 0) : Type 0 where
 abbrev pub IsOver : List ℕ → ℕ → ℕ → List ℕ → Type 0
 IsOver bytes at long image = (part : List ℕ) × (length part ≡ long) × (image ≡ with_part bytes at part)
 
--- the story went on, and at every moment since a crash leaves the bytes with such a part
-abbrev pub SettlesThrough : Story → ℕ → ℕ → Option Story → Type 0
-SettlesThrough s at long after = (t : Story) × (after ≡ Some t) × Through s t (IsOver s.now.bytes at long)
+-- the same of so many bytes from a place on, where the part stands among them
+abbrev pub IsOverIn : List ℕ → ℕ → ℕ → ℕ → ℕ → List ℕ → Type 0
+IsOverIn bytes from size at long image = IsOver (bytes_at bytes from size) at long (bytes_at image from size)
+
+-- what a crash at a moment may leave, were one range more loose
+abbrev pub IsImageBut : Moment → ℕ → ℕ → List ℕ → Type 0
+IsImageBut moment at long image = IsImage (record { bytes = moment.bytes; loose = (at, long) ∷ moment.loose }) image
+
+-- the story went on, and at every moment since whatever a crash leaves has P
+abbrev pub GoesThrough : Story → Option Story → (List ℕ → Type 0) → Type 0
+GoesThrough s after P = (t : Story) × (after ≡ Some t) × Through s t P

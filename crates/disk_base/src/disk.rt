@@ -1,7 +1,8 @@
-ghost use Rattle.std.specs.Prelude.{◌≡◌, ◌+◌, ◌<◌, ◌≤◌, ℕ, List, Option, Some, length};
+ghost use Rattle.std.specs.Prelude.{◌≡◌, ◌+◌, ◌<◌, ◌≤◌, ℕ, false, List, Option, Some, length};
 ghost use Rattle.disk_base.specs.Calls.{DiskCall, Logs, attach_call, read_call, sync_call, write_call};
 ghost use Rattle.disk_base.specs.Disk.{Attaches, HasSize, Reads, Syncs, Writes};
 ghost use Rattle.disk_base.specs.Faults.{DiskHealth, HasCause};
+ghost use Rattle.disk_base.specs.Listed.{AsListed};
 ghost use Rattle.disk_base.specs.Story.{Story};
 
 /// What a call of a disk came to.
@@ -36,7 +37,8 @@ pub trait Disk {
 
     /// How many faults were counted, and for how many more calls and written bytes there is room without a fault for
     /// sure, 0 over a real file. The count rises by one where a call fails, and stands at every other call and at
-    /// 2^64 - 1.
+    /// 2^64 - 1. Whether the disk has stopped, which it does at a call that fails: then the list may have calls that
+    /// changed nothing. Until then each call that is listed has changed what its entry says, also one that failed.
     ghost health: { Self → DiskHealth };
 
     /// Which disk it is. No call changes it.
@@ -62,6 +64,8 @@ pub trait Disk {
         ensures told { told self.new ≡ told self.old }
         ensures size { size_is self.new ≡ size_is self.old }
         ensures calls { Logs (read_call at (length into.old)) (calls self.old) (calls self.new) result }
+        ensures listed { (health self.old).stopped ≡ false →
+            AsListed (told self.old) (calls self.old) (told self.new) (calls self.new) }
         ensures cause { HasCause (health self.old) (health self.new) 1 0 ⊥ result }
         ensures name { name self.new ≡ name self.old };
 
@@ -72,6 +76,8 @@ pub trait Disk {
         ensures told { Writes (told self.old) at bytes.now (told self.new) result }
         ensures size { size_is self.new ≡ size_is self.old }
         ensures calls { Logs (write_call at bytes.now) (calls self.old) (calls self.new) result }
+        ensures listed { (health self.old).stopped ≡ false →
+            AsListed (told self.old) (calls self.old) (told self.new) (calls self.new) }
         ensures cause { HasCause (health self.old) (health self.new) 1 (length bytes.now)
             ((health self.old).room < length bytes.now) result }
         ensures name { name self.new ≡ name self.old };
@@ -81,6 +87,8 @@ pub trait Disk {
         ensures told { Syncs (told self.old) (told self.new) result }
         ensures size { size_is self.new ≡ size_is self.old }
         ensures calls { Logs sync_call (calls self.old) (calls self.new) result }
+        ensures listed { (health self.old).stopped ≡ false →
+            AsListed (told self.old) (calls self.old) (told self.new) (calls self.new) }
         ensures cause { HasCause (health self.old) (health self.new) 1 0 ⊥ result }
         ensures name { name self.new ≡ name self.old };
 

@@ -5,11 +5,11 @@ ghost use Rattle.disk_base.specs.Cut.{marks_of, settled_bytes};
 ghost use Rattle.disk_base.specs.Disk.{Attaches, HasSize, Reads, Syncs, Writes};
 ghost use Rattle.disk_base.specs.Faults.{HasCause};
 ghost use Rattle.disk_base.specs.Images.{IsImage};
-ghost use Rattle.disk_base.specs.Log.{call_of};
-ghost use Rattle.disk_base.specs.MemDisk.{after_attach, after_call, after_read, after_refusal, after_sync, after_write};
-ghost use Rattle.disk_base.specs.MemDisk.{after_cut, answer_to, answer_to_attach, disk_health, disk_size, disk_with};
+ghost use Rattle.disk_base.specs.Listed.{AsListed};
+ghost use Rattle.disk_base.specs.MemDisk.{after_call, after_cut, answer_of, answer_planned, call_due};
+ghost use Rattle.disk_base.specs.MemDisk.{disk_health, disk_size, disk_with};
+ghost use Rattle.disk_base.specs.MemDisk.{next_attach, next_read, next_sync, next_write};
 ghost use Rattle.disk_base.specs.MemDisk.{faults_after as counted};
-ghost use Rattle.disk_base.specs.Plan.{next_answer};
 ghost use Rattle.disk_base.specs.declared.disk.DiskAnswer.TheVariants.{Failed};
 ghost use Rattle.disk_base.specs.SizeLaws.{told_size};
 
@@ -22,8 +22,8 @@ use std::alloc::Global;
 use std::marker::Model;
 
 /// A disk in memory. It takes all its memory when it is made. Its list of calls has room for so many calls and so
-/// many written bytes; a call past either fails, and isn't listed. Nor is an attaching that asks for more bytes than
-/// there are, which fails too.
+/// many written bytes; a call past either fails, and isn't listed. An attaching that asks for more bytes than there
+/// are fails too, and is listed.
 #[derive(Debug, Drop)]
 pub struct MemDisk {
     // what it began with
@@ -148,17 +148,12 @@ impl MemDisk {
     fn call(&mut self, kind: CallKind, at: u64, size: u64, bytes: &[u8]) -> DiskAnswer
         requires { at + length bytes.now ≤ disk_size self.old }
         ensures range { self.old.faults < 2 ^ 64 }
-        ensures answer { result ≡ answer_to (length bytes.now) self.old }
-        ensures state { self.new ≡ after_call (record {
-          kind = kind;
-          at = at;
-          size = size;
-          bytes = bytes.now;
-          answer = next_answer self.old.plan;
-        }) self.old }
+        ensures answer { result ≡ answer_of (call_due kind at size bytes.now self.old) self.old }
+        ensures state { self.new ≡ after_call (call_due kind at size bytes.now self.old) self.old }
     {
         let stopped = self.plan.stopped;
-        let answer = self.plan.step();
+        let planned = self.plan.step();
+        let answer = judge(kind, size, self.bytes.len() as u64, planned);
         let room = self.room - self.written.len();
         if is_crowded(self.entries.len(), self.most, room, bytes.len()) {
             self.faults = self.faults.saturating_add(1);
@@ -182,6 +177,16 @@ impl MemDisk {
         self.synced = count_settled(kind, answer, self.synced, self.live);
         run_call(self.bytes.as_mut_slice(), kind, at as usize, bytes);
         answer
+    }
+}
+
+// What a call answers for which the list has room, on a disk of so many bytes.
+fn judge(kind: CallKind, size: u64, held: u64, planned: DiskAnswer) -> DiskAnswer
+    ensures { result ≡ answer_planned kind size held planned }
+{
+    match kind {
+        CallKind::Attach if size > held => DiskAnswer::Failed,
+        CallKind::Attach | CallKind::Read | CallKind::Write | CallKind::Sync => planned,
     }
 }
 
@@ -223,14 +228,9 @@ impl Disk for MemDisk {
         ensures size { HasSize grow (disk_size self.new) result }
         ensures calls { Logs (attach_call grow) (Some self.old.calls) (Some self.new.calls) result }
         ensures cause { HasCause (disk_health self.old) (disk_health self.new) 1 0 (disk_size self.old < grow) result }
-        ensures answer { result ≡ answer_to_attach grow self.old }
-        ensures state { self.new ≡ after_attach grow self.old }
+        ensures answer { result ≡ answer_of (next_attach grow self.old) self.old }
+        ensures state { self.new ≡ after_call (next_attach grow self.old) self.old }
     {
-        if grow > self.bytes.len() as u64 {
-            let _ = self.plan.step();
-            self.faults = self.faults.saturating_add(1);
-            return DiskAnswer::Failed;
-        }
         self.call(CallKind::Attach, 0, grow, &[])
     }
 
@@ -246,9 +246,11 @@ impl Disk for MemDisk {
         ensures told { Some self.new.story ≡ Some self.old.story }
         ensures size { disk_size self.new ≡ disk_size self.old }
         ensures calls { Logs (read_call at (length into.old)) (Some self.old.calls) (Some self.new.calls) result }
+        ensures listed { (disk_health self.old).stopped ≡ false →
+            AsListed (Some self.old.story) (Some self.old.calls) (Some self.new.story) (Some self.new.calls) }
         ensures cause { HasCause (disk_health self.old) (disk_health self.new) 1 0 ⊥ result }
-        ensures answer { result ≡ answer_to 0 self.old }
-        ensures state { self.new ≡ after_read at (length into.old) self.old }
+        ensures answer { result ≡ answer_of (next_read at (length into.old) self.old) self.old }
+        ensures state { self.new ≡ after_call (next_read at (length into.old) self.old) self.old }
         ensures kept { result ≡ Failed → into.new ≡ into.old }
     {
         let answer = self.call(CallKind::Read, at, into.len() as u64, &[]);
@@ -267,10 +269,12 @@ impl Disk for MemDisk {
         ensures told { Writes (Some self.old.story) at bytes.now (Some self.new.story) result }
         ensures size { disk_size self.new ≡ disk_size self.old }
         ensures calls { Logs (write_call at bytes.now) (Some self.old.calls) (Some self.new.calls) result }
+        ensures listed { (disk_health self.old).stopped ≡ false →
+            AsListed (Some self.old.story) (Some self.old.calls) (Some self.new.story) (Some self.new.calls) }
         ensures cause { HasCause (disk_health self.old) (disk_health self.new) 1 (length bytes.now)
             ((disk_health self.old).room < length bytes.now) result }
-        ensures answer { result ≡ answer_to (length bytes.now) self.old }
-        ensures state { self.new ≡ after_write at bytes.now self.old }
+        ensures answer { result ≡ answer_of (next_write at bytes.now self.old) self.old }
+        ensures state { self.new ≡ after_call (next_write at bytes.now self.old) self.old }
     {
         self.call(CallKind::Write, at, bytes.len() as u64, bytes)
     }
@@ -279,9 +283,11 @@ impl Disk for MemDisk {
         ensures told { Syncs (Some self.old.story) (Some self.new.story) result }
         ensures size { disk_size self.new ≡ disk_size self.old }
         ensures calls { Logs sync_call (Some self.old.calls) (Some self.new.calls) result }
+        ensures listed { (disk_health self.old).stopped ≡ false →
+            AsListed (Some self.old.story) (Some self.old.calls) (Some self.new.story) (Some self.new.calls) }
         ensures cause { HasCause (disk_health self.old) (disk_health self.new) 1 0 ⊥ result }
-        ensures answer { result ≡ answer_to 0 self.old }
-        ensures state { self.new ≡ after_sync self.old }
+        ensures answer { result ≡ answer_of (next_sync self.old) self.old }
+        ensures state { self.new ≡ after_call (next_sync self.old) self.old }
     {
         self.call(CallKind::Sync, 0, 0, &[])
     }

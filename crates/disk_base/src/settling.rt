@@ -1,5 +1,6 @@
-ghost use Rattle.std.specs.Prelude.{◌≡◌, ◌+◌, ◌<◌, ◌≤◌, length};
+ghost use Rattle.std.specs.Prelude.{◌≡◌, ◌+◌, ◌<◌, ◌≤◌, false, length};
 ghost use Rattle.disk_base.specs.Faults.{HasCause};
+ghost use Rattle.disk_base.specs.Listed.{AsListed};
 ghost use Rattle.disk_base.specs.Settle.{LogsBoth, Settles};
 
 use crate::disk::{Disk, DiskAnswer};
@@ -11,6 +12,8 @@ pub fn settle<D: Disk>(disk: &mut D, at: u64, bytes: &[u8]) -> DiskAnswer
     ensures told { Settles (D.told disk.old) at bytes.now (D.told disk.new) result }
     ensures size { D.size_is disk.new ≡ D.size_is disk.old }
     ensures calls { LogsBoth at bytes.now (D.calls disk.old) (D.calls disk.new) result }
+    ensures listed { (D.health disk.old).stopped ≡ false →
+        AsListed (D.told disk.old) (D.calls disk.old) (D.told disk.new) (D.calls disk.new) }
     ensures cause { HasCause (D.health disk.old) (D.health disk.new) 2 (length bytes.now)
         ((D.health disk.old).room < length bytes.now) result }
     ensures name { D.name disk.new ≡ D.name disk.old }

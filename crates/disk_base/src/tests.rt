@@ -64,3 +64,17 @@ fn calls_fail_where_they_are_to(rt: HostRuntime) -> Result<(), Fail> {
     assert!(rt; answers(alloc, 0, 3, [Done, Done, Failed, Failed, Failed], true));
     Ok(())
 }
+
+// Whether an attaching that asks for too much fails, and takes the one place in the list.
+fn lists_what_failed(alloc: Global) -> bool {
+    let Ok(mut disk) = MemDisk::new(alloc, 8, 1, 0) else {
+        return false;
+    };
+    disk.attach("spool", 9) == DiskAnswer::Failed && disk.sync() == DiskAnswer::Failed
+}
+
+#[test]
+fn an_attaching_past_the_size_is_listed(rt: HostRuntime) -> Result<(), Fail> {
+    assert!(rt; lists_what_failed(rt.alloc()));
+    Ok(())
+}

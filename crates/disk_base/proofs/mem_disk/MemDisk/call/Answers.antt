@@ -3,34 +3,27 @@ use Rattle.std.proofs.lemmas.List.{with_items_is}
 use Rattle.std.specs.Vec.{with_items}
 use Rattle.disk_base.specs.Kept.{disk_state}
 use Rattle.disk_base.specs.Log.{bytes_under, call_of}
-use Rattle.disk_base.specs.MemDisk.{DiskState, after_call, answer_to}
-use Rattle.disk_base.specs.Plan.{next_answer}
+use Rattle.disk_base.specs.MemDisk.{DiskState, after_call, answer_due, answer_of, call_due}
 use Rattle.disk_base.specs.declared.disk.DiskAnswer.{DiskAnswer}
 use Rattle.disk_base.specs.declared.disk.DiskAnswer.TheVariants.{Failed}
 use Rattle.disk_base.specs.declared.log.LoggedCall.{LoggedCall}
 use Rattle.disk_base.specs.declared.mem_disk.MemDisk.TheInside.{Inside}
-use Rattle.disk_base.proofs.Made.{IsListed, HasRoom, answers, full_is, late_kept, late_state, made_kept, made_state, refused}
+use Rattle.disk_base.proofs.Made.{IsListed, HasRoom, answers, due_is, full_is, late_kept, late_state, made_kept, made_state, refused}
 use Rattle.disk_base.proofs.mem_disk.MemDisk.call.Goals as goal
 
 pub returns-then-is_crowded-clause-answer : goal.returns-then-is_crowded-clause-answer
 returns-then-is_crowded-clause-answer c =
     let crowded = c.is_crowded.ensures.crowded in
     let full = full_is c.self.inside (length c.args.bytes.now) true (search rules) (search rules) in
-    subst (λ (s : DiskState). Failed ≡ answer_to (length c.args.bytes.now) s) c.self.view_is
-    (sym (answers c.self.inside (length c.args.bytes.now) true full))
+    subst (λ (s : DiskState). Failed ≡ answer_of (call_due c.args.kind c.args.at c.args.size c.args.bytes.now s) s) c.self.view_is
+    (sym (answers c.self.inside (length c.args.bytes.now) (answer_due c.args.kind c.args.size (disk_state c.self.inside)) true full))
 
 pub returns-then-is_crowded-clause-state : goal.returns-then-is_crowded-clause-state
 returns-then-is_crowded-clause-state c =
     let crowded = c.is_crowded.ensures.crowded in
     let full = full_is c.self.inside (length c.args.bytes.now) true (search rules) (search rules) in
-    let d : Inside = record c.self.inside { plan = c.step-answer.new.self; faults = c.saturating_add-self-inside.result } in
-    subst (λ (s : DiskState). disk_state d ≡ after_call (record {
-      kind = c.args.kind;
-      at = c.args.at;
-      size = c.args.size;
-      bytes = c.args.bytes.now;
-      answer = next_answer s.plan;
-    }) s) c.self.view_is (refused c.self.inside d _ (search rules) full)
+    let d : Inside = record c.self.inside { plan = c.step-planned.new.self; faults = c.saturating_add-self-inside.result } in
+    subst (λ (s : DiskState). disk_state d ≡ after_call (call_due c.args.kind c.args.at c.args.size c.args.bytes.now s) s) c.self.view_is (refused c.self.inside d _ (search rules) full)
 
 pub invariant_of-self-then-stopped : goal.invariant_of-self-then-stopped
 invariant_of-self-then-stopped c =
@@ -41,7 +34,7 @@ invariant_of-self-then-stopped c =
       at = c.args.at;
       size = c.args.size;
       count = length c.args.bytes.now;
-      answer = c.step-answer.result;
+      answer = c.judge-answer.result;
     } in
     let d : Inside = record {
       base = c.self.inside.base;
@@ -52,7 +45,7 @@ invariant_of-self-then-stopped c =
       room = c.self.inside.room;
       live = c.self.inside.live;
       synced = c.self.inside.synced;
-      plan = c.step-answer.new.self;
+      plan = c.step-planned.new.self;
       faults = c.faults_after-self-inside.result;
     } in
     let listed : IsListed c.self.inside d entry c.args.bytes.now = record {
@@ -62,7 +55,7 @@ invariant_of-self-then-stopped c =
       used = search rules;
       most = refl;
       room = refl;
-      plan = c.step-answer.ensures.plan;
+      plan = c.step-planned.ensures.plan;
       faults = c.faults_after-self-inside.ensures;
       count = refl;
       within = search rules;
@@ -85,7 +78,7 @@ returns-then-stopped-clause-state c =
       at = c.args.at;
       size = c.args.size;
       count = length c.args.bytes.now;
-      answer = c.step-answer.result;
+      answer = c.judge-answer.result;
     } in
     let d : Inside = record {
       base = c.self.inside.base;
@@ -96,7 +89,7 @@ returns-then-stopped-clause-state c =
       room = c.self.inside.room;
       live = c.self.inside.live;
       synced = c.self.inside.synced;
-      plan = c.step-answer.new.self;
+      plan = c.step-planned.new.self;
       faults = c.faults_after-self-inside.result;
     } in
     let listed : IsListed c.self.inside d entry c.args.bytes.now = record {
@@ -106,21 +99,17 @@ returns-then-stopped-clause-state c =
       used = search rules;
       most = refl;
       room = refl;
-      plan = c.step-answer.ensures.plan;
+      plan = c.step-planned.ensures.plan;
       faults = c.faults_after-self-inside.ensures;
       count = refl;
       within = search rules;
       enough = full;
     } in
+    let due : c.judge-answer.result ≡ answer_due c.args.kind c.args.size (disk_state c.self.inside) =
+    due_is c.self.inside c.args.kind c.args.size _ c.step-planned.result c.judge-answer.result c.self.invariant (search rules) c.step-planned.ensures.answer c.judge-answer.ensures in
     let is = late_state c.self.inside d entry c.args.bytes.now c.self.invariant listed c.if-stopped.true refl in
-    let answered = is ∙ ap (λ (a : DiskAnswer). after_call (call_of (record entry { answer = a }) c.args.bytes.now) (disk_state c.self.inside)) c.step-answer.ensures.answer in
-    subst (λ (s : DiskState). disk_state d ≡ after_call (record {
-      kind = c.args.kind;
-      at = c.args.at;
-      size = c.args.size;
-      bytes = c.args.bytes.now;
-      answer = next_answer s.plan;
-    }) s) c.self.view_is answered
+    let answered = is ∙ ap (λ (a : DiskAnswer). after_call (call_of (record entry { answer = a }) c.args.bytes.now) (disk_state c.self.inside)) due in
+    subst (λ (s : DiskState). disk_state d ≡ after_call (call_due c.args.kind c.args.at c.args.size c.args.bytes.now s) s) c.self.view_is answered
 
 pub invariant_of-self-2 : goal.invariant_of-self-2
 invariant_of-self-2 c =
@@ -131,7 +120,7 @@ invariant_of-self-2 c =
       at = c.args.at;
       size = c.args.size;
       count = length c.args.bytes.now;
-      answer = c.step-answer.result;
+      answer = c.judge-answer.result;
     } in
     let d : Inside = record {
       base = c.self.inside.base;
@@ -142,7 +131,7 @@ invariant_of-self-2 c =
       room = c.self.inside.room;
       live = c.self.inside.live + 1;
       synced = c.count_settled-self-inside.result;
-      plan = c.step-answer.new.self;
+      plan = c.step-planned.new.self;
       faults = c.faults_after-self-inside.result;
     } in
     let listed : IsListed c.self.inside d entry c.args.bytes.now = record {
@@ -152,7 +141,7 @@ invariant_of-self-2 c =
       used = search rules;
       most = refl;
       room = refl;
-      plan = c.step-answer.ensures.plan;
+      plan = c.step-planned.ensures.plan;
       faults = c.faults_after-self-inside.ensures;
       count = refl;
       within = search rules;
@@ -172,8 +161,10 @@ pub returns-clause-answer : goal.returns-clause-answer
 returns-clause-answer c =
     let crowded = c.is_crowded.ensures.crowded in
     let full = full_is c.self.inside (length c.args.bytes.now) false (search rules) (search rules) in
-    subst (λ (s : DiskState). c.step-answer.result ≡ answer_to (length c.args.bytes.now) s) c.self.view_is
-    (c.step-answer.ensures.answer ∙ sym (answers c.self.inside (length c.args.bytes.now) false full))
+    let due : c.judge-answer.result ≡ answer_due c.args.kind c.args.size (disk_state c.self.inside) =
+    due_is c.self.inside c.args.kind c.args.size _ c.step-planned.result c.judge-answer.result c.self.invariant (search rules) c.step-planned.ensures.answer c.judge-answer.ensures in
+    subst (λ (s : DiskState). c.judge-answer.result ≡ answer_of (call_due c.args.kind c.args.at c.args.size c.args.bytes.now s) s) c.self.view_is
+    (due ∙ sym (answers c.self.inside (length c.args.bytes.now) (answer_due c.args.kind c.args.size (disk_state c.self.inside)) false full))
 
 pub returns-clause-state : goal.returns-clause-state
 returns-clause-state c =
@@ -184,7 +175,7 @@ returns-clause-state c =
       at = c.args.at;
       size = c.args.size;
       count = length c.args.bytes.now;
-      answer = c.step-answer.result;
+      answer = c.judge-answer.result;
     } in
     let d : Inside = record {
       base = c.self.inside.base;
@@ -195,7 +186,7 @@ returns-clause-state c =
       room = c.self.inside.room;
       live = c.self.inside.live + 1;
       synced = c.count_settled-self-inside.result;
-      plan = c.step-answer.new.self;
+      plan = c.step-planned.new.self;
       faults = c.faults_after-self-inside.result;
     } in
     let listed : IsListed c.self.inside d entry c.args.bytes.now = record {
@@ -205,18 +196,14 @@ returns-clause-state c =
       used = search rules;
       most = refl;
       room = refl;
-      plan = c.step-answer.ensures.plan;
+      plan = c.step-planned.ensures.plan;
       faults = c.faults_after-self-inside.ensures;
       count = refl;
       within = search rules;
       enough = full;
     } in
+    let due : c.judge-answer.result ≡ answer_due c.args.kind c.args.size (disk_state c.self.inside) =
+    due_is c.self.inside c.args.kind c.args.size _ c.step-planned.result c.judge-answer.result c.self.invariant (search rules) c.step-planned.ensures.answer c.judge-answer.ensures in
     let is = made_state c.self.inside d entry c.args.bytes.now c.self.invariant listed c.if-stopped.false refl in
-    let answered = is ∙ ap (λ (a : DiskAnswer). after_call (call_of (record entry { answer = a }) c.args.bytes.now) (disk_state c.self.inside)) c.step-answer.ensures.answer in
-    subst (λ (s : DiskState). disk_state d ≡ after_call (record {
-      kind = c.args.kind;
-      at = c.args.at;
-      size = c.args.size;
-      bytes = c.args.bytes.now;
-      answer = next_answer s.plan;
-    }) s) c.self.view_is answered
+    let answered = is ∙ ap (λ (a : DiskAnswer). after_call (call_of (record entry { answer = a }) c.args.bytes.now) (disk_state c.self.inside)) due in
+    subst (λ (s : DiskState). disk_state d ≡ after_call (call_due c.args.kind c.args.at c.args.size c.args.bytes.now s) s) c.self.view_is answered
