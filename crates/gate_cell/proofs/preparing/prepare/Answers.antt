@@ -1,0 +1,64 @@
+use Rattle.std.proofs.Common.{ℕ, ◌+◌, ◌≤◌, not, refl, sym, ap, subst, ◌∙◌, inl, inr, rules}
+use Rattle.disk_base.specs.Calls.{read_call, with_call}
+use Rattle.disk_base.specs.declared.disk.DiskAnswer.TheVariants.{Done, Failed}
+use Rattle.disk_base.proofs.Listings.{listed_behind}
+use Rattle.gate_cell.proofs.Values.{logs_spare, place_is, prepared_is, prepares, settles_spare, told_before}
+use Rattle.gate_cell.proofs.preparing.prepare.Goals as goal
+
+pub returns-in-Failed-clause-told : goal.returns-in-Failed-clause-told
+returns-in-Failed-clause-told g c = λ s told.
+    prepares s c.args.at (c.requires.settled s told) c.args.value _ Failed (inl (c.in-Failed.ensures.told ∙ told))
+
+pub returns-in-Failed-settle-clause-told : goal.returns-in-Failed-settle-clause-told
+returns-in-Failed-settle-clause-told g c = λ s told.
+    let there = (place_is s c.args.at _ _ c.copy_place.result _ c.names_second-second.result c.place_in-gate_place.ensures (c.in-Done.ensures.bytes s told) (search rules) c.names_second-second.ensures c.copy_place.ensures c.place_in-copy.ensures) in
+    prepares s c.args.at (c.requires.settled s told) c.args.value _ Failed
+    (settles_spare _ _ _ s c.args.at c.args.value _ _ told c.read.ensures.told there.1 c.copy_bytes.ensures.bytes Failed c.in-Failed-settle.ensures.told)
+
+pub returns-in-Failed-settle-clause-calls : goal.returns-in-Failed-settle-clause-calls
+returns-in-Failed-settle-clause-calls g c = λ s told.
+    let there = (place_is s c.args.at _ _ c.copy_place.result _ c.names_second-second.result c.place_in-gate_place.ensures (c.in-Done.ensures.bytes s told) (search rules) c.names_second-second.ensures c.copy_place.ensures c.place_in-copy.ensures) in
+    inr (logs_spare s c.args.at c.args.value _ _ there.1 c.copy_bytes.ensures.bytes _ _ _ Failed (c.in-Done.ensures.calls ∙ ap (λ (n : ℕ). with_call (read_call n 1 Done) (g.D.Disk.calls c.args.disk)) c.place_in-gate_place.ensures) c.in-Failed-settle.ensures.calls)
+
+pub returns-in-Failed-settle-clause-listed : goal.returns-in-Failed-settle-clause-listed
+returns-in-Failed-settle-clause-listed g c =
+    λ going. listed_behind (c.read.ensures.listed going) (c.settle.ensures.listed (c.in-Done.ensures.cause.going ∙ going))
+
+pub returns-in-Done-settle-clause-told : goal.returns-in-Done-settle-clause-told
+returns-in-Done-settle-clause-told g c = λ s told.
+    let there = (place_is s c.args.at _ _ c.copy_place.result _ c.names_second-second.result c.place_in-gate_place.ensures (c.in-Done.ensures.bytes s told) (search rules) c.names_second-second.ensures c.copy_place.ensures c.place_in-copy.ensures) in
+    prepares s c.args.at (c.requires.settled s told) c.args.value _ Done
+    (settles_spare _ _ _ s c.args.at c.args.value _ _ told c.read.ensures.told there.1 c.copy_bytes.ensures.bytes Done c.in-Done-settle.ensures.told)
+
+pub returns-in-Done-settle-clause-calls : goal.returns-in-Done-settle-clause-calls
+returns-in-Done-settle-clause-calls g c = λ s told.
+    let there = (place_is s c.args.at _ _ c.copy_place.result _ c.names_second-second.result c.place_in-gate_place.ensures (c.in-Done.ensures.bytes s told) (search rules) c.names_second-second.ensures c.copy_place.ensures c.place_in-copy.ensures) in
+    (logs_spare s c.args.at c.args.value _ _ there.1 c.copy_bytes.ensures.bytes _ _ _ Done (c.in-Done.ensures.calls ∙ ap (λ (n : ℕ). with_call (read_call n 1 Done) (g.D.Disk.calls c.args.disk)) c.place_in-gate_place.ensures) c.in-Done-settle.ensures.calls)
+
+pub returns-in-Done-settle-clause-listed : goal.returns-in-Done-settle-clause-listed
+returns-in-Done-settle-clause-listed g c =
+    λ going. listed_behind (c.read.ensures.listed going) (c.settle.ensures.listed (c.in-Done.ensures.cause.going ∙ going))
+
+pub invariant_of-result : goal.invariant_of-result
+invariant_of-result g c = record {
+  within = subst (λ (n : ℕ). c.args.at + 17 ≤ n) (sym (c.settle.ensures.size ∙ c.read.ensures.size)) c.requires.within;
+  spare = λ t after.
+      let old = told_before _ _ _ t c.in-Done-settle.ensures.told after in
+      let s = old.0 in
+      let told = sym c.read.ensures.told ∙ old.1 in
+      let there = (place_is s c.args.at _ _ c.copy_place.result _ c.names_second-second.result c.place_in-gate_place.ensures (c.in-Done.ensures.bytes s told) (search rules) c.names_second-second.ensures c.copy_place.ensures c.place_in-copy.ensures) in
+      (prepared_is s c.args.at (c.requires.settled s told) c.args.value _ t (not c.names_second-second.result) there.0 (c.ranges.value.fits)
+      (settles_spare _ _ _ s c.args.at c.args.value _ _ told c.read.ensures.told there.1 c.copy_bytes.ensures.bytes Done c.in-Done-settle.ensures.told) after).0;
+}
+
+pub returns-in-Done-settle-clause-value : goal.returns-in-Done-settle-clause-value
+returns-in-Done-settle-clause-value g c = (
+  refl,
+  λ t after.
+      let old = told_before _ _ _ t c.in-Done-settle.ensures.told after in
+      let s = old.0 in
+      let told = sym c.read.ensures.told ∙ old.1 in
+      let there = (place_is s c.args.at _ _ c.copy_place.result _ c.names_second-second.result c.place_in-gate_place.ensures (c.in-Done.ensures.bytes s told) (search rules) c.names_second-second.ensures c.copy_place.ensures c.place_in-copy.ensures) in
+      (prepared_is s c.args.at (c.requires.settled s told) c.args.value _ t (not c.names_second-second.result) there.0 (c.ranges.value.fits)
+      (settles_spare _ _ _ s c.args.at c.args.value _ _ told c.read.ensures.told there.1 c.copy_bytes.ensures.bytes Done c.in-Done-settle.ensures.told) after).1,
+)

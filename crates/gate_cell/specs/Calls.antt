@@ -1,0 +1,31 @@
+-- The disk calls of reading, preparing and committing a value (this profile).
+use Rattle.std.specs.Prelude.{◌⊎◌, ℕ, ◌+◌, List, Option}
+use Rattle.disk_base.specs.Calls.{DiskCall, Logs, read_call, with_call}
+use Rattle.disk_base.specs.Settle.{LogsBoth}
+use Rattle.disk_base.specs.Story.{Story}
+use Rattle.disk_base.specs.declared.disk.DiskAnswer.{DiskAnswer}
+use Rattle.disk_base.specs.declared.disk.DiskAnswer.TheVariants.{Done, Failed}
+use Rattle.gate_cell.specs.Cell.{copy_bytes, spare_place}
+use Rattle.gate_cell.specs.Holds.{IsRead}
+use Rattle.gate_cell.specs.declared.cell.CellAnswer.{CellAnswer}
+use Rattle.gate_cell.specs.declared.cell.CellAnswer.TheVariants.{Value}
+use Rattle.gate_cell.specs.declared.cell.CellAnswer.TheVariants as cell
+
+-- the call of a reading, which is done where there is a value
+abbrev pub call_answer : CellAnswer → DiskAnswer
+call_answer (Value value) = Done
+call_answer cell.Failed = Failed
+
+abbrev pub Reads : Story → ℕ → CellAnswer → Type 0
+Reads s at (Value value) = IsRead s at value
+Reads s at cell.Failed = Unit {0}
+
+-- a read of the gate, and a write of the other copy with its sync; where this failed, the last one of them did
+abbrev pub LogsPreparing : Story → ℕ → ℕ → Option (List DiskCall) → Option (List DiskCall) → DiskAnswer → Type 0
+LogsPreparing s at value before after Done =
+    LogsBoth (spare_place s.now.bytes at) (copy_bytes value) (with_call (read_call (at + 16) 1 Done) before) after
+    Done
+LogsPreparing s at value before after Failed =
+    Logs (read_call (at + 16) 1) before after Failed
+    ⊎ LogsBoth (spare_place s.now.bytes at) (copy_bytes value)
+    (with_call (read_call (at + 16) 1 Done) before) after Failed

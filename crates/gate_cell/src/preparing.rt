@@ -1,0 +1,43 @@
+ghost use Rattle.std.specs.Prelude.{◌≡◌, ◌+◌, ◌<◌, ◌≤◌, false, Some, IfOk};
+ghost use Rattle.disk_base.specs.Faults.{HasCause};
+ghost use Rattle.disk_base.specs.Listed.{AsListed};
+ghost use Rattle.disk_base.specs.Story.{Story};
+ghost use Rattle.gate_cell.specs.Calls.{LogsPreparing};
+ghost use Rattle.gate_cell.specs.Ready.{IsCell, IsReady, OnDisk, Prepares};
+
+use crate::cell::{copy_bytes, copy_place, names_second};
+use crate::places::place_in;
+use crate::prepared::Prepared;
+use disk_base::{Disk, DiskAnswer, settle};
+
+/// Writes a new value that doesn't count yet: reads which copy the gate names, writes the other one, and syncs. A crash
+/// leaves the old value. `Err` comes only where the disk has counted a fault.
+pub fn prepare<D: Disk>(disk: D, at: u64, value: u64) -> Result<Prepared<D>, D>
+    requires within { at + 17 ≤ D.size_is disk }
+    requires settled { (s : Story) → D.told disk ≡ Some s → IsCell s at }
+    ensures told { (s : Story) → D.told disk ≡ Some s → OnDisk (λ w. w.disk) result
+        (λ after answer. Prepares s at value (D.told after) answer) }
+    ensures value { IfOk result (λ w. (w.at ≡ at) × IsReady at value (D.told w.disk)) }
+    ensures size { OnDisk (λ w. w.disk) result (λ after answer. D.size_is after ≡ D.size_is disk) }
+    ensures calls { (s : Story) → D.told disk ≡ Some s → OnDisk (λ w. w.disk) result (λ after answer.
+        LogsPreparing s at value (D.calls disk) (D.calls after) answer) }
+    ensures listed { (D.health disk).stopped ≡ false → OnDisk (λ w. w.disk) result (λ after answer.
+        AsListed (D.told disk) (D.calls disk) (D.told after) (D.calls after)) }
+    ensures cause { OnDisk (λ w. w.disk) result (λ after answer.
+        HasCause (D.health disk) (D.health after) 3 8 ((D.health disk).room < 8) answer) }
+    ensures name { OnDisk (λ w. w.disk) result (λ after answer. D.name after ≡ D.name disk) }
+{
+    let mut disk = disk;
+    let mut gate = [0];
+    let gate_place = place_in(&disk, at, 16);
+    match disk.read(gate_place, &mut gate) {
+        DiskAnswer::Failed => return Err(disk),
+        DiskAnswer::Done => {}
+    }
+    let second = !names_second(gate[0]);
+    let copy = place_in(&disk, at, copy_place(second));
+    match settle(&mut disk, copy, &copy_bytes(value)) {
+        DiskAnswer::Failed => Err(disk),
+        DiskAnswer::Done => Ok(Prepared { disk, at, second }),
+    }
+}
