@@ -6,9 +6,10 @@ use Rattle.std.specs.List.{AllByRecursion, IsDistinct}
 use Rattle.std.specs.Map.{set_value}
 use Rattle.std.specs.Option.{option_map, option_map_or}
 use Rattle.gem_alarms.specs.declared.alarm.Alarm.{Alarm}
+use Rattle.gem_alarms.specs.declared.alarms.AlarmStep.TheVariants as step
 use Rattle.gem_alarms.specs.declared.plan.AlarmPlan.{AlarmPlan}
-use Rattle.gem_alarms.specs.Alarms.{AlarmTable, alarm_in, all_enabled, with_alarm, with_enabled, with_set}
-use Rattle.gem_alarms.specs.History.{AlarmEntry, alarm_after, alarms_at, planned_at}
+use Rattle.gem_alarms.specs.Alarms.{AlarmTable, alarm_in, all_enabled, step_for, step_of, with_alarm, with_enabled, with_set}
+use Rattle.gem_alarms.specs.History.{AlarmEntry, alarm_after, alarms_at, planned_at, step_at}
 use Rattle.gem_alarms.specs.History.AlarmEntry.{Change, Enable}
 use Rattle.gem_alarms.specs.Laws.{after_entry}
 use Rattle.gem_alarms.specs.Plan.{alids_of}
@@ -95,3 +96,18 @@ looked_up (p ∷ plan) past alid =
     elim (nat_eq alid p.alid) as (λ b. cond b (Some (alarm_after past p)) (alarm_in (alarms_at plan past) alid)
     ≡ option_map (alarm_after past) (cond b (Some p) (planned_at plan alid)))
     [ true ↦ refl | false ↦ looked_up plan past alid ]
+
+-- what a command does to the alarm of the table is what it does to the planned one
+stepped :
+    (past : List AlarmEntry) (is_set : Bool) (o : Option AlarmPlan)
+    → option_map_or (step_for is_set) (option_map (alarm_after past) o) step.Unknown
+    ≡ option_map_or (step_at past is_set) o step.Unknown
+stepped past is_set None = refl
+stepped past is_set (Some p) = refl
+
+pub step_looked_up :
+    (plan : List AlarmPlan) (past : List AlarmEntry) (alid : ℕ) (is_set : Bool)
+    → step_of (alarms_at plan past) alid is_set ≡ option_map_or (step_at past is_set) (planned_at plan alid) step.Unknown
+step_looked_up plan past alid is_set =
+    ap (λ (o : Option Alarm). option_map_or (step_for is_set) o step.Unknown) (looked_up plan past alid)
+    ∙ stepped past is_set (planned_at plan alid)

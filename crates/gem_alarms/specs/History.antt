@@ -1,8 +1,11 @@
 -- What holds of the alarms after a history, looked back for. The newest entry stands first.
 use Rattle.std.specs.Prelude.{ℕ, Bool, false, List, [], ◌∷◌, map, nat_eq, Option, Some, None, if◌then◌else◌}
+use Rattle.std.specs.Bool.{beq}
 use Rattle.std.specs.List.{find}
 use Rattle.std.specs.Option.{unwrap_or}
 use Rattle.gem_alarms.specs.declared.alarm.Alarm.{Alarm}
+use Rattle.gem_alarms.specs.declared.alarms.AlarmStep.{AlarmStep}
+use Rattle.gem_alarms.specs.declared.alarms.AlarmStep.TheVariants as step
 use Rattle.gem_alarms.specs.declared.plan.AlarmPlan.{AlarmPlan}
 use Rattle.gem_alarms.specs.Alarms.{AlarmTable}
 use Rattle.gem_alarms.specs.Plan.{has_alid}
@@ -50,3 +53,9 @@ alarms_at plan past = map (λ planned. (planned.alid, alarm_after past planned))
 
 abbrev pub planned_at : List AlarmPlan → ℕ → Option AlarmPlan
 planned_at plan alid = find (has_alid alid) plan
+
+-- what a command for a planned alarm does: nothing where the alarm is in that state already; else its S5F1 is due where
+-- the alarm is enabled (SEMI E30, alarm management)
+abbrev pub step_at : List AlarmEntry → Bool → AlarmPlan → AlarmStep
+step_at past is_set planned =
+    if beq (alarm_at past planned.alid) is_set then step.Same else step.Changed (alarm_enabled_at past planned)

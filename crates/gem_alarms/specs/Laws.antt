@@ -1,9 +1,10 @@
 -- What holds of the table of alarms after every history.
-use Rattle.std.specs.Prelude.{◌≡◌, ℕ, List, ◌∷◌}
-use Rattle.std.specs.Option.{option_map}
+use Rattle.std.specs.Prelude.{◌≡◌, ℕ, Bool, List, ◌∷◌}
+use Rattle.std.specs.Option.{option_map, option_map_or}
+use Rattle.gem_alarms.specs.declared.alarms.AlarmStep.TheVariants as step
 use Rattle.gem_alarms.specs.declared.plan.AlarmPlan.{AlarmPlan}
-use Rattle.gem_alarms.specs.Alarms.{AlarmTable, alarm_in, enabled_by, with_alarm, with_set}
-use Rattle.gem_alarms.specs.History.{AlarmEntry, alarm_after, alarms_at, planned_at}
+use Rattle.gem_alarms.specs.Alarms.{AlarmTable, alarm_in, enabled_by, step_of, with_alarm, with_set}
+use Rattle.gem_alarms.specs.History.{AlarmEntry, alarm_after, alarms_at, planned_at, step_at}
 use Rattle.gem_alarms.specs.History.AlarmEntry.{Change, Enable}
 use Rattle.gem_alarms.specs.Plan.{AlarmsFit}
 
@@ -12,8 +13,8 @@ abbrev pub after_entry : AlarmTable → AlarmEntry → AlarmTable
 after_entry table (Change alid is_set) = with_alarm alid (with_set is_set) table
 after_entry table (Enable alid is_enabled) = enabled_by alid is_enabled table
 
--- the table after one entry more is what is looked back for in the longer history; and what it has at an ALID is what
--- is looked back for of the planned alarm
+-- the table after one entry more is what is looked back for in the longer history; what it has at an ALID is what is
+-- looked back for of the planned alarm; and so is what a command for that ALID does
 pub record AlarmsAreLookedBackFor : Type 0 where
   pub next :
       (plan : List AlarmPlan) (past : List AlarmEntry) (entry : AlarmEntry) → AlarmsFit plan
@@ -21,3 +22,7 @@ pub record AlarmsAreLookedBackFor : Type 0 where
   pub at :
       (plan : List AlarmPlan) (past : List AlarmEntry) (alid : ℕ)
       → alarm_in (alarms_at plan past) alid ≡ option_map (alarm_after past) (planned_at plan alid)
+  pub steps :
+      (plan : List AlarmPlan) (past : List AlarmEntry) (alid : ℕ) (is_set : Bool)
+      → step_of (alarms_at plan past) alid is_set
+      ≡ option_map_or (step_at past is_set) (planned_at plan alid) step.Unknown
