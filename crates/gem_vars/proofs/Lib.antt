@@ -1,0 +1,6 @@
+mod Accepted
+mod Constants
+mod History
+mod Keys
+mod Kept
+mod Sizes
