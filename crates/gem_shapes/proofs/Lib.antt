@@ -1,0 +1,5 @@
+mod Asking
+mod Contents
+mod Fronts
+mod Lists
+mod Raw

@@ -1,0 +1,162 @@
+-- Lists read item by item.
+use Rattle.std.proofs.Common.{◌≡◌, ℕ, ◌+◌, ◌<◌, ◌≤◌, List, [], ◌∷◌, ◌++◌, ◌^◌, drop, length, map, Option, Some, None, refl, sym, ap, ◌∙◌, append_assoc, arith}
+use Rattle.std.specs.Option.{option_and_then, option_map}
+use Rattle.std.proofs.lemmas.List.{append-nil}
+use Rattle.secs_items.specs.declared.item.Item.{Item}
+use Rattle.secs_items.specs.Spelling.{Spells, SpellsEach}
+use Rattle.gem_shapes.specs.Elements.{all_of, below, two_of}
+use Rattle.gem_shapes.specs.Parts.{AreSpelled, Begins}
+
+-- ---- L,2
+
+-- what taking the front off tells: the item, and that the rest is spelled
+abbrev pub IsFront : List ℕ → Item → List ℕ → Type 0
+IsFront bytes found rest =
+    (item : Item) (items : List Item) → SpellsEach Spells (item ∷ items) bytes → (found ≡ item) × SpellsEach Spells items rest
+
+pub begins : (o : Option (List Item)) (count : ℕ) (bytes : List ℕ) → AreSpelled o (Some (count, bytes)) → 0 < count → Begins bytes
+begins None count bytes s some = absurd s
+begins (Some []) count bytes s some = absurd (omega (arith, s.0, some))
+begins (Some (i ∷ items)) count bytes s some = record { first = i; others = items; spelled = s.1 }
+
+pub begins_second : (o : Option (List Item)) (count : ℕ) (bytes : List ℕ) (first : Item) (rest : List ℕ) → AreSpelled o (Some (count, bytes))
+    → count ≡ 2 → IsFront bytes first rest → Begins rest
+begins_second None count bytes first rest s both front = absurd s
+begins_second (Some []) count bytes first rest s both front = absurd (omega (arith, s.0, both))
+begins_second (Some (i ∷ [])) count bytes first rest s both front = absurd (omega (arith, s.0, both))
+begins_second (Some (i ∷ j ∷ items)) count bytes first rest s both front =
+    let f = front i (j ∷ items) s.1 in record { first = j; others = items; spelled = f.1 }
+
+pub two_found : (o : Option (List Item)) (count : ℕ) (bytes : List ℕ) (first second : Item) (rest last : List ℕ) → AreSpelled o (Some (count, bytes))
+    → count ≡ 2 → IsFront bytes first rest → IsFront rest second last → Some (first, second) ≡ option_and_then two_of o
+two_found None count bytes first second rest last s both front behind = absurd s
+two_found (Some []) count bytes first second rest last s both front behind = absurd (omega (arith, s.0, both))
+two_found (Some (i ∷ [])) count bytes first second rest last s both front behind = absurd (omega (arith, s.0, both))
+two_found (Some (i ∷ j ∷ [])) count bytes first second rest last s both front behind =
+    let f = front i (j ∷ []) s.1 in
+    let g = behind j [] f.1 in
+    rw (f.0, g.0) refl
+two_found (Some (i ∷ j ∷ k ∷ items)) count bytes first second rest last s both front behind = absurd (omega (arith, s.0, both))
+
+-- ---- L,n
+
+-- what was read before, and what is still read
+abbrev pub with_front : {T : Type 0} → List T → Option (List T) → Option (List T)
+with_front front read = option_map (λ others. front ++ others) read
+
+-- the items that are left of so many, in their bytes, and what was read of those before
+pub record AreLeft {T : Type 0} (read : Item → Option T) (o : Option (List Item)) (count done : ℕ) (row : List T) (rest : List ℕ) : Type 0 where
+  pub items : List Item
+  pub spelled : SpellsEach Spells items rest
+  pub counted : done + length items ≡ count
+  pub so_far : with_front row (all_of (map read items)) ≡ option_and_then (λ all. all_of (map read all)) o
+
+from_none : {T : Type 0} (read : Option (List T)) → with_front [] read ≡ read
+from_none None = refl
+from_none (Some others) = refl
+
+pub starts : {T : Type 0} (read : Item → Option T) (o : Option (List Item)) (count : ℕ) (bytes : List ℕ) → AreSpelled o (Some (count, bytes))
+    → AreLeft read o count 0 [] bytes
+starts read None count bytes s = absurd s
+starts read (Some items) count bytes s =
+    record { items = items; spelled = s.1; counted = omega (arith, s.0); so_far = from_none (all_of (map read items)) }
+
+pub goes_on : {T : Type 0} (read : Item → Option T) (o : Option (List Item)) (count done : ℕ) (row : List T) (rest : List ℕ)
+    → AreLeft read o count done row rest → done < count → Begins rest
+goes_on read o count done row rest left more =
+    go left.items left.counted left.spelled
+  where
+    go : (items : List Item) → done + length items ≡ count → SpellsEach Spells items rest → Begins rest
+    go [] counted s = absurd (omega (arith, counted, more))
+    go (i ∷ items) counted s = record { first = i; others = items; spelled = s }
+
+regroup : {T : Type 0} (row : List T) (value : T) (read : Option (List T))
+    → with_front row (option_map (λ others. value ∷ others) read) ≡ with_front (row ++ value ∷ []) read
+regroup row value None = refl
+regroup row value (Some others) = ap Some (simp append_assoc)
+
+read_some : {T : Type 0} (o : Option T) (value : T) (others : List (Option T)) → o ≡ Some value
+    → all_of (o ∷ others) ≡ option_map (λ rest. value ∷ rest) (all_of others)
+read_some o value others e = rw e refl
+
+read_none : {T : Type 0} (o : Option T) (others : List (Option T)) → o ≡ None → all_of (o ∷ others) ≡ None
+read_none o others e = rw e refl
+
+pub steps : {T : Type 0} (read : Item → Option T) (o : Option (List Item)) (count done : ℕ) (row : List T) (rest : List ℕ) (found : Item) (value : T)
+    (behind : List ℕ) → AreLeft read o count done row rest → done < count → IsFront rest found behind → read found ≡ Some value
+    → AreLeft read o count (done + 1) (row ++ value ∷ []) behind
+steps read o count done row rest found value behind left more front is =
+    go left.items left.counted left.spelled left.so_far
+  where
+    go : (items : List Item) → done + length items ≡ count → SpellsEach Spells items rest
+        → with_front row (all_of (map read items)) ≡ option_and_then (λ all. all_of (map read all)) o
+        → AreLeft read o count (done + 1) (row ++ value ∷ []) behind
+    go [] counted s so_far = absurd (omega (arith, counted, more))
+    go (i ∷ items) counted s so_far =
+        let f = front i items s in
+        record {
+          items = items;
+          spelled = f.1;
+          counted = omega (arith, counted);
+          so_far =
+              sym (regroup row value (all_of (map read items)))
+              ∙ sym (ap (with_front row) (read_some (read i) value (map read items) (ap read (sym f.0) ∙ is))) ∙ so_far;
+        }
+
+pub breaks : {T : Type 0} (read : Item → Option T) (o : Option (List Item)) (count done : ℕ) (row : List T) (rest : List ℕ) (found : Item)
+    (behind : List ℕ) → AreLeft read o count done row rest → done < count → IsFront rest found behind → read found ≡ None
+    → None ≡ option_and_then (λ all. all_of (map read all)) o
+breaks read o count done row rest found behind left more front is =
+    go left.items left.counted left.spelled left.so_far
+  where
+    go : (items : List Item) → done + length items ≡ count → SpellsEach Spells items rest
+        → with_front row (all_of (map read items)) ≡ option_and_then (λ all. all_of (map read all)) o
+        → None ≡ option_and_then (λ all. all_of (map read all)) o
+    go [] counted s so_far = absurd (omega (arith, counted, more))
+    go (i ∷ items) counted s so_far =
+        let f = front i items s in
+        sym (ap (with_front row) (read_none (read i) (map read items) (ap read (sym f.0) ∙ is))) ∙ so_far
+
+pub is_done : {T : Type 0} (read : Item → Option T) (o : Option (List Item)) (count done : ℕ) (row : List T) (rest : List ℕ)
+    → AreLeft read o count done row rest → count ≤ done → Some row ≡ option_and_then (λ all. all_of (map read all)) o
+is_done read o count done row rest left all =
+    go left.items left.counted left.so_far
+  where
+    go : (items : List Item) → done + length items ≡ count
+        → with_front row (all_of (map read items)) ≡ option_and_then (λ every. all_of (map read every)) o
+        → Some row ≡ option_and_then (λ every. all_of (map read every)) o
+    go [] counted so_far = ap Some (sym (append-nil row)) ∙ so_far
+    go (i ∷ items) counted so_far = absurd (omega (arith, counted, all))
+
+-- ---- the elements of one item
+
+-- an element's number, where four bytes hold it
+abbrev pub fits_in : {A : Type 0} → (A → ℕ) → A → Option ℕ
+fits_in value n = below (2 ^ 32) (value n)
+
+-- the elements that are left after so many, and what was read of those before
+abbrev pub IsRead : {A T : Type 0} → (A → Option T) → List A → ℕ → List T → Type 0
+IsRead read elements done row = with_front row (all_of (map read (drop done elements))) ≡ all_of (map read elements)
+
+pub read_from : {A T : Type 0} (read : A → Option T) (elements : List A) → IsRead read elements 0 []
+read_from read elements = from_none (all_of (map read elements))
+
+pub read_on : {A T : Type 0} (read : A → Option T) (elements : List A) (done : ℕ) (row : List T) (element : A) (value : T)
+    → drop done elements ≡ element ∷ drop (done + 1) elements → read element ≡ Some value → IsRead read elements done row
+    → IsRead read elements (done + 1) (row ++ value ∷ [])
+read_on {A} {T} read elements done row element value next is so_far =
+    sym (regroup row value (all_of (map read (drop (done + 1) elements))))
+    ∙ sym (ap (with_front row) (read_some (read element) value (map read (drop (done + 1) elements)) is))
+    ∙ sym (ap (λ (left : List A). with_front row (all_of (map read left))) next) ∙ so_far
+
+pub read_breaks : {A T : Type 0} (read : A → Option T) (elements : List A) (done : ℕ) (row : List T) (element : A)
+    → drop done elements ≡ element ∷ drop (done + 1) elements → read element ≡ None → IsRead read elements done row
+    → None ≡ all_of (map read elements)
+read_breaks {A} {T} read elements done row element next is so_far =
+    sym (ap (with_front row) (read_none (read element) (map read (drop (done + 1) elements)) is))
+    ∙ sym (ap (λ (left : List A). with_front row (all_of (map read left))) next) ∙ so_far
+
+pub read_all : {A T : Type 0} (read : A → Option T) (elements : List A) (done : ℕ) (row : List T)
+    → drop done elements ≡ [] → IsRead read elements done row → Some row ≡ all_of (map read elements)
+read_all {A} {T} read elements done row none so_far =
+    ap Some (sym (append-nil row)) ∙ sym (ap (λ (left : List A). with_front row (all_of (map read left))) none) ∙ so_far

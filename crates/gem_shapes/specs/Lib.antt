@@ -1,0 +1,6 @@
+pub mod Answers
+pub mod Elements
+pub mod Laws
+pub mod Parts
+pub mod Primaries
+pub mod Requests

@@ -1,0 +1,111 @@
+-- What the body of a primary asks for, by its shape (SEMI E5).
+use Rattle.std.specs.Prelude.{◌≡◌, ℕ, Bool, ◌==◌, nat_le, if◌then◌else◌, List, [], Option, Some, None, ◌⊎◌}
+use Rattle.std.specs.Option.{option_and_then, option_map}
+use Rattle.secs_items.specs.declared.item.Item.{Item}
+use Rattle.secs_items.specs.declared.item.Item.TheVariants as item
+use Rattle.secs_items.specs.Spelling.{Spells}
+use Rattle.gem_shapes.specs.declared.entries.Definition.{Definition}
+use Rattle.gem_shapes.specs.declared.entries.Linking.{Linking}
+use Rattle.gem_shapes.specs.declared.entries.RuleEntry.{RuleEntry}
+use Rattle.gem_shapes.specs.declared.primary.Primary.{Primary}
+use Rattle.gem_shapes.specs.declared.primary.Primary.TheVariants as primary
+use Rattle.gem_shapes.specs.declared.request.Request.{Request}
+use Rattle.gem_shapes.specs.declared.request.Request.TheVariants as request
+use Rattle.gem_shapes.specs.Elements.{anything, both, code, each, flag, identifier, identifier_or_all, identifiers, setting, small_number, text}
+use Rattle.gem_shapes.specs.Primaries.{primary_with}
+
+-- an entry of S2F33: L,2 RPTID L,b VID
+abbrev pub definition : Item → Option Definition
+definition item = option_map (λ x. record { rptid = x.0; vids = x.1 }) (both identifier (each identifier) item)
+
+-- an entry of S2F35: L,2 CEID L,b RPTID
+abbrev pub linking : Item → Option Linking
+linking item = option_map (λ x. record { ceid = x.0; rptids = x.1 }) (both identifier (each identifier) item)
+
+-- an entry of S2F43: L,2 STRID L,n FCNID
+abbrev pub rule_entry : Item → Option RuleEntry
+rule_entry item =
+    option_map (λ x. record { stream = x.0; functions = x.1 }) (both small_number (each small_number) item)
+
+-- the second part of S2F41 as it is, where it has its shape: L,n (L,2 CPNAME CPVAL) with any item as CPVAL
+abbrev pub parameters : Item → Option Item
+parameters item = option_map (λ _. item) (each (both text anything) item)
+
+-- the bit of ALED that says that the alarm is to be enabled (SEMI E5, ALED)
+abbrev pub enables : ℕ → Bool
+enables aled = nat_le 128 aled
+
+-- RSDC: 0 transmits the spool, 1 purges it (SEMI E5, RSDC)
+abbrev pub spool_request : ℕ → Option Request
+spool_request rsdc =
+    if rsdc == 0 then Some request.TransmitSpool
+    else if rsdc == 1 then Some request.PurgeSpool
+    else None
+
+-- The shape of a body: anything at all; nothing, as no byte or as an empty list (this profile); or one item.
+pub data Shape : Type 0 where
+  Anything : (asked : Request) → Shape
+  Nothing : (asked : Request) → Shape
+  OneItem : (read : Item → Option Request) → Shape
+
+-- one item, of which the request is made
+abbrev pub made : {T : Type 0} → (T → Request) → (Item → Option T) → Shape
+made make read = OneItem (λ item. option_map make (read item))
+
+-- what one item is read as, where the shape is one item
+abbrev pub reads : Shape → Item → Option Request
+reads (OneItem read) item = read item
+reads _ item = None
+
+abbrev pub shape_of : Primary → Shape
+shape_of primary.S1F1 = Nothing request.AreYouThere
+shape_of primary.S1F3 = made request.StatusValues (each identifier)
+shape_of primary.S1F11 = made request.StatusNames (each identifier)
+shape_of primary.S1F13 = Anything request.Establish
+shape_of primary.S1F15 = Nothing request.GoOffline
+shape_of primary.S1F17 = Nothing request.GoOnline
+shape_of primary.S2F13 = made request.ConstantValues (each identifier)
+shape_of primary.S2F15 = made request.SetConstants (each (both identifier setting))
+shape_of primary.S2F29 = made request.ConstantNames (each identifier)
+shape_of primary.S2F33 = made (λ x. request.Define x.0 x.1) (both identifier (each definition))
+shape_of primary.S2F35 = made (λ x. request.Link x.0 x.1) (both identifier (each linking))
+shape_of primary.S2F37 = made (λ x. request.EnableEvents x.0 x.1) (both flag (each identifier))
+shape_of primary.S2F39 = made (λ x. request.Announce x.0 x.1) (both identifier identifier)
+shape_of primary.S2F41 = made (λ x. request.Command x.0 x.1) (both text parameters)
+shape_of primary.S2F43 = made request.ReplaceRule (each rule_entry)
+shape_of primary.S5F3 = made (λ x. request.EnableAlarms (enables x.0) x.1) (both code identifier_or_all)
+shape_of primary.S5F5 = made request.Alarms identifiers
+shape_of primary.S5F7 = Nothing request.EnabledAlarms
+shape_of primary.S6F15 = made request.EventReport identifier
+shape_of primary.S6F19 = made request.Report identifier
+shape_of primary.S6F23 = OneItem (λ item. option_and_then spool_request (small_number item))
+shape_of primary.S10F3 = made (λ x. request.Display x.0 x.1) (both code text)
+shape_of primary.S10F5 = made (λ x. request.DisplayLines x.0 x.1) (both code (each text))
+
+-- no byte, or an empty list
+abbrev pub IsNothing : List ℕ → Type 0
+IsNothing body = (body ≡ []) ⊎ Spells (item.L []) body
+
+-- the body is one item that is read as this
+abbrev pub IsAskedByItem : (Item → Option Request) → List ℕ → Request → Type 0
+IsAskedByItem read body request = (item : Item) × Spells item body × (read item ≡ Some request)
+
+-- the body is of this shape and asks for this
+abbrev pub FitsShape : Shape → List ℕ → Request → Type 0
+FitsShape (Anything asked) body request = request ≡ asked
+FitsShape (Nothing asked) body request = IsNothing body × (request ≡ asked)
+FitsShape (OneItem read) body request = IsAskedByItem read body request
+
+-- a primary's body asks for this; one that isn't known asks for nothing
+abbrev pub AsksFor : Option Primary → List ℕ → Request → Type 0
+AsksFor None body request = ⊥
+AsksFor (Some primary) body request = FitsShape (shape_of primary) body request
+
+-- the message asks the equipment for this
+abbrev pub Asks : ℕ → ℕ → List ℕ → Request → Type 0
+Asks stream function = AsksFor (primary_with stream function)
+
+-- What was found is what is asked for, and where nothing was found, nothing is.
+abbrev pub IsFound : (Request → Type 0) → Option Request → Type 0
+IsFound IsAsked (Some request) = IsAsked request
+IsFound IsAsked None = (request : Request) → IsAsked request → ⊥
