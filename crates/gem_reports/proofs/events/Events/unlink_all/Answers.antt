@@ -1,0 +1,26 @@
+use Rattle.std.proofs.Common.{◌≡◌, ◌∙◌, ap, List, [], ℕ, length, arith}
+use Rattle.indexmap.specs.IndexMap.{set_value_at}
+use Rattle.gem_reports.specs.Events.{EventTable, with_links}
+use Rattle.gem_reports.proofs.Rows.{changed_first, changed_more, changed_whole, changed_within}
+use Rattle.gem_reports.proofs.events.Events.unlink_all.Goals as goal
+
+pub index_mut-requires : goal.index_mut-requires
+index_mut-requires c =
+    changed_within (with_links []) c.loop-i.i c.args.self.now _ c.loop-i.invariant
+    (let same = ap (λ (t : EventTable). length t) c.self.view_is in
+    omega (arith, same, c.len-i-end.ensures.len))
+
+pub loop-i-preserved : goal.loop-i-preserved
+loop-i-preserved c =
+    ap (λ (links : List ℕ). set_value_at c.loop-i.self-inside.rows.entries c.loop-i.i
+    (with_links links c.index_mut.result.now)) c.new.ensures
+    ∙ changed_more (with_links []) c.loop-i.i c.args.self.now _ c.index_mut.result.now c.loop-i.invariant
+    c.index_mut.ensures.value
+
+pub returns : goal.returns
+returns c =
+    let same = ap (λ (t : EventTable). length t) c.self.view_is in
+    let end : c.loop-i.i ≡ length c.args.self.now = omega (arith, same, c.len-i-end.ensures.len) in
+    c.loop-i.invariant
+    ∙ ap (λ n. changed_first (with_links []) n c.args.self.now) end
+    ∙ changed_whole (with_links []) c.args.self.now

@@ -1,0 +1,26 @@
+use Rattle.std.proofs.Common.{◌∙◌, ap, List, ℕ, length, arith}
+use Rattle.std.proofs.lemmas.List.{take_all}
+use Rattle.std.specs.List.{filter_map}
+use Rattle.secs_items.specs.declared.kind.Kind.TheVariants as kind
+use Rattle.secs_items.specs.Measures.{capped}
+use Rattle.secs_items.specs.Spelling.{shortest_head}
+use Rattle.gem_vars.specs.Tables.{value_in}
+use Rattle.gem_reports.proofs.Spelled.{list_len, long, measured_more}
+use Rattle.gem_reports.proofs.lengths.values_len.Goals as goal
+
+pub loop-vid-preserved : goal.loop-vid-preserved
+loop-vid-preserved c =
+    measured_more (value_in c.args.vars.now) c.args.vids.now c.loop-vid.vid-index 0 c.loop-vid.count c.loop-vid.len
+    c.value_size-one.result.0 c.value_size-one.result.1 _ (omega arith) c.value_size-one.ensures.few
+    c.value_size-one.ensures.count c.value_size-one.ensures.len c.saturating_add-len.ensures c.loop-vid.invariant
+
+pub returns : goal.returns
+returns c =
+    let value = value_in c.args.vars.now in
+    let all = take_all c.loop-vid.vid-index c.args.vids.now (omega arith) in
+    list_len (filter_map value c.args.vids.now) c.saturating_add.result c.head_len.result c.loop-vid.len
+    c.saturating_add.ensures
+    (c.head_len.ensures.head
+    ∙ ap (λ n. length (shortest_head kind.L n))
+    (c.loop-vid.invariant.count_is ∙ ap (λ (vids : List ℕ). length (filter_map value vids)) all))
+    (c.loop-vid.invariant.len_is ∙ ap (λ (vids : List ℕ). capped (long (filter_map value vids))) all)

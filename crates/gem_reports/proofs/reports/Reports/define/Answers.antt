@@ -1,0 +1,40 @@
+use Rattle.std.proofs.Common.{sym, ◌∙◌, ap, subst}
+use Rattle.gem_reports.specs.Answers.{past_with_definitions}
+use Rattle.gem_reports.specs.Events.{with_no_links, with_each, without}
+use Rattle.gem_reports.specs.Tables.{ReportsView, StandsFor}
+use Rattle.gem_reports.proofs.Entering.{defined_stands, deleted_stands, drafted_copy, some_defined}
+use Rattle.gem_reports.proofs.reports.Reports.define.Goals as goal
+
+pub returns-then-is_empty-clause-stands : goal.returns-then-is_empty-clause-stands
+returns-then-is_empty-clause-stands c = λ events past stands done.
+    deleted_stands c.args.self.now c.unlink_all.new.self c.clear.new.self events past c.args.list.now
+    (sym c.if-is_empty.ensures) stands
+    (c.unlink_all.ensures ∙ ap (λ (v : ReportsView). with_each with_no_links v.events) c.self.view_is) c.clear.ensures
+
+pub returns-then-not-is_done-clause-answer : goal.returns-then-not-is_done-clause-answer
+returns-then-not-is_done-clause-answer c = λ events past stands.
+    let draft =
+    drafted_copy c.args.self.now c.in_ok-copy.field-0 c.new.result.keys events past stands
+    (c.in_ok-copy.ensures ∙ ap (λ (v : ReportsView). v.reports) c.self.view_is) c.new.ensures.empty in
+    c.in_ok-answer.ensures.answer past past draft
+
+pub returns-clause-answer : goal.returns-clause-answer
+returns-clause-answer c = λ events past stands.
+    let draft =
+    drafted_copy c.args.self.now c.in_ok-copy.field-0 c.new.result.keys events past stands
+    (c.in_ok-copy.ensures ∙ ap (λ (v : ReportsView). v.reports) c.self.view_is) c.new.ensures.empty in
+    sym (c.is_done.ensures.0 c.if-not-is_done.false) ∙ c.in_ok-answer.ensures.answer past past draft
+
+pub returns-clause-stands : goal.returns-clause-stands
+returns-clause-stands c = λ events past stands done.
+    let draft =
+    drafted_copy c.args.self.now c.in_ok-copy.field-0 c.new.result.keys events past stands
+    (c.in_ok-copy.ensures ∙ ap (λ (v : ReportsView). v.reports) c.self.view_is) c.new.ensures.empty in
+    let gone = c.enter_each.new.self.deleted.keys in
+    let then =
+    c.in_ok-answer.ensures.draft past past draft (c.is_done.ensures.0 c.if-not-is_done.false) in
+    subst (StandsFor (record { events = c.in_ok-self-inside.field-0; reports = c.enter_each.new.self.standing }) events)
+    (some_defined past c.args.list.now (sym c.if-is_empty.ensures))
+    (defined_stands c.args.self.now c.in_ok-self-inside.field-0 c.enter_each.new.self.standing gone events past
+    (past_with_definitions past c.args.list.now) stands then
+    (c.in_ok-self-inside.ensures ∙ ap (λ (v : ReportsView). with_each (without gone) v.events) c.self.view_is))

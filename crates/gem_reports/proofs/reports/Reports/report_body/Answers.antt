@@ -1,0 +1,16 @@
+use Rattle.std.proofs.Common.{◌≡◌, ◌∙◌, ap, subst, nat_eq, IfOk}
+use Rattle.std.specs.Map.{lookup}
+use Rattle.secs_items.specs.declared.item.Item.{Item}
+use Rattle.gem_vars.specs.Tables.{value_in}
+use Rattle.gem_reports.specs.Bodies.{report_body_of}
+use Rattle.gem_reports.specs.Tables.{ReportsView}
+use Rattle.gem_reports.proofs.Kept.{kept_report}
+use Rattle.gem_reports.proofs.reports.Reports.report_body.Goals as goal
+
+pub returns : goal.returns
+returns c = λ events past stands.
+    let value = value_in c.args.vars.now in
+    subst (λ (item : Item). IfOk c.body.result (λ body. body ≡ item))
+    (ap (λ (v : ReportsView). report_body_of value (lookup (nat_eq c.args.rptid) v.reports)) c.self.view_is
+    ∙ kept_report value c.args.self.now events past c.args.rptid stands)
+    c.body.ensures

@@ -1,0 +1,20 @@
+//! Collection event reports of GEM (SEMI E30, event data collection; SEMI E5, S2F33, S2F35, S2F37 and stream 6).
+#![tactic(auto)]
+
+mod answers;
+mod bodies;
+mod draft;
+mod event;
+mod events;
+mod laws;
+mod lengths;
+mod links;
+mod reports;
+mod standing;
+#[cfg(test)]
+mod tests;
+
+pub use answers::{Drack, Erack, Lrack};
+pub use gem_shapes::{Definition, Linking};
+pub use laws::reports_are_counted;
+pub use reports::Reports;
