@@ -1,3 +1,4 @@
 pub mod Appending
+pub mod Distinct
 pub mod Events
 pub mod Reading
