@@ -40,6 +40,10 @@ pub fn put_number<const N: usize>(line: &mut ArrayVec<u8, N>, number: u64)
     ensures items { line.new.items ≡ line.old.items ++ decimal number }
     ensures len { array_vec_len line.new ≤ array_vec_len line.old + 20 }
 {
+    if number < 10 {
+        line.push(b'0' + number as u8);
+        return;
+    }
     let mut buffer = Buffer::new();
     put(line, buffer.format(number).as_bytes());
 }
