@@ -1,12 +1,10 @@
 -- The length of the shortest spelling, kind by kind.
-use Rattle.std.specs.Prelude.{min}
-use Rattle.std.proofs.Common.{◌≡◌, ℕ, ◌+◌, ◌-◌, ◌*◌, ◌^◌, List, [], ◌∷◌, ◌++◌, length, sym, ap, ◌∙◌, length-append, arith}
+use Rattle.std.proofs.Common.{◌≡◌, ℕ, ◌+◌, ◌*◌, List, [], ◌∷◌, ◌++◌, length, sym, ap, ◌∙◌, length-append, arith}
 use Rattle.std.specs.List.{flat_map}
 use Rattle.secs_items.specs.declared.item.Item.{Item}
 use Rattle.secs_items.specs.declared.item.Item.TheOpen.{Item-F}
 use Rattle.secs_items.specs.declared.item.Item.TheViews.{roll-Item}
 use Rattle.secs_items.specs.declared.item.Item.TheFolds.{fold-roll-Item, map-Item}
-use Rattle.secs_items.specs.declared.kind.Kind.TheVariants as kind
 use Rattle.secs_items.specs.Kinds.{unit_of}
 use Rattle.secs_items.specs.Layers.{count_of, kind_of, length_of}
 use Rattle.secs_items.specs.Measures.{capped, leaf_length}
@@ -35,13 +33,3 @@ pub leaf_measured : (x : Item-F Item) (i : Item) (content : List ℕ) (count res
 leaf_measured x i content count result rolls layer long counted measured =
     measured ∙ ap (λ (n : ℕ). capped (leaf_length (kind_of x) n (unit_of (kind_of x) * n))) counted
     ∙ item_long x i (shortest_head (kind_of x) (length_of x)) content (length_of x) rolls layer long
-
-capped_more : (a b : ℕ) → min (a + capped b) (2 ^ 64 - 1) ≡ capped (a + b)
-capped_more a b = omega arith
-
--- the length of a list from those of its head and of its items
-pub list_long : (items given : List Item) (sum head count all : ℕ) → sum ≡ min (head + all) (2 ^ 64 - 1)
-    → head ≡ length (shortest_head kind.L (1 * count)) → count ≡ length items → all ≡ capped (length (flat_map shortest_spelling given)) → given ≡ items
-    → sum ≡ capped (length (shortest_head kind.L (1 * length items)) + length (flat_map shortest_spelling items))
-list_long items given sum head count all added head_is counted all_is same =
-    rw (added, head_is, counted, all_is, same) (capped_more (length (shortest_head kind.L (1 * length items))) (length (flat_map shortest_spelling items)))

@@ -15,6 +15,7 @@ pub mod RangeLaws
 pub mod Rows
 mod Shortest
 pub mod SpellLaws
+pub mod SpelledLengths
 mod Stops
 mod ViewSteps
 mod Viewing

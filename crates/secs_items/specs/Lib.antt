@@ -2,6 +2,7 @@ pub mod Elements
 pub mod Encoding
 pub mod Faults
 pub mod Heads
+pub mod Items
 pub mod Kinds
 pub mod Layers
 pub mod Limits

@@ -1,5 +1,7 @@
 ghost use Rattle.std.specs.Prelude.{◌≡◌, IfOk};
 ghost use Rattle.secs_items.specs.declared.item.Item.{out-Item};
+ghost use Rattle.secs_items.specs.declared.item.Item.TheVariants as item;
+ghost use Rattle.secs_items.specs.Items.{number_item};
 ghost use Rattle.secs_items.specs.Layers.{kind_of};
 
 use crate::kind::Kind;
@@ -30,6 +32,20 @@ pub enum Item {
 }
 
 impl Item {
+    /// One number of four bytes, as identifiers are written.
+    pub fn number(alloc: Global, number: u32) -> Result<Item, NoMemory>
+        ensures { IfOk result (λ made. made ≡ number_item number) }
+    {
+        Ok(Item::U4(Row::of(alloc, &[number])?))
+    }
+
+    /// A text of these characters.
+    pub fn text(alloc: Global, characters: &[u8]) -> Result<Item, NoMemory>
+        ensures { IfOk result (λ made. made ≡ item.A characters.now) }
+    {
+        Ok(Item::A(Row::of(alloc, characters)?))
+    }
+
     /// The kind of its elements.
     pub fn kind(&self) -> Kind
         ensures { result ≡ kind_of (out-Item self.now) }

@@ -21,6 +21,7 @@ pub use kind::Kind;
 pub use laws::{
     no_fault_exactly_in_a_spelling, no_spelling_begins_another, where_each_fault_stands,
 };
+pub use measures::{list_len, text_len};
 pub use reading::decode;
 pub use view::{ItemView, check};
 pub use writing::encode_into;

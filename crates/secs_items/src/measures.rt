@@ -1,7 +1,9 @@
 //! How long an item's spelling is, and how deep the item, with no memory taken.
 
-ghost use Rattle.std.specs.Prelude.{◌≡◌, ◌*◌, ◌+◌, length, map};
+ghost use Rattle.std.specs.Prelude.{◌≡◌, ◌*◌, ◌+◌, ℕ, List, length, map};
 ghost use Rattle.std.specs.List.{flat_map};
+ghost use Rattle.secs_items.specs.declared.item.Item.{Item};
+ghost use Rattle.secs_items.specs.declared.item.Item.TheVariants as item;
 ghost use Rattle.secs_items.specs.Kinds.{unit_of};
 ghost use Rattle.secs_items.specs.Measures.{capped, deepest, depth_of, leaf_length};
 ghost use Rattle.secs_items.specs.Spelling.{shortest_head, shortest_spelling};
@@ -10,17 +12,14 @@ use crate::item::Item;
 use crate::kind::Kind;
 
 impl Item {
-    /// How many bytes the item's shortest spelling has, or `usize::MAX` where it has more. Of an item that is too deep or
-    /// too long to be spelled it is the length by the same rules; `encode_into` refuses such an item.
+    /// How many bytes the item's shortest spelling has, or `usize::MAX` where it has more. Of an item that is too deep
+    /// or too long to be spelled it is the length by the same rules; `encode_into` refuses such an item.
     #[cycle(measuring)]
     pub fn spelled_len(&self) -> usize
         ensures { result ≡ capped (length (shortest_spelling self.now)) }
     {
         match self {
-            Item::L(items) => {
-                let all = spelled_len_of_all(items.as_slice());
-                head_len(Kind::L, items.len()).saturating_add(all)
-            }
+            Item::L(items) => list_len(items.len(), spelled_len_of_all(items.as_slice())),
             Item::B(bytes) => leaf_len(Kind::B, bytes.len()),
             Item::Bool(bytes) => leaf_len(Kind::Bool, bytes.len()),
             Item::A(bytes) => leaf_len(Kind::A, bytes.len()),
@@ -49,6 +48,23 @@ impl Item {
             _ => 0,
         }
     }
+}
+
+/// How many bytes a list has, or `usize::MAX` where it has more, of so many items that have so many bytes together. It
+/// tells the length of a list that isn't built.
+pub fn list_len(count: usize, together: usize) -> usize
+    ensures { (items : List Item) → length items ≡ count →
+        together ≡ capped (length (flat_map shortest_spelling items)) →
+        result ≡ capped (length (shortest_spelling (item.L items))) }
+{
+    head_len(Kind::L, count).saturating_add(together)
+}
+
+/// How many bytes a text of so many characters has, or `usize::MAX` where it has more.
+pub fn text_len(count: usize) -> usize
+    ensures { (text : List ℕ) → length text ≡ count → result ≡ capped (length (shortest_spelling (item.A text))) }
+{
+    leaf_len(Kind::A, count)
 }
 
 /// How many bytes the items' shortest spellings have.

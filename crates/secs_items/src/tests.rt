@@ -406,3 +406,24 @@ fn has_its_parts(list: &ItemView<'_>) -> bool {
 fn views(rt: HostRuntime) {
     assert!(rt; check(&LIST).is_ok_and(|list| has_its_parts(&list)));
 }
+
+fn is_number(item: Result<Item, NoMemory>, number: u32) -> bool {
+    match item {
+        Ok(Item::U4(numbers)) => numbers.as_slice() == [number].as_slice(),
+        _ => false,
+    }
+}
+
+fn is_text(item: Result<Item, NoMemory>, text: &[u8]) -> bool {
+    match item {
+        Ok(Item::A(characters)) => characters.as_slice() == text,
+        _ => false,
+    }
+}
+
+#[test]
+fn parts_of_messages(rt: HostRuntime) {
+    assert!(rt; is_number(Item::number(rt.alloc(), 258), 258));
+    assert!(rt; is_text(Item::text(rt.alloc(), b"KPA"), b"KPA"));
+    assert!(rt; list_len(2, 12) == 14 && list_len(256, 1536) == 1539 && text_len(255) == 257);
+}

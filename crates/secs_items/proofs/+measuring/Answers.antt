@@ -1,21 +1,21 @@
 -- What each kind's arm has measured.
-use Rattle.std.proofs.Common.{◌*◌, length, refl, sym, ◌∙◌}
+use Rattle.std.proofs.Common.{length, refl, sym, ap, ◌∙◌}
 use Rattle.std.specs.List.{flat_map}
 use Rattle.std.specs.Int.{w8, w16, w32, w64, to_be_bytes}
 use Rattle.secs_items.specs.declared.item.Item.TheOpen.{Item-F}
-use Rattle.secs_items.specs.declared.item.Item.TheVariants.{rolls-L, rolls-I1, rolls-I2, rolls-I4, rolls-I8, rolls-U2, rolls-U4, rolls-U8}
-use Rattle.secs_items.specs.declared.kind.Kind.TheVariants as kind
+use Rattle.secs_items.specs.declared.item.Item.TheVariants.{rolls-I1, rolls-I2, rolls-I4, rolls-I8, rolls-U2, rolls-U4, rolls-U8}
 use Rattle.secs_items.specs.Elements.{signed_bytes}
-use Rattle.secs_items.specs.Spelling.{shortest_head, shortest_spelling}
-use Rattle.secs_items.proofs.Lengths.{elements_long, item_long, leaf_measured, list_long}
-use Rattle.secs_items.proofs.Written.{layer_L}
+use Rattle.secs_items.specs.Measures.{capped}
+use Rattle.secs_items.specs.Spelling.{shortest_spelling}
+use Rattle.secs_items.proofs.Lengths.{elements_long, leaf_measured}
 use Rattle.secs_items.proofs.+measuring.Goals as goal
 
 pub item::Item::spelled_len-returns-in-L : goal.item::Item::spelled_len-returns-in-L
 item::Item::spelled_len-returns-in-L t c =
-    let head = shortest_head kind.L (1 * length c.in-L.items) in
-    let long = item_long (Item-F.L c.in-L.items) c.args.self.now head (flat_map shortest_spelling c.in-L.items) _ (rolls-L c.in-L.items ∙ sym c.in-L.is) (layer_L c.in-L.items) refl in
-    list_long c.in-L.items c.as_slice.result.now c.saturating_add.result c.head_len.result c.len.result c.spelled_len_of_all-all.result c.saturating_add.ensures c.head_len.ensures c.len.ensures c.spelled_len_of_all-all.ensures c.as_slice.ensures ∙ long
+    let items = c.in-L.items in
+    let same = c.as_slice.ensures in
+    c.list_len.ensures items (sym c.len.ensures) (rw (← same) c.spelled_len_of_all.ensures)
+    ∙ ap (λ i. capped (length (shortest_spelling i))) (sym c.in-L.is)
 
 pub item::Item::spelled_len-returns-in-I1 : goal.item::Item::spelled_len-returns-in-I1
 item::Item::spelled_len-returns-in-I1 t c =
