@@ -1,47 +1,56 @@
 -- What the calls of a disk in memory count.
-use Rattle.std.proofs.Common.{◌≡◌, ℕ, ◌+◌, ◌-◌, ◌^◌, ◌<◌, ◌≤◌, ◌⊎◌, inl, inr, ◌∙◌, Bool, true, false, ◌&&◌, ◌||◌, ◌==◌, not, nat_le, nat_lt, [], ◌∷◌, ◌++◌, length, length-append, if◌then◌else◌, refl, sym, ap, subst, arith}
+use Rattle.std.proofs.Common.{◌≡◌, ℕ, ◌-◌, ◌^◌, ◌<◌, ◌≤◌, ◌⊎◌, inl, inr, ◌∙◌, Bool, true, false, ◌||◌, ◌==◌, nat_le, nat_lt, [], ◌∷◌, length, length-append, if◌then◌else◌, refl, sym, ap, subst, ⊎_elim, arith}
 use Rattle.std.proofs.lemmas.Bool.Decides.{nat_tests}
 use Rattle.disk_base.specs.Calls.{DiskCall}
-use Rattle.disk_base.specs.Faults.{HasCause, Rose, one_more}
+use Rattle.disk_base.specs.Faults.{HasCause, IsAmong, IsCrowded, IsPlanned, Rose, one_more}
 use Rattle.disk_base.specs.MemDisk.{DiskState, after_call, after_entry, after_refusal, answer_of, disk_health, faults_after, is_full}
-use Rattle.disk_base.specs.Plan.{is_safe, next_answer, next_plan}
+use Rattle.disk_base.specs.Plan.{next_answer, next_plan}
 use Rattle.disk_base.specs.declared.disk.DiskAnswer.{DiskAnswer}
 use Rattle.disk_base.specs.declared.disk.DiskAnswer.TheVariants.{Done, Failed}
+use Rattle.disk_base.specs.declared.fault_plan.FaultPlan.{FaultPlan}
 
 pub rose : (faults : ℕ) → faults < 2 ^ 64 → Rose faults (one_more faults)
 rose faults below = record { by_one = refl; later = omega (arith, below) }
 
-crowded_of : (safe : Bool) (most calls left n : ℕ) → 1 ≤ (if safe then most - calls else 0) → (nat_le most calls || nat_lt left n) ≡ true → left < n
-crowded_of true most calls left n sure full = grind (arith, nat_tests, sure, full)
-crowded_of false most calls left n sure full = absurd (omega (arith, sure))
+-- a full list has no room for sure
+crowded_by : (most calls left n : ℕ) (full : Bool) → nat_le most calls ≡ full → (full || nat_lt left n) ≡ true → (most - calls < 1) ⊎ (left < n)
+crowded_by most calls left n true is crowded = inl (grind (arith, nat_tests, is))
+crowded_by most calls left n false is crowded = inr (grind (arith, nat_tests, crowded))
 
-safe_next : (fail stop : ℕ) (stopped : Bool) → (fail == 0 && (stop == 0 && not stopped)) ≡ true →
-    (fail - 1 == 0 && (stop - 1 == 0 && not (stopped || stop == 1))) ≡ true
-safe_next fail stop true safe = absurd (grind (arith, nat_tests, safe))
-safe_next fail stop false safe = grind (arith, nat_tests, safe)
+pub crowded_of : (s : DiskState) (n : ℕ) → is_full n s ≡ true → IsCrowded (disk_health s) 1 n
+crowded_of s n full = crowded_by s.most (length s.calls) (s.room - s.used) n (nat_le s.most (length s.calls)) refl full
 
-safe_answer : (fail stop : ℕ) (stopped : Bool) → (fail == 0 && (stop == 0 && not stopped)) ≡ true → (stopped || (fail == 1 || stop == 1)) ≡ false
-safe_answer fail stop true safe = absurd (grind (arith, nat_tests, safe))
-safe_answer fail stop false safe = grind (arith, nat_tests, safe)
+-- a call fails as planned exactly where one of the next one call is to fail
+is_next : (n : ℕ) → (n == 1) ≡ true → IsAmong n 1
+is_next n is = (grind (arith, nat_tests, is), grind (arith, nat_tests, is))
 
--- sure calls are used up one by one
-used_up : (a b : Bool) (most calls now : ℕ) → (a ≡ true → b ≡ true) → now ≡ calls + 1 →
-    (if a then most - calls else 0) ≤ (if b then most - now else 0) + 1
-used_up true true most calls now stays is = omega (arith, is)
-used_up true false most calls now stays is = absurd (grind (arith, stays refl))
-used_up false b most calls now stays is = omega arith
+planned_by : (faults calls room fail stop : ℕ) (stopped one two : Bool) → (fail == 1) ≡ one → (stop == 1) ≡ two →
+    (if stopped || (one || two) then Failed else Done) ≡ Failed →
+    IsPlanned (record { faults = faults; calls = calls; room = room; fail_in = fail; stop_in = stop; stopped = stopped }) 1
+planned_by faults calls room fail stop true one two a b is = inr (inr (refl, omega arith))
+planned_by faults calls room fail stop false true two a b is = inl (is_next fail a)
+planned_by faults calls room fail stop false false true a b is = inr (inl (is_next stop b))
+planned_by faults calls room fail stop false false false a b is = absurd (grind (arith, is))
 
--- a disk none of whose calls is to fail doesn't fail
-never : (safe : Bool) (n : ℕ) (answer : DiskAnswer) → (safe ≡ true → answer ≡ Done) → answer ≡ Failed → 1 ≤ (if safe then n else 0) → ⊥
-never true n Done good is sure = grind (arith, is)
-never true n Failed good is sure = grind (arith, good refl)
-never false n answer good is sure = omega (arith, sure)
+planned : (s : DiskState) → next_answer s.plan ≡ Failed → IsPlanned (disk_health s) 1
+planned s is =
+    planned_by s.faults (s.most - length s.calls) (s.room - s.used) s.plan.fail_in s.plan.stop_in s.plan.stopped (s.plan.fail_in == 1) (s.plan.stop_in == 1) refl refl is
 
--- one that does was planned to, or something else was lacking
-why : (planned : DiskAnswer) (safe : Bool) (n : ℕ) (Lacking : Type 0) → (safe ≡ true → planned ≡ Done) → (planned ≡ Failed) ⊎ Lacking →
-    1 ≤ (if safe then n else 0) → Lacking
-why planned safe n Lacking good (inl is) sure = absurd (never safe n planned good is sure)
-why planned safe n Lacking good (inr lacking) sure = lacking
+not_next : (n : ℕ) → (n == 1) ≡ false → IsAmong n 1 → ⊥
+not_next n is among = grind (arith, nat_tests, is, among.0, among.1)
+
+unplanned_by : (faults calls room fail stop : ℕ) (stopped one two : Bool) → (fail == 1) ≡ one → (stop == 1) ≡ two →
+    (if stopped || (one || two) then Failed else Done) ≡ Done →
+    IsPlanned (record { faults = faults; calls = calls; room = room; fail_in = fail; stop_in = stop; stopped = stopped }) 1 → ⊥
+unplanned_by faults calls room fail stop true one two a b is due = absurd (grind (arith, is))
+unplanned_by faults calls room fail stop false true two a b is due = absurd (grind (arith, is))
+unplanned_by faults calls room fail stop false false true a b is due = absurd (grind (arith, is))
+unplanned_by faults calls room fail stop false false false a b is due =
+    ⊎_elim (not_next fail a) (⊎_elim (not_next stop b) (λ other. grind (arith, other.0))) due
+
+unplanned : (s : DiskState) → next_answer s.plan ≡ Done → IsPlanned (disk_health s) 1 → ⊥
+unplanned s is =
+    unplanned_by s.faults (s.most - length s.calls) (s.room - s.used) s.plan.fail_in s.plan.stop_in s.plan.stopped (s.plan.fail_in == 1) (s.plan.stop_in == 1) refl refl is
 
 -- a call that is done leaves the disk as it was, stopped or not
 going_on : (fail stop : ℕ) (stopped : Bool) → (if stopped || (fail == 1 || stop == 1) then Failed else Done) ≡ Done → (stopped || stop == 1) ≡ stopped
@@ -52,6 +61,15 @@ going_on fail stop false is = by_stop (fail == 1) (stop == 1) is where
   by_stop true true is = absurd (grind (arith, is))
   by_stop false true is = absurd (grind (arith, is))
 
+-- one that has stopped stays so
+stays : (plan : FaultPlan) → plan.stopped ≡ true → (next_plan plan).stopped ≡ true
+stays plan is = ap (λ (b : Bool). b || plan.stop_in == 1) is
+
+room_lacks : (s : DiskState) (n : ℕ) (Lacking : Type 0) → (s.room - s.used < n → Lacking) → IsCrowded (disk_health s) 1 n → 1 ≤ s.most - length s.calls →
+    IsPlanned (disk_health s) 1 ⊎ Lacking
+room_lacks s n Lacking lacking (inl none) sure = absurd (omega (arith, none, sure))
+room_lacks s n Lacking lacking (inr less) sure = inr (lacking less)
+
 module _ (s : DiskState) (call : DiskCall) (Lacking : Type 0) (below : s.faults < 2 ^ 64)
     (lacking : s.room - s.used < length call.bytes → Lacking) (done : call.answer ≡ Done → next_answer s.plan ≡ Done)
     (failed : call.answer ≡ Failed → (next_answer s.plan ≡ Failed) ⊎ Lacking) where
@@ -59,19 +77,22 @@ module _ (s : DiskState) (call : DiskCall) (Lacking : Type 0) (below : s.faults 
       HasCause (disk_health s) (disk_health (if full then after_refusal s else after_entry call s)) 1 (length call.bytes) Lacking (if full then Failed else answer)
   go true answer full answered = record {
     rose = rose s.faults below;
-    lacking = λ sure. lacking (crowded_of (is_safe s.plan) s.most (length s.calls) (s.room - s.used) (length call.bytes) sure full);
+    lacking = room_lacks s (length call.bytes) Lacking lacking (crowded_of s (length call.bytes) full);
+    stays = stays s.plan;
   }
   go false Done full answered = record {
     same = ap (λ answer. faults_after answer s.faults) answered;
-    calls_left = used_up (is_safe s.plan) (is_safe (next_plan s.plan)) s.most (length s.calls) (length (s.calls ++ call ∷ []))
-        (safe_next s.plan.fail_in s.plan.stop_in s.plan.stopped) (length-append s.calls (call ∷ []));
+    calls_left = omega (arith, length-append s.calls (call ∷ []));
     room_left = omega arith;
+    fail_left = refl;
+    stop_left = refl;
+    unplanned = unplanned s (done answered);
     going = going_on s.plan.fail_in s.plan.stop_in s.plan.stopped (done answered);
   }
   go false Failed full answered = record {
     rose = subst (λ answer. Rose s.faults (faults_after answer s.faults)) (sym answered) (rose s.faults below);
-    lacking = λ sure. why (next_answer s.plan) (is_safe s.plan) (s.most - length s.calls) Lacking
-        (λ safe. ap (λ (b : Bool). if b then Failed else Done) (safe_answer s.plan.fail_in s.plan.stop_in s.plan.stopped safe)) (failed answered) sure;
+    lacking = λ sure. ⊎_elim (λ is. inl (planned s is)) (λ is. inr is) (failed answered);
+    stays = stays s.plan;
   }
 
   pub cause_of : HasCause (disk_health s) (disk_health (after_call call s)) 1 (length call.bytes) Lacking (answer_of call s)

@@ -5,5 +5,8 @@ mod Logs
 mod Made
 pub mod Marks
 pub mod Moments
+mod OneByte
 mod Replays
 mod Steps
+mod Stopped
+pub mod Stretches

@@ -1,5 +1,5 @@
 -- Counts of faults of a disk (this profile).
-use Rattle.std.specs.Prelude.{◌≡◌, Bool, ℕ, ◌+◌, ◌-◌, ◌^◌, ◌≤◌, min}
+use Rattle.std.specs.Prelude.{◌≡◌, ◌⊎◌, Bool, true, ℕ, ◌+◌, ◌-◌, ◌^◌, ◌<◌, ◌≤◌, min}
 use Rattle.disk_base.specs.declared.disk.DiskAnswer.{DiskAnswer}
 use Rattle.disk_base.specs.declared.disk.DiskAnswer.TheVariants.{Done, Failed}
 
@@ -12,25 +12,46 @@ pub record Rose (before now : ℕ) : Type 0 where
   pub by_one : now ≡ one_more before
   pub later : before ≤ now
 
--- how many faults were counted, for how many more calls and written bytes there is room without one for sure, and
--- whether the disk has stopped
+-- how many faults were counted; for how many more calls and written bytes there is room for sure; how many calls are
+-- left up to one that is to fail alone, and up to one from which on all are to fail, themselves counted, 0 for none;
+-- and whether the latter was made
 pub record DiskHealth : Type 0 where
   pub faults : ℕ
   pub calls : ℕ
   pub room : ℕ
+  pub fail_in : ℕ
+  pub stop_in : ℕ
   pub stopped : Bool
 
--- one fault was counted, where this many calls weren't sure any more or something else was lacking
+-- this one is among so many calls
+abbrev pub IsAmong : ℕ → ℕ → Type 0
+IsAmong place calls = (0 < place) × (place ≤ calls)
+
+-- one of so many calls is to fail
+abbrev pub IsPlanned : DiskHealth → ℕ → Type 0
+IsPlanned health calls =
+    IsAmong health.fail_in calls ⊎ (IsAmong health.stop_in calls ⊎ ((health.stopped ≡ true) × (0 < calls)))
+
+-- there is no sure room for so many calls that write n bytes
+abbrev pub IsCrowded : DiskHealth → ℕ → ℕ → Type 0
+IsCrowded health calls n = (health.calls < calls) ⊎ (health.room < n)
+
+-- one fault was counted, where one of this many calls was to fail, or where there was no sure room for them, or where
+-- something else was lacking; a disk that had stopped is so still
 pub record DiskFault (before now : DiskHealth) (calls : ℕ) (Lacking : Type 0) : Type 0 where
   pub rose : Rose before.faults now.faults
-  pub lacking : calls ≤ before.calls → Lacking
+  pub lacking : calls ≤ before.calls → IsPlanned before calls ⊎ Lacking
+  pub stays : before.stopped ≡ true → now.stopped ≡ true
 
--- the count of faults stands, this many calls that write n bytes use up no more than their room, and the disk hasn't
--- stopped in them
+-- the count of faults stands, this many calls that write n bytes use up no more than their room, and each of them was
+-- made: none was to fail, and those that are to do so have come nearer by as many
 pub record IsUsed (before now : DiskHealth) (calls n : ℕ) : Type 0 where
   pub same : now.faults ≡ before.faults
   pub calls_left : before.calls ≤ now.calls + calls
   pub room_left : before.room ≤ now.room + n
+  pub fail_left : now.fail_in ≡ before.fail_in - calls
+  pub stop_left : now.stop_in ≡ before.stop_in - calls
+  pub unplanned : IsPlanned before calls → ⊥
   pub going : now.stopped ≡ before.stopped
 
 -- a fault is counted where one of this many calls fails, which write n bytes, and nowhere else

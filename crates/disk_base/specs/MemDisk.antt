@@ -4,7 +4,7 @@ use Rattle.disk_base.specs.Calls.{DiskCall, attach_call, read_call, sync_call, w
 use Rattle.disk_base.specs.Cut.{image_of}
 use Rattle.disk_base.specs.Faults.{DiskHealth, one_more}
 use Rattle.disk_base.specs.Listed.{next_story}
-use Rattle.disk_base.specs.Plan.{is_safe, next_answer, next_plan, no_faults}
+use Rattle.disk_base.specs.Plan.{next_answer, next_plan, no_faults}
 use Rattle.disk_base.specs.Story.{Story, settled_story}
 use Rattle.disk_base.specs.declared.cut.CutChoice.{CutChoice}
 use Rattle.disk_base.specs.declared.disk.CallKind.{CallKind}
@@ -39,12 +39,13 @@ disk_with bytes most room = record {
 abbrev pub disk_size : DiskState → ℕ
 disk_size s = length s.story.now.bytes
 
--- sure room is only where no call is to fail
 abbrev pub disk_health : DiskState → DiskHealth
 disk_health s = record {
   faults = s.faults;
-  calls = if is_safe s.plan then s.most - length s.calls else 0;
+  calls = s.most - length s.calls;
   room = s.room - s.used;
+  fail_in = s.plan.fail_in;
+  stop_in = s.plan.stop_in;
   stopped = s.plan.stopped;
 }
 

@@ -1,5 +1,5 @@
 -- Which of the calls to come of a disk in memory fail (this profile).
-use Rattle.std.specs.Prelude.{◌-◌, ◌==◌, Bool, false, ◌&&◌, ◌||◌, not, if◌then◌else◌}
+use Rattle.std.specs.Prelude.{◌-◌, ◌==◌, false, ◌||◌, if◌then◌else◌}
 use Rattle.disk_base.specs.declared.disk.DiskAnswer.{DiskAnswer}
 use Rattle.disk_base.specs.declared.disk.DiskAnswer.TheVariants.{Done, Failed}
 use Rattle.disk_base.specs.declared.fault_plan.FaultPlan.{FaultPlan}
@@ -7,10 +7,6 @@ use Rattle.disk_base.specs.declared.fault_plan.FaultPlan.{FaultPlan}
 -- none fails
 abbrev pub no_faults : FaultPlan
 no_faults = record { fail_in = 0; stop_in = 0; stopped = false }
-
--- none fails any more
-abbrev pub is_safe : FaultPlan → Bool
-is_safe plan = plan.fail_in == 0 && (plan.stop_in == 0 && not plan.stopped)
 
 -- what the next call answers
 abbrev pub next_answer : FaultPlan → DiskAnswer

@@ -13,8 +13,9 @@ Settles before at bytes after Done = after ≡ option_map (λ s. with_sync (with
 Settles before at bytes after Failed = Writes before at bytes after Failed
 
 -- both calls are in the list; where this failed, the write is the last one, or the sync
-abbrev pub LogsBoth : ℕ → List ℕ → Option (List DiskCall) → Option (List DiskCall) → DiskAnswer → Type 0
-LogsBoth at bytes before after Done = after ≡ with_call (sync_call Done) (with_call (write_call at bytes Done) before)
-LogsBoth at bytes before after Failed =
-    Logs (write_call at bytes) before after Failed
-    ⊎ Logs sync_call (with_call (write_call at bytes Done) before) after Failed
+abbrev pub LogsBoth : ℕ → List ℕ → Type 0 → Option (List DiskCall) → Option (List DiskCall) → DiskAnswer → Type 0
+LogsBoth at bytes Crowded before after Done =
+    after ≡ with_call (sync_call Done) (with_call (write_call at bytes Done) before)
+LogsBoth at bytes Crowded before after Failed =
+    Logs (write_call at bytes) Crowded before after Failed
+    ⊎ Logs sync_call Crowded (with_call (write_call at bytes Done) before) after Failed

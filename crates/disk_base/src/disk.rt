@@ -1,7 +1,7 @@
 ghost use Rattle.std.specs.Prelude.{◌≡◌, ◌+◌, ◌<◌, ◌≤◌, ℕ, false, List, Option, Some, length};
 ghost use Rattle.disk_base.specs.Calls.{DiskCall, Logs, attach_call, read_call, sync_call, write_call};
 ghost use Rattle.disk_base.specs.Disk.{Attaches, HasSize, Reads, Syncs, Writes};
-ghost use Rattle.disk_base.specs.Faults.{DiskHealth, HasCause};
+ghost use Rattle.disk_base.specs.Faults.{DiskHealth, HasCause, IsCrowded};
 ghost use Rattle.disk_base.specs.Listed.{AsListed};
 ghost use Rattle.disk_base.specs.Story.{Story};
 
@@ -35,10 +35,11 @@ pub trait Disk {
     /// How many bytes there are.
     ghost size_is: { Self → ℕ };
 
-    /// How many faults were counted, and for how many more calls and written bytes there is room without a fault for
-    /// sure, 0 over a real file. The count rises by one where a call fails, and stands at every other call and at
-    /// 2^64 - 1. Whether the disk has stopped, which it does at a call that fails: then the list may have calls that
-    /// changed nothing. Until then each call that is listed has changed what its entry says, also one that failed.
+    /// How many faults were counted, for how many more calls and written bytes there is room for sure, 0 over a real
+    /// file, and which calls to come are to fail. The count rises by one where a call fails, and stands at every other
+    /// call and at 2^64 - 1. Where there is room, a call fails only if it is to fail, and is listed all the same. A
+    /// disk stops at a call that fails, and stays so: then the list may have calls that changed nothing. Until then
+    /// each read, write and sync that is listed has changed what its entry says, also one that failed.
     ghost health: { Self → DiskHealth };
 
     /// Which disk it is. No call changes it.
@@ -49,7 +50,8 @@ pub trait Disk {
     fn attach(&mut self, file: &str, grow: u64) -> DiskAnswer
         ensures told { Attaches grow (told self.old) (told self.new) }
         ensures size { HasSize grow (size_is self.new) result }
-        ensures calls { Logs (attach_call grow) (calls self.old) (calls self.new) result }
+        ensures calls { Logs (attach_call grow) (IsCrowded (health self.old) 1 0)
+            (calls self.old) (calls self.new) result }
         ensures cause { HasCause (health self.old) (health self.new) 1 0 (size_is self.old < grow) result }
         ensures name { name self.new ≡ name self.old };
 
@@ -63,30 +65,32 @@ pub trait Disk {
         ensures bytes { Reads (told self.old) at into.new result }
         ensures told { told self.new ≡ told self.old }
         ensures size { size_is self.new ≡ size_is self.old }
-        ensures calls { Logs (read_call at (length into.old)) (calls self.old) (calls self.new) result }
+        ensures calls { Logs (read_call at (length into.old)) (IsCrowded (health self.old) 1 0)
+            (calls self.old) (calls self.new) result }
         ensures listed { (health self.old).stopped ≡ false →
             AsListed (told self.old) (calls self.old) (told self.new) (calls self.new) }
         ensures cause { HasCause (health self.old) (health self.new) 1 0 ⊥ result }
         ensures name { name self.new ≡ name self.old };
 
-    /// Writes bytes over those from a place on. Until a sync is `Done` a crash may leave any bytes there. Where it
-    /// fails it may have changed this range and nothing else.
+    /// Puts bytes in place of those from a place on. A crash before the next good sync leaves anything in their range.
+    /// Where this fails, the range may be changed, and all else is as it was.
     fn write(&mut self, at: u64, bytes: &[u8]) -> DiskAnswer
         requires { at + length bytes.now ≤ size_is self.old }
         ensures told { Writes (told self.old) at bytes.now (told self.new) result }
         ensures size { size_is self.new ≡ size_is self.old }
-        ensures calls { Logs (write_call at bytes.now) (calls self.old) (calls self.new) result }
+        ensures calls { Logs (write_call at bytes.now) (IsCrowded (health self.old) 1 (length bytes.now))
+            (calls self.old) (calls self.new) result }
         ensures listed { (health self.old).stopped ≡ false →
             AsListed (told self.old) (calls self.old) (told self.new) (calls self.new) }
         ensures cause { HasCause (health self.old) (health self.new) 1 (length bytes.now)
             ((health self.old).room < length bytes.now) result }
         ensures name { name self.new ≡ name self.old };
 
-    /// Settles all that was written: a crash leaves the bytes as they are. Where it fails it settles nothing.
+    /// Makes all written bytes last through a crash. Where it fails, none of them are any safer than before.
     fn sync(&mut self) -> DiskAnswer
         ensures told { Syncs (told self.old) (told self.new) result }
         ensures size { size_is self.new ≡ size_is self.old }
-        ensures calls { Logs sync_call (calls self.old) (calls self.new) result }
+        ensures calls { Logs sync_call (IsCrowded (health self.old) 1 0) (calls self.old) (calls self.new) result }
         ensures listed { (health self.old).stopped ≡ false →
             AsListed (told self.old) (calls self.old) (told self.new) (calls self.new) }
         ensures cause { HasCause (health self.old) (health self.new) 1 0 ⊥ result }
@@ -96,7 +100,8 @@ pub trait Disk {
     ghost sized: { (disk : Self) (s : Story) → told disk ≡ Some s → length s.now.bytes ≡ size_is disk };
 
     /// The calls are told where the bytes are.
-    ghost listed: { (disk : Self) (s : Story) → told disk ≡ Some s → (all : List DiskCall) × (calls disk ≡ Some all) };
+    ghost calls_told: { (disk : Self) (s : Story) → told disk ≡ Some s →
+        (all : List DiskCall) × (calls disk ≡ Some all) };
 }
 
 impl<D: Disk> Disk for &mut D {
@@ -112,7 +117,7 @@ impl<D: Disk> Disk for &mut D {
 
     ghost sized = { λ disk s is. D.sized disk.now s is };
 
-    ghost listed = { λ disk s is. D.listed disk.now s is };
+    ghost calls_told = { λ disk s is. D.calls_told disk.now s is };
 
     fn attach(&mut self, file: &str, grow: u64) -> DiskAnswer {
         (**self).attach(file, grow)

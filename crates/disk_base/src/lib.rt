@@ -13,7 +13,7 @@ mod settling;
 pub use cut::CutChoice;
 pub use disk::{CallKind, Disk, DiskAnswer};
 pub use fault_plan::FaultPlan;
-pub use laws::settle_keeps_other_bytes;
+pub use laws::{cut_leaves_the_chosen_byte, failed_settle_has_written, settle_keeps_other_bytes};
 pub use mem_disk::MemDisk;
 pub use no_memory::NoMemory;
 pub use settling::settle;

@@ -3,7 +3,7 @@ ghost use Rattle.std.specs.Prelude.{Option, Some, [], length, replicate, refl, I
 ghost use Rattle.disk_base.specs.Calls.{Logs, attach_call, read_call, sync_call, write_call};
 ghost use Rattle.disk_base.specs.Cut.{marks_of, settled_bytes};
 ghost use Rattle.disk_base.specs.Disk.{Attaches, HasSize, Reads, Syncs, Writes};
-ghost use Rattle.disk_base.specs.Faults.{HasCause};
+ghost use Rattle.disk_base.specs.Faults.{HasCause, IsCrowded};
 ghost use Rattle.disk_base.specs.Images.{IsImage};
 ghost use Rattle.disk_base.specs.Listed.{AsListed};
 ghost use Rattle.disk_base.specs.MemDisk.{after_call, after_cut, answer_of, answer_planned, call_due};
@@ -84,17 +84,17 @@ impl MemDisk {
         })
     }
 
-    /// Lets the `call`-th call from now fail alone, and none for 0. It holds in place of an earlier call of this kind.
-    /// Every call but `size` counts, also one that isn't listed. A write that fails so has changed its range.
+    /// Plans that one call fails alone, the next one for 1, and none for 0. This replaces what was planned so before.
+    /// Calls of `size` don't count, calls that aren't listed do. A write that fails as planned has changed its range.
     pub fn fail_at(&mut self, call: u32)
         ensures { self.new ≡ record self.old { plan = record self.old.plan { fail_in = call } } }
     {
         self.plan.fail_in = call;
     }
 
-    /// Lets the `call`-th call from now fail and all later ones, and none for 0. It holds in place of an earlier call
-    /// of this kind, but a disk that has stopped stays so. A write at that place has changed its range, a later one
-    /// changes nothing.
+    /// Plans that the disk stops at a call, the next one for 1, and at none for 0: this call fails, and so do all that
+    /// follow. This replaces what was planned so before, and wakes no disk that has stopped. A write at which the disk
+    /// stops has changed its range, and no later one does.
     pub fn stop_at(&mut self, call: u32)
         ensures { self.new ≡ record self.old { plan = record self.old.plan { stop_in = call } } }
     {
@@ -221,12 +221,13 @@ impl Disk for MemDisk {
 
     ghost sized = { λ s story is. told_size s story is };
 
-    ghost listed = { λ s story is. (s.calls, refl) };
+    ghost calls_told = { λ s story is. (s.calls, refl) };
 
     fn attach(&mut self, _file: &str, grow: u64) -> DiskAnswer
         ensures told { Attaches grow (Some self.old.story) (Some self.new.story) }
         ensures size { HasSize grow (disk_size self.new) result }
-        ensures calls { Logs (attach_call grow) (Some self.old.calls) (Some self.new.calls) result }
+        ensures calls { Logs (attach_call grow) (IsCrowded (disk_health self.old) 1 0)
+            (Some self.old.calls) (Some self.new.calls) result }
         ensures cause { HasCause (disk_health self.old) (disk_health self.new) 1 0 (disk_size self.old < grow) result }
         ensures answer { result ≡ answer_of (next_attach grow self.old) self.old }
         ensures state { self.new ≡ after_call (next_attach grow self.old) self.old }
@@ -245,7 +246,8 @@ impl Disk for MemDisk {
         ensures bytes { Reads (Some self.old.story) at into.new result }
         ensures told { Some self.new.story ≡ Some self.old.story }
         ensures size { disk_size self.new ≡ disk_size self.old }
-        ensures calls { Logs (read_call at (length into.old)) (Some self.old.calls) (Some self.new.calls) result }
+        ensures calls { Logs (read_call at (length into.old)) (IsCrowded (disk_health self.old) 1 0)
+            (Some self.old.calls) (Some self.new.calls) result }
         ensures listed { (disk_health self.old).stopped ≡ false →
             AsListed (Some self.old.story) (Some self.old.calls) (Some self.new.story) (Some self.new.calls) }
         ensures cause { HasCause (disk_health self.old) (disk_health self.new) 1 0 ⊥ result }
@@ -268,7 +270,8 @@ impl Disk for MemDisk {
         requires { at + length bytes.now ≤ disk_size self.old }
         ensures told { Writes (Some self.old.story) at bytes.now (Some self.new.story) result }
         ensures size { disk_size self.new ≡ disk_size self.old }
-        ensures calls { Logs (write_call at bytes.now) (Some self.old.calls) (Some self.new.calls) result }
+        ensures calls { Logs (write_call at bytes.now) (IsCrowded (disk_health self.old) 1 (length bytes.now))
+            (Some self.old.calls) (Some self.new.calls) result }
         ensures listed { (disk_health self.old).stopped ≡ false →
             AsListed (Some self.old.story) (Some self.old.calls) (Some self.new.story) (Some self.new.calls) }
         ensures cause { HasCause (disk_health self.old) (disk_health self.new) 1 (length bytes.now)
@@ -282,7 +285,8 @@ impl Disk for MemDisk {
     fn sync(&mut self) -> DiskAnswer
         ensures told { Syncs (Some self.old.story) (Some self.new.story) result }
         ensures size { disk_size self.new ≡ disk_size self.old }
-        ensures calls { Logs sync_call (Some self.old.calls) (Some self.new.calls) result }
+        ensures calls { Logs sync_call (IsCrowded (disk_health self.old) 1 0)
+            (Some self.old.calls) (Some self.new.calls) result }
         ensures listed { (disk_health self.old).stopped ≡ false →
             AsListed (Some self.old.story) (Some self.old.calls) (Some self.new.story) (Some self.new.calls) }
         ensures cause { HasCause (disk_health self.old) (disk_health self.new) 1 0 ⊥ result }

@@ -1,5 +1,5 @@
 ghost use Rattle.std.specs.Prelude.{◌≡◌, ◌+◌, ◌<◌, ◌≤◌, false, length};
-ghost use Rattle.disk_base.specs.Faults.{HasCause};
+ghost use Rattle.disk_base.specs.Faults.{HasCause, IsCrowded};
 ghost use Rattle.disk_base.specs.Listed.{AsListed};
 ghost use Rattle.disk_base.specs.Settle.{LogsBoth, Settles};
 
@@ -11,7 +11,8 @@ pub fn settle<D: Disk>(disk: &mut D, at: u64, bytes: &[u8]) -> DiskAnswer
     requires { at + length bytes.now ≤ D.size_is disk.old }
     ensures told { Settles (D.told disk.old) at bytes.now (D.told disk.new) result }
     ensures size { D.size_is disk.new ≡ D.size_is disk.old }
-    ensures calls { LogsBoth at bytes.now (D.calls disk.old) (D.calls disk.new) result }
+    ensures calls { LogsBoth at bytes.now (IsCrowded (D.health disk.old) 2 (length bytes.now))
+        (D.calls disk.old) (D.calls disk.new) result }
     ensures listed { (D.health disk.old).stopped ≡ false →
         AsListed (D.told disk.old) (D.calls disk.old) (D.told disk.new) (D.calls disk.new) }
     ensures cause { HasCause (D.health disk.old) (D.health disk.new) 2 (length bytes.now)

@@ -7,9 +7,10 @@ use Rattle.disk_base.specs.Settle.{LogsBoth, Settles}
 use Rattle.disk_base.specs.Story.{Story, bytes_at, with_sync, with_write}
 use Rattle.disk_base.specs.Through.{EachImage, GoesThrough, IsImageBut, Through}
 use Rattle.disk_base.specs.declared.disk.DiskAnswer.{DiskAnswer}
-use Rattle.disk_base.specs.declared.disk.DiskAnswer.TheVariants.{Done}
+use Rattle.disk_base.specs.declared.disk.DiskAnswer.TheVariants.{Done, Failed}
 use Rattle.disk_base.proofs.Marks.{length-part, not_either}
 use Rattle.disk_base.proofs.Moments.{but_wider, image_but, neither, now_is, only_now, over_among, part_stays, settle_others, through_both, through_more}
+use Rattle.disk_base.proofs.Stretches.{both_wider}
 use Rattle.gate_cell.specs.Cell.{cell_in, copy_bytes, copy_place, gate_byte, gate_of, names_second, spare_in, spare_is_second, spare_of, spare_place, value_in, value_of}
 use Rattle.gate_cell.specs.Holds.{Holds, HoldsEither, IsRead}
 use Rattle.gate_cell.specs.Ready.{Commits, HasSpare, IsCell, IsCommitted, IsReady, Prepares}
@@ -30,6 +31,13 @@ pub told_before : (before : Option Story) (f : Story → Story) (after : Option 
     (s : Story) × (before ≡ Some s)
 told_before None f after t is told = absurd (grind (arith, is, told))
 told_before (Some s) f after t is told = (s, refl)
+
+-- nor does one that tells nothing begin to
+pub untold : (before after : Option Story) (at : ℕ) (bytes : List ℕ) (answer : DiskAnswer) → before ≡ None → Settles before at bytes after answer →
+    after ≡ None
+untold before after at bytes Done none is = is ∙ ap (option_map (λ s. with_sync (with_write at bytes s))) none
+untold before after at bytes Failed none (inl same) = same ∙ none
+untold before after at bytes Failed none (inr other) = other.2 ∙ ap (option_map (with_write at other.0)) none
 
 module _ (s : Story) (at : ℕ) (cell : IsCell s at) where
   long : length (cell_in s.now.bytes at) ≡ 17
@@ -174,12 +182,12 @@ module _ (before mid after : Option Story) (s : Story) (at value place : ℕ) (b
       (subst (λ (o : Option Story). Settles o place bytes after answer) (same ∙ told) settles))
 
 module _ (s : Story) (at value place : ℕ) (bytes : List ℕ) (there : place ≡ spare_place s.now.bytes at) (is : bytes ≡ copy_bytes value) where
-  pub logs_spare : (before mid after : Option (List DiskCall)) (answer : DiskAnswer) → mid ≡ before → LogsBoth place bytes mid after answer →
-      LogsBoth (spare_place s.now.bytes at) (copy_bytes value) before after answer
-  logs_spare before mid after answer same logs =
-      subst (λ (b : List ℕ). LogsBoth (spare_place s.now.bytes at) b before after answer) is
-      (subst (λ (n : ℕ). LogsBoth n bytes before after answer) there
-      (subst (λ (o : Option (List DiskCall)). LogsBoth place bytes o after answer) same logs))
+  pub logs_spare : (C E : Type 0) → (C → E) → (before mid after : Option (List DiskCall)) (answer : DiskAnswer) → mid ≡ before →
+      LogsBoth place bytes C mid after answer → LogsBoth (spare_place s.now.bytes at) (copy_bytes value) E before after answer
+  logs_spare C E more before mid after answer same logs =
+      subst (λ (b : List ℕ). LogsBoth (spare_place s.now.bytes at) b E before after answer) is
+      (subst (λ (n : ℕ). LogsBoth n bytes E before after answer) there
+      (subst (λ (o : Option (List DiskCall)). LogsBoth place bytes E o after answer) same (both_wider place bytes C E mid after answer more logs)))
 
 -- a value prepared and then committed: at every moment a crash leaves the old value or the new one
 module _ (s t : Story) (at value : ℕ) (prepared : Prepares s at value (Some t) Done) (is_ready : IsReady at value (Some t)) where

@@ -16,16 +16,19 @@ abbrev pub call_answer : CellAnswer → DiskAnswer
 call_answer (Value value) = Done
 call_answer cell.Failed = Failed
 
-abbrev pub Reads : Story → ℕ → CellAnswer → Type 0
-Reads s at (Value value) = IsRead s at value
-Reads s at cell.Failed = Unit {0}
+-- the value was read, where there is one
+abbrev pub ReadsCell : Story → ℕ → CellAnswer → Type 0
+ReadsCell s at (Value value) = IsRead s at value
+ReadsCell s at cell.Failed = Unit {0}
 
--- a read of the gate, and a write of the other copy with its sync; where this failed, the last one of them did
-abbrev pub LogsPreparing : Story → ℕ → ℕ → Option (List DiskCall) → Option (List DiskCall) → DiskAnswer → Type 0
-LogsPreparing s at value before after Done =
-    LogsBoth (spare_place s.now.bytes at) (copy_bytes value) (with_call (read_call (at + 16) 1 Done) before) after
-    Done
-LogsPreparing s at value before after Failed =
-    Logs (read_call (at + 16) 1) before after Failed
-    ⊎ LogsBoth (spare_place s.now.bytes at) (copy_bytes value)
+-- a read of the gate, and a write of the other copy with its sync; where this failed, the last one of them did, or it
+-- was crowded out
+abbrev pub LogsPreparing : Story → ℕ → ℕ → Type 0 → Option (List DiskCall) → Option (List DiskCall) → DiskAnswer →
+    Type 0
+LogsPreparing s at value Crowded before after Done =
+    LogsBoth (spare_place s.now.bytes at) (copy_bytes value) Crowded (with_call (read_call (at + 16) 1 Done) before)
+    after Done
+LogsPreparing s at value Crowded before after Failed =
+    Logs (read_call (at + 16) 1) Crowded before after Failed
+    ⊎ LogsBoth (spare_place s.now.bytes at) (copy_bytes value) Crowded
     (with_call (read_call (at + 16) 1 Done) before) after Failed

@@ -3,8 +3,8 @@ use Rattle.std.specs.Prelude.{ℕ, ◌+◌, ◌%◌, ◌==◌, Bool, true, false
 use Rattle.std.specs.Int.{w64, from_be_bytes, to_be_bytes}
 use Rattle.disk_base.specs.Story.{bytes_at}
 
--- a cell: copy 0 and copy 1, of eight bytes each, high byte first, and the gate; an even gate names copy 0, an odd one
--- copy 1
+-- two numbers of eight bytes, the high byte first, and behind them the gate, whose lowest bit says which of them is the
+-- cell's value
 abbrev pub gate_of : List ℕ → ℕ
 gate_of cell = slice_index cell 16
 

@@ -1,10 +1,10 @@
 ghost use Rattle.std.specs.Prelude.{◌≡◌, ◌+◌, ◌≤◌, false, Some, length};
 ghost use Rattle.std.specs.Int.{w64, from_be_bytes};
 ghost use Rattle.disk_base.specs.Calls.{Logs, read_call};
-ghost use Rattle.disk_base.specs.Faults.{HasCause};
+ghost use Rattle.disk_base.specs.Faults.{HasCause, IsCrowded};
 ghost use Rattle.disk_base.specs.Listed.{AsListed};
 ghost use Rattle.disk_base.specs.Story.{Story};
-ghost use Rattle.gate_cell.specs.Calls.{Reads, call_answer};
+ghost use Rattle.gate_cell.specs.Calls.{ReadsCell, call_answer};
 ghost use Rattle.gate_cell.specs.Cell.{copy_bytes as bytes_of, copy_of as number_in, copy_place as place_of};
 ghost use Rattle.gate_cell.specs.Cell.{names_second as is_odd, value_of as number_named};
 
@@ -18,7 +18,7 @@ pub enum CellAnswer {
     Failed,
 }
 
-/// Whether a gate names copy 1: an odd one does, an even one names copy 0.
+/// Whether the copy that counts is copy 1, which the lowest bit of the gate says.
 pub fn names_second(gate: u8) -> bool
     ensures { result ≡ is_odd gate }
 {
@@ -70,10 +70,11 @@ pub fn copy_bytes(value: u64) -> [u8; 8]
 /// Reads the value of the cell that begins at a place: one call.
 pub fn read_cell<D: Disk>(disk: &mut D, at: u64) -> CellAnswer
     requires { at + 17 ≤ D.size_is disk.old }
-    ensures value { (s : Story) → D.told disk.old ≡ Some s → Reads s at result }
+    ensures value { (s : Story) → D.told disk.old ≡ Some s → ReadsCell s at result }
     ensures told { D.told disk.new ≡ D.told disk.old }
     ensures size { D.size_is disk.new ≡ D.size_is disk.old }
-    ensures calls { Logs (read_call at 17) (D.calls disk.old) (D.calls disk.new) (call_answer result) }
+    ensures calls { Logs (read_call at 17) (IsCrowded (D.health disk.old) 1 0) (D.calls disk.old) (D.calls disk.new)
+        (call_answer result) }
     ensures listed { (D.health disk.old).stopped ≡ false →
         AsListed (D.told disk.old) (D.calls disk.old) (D.told disk.new) (D.calls disk.new) }
     ensures cause { HasCause (D.health disk.old) (D.health disk.new) 1 0 ⊥ (call_answer result) }

@@ -1,5 +1,5 @@
-ghost use Rattle.std.specs.Prelude.{◌≡◌, ◌+◌, ◌<◌, ◌≤◌, false, [], ◌∷◌, Some, IfOk};
-ghost use Rattle.disk_base.specs.Faults.{HasCause};
+ghost use Rattle.std.specs.Prelude.{◌≡◌, ◌+◌, ◌<◌, ◌≤◌, false, [], ◌∷◌, None, Some, IfOk};
+ghost use Rattle.disk_base.specs.Faults.{HasCause, IsCrowded};
 ghost use Rattle.disk_base.specs.Listed.{AsListed};
 ghost use Rattle.disk_base.specs.Settle.{LogsBoth};
 ghost use Rattle.disk_base.specs.Story.{Story};
@@ -33,11 +33,13 @@ impl<D: Disk> Prepared<D> {
     pub fn commit(self) -> Result<D, D>
         ensures told { (s : Story) → D.told self.disk ≡ Some s → OnDisk (λ disk. disk) result
             (λ after answer. Commits s self.at self.second (D.told after) answer) }
+        ensures untold { D.told self.disk ≡ None → OnDisk (λ disk. disk) result (λ after answer. D.told after ≡ None) }
         ensures value { (s : Story) → D.told self.disk ≡ Some s →
             IfOk result (λ after. IsCommitted s self.at (D.told after)) }
         ensures size { OnDisk (λ disk. disk) result (λ after answer. D.size_is after ≡ D.size_is self.disk) }
         ensures calls { OnDisk (λ disk. disk) result (λ after answer.
-            LogsBoth (self.at + 16) (byte_of self.second ∷ []) (D.calls self.disk) (D.calls after) answer) }
+            LogsBoth (self.at + 16) (byte_of self.second ∷ []) (IsCrowded (D.health self.disk) 2 1)
+            (D.calls self.disk) (D.calls after) answer) }
         ensures listed { (D.health self.disk).stopped ≡ false → OnDisk (λ disk. disk) result (λ after answer.
             AsListed (D.told self.disk) (D.calls self.disk) (D.told after) (D.calls after)) }
         ensures cause { OnDisk (λ disk. disk) result (λ after answer.

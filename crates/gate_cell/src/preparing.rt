@@ -1,8 +1,9 @@
-ghost use Rattle.std.specs.Prelude.{◌≡◌, ◌+◌, ◌<◌, ◌≤◌, false, Some, IfOk};
-ghost use Rattle.disk_base.specs.Faults.{HasCause};
+ghost use Rattle.std.specs.Prelude.{◌≡◌, ◌+◌, ◌<◌, ◌≤◌, false, None, Some, IfOk};
+ghost use Rattle.disk_base.specs.Faults.{HasCause, IsCrowded};
 ghost use Rattle.disk_base.specs.Listed.{AsListed};
 ghost use Rattle.disk_base.specs.Story.{Story};
 ghost use Rattle.gate_cell.specs.Calls.{LogsPreparing};
+ghost use Rattle.gate_cell.specs.Cell.{cell_in, spare_is_second};
 ghost use Rattle.gate_cell.specs.Ready.{IsCell, IsReady, OnDisk, Prepares};
 
 use crate::cell::{copy_bytes, copy_place, names_second};
@@ -17,10 +18,13 @@ pub fn prepare<D: Disk>(disk: D, at: u64, value: u64) -> Result<Prepared<D>, D>
     requires settled { (s : Story) → D.told disk ≡ Some s → IsCell s at }
     ensures told { (s : Story) → D.told disk ≡ Some s → OnDisk (λ w. w.disk) result
         (λ after answer. Prepares s at value (D.told after) answer) }
+    ensures untold { D.told disk ≡ None → OnDisk (λ w. w.disk) result (λ after answer. D.told after ≡ None) }
     ensures value { IfOk result (λ w. (w.at ≡ at) × IsReady at value (D.told w.disk)) }
+    ensures second { (s : Story) → D.told disk ≡ Some s →
+        IfOk result (λ w. w.second ≡ spare_is_second (cell_in s.now.bytes at)) }
     ensures size { OnDisk (λ w. w.disk) result (λ after answer. D.size_is after ≡ D.size_is disk) }
     ensures calls { (s : Story) → D.told disk ≡ Some s → OnDisk (λ w. w.disk) result (λ after answer.
-        LogsPreparing s at value (D.calls disk) (D.calls after) answer) }
+        LogsPreparing s at value (IsCrowded (D.health disk) 3 8) (D.calls disk) (D.calls after) answer) }
     ensures listed { (D.health disk).stopped ≡ false → OnDisk (λ w. w.disk) result (λ after answer.
         AsListed (D.told disk) (D.calls disk) (D.told after) (D.calls after)) }
     ensures cause { OnDisk (λ w. w.disk) result (λ after answer.

@@ -1,8 +1,9 @@
-use Rattle.std.proofs.Common.{ℕ, ◌+◌, ◌≤◌, not, refl, sym, ap, subst, ◌∙◌, inl, inr, rules}
+use Rattle.std.proofs.Common.{length, ℕ, ◌+◌, ◌≤◌, not, refl, sym, ap, subst, ◌∙◌, inl, inr, rules, arith}
 use Rattle.disk_base.specs.Calls.{read_call, with_call}
 use Rattle.disk_base.specs.declared.disk.DiskAnswer.TheVariants.{Done, Failed}
 use Rattle.disk_base.proofs.Listings.{listed_behind}
-use Rattle.gate_cell.proofs.Values.{logs_spare, place_is, prepared_is, prepares, settles_spare, told_before}
+use Rattle.disk_base.proofs.Stretches.{crowded_behind}
+use Rattle.gate_cell.proofs.Values.{logs_spare, place_is, prepared_is, prepares, settles_spare, told_before, untold}
 use Rattle.gate_cell.proofs.preparing.prepare.Goals as goal
 
 pub returns-in-Failed-clause-told : goal.returns-in-Failed-clause-told
@@ -18,7 +19,7 @@ returns-in-Failed-settle-clause-told g c = λ s told.
 pub returns-in-Failed-settle-clause-calls : goal.returns-in-Failed-settle-clause-calls
 returns-in-Failed-settle-clause-calls g c = λ s told.
     let there = (place_is s c.args.at _ _ c.copy_place.result _ c.names_second-second.result c.place_in-gate_place.ensures (c.in-Done.ensures.bytes s told) (search rules) c.names_second-second.ensures c.copy_place.ensures c.place_in-copy.ensures) in
-    inr (logs_spare s c.args.at c.args.value _ _ there.1 c.copy_bytes.ensures.bytes _ _ _ Failed (c.in-Done.ensures.calls ∙ ap (λ (n : ℕ). with_call (read_call n 1 Done) (g.D.Disk.calls c.args.disk)) c.place_in-gate_place.ensures) c.in-Failed-settle.ensures.calls)
+    inr (logs_spare s c.args.at c.args.value _ _ there.1 c.copy_bytes.ensures.bytes _ _ (crowded_behind _ _ 1 0 c.in-Done.ensures.cause 2 (length c.copy_bytes.result) 3 8 (omega arith) (omega (arith, c.copy_bytes.ensures.len))) _ _ _ Failed (c.in-Done.ensures.calls ∙ ap (λ (n : ℕ). with_call (read_call n 1 Done) (g.D.Disk.calls c.args.disk)) c.place_in-gate_place.ensures) c.in-Failed-settle.ensures.calls)
 
 pub returns-in-Failed-settle-clause-listed : goal.returns-in-Failed-settle-clause-listed
 returns-in-Failed-settle-clause-listed g c =
@@ -33,7 +34,7 @@ returns-in-Done-settle-clause-told g c = λ s told.
 pub returns-in-Done-settle-clause-calls : goal.returns-in-Done-settle-clause-calls
 returns-in-Done-settle-clause-calls g c = λ s told.
     let there = (place_is s c.args.at _ _ c.copy_place.result _ c.names_second-second.result c.place_in-gate_place.ensures (c.in-Done.ensures.bytes s told) (search rules) c.names_second-second.ensures c.copy_place.ensures c.place_in-copy.ensures) in
-    (logs_spare s c.args.at c.args.value _ _ there.1 c.copy_bytes.ensures.bytes _ _ _ Done (c.in-Done.ensures.calls ∙ ap (λ (n : ℕ). with_call (read_call n 1 Done) (g.D.Disk.calls c.args.disk)) c.place_in-gate_place.ensures) c.in-Done-settle.ensures.calls)
+    (logs_spare s c.args.at c.args.value _ _ there.1 c.copy_bytes.ensures.bytes _ _ (crowded_behind _ _ 1 0 c.in-Done.ensures.cause 2 (length c.copy_bytes.result) 3 8 (omega arith) (omega (arith, c.copy_bytes.ensures.len))) _ _ _ Done (c.in-Done.ensures.calls ∙ ap (λ (n : ℕ). with_call (read_call n 1 Done) (g.D.Disk.calls c.args.disk)) c.place_in-gate_place.ensures) c.in-Done-settle.ensures.calls)
 
 pub returns-in-Done-settle-clause-listed : goal.returns-in-Done-settle-clause-listed
 returns-in-Done-settle-clause-listed g c =
@@ -62,3 +63,13 @@ returns-in-Done-settle-clause-value g c = (
       (prepared_is s c.args.at (c.requires.settled s told) c.args.value _ t (not c.names_second-second.result) there.0 (c.ranges.value.fits)
       (settles_spare _ _ _ s c.args.at c.args.value _ _ told c.read.ensures.told there.1 c.copy_bytes.ensures.bytes Done c.in-Done-settle.ensures.told) after).1,
 )
+
+pub returns-in-Done-settle-clause-second : goal.returns-in-Done-settle-clause-second
+returns-in-Done-settle-clause-second g c = λ s told.
+    (place_is s c.args.at _ _ c.copy_place.result _ c.names_second-second.result c.place_in-gate_place.ensures (c.in-Done.ensures.bytes s told) (search rules) c.names_second-second.ensures c.copy_place.ensures c.place_in-copy.ensures).0
+
+pub returns-in-Failed-settle-clause-untold : goal.returns-in-Failed-settle-clause-untold
+returns-in-Failed-settle-clause-untold g c = λ none. untold _ _ c.place_in-copy.result c.copy_bytes.result Failed (c.read.ensures.told ∙ none) c.in-Failed-settle.ensures.told
+
+pub returns-in-Done-settle-clause-untold : goal.returns-in-Done-settle-clause-untold
+returns-in-Done-settle-clause-untold g c = λ none. untold _ _ c.place_in-copy.result c.copy_bytes.result Done (c.read.ensures.told ∙ none) c.in-Done-settle.ensures.told
