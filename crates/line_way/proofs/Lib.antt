@@ -1,0 +1,10 @@
+pub mod Calls
+pub mod Changes
+pub mod Complete
+pub mod Deeds
+pub mod Made
+pub mod Marks
+pub mod Slipping
+pub mod Sources
+pub mod Stepping
+pub mod Steps

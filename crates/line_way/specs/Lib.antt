@@ -1,0 +1,4 @@
+pub mod Kept
+pub mod Slip
+pub mod Step
+pub mod Ways
