@@ -1,0 +1,218 @@
+-- What a new file stands for.
+use Rattle.std.proofs.Common.{◌≡◌, ◌⊎◌, inl, inr, ℕ, zero, suc, ◌+◌, ◌%◌, ◌^◌, ◌<◌, ◌≤◌, ◌==◌, ◌&&◌, nat_le, nat_lt, Bool, false, if◌then◌else◌, List, [], ◌∷◌, ◌++◌, length, length-append, take, drop, replicate, get_or, slice_index, Option, Some, None, Result, Ok, refl, sym, ap, subst, ◌∙◌, arith}
+use Rattle.std.proofs.lemmas.Bool.{cases_eq}
+use Rattle.std.proofs.lemmas.Bool.Decides.{nat_tests}
+use Rattle.std.proofs.lemmas.List.{drop-append-le, drop-take, drop_all, get_or-drop, length-replicate, take-append-le, take-take, take_all}
+use Rattle.std.proofs.lemmas.Nat.{from_be_bytes-to_be_bytes_4}
+use Rattle.std.specs.Int.{w32, w64, from_be_bytes, to_be_bytes}
+use Rattle.std.specs.Option.{option_map}
+use Rattle.std.specs.Result.{OnOk}
+use Rattle.disk_base.specs.Story.{Story, bytes_at, with_part, with_sync, with_write}
+use Rattle.disk_base.specs.declared.disk.Disk as disk
+use Rattle.disk_base.proofs.Marks.{length-part}
+use Rattle.spool_slots.specs.Area.{area_break, end_of, messages_below, or_else, put_if}
+use Rattle.spool_slots.specs.Changes.{Ends}
+use Rattle.spool_slots.specs.File.{SpoolFile, StandsFor, slots_in}
+use Rattle.spool_slots.specs.Format.{ClosesTo, IsClosedTo, empty_file, first_page}
+use Rattle.spool_slots.specs.Front.{front_break, front_in, magic, magic_break, mark_break, mark_of, mark_place, slots_break, slots_of, unlike_at}
+use Rattle.spool_slots.specs.Run.{IsRunFrom}
+use Rattle.spool_slots.specs.Spool.{IsSpool, in_hand}
+use Rattle.spool_slots.specs.Slot.{Message, Slot, head_break, is_open, message_of, slot_in, slot_place}
+use Rattle.spool_slots.proofs.Firsts.{of_sound}
+use Rattle.spool_slots.proofs.NewMarks.{unlike_front}
+use Rattle.spool_slots.proofs.Written.{bytes_inside, front_beside, gate_written, others_stay}
+
+-- closed slots hold no messages, and don't break
+module _ (slot : ℕ → Slot) where
+  pub none_below : (n : ℕ) → ((k : ℕ) → k < n → is_open (slot k) ≡ false) → messages_below slot n ≡ []
+  none_below zero closed = refl
+  none_below (suc k) closed =
+      ap (λ (b : Bool). put_if b (message_of (slot k)) (messages_below slot k)) (closed k (omega arith))
+      ∙ none_below k (λ j below. closed j (omega (arith, below)))
+
+  pub none_break : (n : ℕ) → ((k : ℕ) → k < n → is_open (slot k) ≡ false) → area_break slot n ≡ None
+  none_break n closed = of_sound slot n (record {
+    fields = λ k below. ap (λ (b : Bool). if b then head_break n k (slot k).head else None) (closed k below);
+    ahead = λ k below. ap (λ (b : Bool). if b && nat_le (end_of (messages_below slot n)) (slot k).head.number then Some 1 else None) (closed k below);
+  })
+
+-- the first page
+module _ (slots : ℕ) where
+  abbrev count : List ℕ
+  count = to_be_bytes w32 slots
+
+  abbrev zeros : List ℕ
+  zeros = replicate 4084 0
+
+  abbrev head : List ℕ
+  head = magic ++ count
+
+  count_long : length count ≡ 4
+  count_long = refl
+
+  head_long : length head ≡ 12
+  head_long = omega (arith, length-append magic count, count_long)
+
+  pub page_is : first_page slots ≡ head ++ zeros
+  unfolding first_page
+  page_is = refl
+
+  pub page_long : length (first_page slots) ≡ 4096
+  page_long =
+      let behind_long : length zeros ≡ 4084 = length-replicate {A = ℕ} 4084 0 in
+      ap length page_is ∙ omega (arith, length-append head zeros, head_long, behind_long)
+
+  abbrev front : List ℕ
+  front = take 29 (head ++ zeros)
+
+  twelve : take 12 front ≡ head
+  twelve = take-take 12 29 (head ++ zeros) (omega arith) ∙ take-append-le 12 head zeros (omega (arith, head_long)) ∙ take_all 12 head (omega (arith, head_long))
+
+  magic_none : magic_break front ≡ None
+  unfolding magic_break
+  magic_none =
+      sym (unlike_front 0 magic front)
+      ∙ ap (λ (xs : List ℕ). unlike_at 0 magic xs) (sym (take-take 8 12 front (omega arith)) ∙ ap (λ (xs : List ℕ). take 8 xs) twelve)
+
+  pub slots_are : slots < 2 ^ 32 → slots_of front ≡ slots
+  slots_are low =
+      ap (λ (xs : List ℕ). from_be_bytes w32 xs) (sym (drop-take 8 4 front) ∙ ap (λ (xs : List ℕ). drop 8 xs) twelve)
+      ∙ from_be_bytes-to_be_bytes_4 slots low
+
+  behind : drop 12 (head ++ zeros) ≡ zeros
+  behind = drop-append-le 12 head zeros (omega (arith, head_long)) ∙ ap (λ (xs : List ℕ). xs ++ zeros) (drop_all 12 head (omega (arith, head_long)))
+
+  seventeen : drop 12 front ≡ take 17 zeros
+  seventeen = drop-take 12 17 (head ++ zeros) ∙ ap (λ (xs : List ℕ). take 17 xs) behind
+
+  gate_zero : slice_index front 28 ≡ 0
+  gate_zero = sym (get_or-drop 12 front 16 0) ∙ ap (λ (xs : List ℕ). get_or xs 16 0) seventeen
+
+  place_is : mark_place front ≡ 12
+  place_is = ap (λ (g : ℕ). if g % 2 == 0 then 12 else 20) gate_zero
+
+  pub mark_zero : mark_of front ≡ 0
+  mark_zero =
+      ap (λ (p : ℕ). from_be_bytes w64 (bytes_at front p 8)) place_is
+      ∙ ap (λ (xs : List ℕ). from_be_bytes w64 (take 8 xs)) seventeen
+
+  pub front_none : (size : ℕ) → 1 ≤ slots → slots ≤ 65535 → slot_place slots ≤ size → front_break front size ≡ None
+  unfolding front_break
+  front_none size some most fits =
+      ap (λ (o : Option ℕ). or_else o (or_else (slots_break front size) (mark_break front))) magic_none
+      ∙ ap (λ (o : Option ℕ). or_else o (mark_break front)) (slots_none (slots_of front) (slots_are (omega (arith, most))))
+      ∙ ap (λ (m : ℕ). if nat_lt (2 ^ 32) m then Some (mark_place front) else None) mark_zero where
+        slots_none : (n : ℕ) → n ≡ slots →
+            (if nat_lt size 12 then Some size else (if n == 0 then Some 8 else (if nat_lt 65535 n then Some 8 else (if nat_lt size (slot_place n) then Some size else None)))) ≡ None
+        slots_none n is = grind (arith, nat_tests, is, some, most, fits)
+
+-- an empty file
+pub empty_stands : (bytes : List ℕ) (slots : ℕ) → front_in bytes ≡ take 29 (first_page slots) → 1 ≤ slots → slots ≤ 65535 →
+    slot_place slots ≤ length bytes → ((k : ℕ) → k < slots → is_open (slot_in bytes k) ≡ false) → StandsFor bytes (empty_file slots)
+empty_stands bytes slots is some most fits closed =
+    let front : front_in bytes ≡ take 29 ((magic ++ to_be_bytes w32 slots) ++ replicate 4084 0) = is ∙ ap (λ (xs : List ℕ). take 29 xs) (page_is slots) in
+    let count : slots_in bytes ≡ slots = ap slots_of front ∙ slots_are slots (omega (arith, most)) in
+    let area : area_break (slot_in bytes) (slots_in bytes) ≡ None = ap (λ (n : ℕ). area_break (slot_in bytes) n) count ∙ none_break (slot_in bytes) slots closed in
+    record {
+      sound =
+          ap (λ (o : Option ℕ). or_else o (area_break (slot_in bytes) (slots_in bytes)))
+          (ap (λ (f : List ℕ). front_break f (length bytes)) front ∙ front_none slots (length bytes) some most fits)
+          ∙ area;
+      is =
+          sym (ap (λ (n : ℕ). made n (mark_of (front_in bytes)) (messages_below (slot_in bytes) n)) count
+          ∙ ap (λ (m : ℕ). made slots m (messages_below (slot_in bytes) slots)) (ap mark_of front ∙ mark_zero slots)
+          ∙ ap (λ (list : List Message). made slots 0 list) (none_below (slot_in bytes) slots closed));
+    } where
+      made : ℕ → ℕ → List Message → SpoolFile
+      made slots mark list = record { slots = slots; mark = mark; list = list }
+
+-- such a file is taken up
+pub empty_spool : {D : Type 0} (members : disk.Ghosts D) (d : D) (slots : ℕ) → 1 ≤ slots → slots ≤ 65535 → slot_place slots ≤ members.size_is d →
+    ((t : Story) → members.told d ≡ Some t → Ends t (empty_file slots)) →
+    ((t : Story) → members.told d ≡ Some t → length t.now.bytes ≡ members.size_is d) →
+    IsSpool members (in_hand d (record { slots = slots; first = 0; len = 0; mark = 0 }))
+empty_spool members d slots some most fits ends sized = record {
+  some = some;
+  most = most;
+  fits = fits;
+  room = omega arith;
+  numbers = omega arith;
+  mark_most = omega arith;
+  rests = λ t told. let is = (ends t told).stands.is in
+      record {
+        settled = (ends t told).settled;
+        sound = (ends t told).stands.sound;
+        inside = omega (arith, fits, sized t told);
+        slots_are = ap (λ (f : SpoolFile). f.slots) is;
+        mark_is = ap (λ (f : SpoolFile). f.mark) is;
+        run = subst (λ (f : SpoolFile). IsRunFrom 0 f.list) is tt;
+        count = ap (λ (f : SpoolFile). length f.list) is;
+      };
+}
+
+-- what holds of a result that is `Ok`
+pub from_ok : {T E P : Type 0} (r : Result T E) (x : T) → r ≡ Ok x → OnOk r P → P
+from_ok {T} {E} {P} r x is holds = subst (λ (s : Result T E). OnOk s P) is holds
+
+-- what was told before
+pub back : (before after : Option Story) (f : Story → Story) (t : Story) → after ≡ option_map f before → after ≡ Some t →
+    (s : Story) × (before ≡ Some s) × (t ≡ f s)
+back None after f t is told = absurd (grind (arith, is, told))
+back (Some s) after f t is told = (s, refl, ap (λ (o : Option Story). story_or t o) (sym told ∙ is)) where
+  story_or : Story → Option Story → Story
+  story_or other None = other
+  story_or other (Some s) = s
+
+-- one gate more was closed
+module _ (s t : Story) (k slots : ℕ) (is : IsClosedTo s t k) (below : k < slots) (fits : slot_place slots ≤ length s.now.bytes) where
+  within : slot_place k + 4096 ≤ length t.now.bytes
+  within = omega (arith, below, fits, is.long)
+
+  abbrev now : List ℕ
+  now = with_part t.now.bytes (slot_place k) (0 ∷ [])
+
+  shut : (j : ℕ) → j < k + 1 → (j ≡ k) ⊎ (j ≡ k → ⊥) → is_open (slot_in now j) ≡ false
+  shut j less (inl same) = ap (λ (n : ℕ). is_open (slot_in now n)) same ∙ ap is_open (gate_written t.now.bytes k 0 within)
+  shut j less (inr other) =
+      ap is_open (others_stay t.now.bytes (0 ∷ []) k j (slot_place k) 0 (omega arith) (omega (arith, within)) (omega arith) other)
+      ∙ is.closed j (grind (arith, less, other))
+
+  pub one_closed : IsClosedTo s (with_write (slot_place k) (0 ∷ []) t) (k + 1)
+  one_closed = record {
+    long = length-part t.now.bytes (0 ∷ []) (slot_place k) (omega (arith, within)) ∙ is.long;
+    front = front_beside t.now.bytes (0 ∷ []) (slot_place k) (omega (arith, within)) (omega arith) ∙ is.front;
+    closed = λ j less. shut j less (cases_eq j k);
+  }
+
+pub none_closed : (s : Story) → IsClosedTo s s 0
+none_closed s = record { long = refl; front = refl; closed = λ k below. absurd (omega (arith, below)) }
+
+pub closes_more : (o p q : Option Story) (k slots size : ℕ) → ((s : Story) → o ≡ Some s → length s.now.bytes ≡ size) → k < slots → slot_place slots ≤ size →
+    ClosesTo o p k → q ≡ option_map (with_write (slot_place k) (0 ∷ [])) p → ClosesTo o q (k + 1)
+closes_more o p q k slots size sized below fits so_far is t told =
+    let before = back p q (with_write (slot_place k) (0 ∷ [])) t is told in
+    let first = so_far before.0 before.1 in (
+      first.0,
+      first.1,
+      subst (λ (u : Story). IsClosedTo first.0 u (k + 1)) (sym before.2)
+          (one_closed first.0 before.0 k slots first.2 below (omega (arith, fits, sized first.0 first.1))),
+    )
+
+-- the page, the closed slots and the sync
+pub stands_empty : (o p q r : Option Story) (slots size : ℕ) → ((s : Story) → o ≡ Some s → length s.now.bytes ≡ size) → 1 ≤ slots → slots ≤ 65535 →
+    slot_place slots ≤ size → p ≡ option_map (with_write 0 (first_page slots)) o → ClosesTo p q slots → r ≡ option_map with_sync q →
+    (t : Story) → r ≡ Some t → Ends t (empty_file slots)
+stands_empty o p q r slots size sized some most fits page closes synced t told =
+    let u = back q r with_sync t synced told in
+    let v = closes u.0 u.1 in
+    let s = back o p (with_write 0 (first_page slots)) v.0 page v.1 in
+    let long : length s.0.now.bytes ≡ size = sized s.0 s.1 in
+    let inside : 0 + length (first_page slots) ≤ length s.0.now.bytes = omega (arith, long, fits, some, page_long slots) in
+    let front : front_in v.0.now.bytes ≡ take 29 (first_page slots) =
+    ap (λ (w : Story). front_in w.now.bytes) s.2
+    ∙ bytes_inside s.0.now.bytes (first_page slots) 0 inside 0 29 (omega (arith, page_long slots)) in
+    let length_v : length v.0.now.bytes ≡ size = ap (λ (w : Story). length w.now.bytes) s.2 ∙ length-part s.0.now.bytes (first_page slots) 0 inside ∙ long in
+    subst (λ (w : Story). Ends w (empty_file slots)) (sym u.2) (record {
+      settled = refl;
+      stands = empty_stands u.0.now.bytes slots (v.2.front ∙ front) some most (omega (arith, fits, length_v, v.2.long)) v.2.closed;
+    })

@@ -1,0 +1,17 @@
+mod Areas
+mod Changes
+mod Firsts
+mod Found
+mod Fresh
+mod Lasting
+mod Lists
+mod Looking
+mod Lost
+mod LostMarks
+mod NewMarks
+mod Moves
+mod Parts
+mod Runs
+mod Starts
+mod Stretches
+mod Written

@@ -1,0 +1,11 @@
+use Rattle.std.proofs.Common.{◌≡◌}
+use Rattle.disk_base.specs.Faults.{IsUsed}
+use Rattle.spool_slots.specs.Format.{ClosesTo}
+use Rattle.spool_slots.proofs.format.close_slots.Given as goal
+
+abbrev pub invariant-loop-slot : goal.invariant-loop-slot
+invariant-loop-slot g l =
+    ClosesTo (g.D.Disk.told l.fn.disk) (g.D.Disk.told l.disk) l.slot
+    × (g.D.Disk.size_is l.disk ≡ g.D.Disk.size_is l.fn.disk)
+    × (g.D.Disk.name l.disk ≡ g.D.Disk.name l.fn.disk)
+    × IsUsed (g.D.Disk.health l.fn.disk) (g.D.Disk.health l.disk) l.slot l.slot

@@ -1,0 +1,46 @@
+use Rattle.std.proofs.Common.{◌≡◌, ◌∙◌, ◌+◌, ◌<◌, ℕ, List, length, ap, arith}
+use Rattle.std.specs.Option.{option_map}
+use Rattle.disk_base.specs.Story.{with_write}
+use Rattle.disk_base.proofs.Stretches.{fault_behind, fault_wider, used_behind}
+use Rattle.spool_slots.specs.Format.{first_page}
+use Rattle.spool_slots.proofs.Fresh.{page_long, stands_empty}
+use Rattle.spool_slots.proofs.format.write_empty.Goals as goal
+
+pub returns-in-Done-sync-clause-told : goal.returns-in-Done-sync-clause-told
+returns-in-Done-sync-clause-told g c =
+    let bytes : c.deref.result.now ≡ first_page c.args.slots = c.deref.ensures.0 ∙ c.first_page.ensures in
+    stands_empty (g.D.Disk.told c.args.disk.now) _ _ _ c.args.slots (g.D.Disk.size_is c.args.disk.now)
+    (λ s is. g.met.D.Disk.sized c.args.disk.now s is) c.requires.some c.requires.most c.requires.size
+    (c.in-Done.ensures.told ∙ ap (λ (b : List ℕ). option_map (with_write 0 b) (g.D.Disk.told c.args.disk.now)) bytes)
+    c.in-Done-close_slots.ensures.told c.in-Done-sync.ensures.told
+
+pub returns-in-Done-sync-clause-cause : goal.returns-in-Done-sync-clause-cause
+returns-in-Done-sync-clause-cause g c =
+    let n = c.args.slots in
+    let bytes : c.deref.result.now ≡ first_page n = c.deref.ensures.0 ∙ c.first_page.ensures in
+    let long : length c.deref.result.now ≡ 4096 = ap length bytes ∙ page_long n in
+    let two = used_behind _ _ 1 (length c.deref.result.now) c.in-Done.ensures.cause _ n n (n + 1) (n + 4096) (omega arith) (omega (arith, long)) c.in-Done-close_slots.ensures.cause in
+    used_behind _ _ (n + 1) (n + 4096) two _ 1 0 (n + 2) (n + 4096) (omega arith) (omega arith) c.in-Done-sync.ensures.cause
+
+pub returns-in-Failed-sync-clause-cause : goal.returns-in-Failed-sync-clause-cause
+returns-in-Failed-sync-clause-cause g c =
+    let n = c.args.slots in
+    let bytes : c.deref.result.now ≡ first_page n = c.deref.ensures.0 ∙ c.first_page.ensures in
+    let long : length c.deref.result.now ≡ 4096 = ap length bytes ∙ page_long n in
+    let two = used_behind _ _ 1 (length c.deref.result.now) c.in-Done.ensures.cause _ n n (n + 1) (n + 4096) (omega arith) (omega (arith, long)) c.in-Done-close_slots.ensures.cause in
+    fault_behind _ _ (n + 1) (n + 4096) two _ 1 (n + 2) _ ((g.D.Disk.health c.args.disk.now).room < n + 4096) (omega arith) (λ none. absurd none) c.in-Failed-sync.ensures.cause
+
+pub returns-in-Failed-close_slots-clause-cause : goal.returns-in-Failed-close_slots-clause-cause
+returns-in-Failed-close_slots-clause-cause g c =
+    let n = c.args.slots in
+    let bytes : c.deref.result.now ≡ first_page n = c.deref.ensures.0 ∙ c.first_page.ensures in
+    let long : length c.deref.result.now ≡ 4096 = ap length bytes ∙ page_long n in
+    fault_behind _ _ 1 (length c.deref.result.now) c.in-Done.ensures.cause _ n (n + 2) _ ((g.D.Disk.health c.args.disk.now).room < n + 4096) (omega arith)
+    (λ less. omega (arith, less, long, c.in-Done.ensures.cause.room_left)) c.in-Failed-close_slots.ensures.cause
+
+pub returns-in-Failed-clause-cause : goal.returns-in-Failed-clause-cause
+returns-in-Failed-clause-cause g c =
+    let n = c.args.slots in
+    let bytes : c.deref.result.now ≡ first_page n = c.deref.ensures.0 ∙ c.first_page.ensures in
+    let long : length c.deref.result.now ≡ 4096 = ap length bytes ∙ page_long n in
+    fault_wider _ _ 1 (n + 2) _ ((g.D.Disk.health c.args.disk.now).room < n + 4096) (omega arith) (λ less. omega (arith, less, long)) c.in-Failed.ensures.cause

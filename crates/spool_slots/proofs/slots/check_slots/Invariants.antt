@@ -1,0 +1,16 @@
+use Rattle.std.proofs.Common.{◌≡◌, Some, None}
+use Rattle.disk_base.specs.declared.disk.DiskAnswer.TheVariants.{Done}
+use Rattle.disk_base.specs.Story.{Story}
+use Rattle.spool_slots.specs.Area.{first_at}
+use Rattle.spool_slots.specs.Reads.{HasRead}
+use Rattle.spool_slots.specs.Slot.{ahead_break, in_slot, slot_in}
+use Rattle.spool_slots.proofs.slots.check_slots.Given as goal
+
+abbrev pub invariant-loop-slot : goal.invariant-loop-slot
+invariant-loop-slot g l =
+    ((s : Story) → g.D.Disk.told l.fn.disk ≡ Some s →
+    first_at (λ k. in_slot k (ahead_break l.fn.end (slot_in s.now.bytes k))) l.slot ≡ None)
+    × (g.D.Disk.told l.disk ≡ g.D.Disk.told l.fn.disk)
+    × (g.D.Disk.size_is l.disk ≡ g.D.Disk.size_is l.fn.disk)
+    × (g.D.Disk.name l.disk ≡ g.D.Disk.name l.fn.disk)
+    × HasRead (g.D.Disk.health l.fn.disk) (g.D.Disk.health l.disk) (g.D.Disk.calls l.fn.disk) (g.D.Disk.calls l.disk) l.slot Done

@@ -1,0 +1,43 @@
+use Rattle.std.proofs.Common.{arith, ◌*◌, ◌∙◌, Some, None}
+use Rattle.disk_base.specs.declared.disk.DiskAnswer.TheVariants.{Done, Failed}
+use Rattle.spool_slots.specs.Slot.{slot_in}
+use Rattle.spool_slots.proofs.Firsts.{area_fields, area_numbers}
+use Rattle.spool_slots.proofs.Stretches.{read_behind, read_wider}
+use Rattle.spool_slots.proofs.slots.read_slots.Goals as goal
+
+pub returns-in-Whole-check_slots-clause-area : goal.returns-in-Whole-check_slots-clause-area
+returns-in-Whole-check_slots-clause-area g c s is =
+    let scan = c.in-Whole.ensures.scan s is in (
+      area_numbers (slot_in s.now.bytes) c.args.slots c.in-Whole.scan.count c.in-Whole.scan.least None scan.0 scan.1.0 scan.1.1
+          (c.in-Whole-check_slots.ensures.end s (c.in-Whole.ensures.told ∙ is)),
+      scan.1,
+    )
+
+pub returns-in-Broken-check_slots-clause-area : goal.returns-in-Broken-check_slots-clause-area
+returns-in-Broken-check_slots-clause-area g c s is =
+    let scan = c.in-Whole.ensures.scan s is in
+    let found = c.in-Broken-check_slots.ensures.end s (c.in-Whole.ensures.told ∙ is) in
+    (area_numbers (slot_in s.now.bytes) c.args.slots c.in-Whole.scan.count c.in-Whole.scan.least (Some _) scan.0 scan.1.0 scan.1.1 found.0, found.1)
+
+pub returns-in-Broken-clause-area : goal.returns-in-Broken-clause-area
+returns-in-Broken-clause-area g c s is =
+    let found = c.in-Broken.ensures.scan s is in
+    (area_fields (slot_in s.now.bytes) c.args.slots c.in-Broken.not_spool.at found.0, found.1)
+
+pub returns-in-Whole-check_slots-clause-reads : goal.returns-in-Whole-check_slots-clause-reads
+returns-in-Whole-check_slots-clause-reads g c =
+    read_behind _ _ _ _ _ _ c.args.slots c.args.slots (2 * c.args.slots) Done (omega arith) c.in-Whole.ensures.reads c.in-Whole-check_slots.ensures.reads
+
+pub returns-in-Broken-check_slots-clause-reads : goal.returns-in-Broken-check_slots-clause-reads
+returns-in-Broken-check_slots-clause-reads g c =
+    read_behind _ _ _ _ _ _ c.args.slots c.args.slots (2 * c.args.slots) Done (omega arith) c.in-Whole.ensures.reads c.in-Broken-check_slots.ensures.reads
+
+pub returns-in-Failed-check_slots-clause-reads : goal.returns-in-Failed-check_slots-clause-reads
+returns-in-Failed-check_slots-clause-reads g c =
+    read_behind _ _ _ _ _ _ c.args.slots c.args.slots (2 * c.args.slots) Failed (omega arith) c.in-Whole.ensures.reads c.in-Failed-check_slots.ensures.reads
+
+pub returns-in-Broken-clause-reads : goal.returns-in-Broken-clause-reads
+returns-in-Broken-clause-reads g c = read_wider _ _ _ _ c.args.slots (2 * c.args.slots) Done (omega arith) c.in-Broken.ensures.reads
+
+pub returns-in-Failed-clause-reads : goal.returns-in-Failed-clause-reads
+returns-in-Failed-clause-reads g c = read_wider _ _ _ _ c.args.slots (2 * c.args.slots) Failed (omega arith) c.in-Failed.ensures.reads

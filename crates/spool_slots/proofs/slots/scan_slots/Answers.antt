@@ -1,0 +1,54 @@
+use Rattle.std.proofs.Common.{refl, ◌∙◌, ◌≡◌, ap, subst, arith, None}
+use Rattle.spool_slots.specs.Area.{first_at, messages_below}
+use Rattle.spool_slots.specs.Reading.{IsScan}
+use Rattle.spool_slots.specs.Slot.{in_slot, slot_break, slot_in}
+use Rattle.disk_base.specs.declared.disk.DiskAnswer.TheVariants.{Done, Failed}
+use Rattle.spool_slots.proofs.Stretches.{none_read, read_behind, read_wider}
+use Rattle.spool_slots.proofs.Firsts.{first_found, first_next, messages_next}
+use Rattle.spool_slots.proofs.slots.scan_slots.Goals as goal
+
+pub returns-in-Broken-clause-scan : goal.returns-in-Broken-clause-scan
+returns-in-Broken-clause-scan g c s is =
+    let found = c.in-Broken.ensures.scan s (c.loop-slot.invariant.1 ∙ is) in (
+      first_found (λ k. in_slot k (slot_break c.args.slots k (slot_in s.now.bytes k))) c.loop-slot.slot c.args.slots c.in-Broken.not_spool.at
+          c.loop-slot-test.true (c.loop-slot.invariant.0 s is).0 found.0,
+      found.1,
+    )
+
+pub loop-slot-init : goal.loop-slot-init
+loop-slot-init g c = (λ s is. (refl, (refl, refl)), refl, refl, refl, none_read _ _, omega arith, omega arith)
+
+pub loop-slot-preserved : goal.loop-slot-preserved
+loop-slot-preserved g c = (
+  λ s is. let scanned = c.in-Whole.ensures.scan s (c.loop-slot.invariant.1 ∙ is) in
+      let before = c.loop-slot.invariant.0 s is in (
+        first_next (λ k. in_slot k (slot_break c.args.slots k (slot_in s.now.bytes k))) c.loop-slot.slot before.0
+            (ap (in_slot c.loop-slot.slot) scanned.0),
+        subst (IsScan c.in-Whole.next) (messages_next (slot_in s.now.bytes) c.loop-slot.slot)
+            (scanned.1 (messages_below (slot_in s.now.bytes) c.loop-slot.slot) before.1),
+      ),
+  c.in-Whole.ensures.told ∙ c.loop-slot.invariant.1,
+  c.in-Whole.ensures.size ∙ c.loop-slot.invariant.2,
+  c.in-Whole.ensures.name ∙ c.loop-slot.invariant.3,
+  read_behind _ _ _ _ _ _ c.loop-slot.slot 1 _ Done (omega arith) c.loop-slot.invariant.4 c.in-Whole.ensures.reads,
+  omega (arith, c.in-Whole.ensures.fits.0, c.loop-slot.invariant.5),
+  c.in-Whole.ensures.fits.1,
+)
+
+pub returns-clause-scan : goal.returns-clause-scan
+returns-clause-scan g c s is =
+    let end : c.loop-slot.slot ≡ c.args.slots = omega (arith, c.loop-slot-test.false, c.loop-slot.auto.slot-end) in
+    subst (λ n. (first_at (λ k. in_slot k (slot_break c.args.slots k (slot_in s.now.bytes k))) n ≡ None)
+    × IsScan c.loop-slot.scan (messages_below (slot_in s.now.bytes) n)) end (c.loop-slot.invariant.0 s is)
+
+pub returns-in-Broken-clause-reads : goal.returns-in-Broken-clause-reads
+returns-in-Broken-clause-reads g c =
+    read_behind _ _ _ _ _ _ c.loop-slot.slot 1 c.args.slots Done (omega (arith, c.loop-slot-test.true)) c.loop-slot.invariant.4 c.in-Broken.ensures.reads
+
+pub returns-in-Failed-clause-reads : goal.returns-in-Failed-clause-reads
+returns-in-Failed-clause-reads g c =
+    read_behind _ _ _ _ _ _ c.loop-slot.slot 1 c.args.slots Failed (omega (arith, c.loop-slot-test.true)) c.loop-slot.invariant.4 c.in-Failed.ensures.reads
+
+pub returns-clause-reads : goal.returns-clause-reads
+returns-clause-reads g c =
+    read_wider _ _ _ _ c.loop-slot.slot c.args.slots Done (omega (arith, c.loop-slot-test.false, c.loop-slot.auto.slot-end)) c.loop-slot.invariant.4

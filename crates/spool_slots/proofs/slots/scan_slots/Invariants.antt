@@ -1,0 +1,20 @@
+use Rattle.std.proofs.Common.{◌≡◌, ◌≤◌, ◌<◌, ◌^◌, Some, None}
+use Rattle.disk_base.specs.declared.disk.DiskAnswer.TheVariants.{Done}
+use Rattle.disk_base.specs.Story.{Story}
+use Rattle.spool_slots.specs.Area.{first_at, messages_below}
+use Rattle.spool_slots.specs.Reading.{IsScan}
+use Rattle.spool_slots.specs.Reads.{HasRead}
+use Rattle.spool_slots.specs.Slot.{in_slot, slot_break, slot_in}
+use Rattle.spool_slots.proofs.slots.scan_slots.Given as goal
+
+abbrev pub invariant-loop-slot : goal.invariant-loop-slot
+invariant-loop-slot g l =
+    ((s : Story) → g.D.Disk.told l.fn.disk ≡ Some s →
+    (first_at (λ k. in_slot k (slot_break l.fn.slots k (slot_in s.now.bytes k))) l.slot ≡ None)
+    × IsScan l.scan (messages_below (slot_in s.now.bytes) l.slot))
+    × (g.D.Disk.told l.disk ≡ g.D.Disk.told l.fn.disk)
+    × (g.D.Disk.size_is l.disk ≡ g.D.Disk.size_is l.fn.disk)
+    × (g.D.Disk.name l.disk ≡ g.D.Disk.name l.fn.disk)
+    × HasRead (g.D.Disk.health l.fn.disk) (g.D.Disk.health l.disk) (g.D.Disk.calls l.fn.disk) (g.D.Disk.calls l.disk) l.slot Done
+    × (l.scan.count ≤ l.slot)
+    × (l.scan.least < 2 ^ 63)

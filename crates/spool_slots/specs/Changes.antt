@@ -1,0 +1,271 @@
+-- What each call does to the spool on the disk (this profile).
+use Rattle.std.specs.Prelude.{◌≡◌, ◌⊎◌, ◌==◌, not, false, ℕ, ◌+◌, ◌*◌, ◌/◌, ◌^◌, ◌%◌, ◌-◌, ◌<◌, ◌≤◌, List, [], ◌∷◌, ◌++◌, length, drop}
+use Rattle.std.specs.Prelude.{Option, Some, Result, Ok, Err}
+use Rattle.std.specs.Int.{w32, w64, to_be_bytes}
+use Rattle.std.specs.List.{slice_get}
+use Rattle.std.specs.Option.{option_map}
+use Rattle.disk_base.specs.Calls.{DiskCall, Logs, read_call, sync_call, with_call}
+use Rattle.disk_base.specs.Cut.{image_of}
+use Rattle.disk_base.specs.Faults.{DiskHealth, HasCause, IsCrowded, IsPlanned}
+use Rattle.disk_base.specs.Listed.{AsListed}
+use Rattle.disk_base.specs.Settle.{LogsBoth, Settles}
+use Rattle.disk_base.specs.Story.{Story, bytes_at, with_sync}
+use Rattle.disk_base.specs.Through.{Through}
+use Rattle.disk_base.specs.declared.cut.CutChoice.{CutChoice}
+use Rattle.disk_base.specs.declared.disk.Disk as disk
+use Rattle.disk_base.specs.declared.disk.DiskAnswer.{DiskAnswer}
+use Rattle.disk_base.specs.declared.disk.DiskAnswer.TheVariants.{Done, Failed}
+use Rattle.gate_cell.specs.Calls.{LogsPreparing}
+use Rattle.gate_cell.specs.Cell.{cell_in, gate_byte, spare_is_second}
+use Rattle.gate_cell.specs.Holds.{Holds}
+use Rattle.spool_slots.specs.Area.{first_of}
+use Rattle.spool_slots.specs.File.{SpoolFile, StandsFor, file_in, spool_break}
+use Rattle.spool_slots.specs.Losses.{IsSure, LeavesByGate, file_left, gate_counts, names_spare}
+use Rattle.spool_slots.specs.Reading.{IsBreak}
+use Rattle.spool_slots.specs.Reads.{HasRead}
+use Rattle.spool_slots.specs.Slot.{Message, message_of, slot_in, slot_place}
+use Rattle.spool_slots.specs.Spool.{Rests, SpoolView, first_slot, next_of, next_slot}
+use Rattle.spool_slots.specs.declared.states.Dropping.{Dropping}
+use Rattle.spool_slots.specs.declared.states.Dropping.TheVariants as dropping
+use Rattle.spool_slots.specs.declared.slot.SlotHead.{SlotHead}
+use Rattle.spool_slots.specs.declared.states.OldestAnswer.{OldestAnswer}
+use Rattle.spool_slots.specs.declared.states.OldestAnswer.TheVariants as oldest
+use Rattle.spool_slots.specs.declared.states.Recovering.{Recovering}
+use Rattle.spool_slots.specs.declared.states.Recovering.TheVariants as recovering
+use Rattle.spool_slots.specs.declared.states.Reserving.{Reserving}
+use Rattle.spool_slots.specs.declared.states.Reserving.TheVariants as reserving
+use Rattle.spool_slots.specs.declared.states.Spent.{Spent}
+use Rattle.spool_slots.specs.declared.states.Staging.{Staging}
+use Rattle.spool_slots.specs.declared.states.Staging.TheVariants as staging
+
+-- the bytes of a slot's parts, which stand behind its gate
+abbrev pub parts_of : ℕ → ℕ → ℕ → List ℕ → List ℕ
+parts_of number stream function body =
+    to_be_bytes w64 number ++ ((128 + stream) ∷ []) ++ (function ∷ []) ++ to_be_bytes w32 (length body) ++ body
+
+-- a file with a message more at its end, and without its first one
+abbrev pub with_message : Message → SpoolFile → SpoolFile
+with_message message file = record { slots = file.slots; mark = file.mark; list = file.list ++ message ∷ [] }
+
+abbrev pub without_first : SpoolFile → SpoolFile
+without_first file = record { slots = file.slots; mark = file.mark; list = drop 1 file.list }
+
+-- the file with another mark
+abbrev pub with_mark : ℕ → SpoolFile → SpoolFile
+with_mark mark file = record { slots = file.slots; mark = mark; list = file.list }
+
+abbrev pub reserved_in : List ℕ → SpoolFile
+reserved_in bytes = with_mark ((file_in bytes).mark + 4096) (file_in bytes)
+
+-- where the disk told its bytes before, it does so now, and at every moment between a crash leaves bytes with P of what
+-- was there before
+abbrev pub HoldsThrough : Option Story → Option Story → (List ℕ → List ℕ → Type 0) → Type 0
+HoldsThrough before after P =
+    (s : Story) → before ≡ Some s → (t : Story) × (after ≡ Some t) × Through s t (P s.now.bytes)
+
+-- such bytes stand for the same file
+abbrev pub IsSame : List ℕ → List ℕ → Type 0
+IsSame bytes image = StandsFor image (file_in bytes)
+
+-- or for one that was changed
+abbrev pub IsSameOr : (List ℕ → SpoolFile) → List ℕ → List ℕ → Type 0
+IsSameOr changed bytes image = StandsFor image (file_in bytes) ⊎ StandsFor image (changed bytes)
+
+-- the file with the message that stands in a slot
+abbrev pub sealed_in : ℕ → List ℕ → SpoolFile
+sealed_in k bytes = with_message (message_of (slot_in bytes k)) (file_in bytes)
+
+abbrev pub dropped_in : List ℕ → SpoolFile
+dropped_in bytes = without_first (file_in bytes)
+
+-- all that is there now stands for a file, and is settled
+pub record Ends (t : Story) (file : SpoolFile) : Type 0 where
+  pub settled : t.now.loose ≡ []
+  pub stands : StandsFor t.now.bytes file
+
+-- a write and its sync were made, as far as they went, and the rest of the disk is as it was
+pub record HasSettled {D : Type 0} (members : disk.Ghosts D) (old new : D) (at : ℕ) (bytes : List ℕ)
+    (answer : DiskAnswer) : Type 0 where
+  pub told : Settles (members.told old) at bytes (members.told new) answer
+  pub size : members.size_is new ≡ members.size_is old
+  pub calls : LogsBoth at bytes (IsCrowded (members.health old) 2 (length bytes)) (members.calls old)
+      (members.calls new) answer
+  pub listed : (members.health old).stopped ≡ false →
+      AsListed (members.told old) (members.calls old) (members.told new) (members.calls new)
+  pub cause : HasCause (members.health old) (members.health new) 2 (length bytes)
+      ((members.health old).room < length bytes) answer
+  pub name : members.name new ≡ members.name old
+
+-- a sync was made, and then at most so many reads, of which the last one failed, or none
+pub record HasRecovered {D : Type 0} (members : disk.Ghosts D) (old new : D) (most : ℕ) (answer : DiskAnswer) :
+    Type 0 where
+  pub told : members.told new ≡ option_map with_sync (members.told old)
+  pub size : members.size_is new ≡ members.size_is old
+  pub name : members.name new ≡ members.name old
+  pub synced : DiskHealth
+  pub cause : HasCause (members.health old) synced 1 0 ⊥ Done
+  pub reads : HasRead synced (members.health new) (with_call (sync_call Done) (members.calls old)) (members.calls new)
+      most answer
+
+-- the sync failed, and nothing was read
+pub record HasNoSync {D : Type 0} (members : disk.Ghosts D) (old new : D) : Type 0 where
+  pub told : members.told new ≡ members.told old
+  pub size : members.size_is new ≡ members.size_is old
+  pub name : members.name new ≡ members.name old
+  pub cause : HasCause (members.health old) (members.health new) 1 0 ⊥ Failed
+  pub calls : Logs sync_call (IsCrowded (members.health old) 1 0) (members.calls old) (members.calls new) Failed
+
+-- how many reads tell that a file of this size stands for no list, at most
+abbrev pub most_reads : ℕ → ℕ
+most_reads size = 2 * (size / 4096) + 1
+
+-- the list that stands is in hand; or the first break; or the disk failed
+abbrev pub Recovers : {D : Type 0} → disk.Ghosts D → D → Result (SpoolView D) (Recovering D) → Type 0
+Recovers members old (Ok v) =
+    HasRecovered members old v.disk (2 * v.slots + 1) Done
+    × ((s : Story) → members.told old ≡ Some s → Rests (with_sync s) v.slots v.first v.len v.mark
+    × (v.first ≡ first_of (file_in s.now.bytes).list))
+Recovers members old (Err (recovering.NotSpool raw break)) =
+    HasRecovered members old raw.disk (most_reads (members.size_is old)) Done
+    × ((s : Story) → members.told old ≡ Some s → IsBreak s.now.bytes (spool_break s.now.bytes) break)
+Recovers members old (Err (recovering.Failed spent)) =
+    HasNoSync members old spent.disk ⊎ HasRecovered members old spent.disk (most_reads (members.size_is old)) Failed
+
+-- the parts of the next message were written, and at every moment the old list stands
+pub record HasStaged {D : Type 0} (members : disk.Ghosts D) (v : SpoolView D) (stream function : ℕ) (body : List ℕ)
+    (after : D) (answer : DiskAnswer) : Type 0 where
+  pub short : length body ≤ 4081
+  pub free : v.len < v.slots
+  pub number : next_of v < 2 ^ 63
+  pub images : HoldsThrough (members.told v.disk) (members.told after) IsSame
+  pub disk : HasSettled members v.disk after (slot_place (next_slot v) + 1)
+      (parts_of (next_of v) stream function body) answer
+
+-- the message that was staged
+abbrev pub IsNext : {D : Type 0} → disk.Ghosts D → SpoolView D → Message → Type 0
+IsNext members w message =
+    (t : Story) → members.told w.disk ≡ Some t → message_of (slot_in t.now.bytes (next_slot w)) ≡ message
+
+abbrev pub Stages : {D : Type 0} → disk.Ghosts D → SpoolView D → ℕ → ℕ → List ℕ → Result (SpoolView D) (Staging D) →
+    Type 0
+Stages members v stream function body (Ok w) =
+    HasStaged members v stream function body w.disk Done
+    × (w ≡ record { disk = w.disk; slots = v.slots; first = v.first; len = v.len; mark = v.mark })
+    × IsNext members w (record { number = next_of v; stream = stream; function = function; body = body })
+Stages members v stream function body (Err (staging.TooLong w)) = (w ≡ v) × (4081 < length body)
+Stages members v stream function body (Err (staging.Full w)) = (w ≡ v) × (length body ≤ 4081) × (v.len ≡ v.slots)
+Stages members v stream function body (Err (staging.NumbersSpent w)) =
+    (w ≡ v) × (length body ≤ 4081) × (v.len < v.slots) × (2 ^ 63 ≤ next_of v)
+Stages members v stream function body (Err (staging.Failed spent)) =
+    HasStaged members v stream function body spent.disk Failed
+
+-- the gate of the next slot was opened
+pub record HasSealed {D : Type 0} (members : disk.Ghosts D) (v : SpoolView D) (after : D) (answer : DiskAnswer) :
+    Type 0 where
+  pub images : HoldsThrough (members.told v.disk) (members.told after) (IsSameOr (sealed_in (next_slot v)))
+  pub disk : HasSettled members v.disk after (slot_place (next_slot v)) (90 ∷ []) answer
+
+abbrev pub Seals : {D : Type 0} → disk.Ghosts D → SpoolView D → Result (SpoolView D) (Spent D) → Type 0
+Seals members v (Ok w) =
+    HasSealed members v w.disk Done
+    × (w ≡ record { disk = w.disk; slots = v.slots; first = v.first; len = v.len + 1; mark = v.mark })
+    × ((s t : Story) → members.told v.disk ≡ Some s → members.told w.disk ≡ Some t →
+    Ends t (sealed_in (next_slot v) s.now.bytes))
+Seals members v (Err spent) =
+    HasSealed members v spent.disk Failed
+    × (IsSure (members.health v.disk) 2 1 →
+    LeavesByGate (members.told v.disk) (members.told spent.disk) (λ gate. gate == 90) (sealed_in (next_slot v)))
+
+-- the gate of the oldest message's slot was closed
+pub record HasDropped {D : Type 0} (members : disk.Ghosts D) (v : SpoolView D) (after : D) (answer : DiskAnswer) :
+    Type 0 where
+  pub some : 0 < v.len
+  pub images : HoldsThrough (members.told v.disk) (members.told after) (IsSameOr dropped_in)
+  pub disk : HasSettled members v.disk after (slot_place (first_slot v)) (0 ∷ []) answer
+
+abbrev pub Drops : {D : Type 0} → disk.Ghosts D → SpoolView D → Result (SpoolView D) (Dropping D) → Type 0
+Drops members v (Ok w) =
+    HasDropped members v w.disk Done
+    × (w ≡ record { disk = w.disk; slots = v.slots; first = v.first + 1; len = v.len - 1; mark = v.mark })
+    × ((s t : Story) → members.told v.disk ≡ Some s → members.told w.disk ≡ Some t → Ends t (dropped_in s.now.bytes))
+Drops members v (Err (dropping.Empty w)) = (w ≡ v) × (v.len ≡ 0)
+Drops members v (Err (dropping.Failed spent)) =
+    HasDropped members v spent.disk Failed
+    × (IsSure (members.health v.disk) 2 1 →
+    LeavesByGate (members.told v.disk) (members.told spent.disk) (λ gate. not (gate == 90)) dropped_in)
+
+-- one slot was read, and the rest is as it was
+pub record HasLooked {D : Type 0} (members : disk.Ghosts D) (v w : SpoolView D) (k : ℕ) (answer : DiskAnswer) :
+    Type 0 where
+  pub same : w ≡ record { disk = w.disk; slots = v.slots; first = v.first; len = v.len; mark = v.mark }
+  pub told : members.told w.disk ≡ members.told v.disk
+  pub size : members.size_is w.disk ≡ members.size_is v.disk
+  pub calls : Logs (read_call (slot_place k) 4096) (IsCrowded (members.health v.disk) 1 0) (members.calls v.disk)
+      (members.calls w.disk) answer
+  pub cause : HasCause (members.health v.disk) (members.health w.disk) 1 0 ⊥ answer
+  pub name : members.name w.disk ≡ members.name v.disk
+
+-- the message of a number, with its slot's bytes
+pub record IsFound (s : Story) (slots first number : ℕ) (into : List ℕ) (head : SlotHead) : Type 0 where
+  pub bytes : into ≡ bytes_at s.now.bytes (slot_place (number % slots)) 4096
+  pub head_is : head ≡ (slot_in s.now.bytes (number % slots)).head
+  pub listed : slice_get (file_in s.now.bytes).list (number - first)
+      ≡ Some (message_of (slot_in s.now.bytes (number % slots)))
+
+abbrev pub Looks : {D : Type 0} → disk.Ghosts D → SpoolView D → SpoolView D → ℕ → List ℕ → List ℕ → OldestAnswer →
+    Type 0
+Looks members v w number before into (oldest.Found head) =
+    HasLooked members v w (number % v.slots) Done × (v.first ≤ number) × (number < next_of v)
+    × ((s : Story) → members.told v.disk ≡ Some s → IsFound s v.slots v.first number into head)
+Looks members v w number before into oldest.Empty =
+    (w ≡ v) × (into ≡ before) × ((number < v.first) ⊎ (next_of v ≤ number))
+Looks members v w number before into oldest.Failed =
+    HasLooked members v w (number % v.slots) Failed × (v.first ≤ number) × (number < next_of v)
+
+-- a mark was prepared, and then the cell's gate was written that names its copy, as far as that went
+pub record HasCommitted (s : Story) (mark : ℕ) (Crowded : Type 0) (before after : Option (List DiskCall))
+    (answer : DiskAnswer) : Type 0 where
+  pub prepared : Option (List DiskCall)
+  pub first : LogsPreparing s 12 mark Crowded before prepared Done
+  pub last : LogsBoth 28 (gate_byte (spare_is_second (cell_in s.now.bytes 12)) ∷ []) Crowded prepared after answer
+
+-- the calls that write another mark
+abbrev pub LogsMark : Story → ℕ → Type 0 → Option (List DiskCall) → Option (List DiskCall) → DiskAnswer → Type 0
+LogsMark s mark Crowded before after Done = HasCommitted s mark Crowded before after Done
+LogsMark s mark Crowded before after Failed =
+    LogsPreparing s 12 mark Crowded before after Failed ⊎ HasCommitted s mark Crowded before after Failed
+
+-- the bytes are settled, and have this mark
+abbrev pub HasMark : Story → ℕ → Option Story → Type 0
+HasMark s mark after = (t : Story) → after ≡ Some t → (t.now.loose ≡ []) × Holds s.now 12 mark t.now.bytes
+
+-- the mark was moved on, as far as that went
+pub record HasReserved {D : Type 0} (members : disk.Ghosts D) (v : SpoolView D) (after : D) (answer : DiskAnswer) :
+    Type 0 where
+  pub left : v.mark + 4096 ≤ 2 ^ 32
+  pub images : HoldsThrough (members.told v.disk) (members.told after) (IsSameOr reserved_in)
+  pub size : members.size_is after ≡ members.size_is v.disk
+  pub calls : (s : Story) → members.told v.disk ≡ Some s → LogsMark s (v.mark + 4096)
+      (IsCrowded (members.health v.disk) 5 9) (members.calls v.disk) (members.calls after) answer
+  pub listed : (members.health v.disk).stopped ≡ false →
+      AsListed (members.told v.disk) (members.calls v.disk) (members.told after) (members.calls after)
+  pub cause : HasCause (members.health v.disk) (members.health after) 5 9 ((members.health v.disk).room < 9) answer
+  pub name : members.name after ≡ members.name v.disk
+
+-- where one of the three calls that prepare the mark was to fail, a crash leaves the file as it was; elsewhere the gate
+-- of the cell decides
+pub record HasLostReserve {D : Type 0} (members : disk.Ghosts D) (v : SpoolView D) (after : D) : Type 0 where
+  pub early : IsPlanned (members.health v.disk) 3 → HoldsThrough (members.told v.disk) (members.told after) IsSame
+  pub late : (IsPlanned (members.health v.disk) 3 → ⊥) → (s t : Story) → members.told v.disk ≡ Some s →
+      members.told after ≡ Some t → (choice : CutChoice) → StandsFor (image_of choice t)
+      (file_left (gate_counts choice (names_spare s.now.bytes)) (reserved_in s.now.bytes) (file_in s.now.bytes))
+
+abbrev pub Reserves : {D : Type 0} → disk.Ghosts D → SpoolView D → Result (SpoolView D × ℕ) (Reserving D) → Type 0
+Reserves members v (Ok r) =
+    HasReserved members v r.0.disk Done × (r.1 ≡ v.mark)
+    × (r.0 ≡ record { disk = r.0.disk; slots = v.slots; first = v.first; len = v.len; mark = v.mark + 4096 })
+    × ((s t : Story) → members.told v.disk ≡ Some s → members.told r.0.disk ≡ Some t → Ends t (reserved_in s.now.bytes))
+Reserves members v (Err (reserving.NumbersSpent w)) = (w ≡ v) × (2 ^ 32 < v.mark + 4096)
+Reserves members v (Err (reserving.Failed spent)) =
+    HasReserved members v spent.disk Failed
+    × (IsSure (members.health v.disk) 5 9 → HasLostReserve members v spent.disk)

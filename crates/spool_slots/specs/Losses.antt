@@ -1,0 +1,55 @@
+-- What a power loss leaves of a work that it interrupts (this profile).
+use Rattle.std.specs.Prelude.{◌≡◌, ◌==◌, ℕ, ◌≤◌, Bool, true, false, not, if◌then◌else◌, List, Option, Some}
+use Rattle.disk_base.specs.Cut.{image_of}
+use Rattle.disk_base.specs.Faults.{DiskHealth, IsPlanned}
+use Rattle.disk_base.specs.Story.{Story}
+use Rattle.disk_base.specs.Through.{GoesThrough}
+use Rattle.disk_base.specs.declared.cut.CutChoice.{CutChoice}
+use Rattle.disk_base.specs.declared.cut.CutChoice.TheVariants.{Old, New, Fill, First}
+use Rattle.gate_cell.specs.Cell.{cell_in, names_second, spare_is_second, value_in}
+use Rattle.gate_cell.specs.Holds.{Holds}
+use Rattle.spool_slots.specs.File.{SpoolFile, StandsFor, file_in}
+
+-- a disk goes on, with sure room for so many calls that write n bytes
+pub record IsSure (health : DiskHealth) (calls n : ℕ) : Type 0 where
+  pub going : health.stopped ≡ false
+  pub calls_fit : calls ≤ health.calls
+  pub bytes_fit : n ≤ health.room
+
+-- whether a gate that was written and not synced counts after a crash, by what its bytes mean
+abbrev pub gate_counts : CutChoice → (ℕ → Bool) → Bool
+gate_counts Old means = false
+gate_counts New means = true
+gate_counts (Fill byte) means = means byte
+gate_counts (First n) means = not (n == 0)
+
+abbrev pub file_left : Bool → SpoolFile → SpoolFile → SpoolFile
+file_left true done undone = done
+file_left false done undone = undone
+
+-- of the write of a gate that the disk stopped at, or at its sync, a crash leaves the change or the file as it was
+abbrev pub LeavesByGate : Option Story → Option Story → (ℕ → Bool) → (List ℕ → SpoolFile) → Type 0
+LeavesByGate before after means changed =
+    (s t : Story) → before ≡ Some s → after ≡ Some t → (choice : CutChoice) →
+    StandsFor (image_of choice t) (file_left (gate_counts choice means) (changed s.now.bytes) (file_in s.now.bytes))
+
+-- whether a gate of the mark's cell names the copy that doesn't count in these bytes
+abbrev pub names_spare : List ℕ → ℕ → Bool
+names_spare bytes gate =
+    if spare_is_second (cell_in bytes 12) then names_second gate else not (names_second gate)
+
+abbrev pub mark_left : Bool → ℕ → ℕ → ℕ
+mark_left true new old = new
+mark_left false new old = old
+
+-- of the write of the cell's gate that the disk stopped at, or at its sync, a crash leaves the new mark or the old one
+abbrev pub LeavesMark : Story → ℕ → Option Story → Type 0
+LeavesMark s mark after =
+    (t : Story) → after ≡ Some t → (choice : CutChoice) →
+    Holds s.now 12 (mark_left (gate_counts choice (names_spare s.now.bytes)) mark (value_in s.now.bytes 12))
+    (image_of choice t)
+
+-- where one of the three calls that prepare it was to fail, the old mark is left; elsewhere the gate decides
+pub record HasLostMark (s : Story) (mark : ℕ) (before : DiskHealth) (after : Option Story) : Type 0 where
+  pub early : IsPlanned before 3 → GoesThrough s after (Holds s.now 12 (value_in s.now.bytes 12))
+  pub late : (IsPlanned before 3 → ⊥) → LeavesMark s mark after

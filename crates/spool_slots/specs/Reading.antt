@@ -1,0 +1,139 @@
+-- What reading parts of a spool file comes to (this profile).
+use Rattle.std.specs.Prelude.{◌≡◌, ℕ, ◌^◌, ◌<◌, ◌≤◌, ◌==◌, nat_lt, if◌then◌else◌, List, [], length, drop, slice_index, Option, Some, None}
+use Rattle.std.specs.List.{slice_get}
+use Rattle.disk_base.specs.Story.{Story, bytes_at}
+use Rattle.disk_base.specs.declared.disk.DiskAnswer.{DiskAnswer}
+use Rattle.disk_base.specs.declared.disk.DiskAnswer.TheVariants.{Done, Failed}
+use Rattle.spool_slots.specs.Area.{area_break, first_at, first_of, messages_below, put_if}
+use Rattle.spool_slots.specs.Front.{front_break, front_in, mark_of, slots_of}
+use Rattle.spool_slots.specs.File.{file_in, spool_break}
+use Rattle.spool_slots.specs.Slot.{Message, Slot, ahead_break, head_of, in_slot, is_open, message_of, slot_break, slot_in, slot_place}
+use Rattle.spool_slots.specs.declared.front.Front.{Front}
+use Rattle.spool_slots.specs.declared.reading.NotSpool.{NotSpool}
+use Rattle.spool_slots.specs.declared.reading.Reading.{Reading}
+use Rattle.spool_slots.specs.declared.reading.Reading.TheVariants as reading
+use Rattle.spool_slots.specs.declared.slots.Scan.{Scan}
+use Rattle.spool_slots.specs.declared.recovery.Known.{Known}
+
+-- whether the disk failed
+abbrev pub reading_answer : {T : Type 0} → Reading T → DiskAnswer
+reading_answer (reading.Whole value) = Done
+reading_answer (reading.Broken break) = Done
+reading_answer reading.Failed = Failed
+
+-- a break is the first one, with the byte there
+abbrev pub IsBreak : List ℕ → Option ℕ → NotSpool → Type 0
+IsBreak bytes place break = (place ≡ Some break.at) × (break.got ≡ slice_get bytes break.at)
+
+-- what the front's bytes say
+abbrev pub FrontSays : List ℕ → ℕ → Reading Front → Type 0
+FrontSays front size (reading.Whole found) =
+    (front_break front size ≡ None) × (found.slots ≡ slots_of front) × (found.mark ≡ mark_of front)
+FrontSays front size (reading.Broken break) =
+    (bytes : List ℕ) → length bytes ≡ size → front ≡ front_in bytes → IsBreak bytes (front_break front size) break
+FrontSays front size reading.Failed = ⊥
+
+-- the numbers of a front that was read are in their ranges, also over a disk that tells nothing
+abbrev pub FrontFits : ℕ → Reading Front → Type 0
+FrontFits size (reading.Whole found) =
+    (1 ≤ found.slots) × (found.slots ≤ 65535) × (slot_place found.slots ≤ size) × (found.mark ≤ 2 ^ 32)
+FrontFits size (reading.Broken break) = Unit {0}
+FrontFits size reading.Failed = Unit {0}
+
+-- the front of the bytes was read
+abbrev pub FrontIs : Option Story → Reading Front → Type 0
+FrontIs told (reading.Whole found) = (s : Story) → told ≡ Some s →
+    (front_break (front_in s.now.bytes) (length s.now.bytes) ≡ None)
+    × (found.slots ≡ slots_of (front_in s.now.bytes)) × (found.mark ≡ mark_of (front_in s.now.bytes))
+FrontIs told (reading.Broken break) = (s : Story) → told ≡ Some s →
+    IsBreak s.now.bytes (front_break (front_in s.now.bytes) (length s.now.bytes)) break
+FrontIs told reading.Failed = Unit {0}
+
+-- the first fifteen bytes of a slot were read
+abbrev pub StartIs : Option Story → ℕ → List ℕ → DiskAnswer → Type 0
+StartIs told k start Done = (s : Story) → told ≡ Some s → start ≡ bytes_at s.now.bytes (slot_place k) 15
+StartIs told k start Failed = Unit {0}
+
+-- the slot that starts so, but for its area
+abbrev pub slot_from : List ℕ → Slot
+slot_from start = record { gate = slice_index start 0; head = head_of (drop 1 start); area = [] }
+
+-- how many messages a list has, and the number of its first one
+abbrev pub IsScan : Scan → List Message → Type 0
+IsScan scan list = (scan.count ≡ length list) × (scan.least ≡ first_of list)
+
+-- the least number with one more
+abbrev pub least_with : ℕ → ℕ → ℕ → ℕ
+least_with count least number = if count == 0 then number else (if nat_lt number least then number else least)
+
+-- a slot's fields aren't broken, and its message is counted if it is open
+abbrev pub ScansOn : ℕ → ℕ → Scan → Option Story → Reading Scan → Type 0
+ScansOn slots k scan told (reading.Whole found) = (s : Story) → told ≡ Some s →
+    (slot_break slots k (slot_in s.now.bytes k) ≡ None)
+    × ((list : List Message) → IsScan scan list →
+    IsScan found (put_if (is_open (slot_in s.now.bytes k)) (message_of (slot_in s.now.bytes k)) list))
+ScansOn slots k scan told (reading.Broken break) = (s : Story) → told ≡ Some s →
+    IsBreak s.now.bytes (in_slot k (slot_break slots k (slot_in s.now.bytes k))) break
+ScansOn slots k scan told reading.Failed = Unit {0}
+
+-- no open slot has broken fields; how many are open, and the least number of these
+abbrev pub ScanIs : ℕ → Option Story → Reading Scan → Type 0
+ScanIs slots told (reading.Whole found) = (s : Story) → told ≡ Some s →
+    (first_at (λ k. in_slot k (slot_break slots k (slot_in s.now.bytes k))) slots ≡ None)
+    × IsScan found (messages_below (slot_in s.now.bytes) slots)
+ScanIs slots told (reading.Broken break) = (s : Story) → told ≡ Some s →
+    IsBreak s.now.bytes (first_at (λ k. in_slot k (slot_break slots k (slot_in s.now.bytes k))) slots) break
+ScanIs slots told reading.Failed = Unit {0}
+
+-- also over a disk that tells nothing
+abbrev pub ScanFits : ℕ → Reading Scan → Type 0
+ScanFits most (reading.Whole found) = (found.count ≤ most) × (found.least < 2 ^ 63)
+ScanFits most (reading.Broken break) = Unit {0}
+ScanFits most reading.Failed = Unit {0}
+
+-- an open slot has no number at or behind an end
+abbrev pub EndsOn : ℕ → ℕ → Option Story → Reading (Unit {0}) → Type 0
+EndsOn k end told (reading.Whole found) = (s : Story) → told ≡ Some s →
+    ahead_break end (slot_in s.now.bytes k) ≡ None
+EndsOn k end told (reading.Broken break) = (s : Story) → told ≡ Some s →
+    IsBreak s.now.bytes (in_slot k (ahead_break end (slot_in s.now.bytes k))) break
+EndsOn k end told reading.Failed = Unit {0}
+
+-- no open slot has one
+abbrev pub EndIs : ℕ → ℕ → Option Story → Reading (Unit {0}) → Type 0
+EndIs slots end told (reading.Whole found) = (s : Story) → told ≡ Some s →
+    first_at (λ k. in_slot k (ahead_break end (slot_in s.now.bytes k))) slots ≡ None
+EndIs slots end told (reading.Broken break) = (s : Story) → told ≡ Some s →
+    IsBreak s.now.bytes (first_at (λ k. in_slot k (ahead_break end (slot_in s.now.bytes k))) slots) break
+EndIs slots end told reading.Failed = Unit {0}
+
+-- the slots aren't broken
+abbrev pub AreaIs : ℕ → Option Story → Reading Scan → Type 0
+AreaIs slots told (reading.Whole found) = (s : Story) → told ≡ Some s →
+    (area_break (slot_in s.now.bytes) slots ≡ None) × IsScan found (messages_below (slot_in s.now.bytes) slots)
+AreaIs slots told (reading.Broken break) = (s : Story) → told ≡ Some s →
+    IsBreak s.now.bytes (area_break (slot_in s.now.bytes) slots) break
+AreaIs slots told reading.Failed = Unit {0}
+
+-- the bytes aren't broken, and this is what they hold
+abbrev pub KnownIs : List ℕ → Known → Type 0
+KnownIs bytes found =
+    (spool_break bytes ≡ None) × (found.slots ≡ (file_in bytes).slots) × (found.mark ≡ (file_in bytes).mark)
+    × (found.first ≡ first_of (file_in bytes).list) × (found.len ≡ length (file_in bytes).list)
+
+-- a file was read whole
+abbrev pub FileIs : Option Story → Reading Known → Type 0
+FileIs told (reading.Whole found) = (s : Story) → told ≡ Some s → KnownIs s.now.bytes found
+FileIs told (reading.Broken break) = (s : Story) → told ≡ Some s → IsBreak s.now.bytes (spool_break s.now.bytes) break
+FileIs told reading.Failed = Unit {0}
+
+-- what it holds is in range, also over a disk that tells nothing
+abbrev pub KnownFits : ℕ → Known → Type 0
+KnownFits size found =
+    (1 ≤ found.slots) × (found.slots ≤ 65535) × (slot_place found.slots ≤ size) × (found.mark ≤ 2 ^ 32)
+    × (found.len ≤ found.slots) × (found.first < 2 ^ 63)
+
+abbrev pub FileFits : ℕ → Reading Known → Type 0
+FileFits size (reading.Whole found) = KnownFits size found
+FileFits size (reading.Broken break) = Unit {0}
+FileFits size reading.Failed = Unit {0}

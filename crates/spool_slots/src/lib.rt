@@ -1,0 +1,24 @@
+//! The spool on a disk that can lose power: a file of slots, a message a slot.
+#![tactic(auto)]
+
+mod format;
+mod front;
+mod marking;
+mod reading;
+mod recovery;
+mod slot;
+mod slots;
+mod spool;
+mod staged;
+mod states;
+mod stored;
+
+pub use reading::NotSpool;
+pub use slot::SlotHead;
+pub use spool::Spool;
+pub use staged::Staged;
+pub use states::{Dropping, Formatting, OldestAnswer, Raw, Recovering, Reserving, Spent, Staging};
+pub use stored::Stored;
+
+#[cfg(test)]
+mod tests;

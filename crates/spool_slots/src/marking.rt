@@ -1,0 +1,49 @@
+ghost use Rattle.std.specs.Prelude.{◌≡◌, ◌<◌, ◌≤◌, false, None, Some, IfErr, IfOk};
+ghost use Rattle.disk_base.specs.Faults.{HasCause, IsCrowded};
+ghost use Rattle.disk_base.specs.Listed.{AsListed};
+ghost use Rattle.disk_base.specs.Story.{Story};
+ghost use Rattle.disk_base.specs.Through.{GoesThrough};
+ghost use Rattle.gate_cell.specs.Cell.{value_in};
+ghost use Rattle.gate_cell.specs.Holds.{HoldsEither};
+ghost use Rattle.gate_cell.specs.Ready.{IsCell, OnDisk};
+ghost use Rattle.spool_slots.specs.Changes.{HasMark, LogsMark};
+ghost use Rattle.spool_slots.specs.Losses.{HasLostMark, IsSure};
+
+use disk_base::{Disk, cut_leaves_the_chosen_byte, failed_settle_has_written};
+use gate_cell::prepare;
+
+/// Where the cell of the mark begins.
+pub const MARK_PLACE: u64 = 12;
+
+/// Writes another mark: into the copy that doesn't count, and then the gate that names it. At every moment the old mark
+/// counts, or the new one.
+pub fn write_mark<D: Disk>(disk: D, mark: u64) -> Result<D, D>
+    requires within { 29 ≤ D.size_is disk }
+    requires settled { (s : Story) → D.told disk ≡ Some s → IsCell s 12 }
+    ensures images { (s : Story) → D.told disk ≡ Some s → OnDisk (λ d. d) result (λ after answer.
+        GoesThrough s (D.told after) (HoldsEither s.now 12 (value_in s.now.bytes 12) mark)) }
+    ensures value { (s : Story) → D.told disk ≡ Some s → IfOk result (λ after. HasMark s mark (D.told after)) }
+    ensures untold { D.told disk ≡ None → OnDisk (λ d. d) result (λ after answer. D.told after ≡ None) }
+    ensures size { OnDisk (λ d. d) result (λ after answer. D.size_is after ≡ D.size_is disk) }
+    ensures calls { (s : Story) → D.told disk ≡ Some s → OnDisk (λ d. d) result (λ after answer.
+        LogsMark s mark (IsCrowded (D.health disk) 5 9) (D.calls disk) (D.calls after) answer) }
+    ensures listed { (D.health disk).stopped ≡ false → OnDisk (λ d. d) result (λ after answer.
+        AsListed (D.told disk) (D.calls disk) (D.told after) (D.calls after)) }
+    ensures cause { OnDisk (λ d. d) result (λ after answer.
+        HasCause (D.health disk) (D.health after) 5 9 ((D.health disk).room < 9) answer) }
+    ensures loss { (s : Story) → D.told disk ≡ Some s → IsSure (D.health disk) 5 9 →
+        IfErr result (λ after. HasLostMark s mark (D.health disk) (D.told after)) }
+    ensures name { OnDisk (λ d. d) result (λ after answer. D.name after ≡ D.name disk) }
+{
+    match prepare(disk, MARK_PLACE, mark) {
+        Err(disk) => Err(disk),
+        Ok(prepared) => match prepared.commit() {
+            Ok(disk) => Ok(disk),
+            Err(disk) => {
+                failed_settle_has_written();
+                cut_leaves_the_chosen_byte();
+                Err(disk)
+            }
+        },
+    }
+}

@@ -1,0 +1,96 @@
+ghost use Rattle.std.specs.Prelude.{◌≡◌, ◌+◌, ◌-◌, ◌*◌, ◌^◌, ◌<◌, ◌≤◌};
+ghost use Rattle.spool_slots.specs.Reading.{FileFits, FileIs, reading_answer};
+ghost use Rattle.spool_slots.specs.Reads.{HasRead, file_reads};
+
+use crate::front::read_front;
+use crate::reading::Reading;
+use crate::slots::read_slots;
+use disk_base::Disk;
+
+/// How far a mark is moved on.
+pub const MARK_STEP: u64 = 4096;
+
+/// What a spool file holds: how many slots, the first message's number, how many messages, and the mark.
+#[derive(Clone, Copy, Debug)]
+pub struct Known {
+    pub slots: u32,
+    pub first: u64,
+    pub len: u32,
+    pub mark: u64,
+}
+
+impl Known {
+    /// Of an empty list with mark 0.
+    pub fn new(slots: u32) -> Known
+        ensures { result ≡ record { slots = slots; first = 0; len = 0; mark = 0 } }
+    {
+        Known {
+            slots,
+            first: 0,
+            len: 0,
+            mark: 0,
+        }
+    }
+
+    /// With a message more at the end.
+    pub fn with_one_more(self) -> Known
+        requires { self.len < 65535 }
+        ensures { result ≡ record self { len = self.len + 1 } }
+    {
+        Known {
+            len: self.len + 1,
+            ..self
+        }
+    }
+
+    /// With the mark moved on.
+    pub fn with_mark_moved(self) -> Known
+        requires { self.mark ≤ 2 ^ 32 }
+        ensures { result ≡ record self { mark = self.mark + 4096 } }
+    {
+        Known {
+            mark: self.mark + MARK_STEP,
+            ..self
+        }
+    }
+
+    /// Without the first message.
+    pub fn without_first(self) -> Known
+        requires some { 0 < self.len }
+        requires first { self.first < 2 ^ 64 - 1 }
+        ensures { result ≡ record self { first = self.first + 1; len = self.len - 1 } }
+    {
+        Known {
+            first: self.first + 1,
+            len: self.len - 1,
+            ..self
+        }
+    }
+}
+
+/// Reads a file whole.
+pub fn read_file<D: Disk>(disk: &mut D) -> Reading<Known>
+    ensures file { FileIs (D.told disk.old) result }
+    ensures fits { FileFits (D.size_is disk.old) result }
+    ensures told { D.told disk.new ≡ D.told disk.old }
+    ensures size { D.size_is disk.new ≡ D.size_is disk.old }
+    ensures reads { HasRead (D.health disk.old) (D.health disk.new) (D.calls disk.old) (D.calls disk.new)
+        (file_reads (D.size_is disk.old) result)
+        (reading_answer result) }
+    ensures name { D.name disk.new ≡ D.name disk.old }
+{
+    match read_front(disk) {
+        Reading::Whole(front) => match read_slots(disk, front.slots) {
+            Reading::Whole(scan) => Reading::Whole(Known {
+                slots: front.slots,
+                first: scan.least,
+                len: scan.count,
+                mark: front.mark,
+            }),
+            Reading::Broken(not_spool) => Reading::Broken(not_spool),
+            Reading::Failed => Reading::Failed,
+        },
+        Reading::Broken(not_spool) => Reading::Broken(not_spool),
+        Reading::Failed => Reading::Failed,
+    }
+}

@@ -1,0 +1,224 @@
+ghost use Rattle.std.specs.Prelude.{◌≡◌, ℕ, ◌+◌, ◌*◌, ◌<◌, ◌≤◌, ◌^◌, true, List, Option, Some, None, IfSome, drop};
+ghost use Rattle.std.specs.List.{slice_get};
+ghost use Rattle.disk_base.specs.Story.{bytes_at};
+ghost use Rattle.spool_slots.specs.Area.{put_if};
+ghost use Rattle.spool_slots.specs.Reading.{AreaIs, EndIs, EndsOn, IsScan, ScanFits, ScanIs, ScansOn, StartIs};
+ghost use Rattle.spool_slots.specs.Reading.{least_with as least_of, reading_answer, slot_from};
+ghost use Rattle.spool_slots.specs.Reads.{HasRead};
+ghost use Rattle.spool_slots.specs.Slot.{Message, ahead_break, head_of, is_open, slot_break, slot_place as place_of};
+
+use crate::reading::{NotSpool, Reading};
+use crate::slot::{NUMBER, OPEN, SLOT_SIZE, head, head_break};
+use disk_base::{Disk, DiskAnswer};
+
+/// The open slots so far: how many there are, and their least number.
+#[derive(Clone, Copy, Debug)]
+pub struct Scan {
+    pub count: u32,
+    pub least: u64,
+}
+
+/// Where a slot begins.
+pub fn slot_place(slot: u32) -> u64
+    ensures { result ≡ place_of slot }
+{
+    SLOT_SIZE * (slot as u64 + 1)
+}
+
+// Reads the first fifteen bytes of a slot.
+fn read_start<D: Disk>(disk: &mut D, slot: u32, start: &mut [u8; 15]) -> DiskAnswer
+    requires { place_of (slot + 1) ≤ D.size_is disk.old }
+    ensures start { StartIs (D.told disk.old) slot start.new result }
+    ensures told { D.told disk.new ≡ D.told disk.old }
+    ensures size { D.size_is disk.new ≡ D.size_is disk.old }
+    ensures reads { HasRead (D.health disk.old) (D.health disk.new) (D.calls disk.old) (D.calls disk.new) 1
+        result }
+    ensures name { D.name disk.new ≡ D.name disk.old }
+{
+    disk.read(slot_place(slot), start)
+}
+
+// The least number with one more.
+fn least_with(scan: Scan, number: u64) -> u64
+    ensures { result ≡ least_of scan.count scan.least number }
+{
+    if scan.count == 0 {
+        return number;
+    }
+    if number < scan.least {
+        return number;
+    }
+    scan.least
+}
+
+// Counts a slot if it is open.
+fn counted(scan: Scan, start: &[u8; 15]) -> Scan
+    requires count { scan.count < 65535 }
+    requires least { scan.least < 2 ^ 63 }
+    requires number { is_open (slot_from start.now) ≡ true → (head_of (drop 1 start.now)).number < 2 ^ 63 }
+    ensures scan { (message : Message) (list : List Message) → message.number ≡ (head_of (drop 1 start.now)).number →
+        IsScan scan list → IsScan result (put_if (is_open (slot_from start.now)) message list) }
+    ensures fits { (result.count ≤ scan.count + 1) × (result.least < 2 ^ 63) }
+{
+    if start[0] != OPEN {
+        return scan;
+    }
+    Scan {
+        count: scan.count + 1,
+        least: least_with(scan, head(start).number),
+    }
+}
+
+// Where a slot that starts so breaks.
+fn start_break(slots: u32, slot: u32, start: &[u8; 15]) -> Option<usize>
+    requires { 0 < slots }
+    ensures place { result ≡ slot_break slots slot (slot_from start.now) }
+    ensures bound { IfSome result (λ place. place < 15) }
+    ensures number { result ≡ None → is_open (slot_from start.now) ≡ true →
+        (head_of (drop 1 start.now)).number < 2 ^ 63 }
+{
+    if start[0] != OPEN {
+        return None;
+    }
+    head_break(slots, slot, head(start))
+}
+
+// A break with the byte at its place, in the start of a slot.
+fn break_in(slot: u32, place: usize, start: &[u8; 15]) -> NotSpool
+    requires { place < 15 }
+    ensures at { result.at ≡ place_of slot + place }
+    ensures got { (bytes : List ℕ) → start.now ≡ bytes_at bytes (place_of slot) 15 →
+        result.got ≡ slice_get bytes (place_of slot + place) }
+{
+    NotSpool {
+        at: slot_place(slot) + place as u64,
+        got: Some(start[place]),
+    }
+}
+
+// Tests the fields of a slot, and counts it if it is open.
+fn scan_slot<D: Disk>(disk: &mut D, slots: u32, slot: u32, scan: Scan) -> Reading<Scan>
+    requires size { place_of (slot + 1) ≤ D.size_is disk.old }
+    requires slot { slot < slots }
+    requires count { scan.count < 65535 }
+    requires least { scan.least < 2 ^ 63 }
+    ensures scan { ScansOn slots slot scan (D.told disk.old) result }
+    ensures fits { ScanFits (scan.count + 1) result }
+    ensures told { D.told disk.new ≡ D.told disk.old }
+    ensures size { D.size_is disk.new ≡ D.size_is disk.old }
+    ensures reads { HasRead (D.health disk.old) (D.health disk.new) (D.calls disk.old) (D.calls disk.new) 1
+        (reading_answer result) }
+    ensures name { D.name disk.new ≡ D.name disk.old }
+{
+    let mut start = [0; 15];
+    match read_start(disk, slot, &mut start) {
+        DiskAnswer::Failed => return Reading::Failed,
+        DiskAnswer::Done => {}
+    }
+    match start_break(slots, slot, &start) {
+        Some(place) => Reading::Broken(break_in(slot, place, &start)),
+        None => Reading::Whole(counted(scan, &start)),
+    }
+}
+
+/// Tests the fields of the slots, and counts those that are open.
+pub fn scan_slots<D: Disk>(disk: &mut D, slots: u32) -> Reading<Scan>
+    requires size { place_of slots ≤ D.size_is disk.old }
+    requires slots { slots ≤ 65535 }
+    ensures scan { ScanIs slots (D.told disk.old) result }
+    ensures fits { ScanFits slots result }
+    ensures told { D.told disk.new ≡ D.told disk.old }
+    ensures size { D.size_is disk.new ≡ D.size_is disk.old }
+    ensures reads { HasRead (D.health disk.old) (D.health disk.new) (D.calls disk.old) (D.calls disk.new) slots
+        (reading_answer result) }
+    ensures name { D.name disk.new ≡ D.name disk.old }
+{
+    let mut scan = Scan { count: 0, least: 0 };
+    for slot in 0..slots {
+        match scan_slot(disk, slots, slot, scan) {
+            Reading::Whole(next) => scan = next,
+            Reading::Broken(not_spool) => return Reading::Broken(not_spool),
+            Reading::Failed => return Reading::Failed,
+        }
+    }
+    Reading::Whole(scan)
+}
+
+// Where a slot that starts so has a number at or behind an end.
+fn start_ahead(end: u64, start: &[u8; 15]) -> Option<usize>
+    ensures place { result ≡ ahead_break end (slot_from start.now) }
+    ensures bound { IfSome result (λ place. place < 15) }
+{
+    if start[0] != OPEN {
+        return None;
+    }
+    if head(start).number < end {
+        return None;
+    }
+    Some(NUMBER)
+}
+
+// Tests the number of a slot if it is open.
+fn check_slot<D: Disk>(disk: &mut D, slot: u32, end: u64) -> Reading<()>
+    requires size { place_of (slot + 1) ≤ D.size_is disk.old }
+    ensures end { EndsOn slot end (D.told disk.old) result }
+    ensures told { D.told disk.new ≡ D.told disk.old }
+    ensures size { D.size_is disk.new ≡ D.size_is disk.old }
+    ensures reads { HasRead (D.health disk.old) (D.health disk.new) (D.calls disk.old) (D.calls disk.new) 1
+        (reading_answer result) }
+    ensures name { D.name disk.new ≡ D.name disk.old }
+{
+    let mut start = [0; 15];
+    match read_start(disk, slot, &mut start) {
+        DiskAnswer::Failed => return Reading::Failed,
+        DiskAnswer::Done => {}
+    }
+    match start_ahead(end, &start) {
+        Some(place) => Reading::Broken(break_in(slot, place, &start)),
+        None => Reading::Whole(()),
+    }
+}
+
+// Tests the numbers of the open slots.
+fn check_slots<D: Disk>(disk: &mut D, slots: u32, end: u64) -> Reading<()>
+    requires size { place_of slots ≤ D.size_is disk.old }
+    requires slots { slots ≤ 65535 }
+    ensures end { EndIs slots end (D.told disk.old) result }
+    ensures told { D.told disk.new ≡ D.told disk.old }
+    ensures size { D.size_is disk.new ≡ D.size_is disk.old }
+    ensures reads { HasRead (D.health disk.old) (D.health disk.new) (D.calls disk.old) (D.calls disk.new) slots
+        (reading_answer result) }
+    ensures name { D.name disk.new ≡ D.name disk.old }
+{
+    for slot in 0..slots {
+        match check_slot(disk, slot, end) {
+            Reading::Whole(()) => {}
+            Reading::Broken(not_spool) => return Reading::Broken(not_spool),
+            Reading::Failed => return Reading::Failed,
+        }
+    }
+    Reading::Whole(())
+}
+
+/// Tests the slots, and counts those that are open.
+pub fn read_slots<D: Disk>(disk: &mut D, slots: u32) -> Reading<Scan>
+    requires size { place_of slots ≤ D.size_is disk.old }
+    requires slots { slots ≤ 65535 }
+    ensures area { AreaIs slots (D.told disk.old) result }
+    ensures fits { ScanFits slots result }
+    ensures told { D.told disk.new ≡ D.told disk.old }
+    ensures size { D.size_is disk.new ≡ D.size_is disk.old }
+    ensures reads { HasRead (D.health disk.old) (D.health disk.new) (D.calls disk.old) (D.calls disk.new) (2 * slots)
+        (reading_answer result) }
+    ensures name { D.name disk.new ≡ D.name disk.old }
+{
+    match scan_slots(disk, slots) {
+        Reading::Whole(scan) => match check_slots(disk, slots, scan.least + scan.count as u64) {
+            Reading::Whole(()) => Reading::Whole(scan),
+            Reading::Broken(not_spool) => Reading::Broken(not_spool),
+            Reading::Failed => Reading::Failed,
+        },
+        Reading::Broken(not_spool) => Reading::Broken(not_spool),
+        Reading::Failed => Reading::Failed,
+    }
+}

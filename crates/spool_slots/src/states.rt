@@ -1,0 +1,156 @@
+ghost use Rattle.std.specs.Prelude.{◌≡◌};
+ghost use Rattle.spool_slots.specs.Changes.{Recovers};
+ghost use Rattle.spool_slots.specs.Format.{Formats};
+
+use crate::format::write_empty;
+use crate::front::SLOTS_MOST;
+use crate::reading::{NotSpool, Reading};
+use crate::recovery::{Known, read_file};
+use crate::slot::SlotHead;
+use crate::slots::slot_place;
+use crate::spool::{Spool, taken_up};
+use disk_base::{Disk, DiskAnswer};
+
+/// A device of which nothing is known.
+#[derive(Debug, Drop)]
+pub struct Raw<D> {
+    pub(crate) disk: D,
+}
+
+/// A device that failed, or that a spool has given up: nothing but a recovery makes a spool of it again.
+#[derive(Debug, Drop)]
+pub struct Spent<D> {
+    pub(crate) disk: D,
+}
+
+/// Why no file was made on a device.
+#[derive(Debug, Drop)]
+pub enum Formatting<D> {
+    /// No file has so many slots: a number from 1 to 65,535 is asked for.
+    Slots(Raw<D>),
+    /// The device has fewer bytes than these slots need.
+    Small { raw: Raw<D>, size: u64, need: u64 },
+    Failed(Spent<D>),
+}
+
+/// Why a device wasn't recovered.
+#[derive(Debug, Drop)]
+pub enum Recovering<D> {
+    /// The bytes stand for no list: the first place at which they break.
+    NotSpool(Raw<D>, NotSpool),
+    Failed(Spent<D>),
+}
+
+/// Why a message wasn't staged.
+#[derive(Debug, Drop)]
+pub enum Staging<D: Disk> {
+    /// Each slot holds a message.
+    Full(Spool<D>),
+    /// The body has more than 4,081 bytes.
+    TooLong(Spool<D>),
+    /// The next number would be 2^63.
+    NumbersSpent(Spool<D>),
+    Failed(Spent<D>),
+}
+
+/// Why no message was dropped.
+#[derive(Debug, Drop)]
+pub enum Dropping<D: Disk> {
+    Empty(Spool<D>),
+    Failed(Spent<D>),
+}
+
+/// Why the mark wasn't moved on.
+#[derive(Debug, Drop)]
+pub enum Reserving<D: Disk> {
+    /// The new mark would lie above 2^32.
+    NumbersSpent(Spool<D>),
+    Failed(Spent<D>),
+}
+
+/// What a message that was looked for came to.
+#[derive(Clone, Copy, Debug, PartialEq, Eq)]
+pub enum OldestAnswer {
+    /// It is there.
+    Found(SlotHead),
+    /// There is no such message.
+    Empty,
+    /// The disk failed.
+    Failed,
+}
+
+impl<D: Disk> Raw<D> {
+    /// Takes a device.
+    pub fn new(disk: D) -> Raw<D>
+        ensures { result.disk ≡ disk }
+    {
+        Raw { disk }
+    }
+
+    /// Makes the file of an empty list and mark 0, and syncs. A number of slots that no file has is refused first, then
+    /// a device that is too small for them; neither is touched. Until this is `Ok` a crash may leave anything.
+    pub fn format(self, slots: u32) -> Result<Spool<D>, Formatting<D>>
+        ensures { Formats D.Disk self.disk slots result }
+    {
+        if slots == 0 {
+            return Err(Formatting::Slots(self));
+        }
+        if slots > SLOTS_MOST {
+            return Err(Formatting::Slots(self));
+        }
+        let mut disk = self.disk;
+        let (size, need) = (disk.size(), slot_place(slots));
+        if size < need {
+            return Err(Formatting::Small {
+                raw: Raw { disk },
+                size,
+                need,
+            });
+        }
+        match write_empty(&mut disk, slots) {
+            DiskAnswer::Done => Ok(taken_up(disk, Known::new(slots))),
+            DiskAnswer::Failed => Err(Formatting::Failed(Spent { disk })),
+        }
+    }
+
+    /// Takes up the list and the mark for which the device's bytes stand, after a sync, and writes nothing. Bytes that
+    /// stand for none are `NotSpool`, with the first place at which they break. It reads at most twice a slot, and once
+    /// more.
+    pub fn recover(self) -> Result<Spool<D>, Recovering<D>>
+        ensures { Recovers D.Disk self.disk result }
+    {
+        let mut disk = self.disk;
+        match disk.sync() {
+            DiskAnswer::Failed => return Err(Recovering::Failed(Spent { disk })),
+            DiskAnswer::Done => {}
+        }
+        match read_file(&mut disk) {
+            Reading::Whole(known) => Ok(taken_up(disk, known)),
+            Reading::Broken(not_spool) => Err(Recovering::NotSpool(Raw { disk }, not_spool)),
+            Reading::Failed => Err(Recovering::Failed(Spent { disk })),
+        }
+    }
+
+    /// Gives the device back.
+    pub fn into_disk(self) -> D
+        ensures { result ≡ self.disk }
+    {
+        self.disk
+    }
+}
+
+impl<D: Disk> Spent<D> {
+    /// The device as one of which nothing is known.
+    pub fn into_raw(self) -> Raw<D>
+        ensures { result.disk ≡ self.disk }
+    {
+        Raw { disk: self.disk }
+    }
+
+    /// Gives the device back.
+    pub fn into_disk(self) -> D
+        ensures { result ≡ self.disk }
+    {
+        self.disk
+    }
+}

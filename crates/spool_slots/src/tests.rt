@@ -1,0 +1,160 @@
+ghost use Rattle.std.specs.Prelude.{◌≤◌, length};
+
+use super::*;
+use disk_base::{CutChoice, Disk, MemDisk, settle};
+use std::alloc::Global;
+use std::test::Fail;
+
+// A new spool of three slots.
+fn formatted(alloc: Global) -> Option<Spool<MemDisk>> {
+    let Ok(disk) = MemDisk::new(alloc, 16384, 100, 16384) else {
+        return None;
+    };
+    match Raw::new(disk).format(3) {
+        Ok(spool) => Some(spool),
+        Err(_) => None,
+    }
+}
+
+// Puts an S6F11, and hands the disk back where that wasn't done.
+fn put(spool: Spool<MemDisk>) -> Result<Spool<MemDisk>, MemDisk> {
+    let message = Stored {
+        stream: 6,
+        function: 11,
+        body: &[1, 0],
+    };
+    match spool.stage(&message) {
+        Ok(staged) => match staged.seal() {
+            Ok(spool) => Ok(spool),
+            Err(spent) => Err(spent.into_disk()),
+        },
+        Err(Staging::Failed(spent)) => Err(spent.into_disk()),
+        Err(Staging::Full(spool)) => Err(spool.retire().into_disk()),
+        Err(Staging::TooLong(spool)) => Err(spool.retire().into_disk()),
+        Err(Staging::NumbersSpent(spool)) => Err(spool.retire().into_disk()),
+    }
+}
+
+// Whether a crash leaves so many messages, from this number on, and this mark.
+fn leaves(
+    alloc: Global,
+    disk: &MemDisk,
+    choice: CutChoice,
+    len: u32,
+    first: u64,
+    mark: u64,
+) -> bool {
+    let Ok(cut) = disk.cut(alloc, choice) else {
+        return false;
+    };
+    match Raw::new(cut).recover() {
+        Ok(spool) => spool.len() == len
+            && spool.first() == first
+            && spool.mark() == mark
+            && spool.slots() == 3,
+        Err(_) => false,
+    }
+}
+
+// Whether a second put that stops at a call leaves so many messages.
+fn put_leaves(alloc: Global, call: u32, choice: CutChoice, len: u32) -> bool {
+    let Some(spool) = formatted(alloc) else {
+        return false;
+    };
+    let Ok(mut spool) = put(spool) else {
+        return false;
+    };
+    spool.arm(call);
+    match put(spool) {
+        Ok(spool) => leaves(alloc, &spool.retire().into_disk(), choice, len, 0, 0),
+        Err(disk) => leaves(alloc, &disk, choice, len, 0, 0),
+    }
+}
+
+#[test]
+fn a_put_is_done_with_its_gate(rt: HostRuntime) -> Result<(), Fail> {
+    let alloc = rt.alloc();
+    assert!(rt; put_leaves(alloc, 1, CutChoice::New, 1));
+    assert!(rt; put_leaves(alloc, 2, CutChoice::Fill(0x5A), 1));
+    assert!(rt; put_leaves(alloc, 3, CutChoice::Old, 1));
+    assert!(rt; put_leaves(alloc, 3, CutChoice::New, 2));
+    assert!(rt; put_leaves(alloc, 4, CutChoice::Fill(0xA5), 1));
+    assert!(rt; put_leaves(alloc, 4, CutChoice::First(1), 2));
+    assert!(rt; put_leaves(alloc, 5, CutChoice::Old, 2));
+    Ok(())
+}
+
+// Whether a drop of the only message that stops at a call leaves so many messages.
+fn drop_leaves(alloc: Global, call: u32, choice: CutChoice, len: u32) -> bool {
+    let Some(spool) = formatted(alloc) else {
+        return false;
+    };
+    let Ok(mut spool) = put(spool) else {
+        return false;
+    };
+    spool.arm(call);
+    match spool.drop_oldest() {
+        Ok(spool) => leaves(alloc, &spool.retire().into_disk(), choice, len, 0, 0),
+        Err(Dropping::Failed(spent)) => leaves(alloc, &spent.into_disk(), choice, len, 0, 0),
+        Err(Dropping::Empty(_)) => false,
+    }
+}
+
+#[test]
+fn a_drop_is_done_with_its_gate(rt: HostRuntime) -> Result<(), Fail> {
+    let alloc = rt.alloc();
+    assert!(rt; drop_leaves(alloc, 1, CutChoice::Old, 1));
+    assert!(rt; drop_leaves(alloc, 2, CutChoice::Fill(0x5A), 1));
+    assert!(rt; drop_leaves(alloc, 2, CutChoice::Fill(0), 0));
+    assert!(rt; drop_leaves(alloc, 3, CutChoice::Old, 0));
+    Ok(())
+}
+
+// Whether a reserve that stops at a call leaves this mark.
+fn reserve_leaves(alloc: Global, call: u32, choice: CutChoice, mark: u64) -> bool {
+    let Some(mut spool) = formatted(alloc) else {
+        return false;
+    };
+    spool.arm(call);
+    match spool.reserve() {
+        Ok((spool, number)) => number == 0
+            && leaves(alloc, &spool.retire().into_disk(), choice, 0, 0, mark),
+        Err(Reserving::Failed(spent)) => leaves(alloc, &spent.into_disk(), choice, 0, 0, mark),
+        Err(Reserving::NumbersSpent(_)) => false,
+    }
+}
+
+#[test]
+fn a_reserve_is_done_with_its_gate(rt: HostRuntime) -> Result<(), Fail> {
+    let alloc = rt.alloc();
+    assert!(rt; reserve_leaves(alloc, 3, CutChoice::New, 0));
+    assert!(rt; reserve_leaves(alloc, 4, CutChoice::New, 4096));
+    assert!(rt; reserve_leaves(alloc, 5, CutChoice::Fill(2), 0));
+    assert!(rt; reserve_leaves(alloc, 6, CutChoice::Old, 4096));
+    Ok(())
+}
+
+// Whether a new file without slots of this size breaks here.
+fn breaks(alloc: Global, size: u64, front: &[u8], at: u64, got: Option<u8>) -> bool
+    requires { length front.now ≤ size }
+{
+    let Ok(mut disk) = MemDisk::new(alloc, size, 100, 100) else {
+        return false;
+    };
+    let _ = settle(&mut disk, 0, front);
+    match Raw::new(disk).recover() {
+        Err(Recovering::NotSpool(_, not_spool)) => not_spool == NotSpool { at, got },
+        _ => false,
+    }
+}
+
+// What a file of three slots begins with.
+const FRONT: [u8; 12] = [0x47, 0x4C, 0x53, 0x50, 0x4F, 0x4F, 0x4C, 0x31, 0, 0, 0, 3];
+
+#[test]
+fn a_file_breaks_at_its_first_wrong_byte(rt: HostRuntime) -> Result<(), Fail> {
+    let alloc = rt.alloc();
+    assert!(rt; breaks(alloc, 100, &[], 0, Some(0)));
+    assert!(rt; breaks(alloc, 12288, &FRONT, 12288, None));
+    Ok(())
+}
