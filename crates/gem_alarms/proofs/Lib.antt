@@ -1,4 +1,2 @@
-mod Enabling
 mod History
-mod Planned
 mod Spelled

@@ -1,10 +1,12 @@
 -- The table of alarms, what its calls answer and leave, and the items that it gives.
 use Rattle.std.specs.Prelude.{ℕ, Bool, List, [], ◌∷◌, map, filter, bit_or, nat_eq, Option, Some, None, if◌then◌else◌}
 use Rattle.std.specs.Bool.{beq}
-use Rattle.std.specs.Map.{lookup, set_value}
+use Rattle.std.specs.Map.{lookup}
 use Rattle.std.specs.Option.{option_map_or}
 use Rattle.secs_items.specs.declared.item.Item.{Item}
 use Rattle.secs_items.specs.declared.item.Item.TheVariants as item
+use Rattle.secs_items.specs.Items.{number_item}
+use Rattle.gem_tables.specs.Rows.{with_each, with_row}
 use Rattle.gem_alarms.specs.declared.alarm.Alarm.{Alarm}
 use Rattle.gem_alarms.specs.declared.alarms.Ackc5.{Ackc5}
 use Rattle.gem_alarms.specs.declared.alarms.Ackc5.TheVariants as ackc5
@@ -18,11 +20,6 @@ AlarmTable = List (ℕ × Alarm)
 abbrev pub alarm_in : AlarmTable → ℕ → Option Alarm
 alarm_in table alid = lookup (nat_eq alid) table
 
--- the table with a change of the alarm that has this ALID
-abbrev pub with_alarm : ℕ → (Alarm → Alarm) → AlarmTable → AlarmTable
-with_alarm alid change table =
-    option_map_or (λ alarm. set_value (nat_eq alid) table (change alarm)) (alarm_in table alid) table
-
 abbrev pub with_set : Bool → Alarm → Alarm
 with_set is_set alarm = record alarm { is_set = is_set }
 
@@ -31,11 +28,11 @@ with_enabled is_enabled alarm = record alarm { is_enabled = is_enabled }
 
 -- all alarms enabled or disabled
 abbrev pub all_enabled : Bool → AlarmTable → AlarmTable
-all_enabled is_enabled table = map (λ e. (e.0, with_enabled is_enabled e.1)) table
+all_enabled is_enabled table = with_each (λ alid. with_enabled is_enabled) table
 
 -- an ALID, or none for all (SEMI E5, S5F3)
 abbrev pub enabled_by : Option ℕ → Bool → AlarmTable → AlarmTable
-enabled_by (Some alid) is_enabled table = with_alarm alid (with_enabled is_enabled) table
+enabled_by (Some alid) is_enabled table = with_row alid (with_enabled is_enabled) table
 enabled_by None is_enabled table = all_enabled is_enabled table
 
 -- what a command for an alarm does that is there
@@ -56,7 +53,7 @@ alcd_of alarm = if alarm.is_set then bit_or alarm.category 128 else alarm.catego
 
 -- ALCD, ALID and ALTX (SEMI E5, S5F1 and S5F6)
 abbrev pub triple : List ℕ → ℕ → List ℕ → Item
-triple alcd alid altx = item.L (item.B alcd ∷ item.U4 (alid ∷ []) ∷ item.A altx ∷ [])
+triple alcd alid altx = item.L (item.B alcd ∷ number_item alid ∷ item.A altx ∷ [])
 
 -- of an alarm that isn't there ALCD and ALTX are empty (SEMI E5, S5F6)
 abbrev pub alarm_item : ℕ → Option Alarm → Item

@@ -1,12 +1,13 @@
 -- What holds of the alarms after a history, looked back for. The newest entry stands first.
-use Rattle.std.specs.Prelude.{ℕ, Bool, false, List, [], ◌∷◌, map, nat_eq, Option, Some, None, if◌then◌else◌}
+use Rattle.std.specs.Prelude.{◌≡◌, ℕ, Bool, false, List, nat_eq, Option, Some, None, if◌then◌else◌}
 use Rattle.std.specs.Bool.{beq}
 use Rattle.std.specs.List.{find}
-use Rattle.std.specs.Option.{unwrap_or}
 use Rattle.gem_alarms.specs.declared.alarm.Alarm.{Alarm}
 use Rattle.gem_alarms.specs.declared.alarms.AlarmStep.{AlarmStep}
 use Rattle.gem_alarms.specs.declared.alarms.AlarmStep.TheVariants as step
 use Rattle.gem_alarms.specs.declared.plan.AlarmPlan.{AlarmPlan}
+use Rattle.gem_tables.specs.History.{newest}
+use Rattle.gem_tables.specs.Rows.{rows_of}
 use Rattle.gem_alarms.specs.Alarms.{AlarmTable}
 use Rattle.gem_alarms.specs.Plan.{has_alid}
 
@@ -26,11 +27,6 @@ enable_in alid (Change other is_set) = None
 enable_in alid (Enable (Some other) is_enabled) = if nat_eq other alid then Some is_enabled else None
 enable_in alid (Enable None is_enabled) = Some is_enabled
 
--- what the newest entry says that says something, and otherwise what held at first
-abbrev pub newest : (AlarmEntry → Option Bool) → Bool → List AlarmEntry → Bool
-newest said first [] = first
-newest said first (entry ∷ past) = unwrap_or (said entry) (newest said first past)
-
 -- whether an alarm is set; none is at first (SEMI E30, alarm management)
 abbrev pub alarm_at : List AlarmEntry → ℕ → Bool
 alarm_at past alid = newest (state_in alid) false past
@@ -49,7 +45,11 @@ alarm_after past planned = record {
 
 -- the table after a history
 abbrev pub alarms_at : List AlarmPlan → List AlarmEntry → AlarmTable
-alarms_at plan past = map (λ planned. (planned.alid, alarm_after past planned)) plan
+alarms_at plan past = rows_of (λ planned. planned.alid) (alarm_after past) plan
+
+-- the table stands for the plan and a history
+abbrev pub StandsFor : AlarmTable → List AlarmPlan → List AlarmEntry → Type 0
+StandsFor table plan past = table ≡ alarms_at plan past
 
 abbrev pub planned_at : List AlarmPlan → ℕ → Option AlarmPlan
 planned_at plan alid = find (has_alid alid) plan

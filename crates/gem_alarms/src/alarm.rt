@@ -1,11 +1,10 @@
-ghost use Rattle.std.specs.Prelude.{◌≡◌, ◌≤◌, ℕ, [], ◌∷◌, length, IfOk, None, Some};
-ghost use Rattle.secs_items.specs.declared.kind.Kind.TheVariants as kind;
+ghost use Rattle.std.specs.Prelude.{◌≡◌, ℕ, length, IfOk, None, Some};
 ghost use Rattle.secs_items.specs.Measures.{capped};
-ghost use Rattle.secs_items.specs.Spelling.{shortest_head, shortest_spelling};
+ghost use Rattle.secs_items.specs.Spelling.{shortest_spelling};
 ghost use Rattle.gem_alarms.specs.Alarms.{alarm_item, alcd_of, triple};
 
 use gl_base::{NoMemory, Row};
-use secs_items::Item;
+use secs_items::{Item, list_len, text_len};
 use std::alloc::Global;
 
 // The bit of ALCD that says whether the alarm is set.
@@ -35,28 +34,13 @@ impl Alarm {
     pub(crate) fn item_len(&self) -> usize
         ensures { (alid : ℕ) → result ≡ capped (length (shortest_spelling (alarm_item alid (Some self.now)))) }
     {
-        let text = self.text.len();
-        text.saturating_add(11 + head_len(text))
+        list_len(3, text_len(self.text.len()).saturating_add(9))
     }
 
     pub(crate) fn item(&self, alloc: Global, alid: u32) -> Result<Item, NoMemory>
         ensures { IfOk result (λ body. body ≡ alarm_item alid (Some self.now)) }
     {
         triple(alloc, &[self.alcd()], alid, self.text.as_slice())
-    }
-}
-
-/// How many bytes the head of a list of so many items has, or of so many characters.
-pub(crate) fn head_len(count: usize) -> usize
-    ensures head { result ≡ length (shortest_head kind.L count) }
-    ensures short { result ≤ 4 }
-{
-    if count < 0x100 {
-        2
-    } else if count < 0x1_0000 {
-        3
-    } else {
-        4
     }
 }
 
@@ -75,7 +59,7 @@ fn triple(alloc: Global, alcd: &[u8], alid: u32, altx: &[u8]) -> Result<Item, No
 {
     let mut items = Row::new(alloc);
     items.push(Item::B(Row::of(alloc, alcd)?))?;
-    items.push(Item::U4(Row::of(alloc, &[alid])?))?;
-    items.push(Item::A(Row::of(alloc, altx)?))?;
+    items.push(Item::number(alloc, alid)?)?;
+    items.push(Item::text(alloc, altx)?)?;
     Ok(Item::L(items))
 }

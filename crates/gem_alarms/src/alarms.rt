@@ -1,8 +1,9 @@
 ghost use Rattle.std.specs.Prelude.{◌≡◌, ◌≢◌, [], ◌∷◌, ◌++◌, List, map, IfOk, OnOk, None, Some};
+ghost use Rattle.gem_tables.specs.Rows.{with_row};
 ghost use Rattle.gem_alarms.specs.declared.alarms.Ackc5.TheVariants as ackc5;
 ghost use Rattle.gem_alarms.specs.declared.alarms.AlarmStep.TheVariants as step;
 ghost use Rattle.gem_alarms.specs.declared.plan.AlarmPlan.{AlarmPlan};
-ghost use Rattle.gem_alarms.specs.Alarms.{ackc5_of, all_enabled, body_of, enabled_by, entry_item, enabled_items, enabled_list_of, items_of, list_of, step_of, with_alarm, with_enabled, with_set};
+ghost use Rattle.gem_alarms.specs.Alarms.{ackc5_of, all_enabled, body_of, enabled_by, entry_item, enabled_items, enabled_list_of, items_of, list_of, step_of, with_enabled, with_set};
 ghost use Rattle.gem_alarms.specs.History.{AlarmEntry, alarms_at};
 ghost use Rattle.gem_alarms.specs.History.AlarmEntry.{Change, Enable};
 ghost use Rattle.gem_alarms.specs.Plan.{AlarmsFit};
@@ -77,7 +78,7 @@ impl Alarms {
     /// in that state already.
     pub fn change(&mut self, alid: u32, set: bool) -> AlarmStep
         ensures step { result ≡ step_of self.old alid set }
-        ensures table { self.new ≡ with_alarm alid (with_set set) self.old }
+        ensures table { self.new ≡ with_row alid (with_set set) self.old }
         ensures unknown { result ≡ step.Unknown → self.new ≡ self.old }
     {
         match self.alarms.get_mut(&alid) {

@@ -6,8 +6,9 @@ ghost use Rattle.secs_items.specs.Measures.{capped};
 ghost use Rattle.secs_items.specs.Spelling.{shortest_spelling};
 ghost use Rattle.gem_alarms.specs.Alarms.{body_of, enabled_list_of, entry_item, list_of};
 
-use crate::alarm::{UNKNOWN_LEN, head_len};
+use crate::alarm::UNKNOWN_LEN;
 use crate::alarms::Alarms;
+use secs_items::list_len;
 
 impl Alarms {
     /// How many bytes the body of [`Alarms::list`] has, or `usize::MAX` where it has more. It takes no memory.
@@ -15,9 +16,9 @@ impl Alarms {
         ensures { result ≡ capped (length (shortest_spelling (list_of self.now ids.now))) }
     {
         if ids.is_empty() {
-            head_len(self.alarms.len()).saturating_add(self.entries_len())
+            list_len(self.alarms.len(), self.entries_len())
         } else {
-            head_len(ids.len()).saturating_add(self.bodies_len(ids))
+            list_len(ids.len(), self.bodies_len(ids))
         }
     }
 
@@ -33,7 +34,7 @@ impl Alarms {
                 len = len.saturating_add(alarm.item_len());
             }
         }
-        head_len(count).saturating_add(len)
+        list_len(count, len)
     }
 
     fn bodies_len(&self, ids: &[u32]) -> usize

@@ -1,6 +1,6 @@
 -- How a request is worked through, entry by entry.
 use Rattle.std.specs.Prelude.{min}
-use Rattle.std.proofs.Common.{◌≡◌, true≢false, refl, sym, ◌∙◌, ap, subst, Bool, true, false, cond, not, ◌||◌, ◌↔◌, IsTrue, ◌⊎◌, inl, inr, ◌==◌, ℕ, ◌+◌, ◌-◌, ◌^◌, ◌<◌, ◌≤◌, List, [], ◌∷◌, length, drop, get_or, nat_eq, nat_lt, sum_by, Option, Some, None, is_some, add-one, drop_of_length-le, drop-cons, arith}
+use Rattle.std.proofs.Common.{◌≡◌, true≢false, refl, sym, ◌∙◌, ap, subst, Bool, true, false, cond, not, ◌||◌, ◌↔◌, IsTrue, ◌⊎◌, inl, inr, ◌==◌, ℕ, ◌+◌, ◌-◌, ◌^◌, ◌<◌, ◌≤◌, List, [], ◌∷◌, length, drop, get_or, nat_eq, nat_lt, sum_by, Option, Some, None, is_some, arith}
 use Rattle.std.proofs.lemmas.Bool.{eqb-true}
 use Rattle.std.proofs.lemmas.Bool.Decides.{nat_tests}
 use Rattle.std.proofs.lemmas.Cmp.{nat_eq_equiv}
@@ -14,20 +14,22 @@ use Rattle.secs_items.specs.declared.item.Item.{Item}
 use Rattle.secs_items.specs.Measures.{capped}
 use Rattle.gem_shapes.specs.declared.entries.Definition.{Definition}
 use Rattle.gem_shapes.specs.declared.entries.Linking.{Linking}
+use Rattle.gem_tables.specs.Rows.{with_each, with_row}
 use Rattle.gem_reports.specs.declared.answers.Drack.{Drack}
 use Rattle.gem_reports.specs.declared.answers.Drack.TheVariants as drack
 use Rattle.gem_reports.specs.declared.answers.Lrack.{Lrack}
 use Rattle.gem_reports.specs.declared.answers.Lrack.TheVariants as lrack
 use Rattle.gem_reports.specs.declared.event.Event.{Event}
-use Rattle.gem_reports.specs.Answers.{past_with_definitions, define_entry, drack_at, drack_by, drack_of, drack_then, link_entry, lrack_at, lrack_by, lrack_of, lrack_then, past_after_define, past_after_link}
+use Rattle.gem_reports.specs.Answers.{past_with_definitions, define_entry, drack_at, drack_by, drack_of, first_drack, link_entry, lrack_at, lrack_by, lrack_of, first_lrack, past_after_define, past_after_link}
 use Rattle.gem_reports.specs.Drafts.{IsDraft, IsLinkDraft}
-use Rattle.gem_reports.specs.Events.{EventTable, enabled_by, event_after, events_at, links_in, links_in_table, with_no_links, with_each, with_event, with_links, without}
+use Rattle.gem_reports.specs.Events.{EventTable, enabled_by, event_after, events_at, links_in, links_in_table, with_no_links, with_links, without}
 use Rattle.gem_reports.specs.History.{ReportEntry, each_once, is_event, link_count, links_at, links_of, report_at, report_count}
 use Rattle.gem_reports.specs.History.ReportEntry.{DeleteAll, Link, Unlink, Enable}
 use Rattle.gem_reports.specs.Tables.{HasReports, ReportTable, ReportsView, StandsFor}
 use Rattle.gem_reports.proofs.Counted.{counted}
 use Rattle.gem_reports.proofs.Members.{among_each_once, filter_shorter, none_distinct, once_distinct}
-use Rattle.gem_reports.proofs.Rows.{at_event, each_after, event_row, looked_up, rows_of}
+use Rattle.gem_reports.proofs.Rows.{at_event, each_after, event_row, event_rows, looked_up}
+use Rattle.gem_reports.proofs.Working.{IsWorking, begins, ends, goes_on, refuses}
 use Rattle.gem_reports.proofs.Steps.{enabled_row, linked_row, without_none}
 
 keyed : {X : Type 0} (q : ℕ) (rows : List (ℕ × X)) → list_any (nat_eq q) (keys_of rows) ≡ is_some (lookup (nat_eq q) rows)
@@ -51,23 +53,33 @@ judged_define value reports past entry has =
     ap (λ o. drack_by value o (length reports) entry) (has.each entry.rptid)
     ∙ ap (λ n. drack_by value (report_at past entry.rptid) n entry) (count_is reports past has)
 
--- so many entries have been worked through: those that are left are answered from here on as all from the start
-pub record IsDefining (value : ℕ → Option Item) (reports : ReportTable) (deleted : List ℕ)
-    (start past : List ReportEntry) (list rest : List Definition) : Type 0 where
-  pub at : List ReportEntry
-  pub draft : IsDraft reports deleted start at
-  pub answer : drack_of value at rest ≡ drack_of value past list
-  pub after : past_with_definitions at rest ≡ past_with_definitions past list
+-- what an entry of S2F33 leaves
+abbrev entered : Definition → List ReportEntry → List ReportEntry
+entered entry past = define_entry entry ∷ past
+
+-- so many entries have been worked through
+abbrev pub IsDefining :
+    (ℕ → Option Item) → ReportTable → List ℕ → List ReportEntry → List ReportEntry → List Definition → List Definition
+    → Type 0
+IsDefining value reports deleted start past list rest =
+    IsWorking (drack_of value) entered (IsDraft reports deleted start) past list rest
 
 pub defining :
     (value : ℕ → Option Item) (reports : ReportTable) (deleted : List ℕ) (start past : List ReportEntry)
     (list : List Definition) → IsDraft reports deleted start past
     → IsDefining value reports deleted start past list list
 defining value reports deleted start past list draft =
-    record { at = past; draft = draft; answer = refl; after = refl }
+    begins (drack_of value) entered (IsDraft reports deleted start) past list draft
 
-opened : {X : Type 0} (list : List X) (i : ℕ) (d : X) → i < length list → drop i list ≡ get_or list i d ∷ drop (i + 1) list
-opened list i d within = drop-cons list i d within ∙ ap (λ n. get_or list i d ∷ drop n list) (sym (add-one i))
+-- an entry's answer, and that to those behind it
+first_of :
+    (value : ℕ → Option Item) (reports : ReportTable) (deleted : List ℕ) (start at : List ReportEntry)
+    (entry : Definition) (rest : List Definition) (answer : Drack) → IsDraft reports deleted start at
+    → answer ≡ drack_by value (lookup (nat_eq entry.rptid) reports) (length reports) entry
+    → first_drack answer (drack_of value (entered entry at) rest) ≡ drack_of value at (entry ∷ rest)
+first_of value reports deleted start at entry rest answer draft verdict =
+    ap (λ a. first_drack a (drack_of value (entered entry at) rest))
+    (verdict ∙ judged_define value reports at entry draft.standing)
 
 pub defining_more :
     (value : ℕ → Option Item) (reports now : ReportTable) (deleted gone : List ℕ) (start past : List ReportEntry)
@@ -77,21 +89,12 @@ pub defining_more :
     → IsDraft now gone start (define_entry (get_or list i d) ∷ at))
     → IsDefining value reports deleted start past list (drop i list)
     → IsDefining value now gone start past list (drop (i + 1) list)
-defining_more value reports now deleted gone start past list i d within verdict entered so_far =
-    let entry = get_or list i d in
-    let at = so_far.at in
-    let more = drop (i + 1) list in
-    let done : drack.Done ≡ drack_at value at entry =
-    verdict ∙ judged_define value reports at entry so_far.draft.standing in
-    record {
-      at = define_entry entry ∷ at;
-      draft = entered at so_far.draft;
-      answer = ap (λ a. drack_then a (drack_of value (define_entry entry ∷ at) more)) done
-          ∙ ap (drack_of value at) (sym (opened list i d within)) ∙ so_far.answer;
-      after = ap (past_with_definitions at) (sym (opened list i d within)) ∙ so_far.after;
-    }
+defining_more value reports now deleted gone start past list i d within verdict drafted_more so_far =
+    goes_on (drack_of value) entered (IsDraft reports deleted start) (IsDraft now gone start) past list i d within
+    drafted_more
+    (λ at draft rest. first_of value reports deleted start at (get_or list i d) rest drack.Done draft verdict) so_far
 
-first_refusal : (answer rest : Drack) → (answer ≡ drack.Done → ⊥) → drack_then answer rest ≡ answer
+first_refusal : (answer rest : Drack) → (answer ≡ drack.Done → ⊥) → first_drack answer rest ≡ answer
 first_refusal drack.Done rest refused = absurd (refused refl)
 first_refusal drack.NoSpace rest refused = refl
 first_refusal (drack.Defined rptid) rest refused = refl
@@ -104,12 +107,11 @@ pub defining_refused :
     → (answer ≡ drack.Done → ⊥) → IsDefining value reports deleted start past list (drop i list)
     → answer ≡ drack_of value past list
 defining_refused value reports deleted start past list i d answer within verdict refused so_far =
+    refuses (drack_of value) entered (IsDraft reports deleted start) past list i d answer within
+    (λ at draft rest.
     let entry = get_or list i d in
-    let at = so_far.at in
-    let rest = drack_of value (define_entry entry ∷ at) (drop (i + 1) list) in
-    sym (first_refusal answer rest refused)
-    ∙ ap (λ a. drack_then a rest) (verdict ∙ judged_define value reports at entry so_far.draft.standing)
-    ∙ ap (drack_of value at) (sym (opened list i d within)) ∙ so_far.answer
+    sym (first_refusal answer (drack_of value (entered entry at) rest) refused)
+    ∙ first_of value reports deleted start at entry rest answer draft verdict) so_far
 
 pub defining_done :
     (value : ℕ → Option Item) (reports : ReportTable) (deleted : List ℕ) (start past : List ReportEntry)
@@ -117,12 +119,7 @@ pub defining_done :
     → IsDefining value reports deleted start past list (drop i list)
     → (drack.Done ≡ drack_of value past list) × IsDraft reports deleted start (past_with_definitions past list)
 defining_done value reports deleted start past list i end so_far =
-    let none : drop i list ≡ [] = drop_of_length-le list end in
-    let after : so_far.at ≡ past_with_definitions past list =
-    ap (past_with_definitions so_far.at) (sym none) ∙ so_far.after in (
-      ap (drack_of value so_far.at) (sym none) ∙ so_far.answer,
-      subst (IsDraft reports deleted start) after so_far.draft,
-    )
+    ends (drack_of value) entered (IsDraft reports deleted start) past list i drack.Done end (λ at. refl) so_far
 
 -- the same history, with nothing deleted yet
 pub drafted :
@@ -279,10 +276,10 @@ sum_changed f g c (x ∷ xs) distinct there same =
         omega (arith, others, here, now, was)
 
 links_of_rows :
-    (past : List ReportEntry) (ks : List ℕ) → links_in (rows_of past ks) ≡ sum_by (λ k. length (links_at past k)) ks
+    (past : List ReportEntry) (ks : List ℕ) → links_in (event_rows past ks) ≡ sum_by (λ k. length (links_at past k)) ks
 links_of_rows past [] = refl
 links_of_rows past (k ∷ ks) =
-    sum_by-cons (λ (e : ℕ × Event). length e.1.rptids) (k, event_after past k) (rows_of past ks)
+    sum_by-cons (λ (e : ℕ × Event). length e.1.rptids) (k, event_after past k) (event_rows past ks)
     ∙ ap (λ n. length (links_at past k) + n) (links_of_rows past ks)
     ∙ sym (sum_by-cons (λ x. length (links_at past x)) k ks)
 
@@ -379,48 +376,59 @@ link_entered entry table count after reports events past draft done count_after 
       counted = counts.0;
     }
 
+-- what it leaves
+abbrev linked : Linking → List ReportEntry → List ReportEntry
+linked entry past = link_entry entry ∷ past
+
 -- so many entries of S2F35 have been worked through
-pub record IsLinking (table : EventTable) (count : ℕ) (reports : ReportTable) (events : List ℕ)
-    (past : List ReportEntry) (list rest : List Linking) : Type 0 where
-  pub at : List ReportEntry
-  pub draft : IsLinkDraft table count reports events at
-  pub answer : lrack_of events at rest ≡ lrack_of events past list
-  pub after : past_after_link at rest ≡ past_after_link past list
+abbrev pub IsLinking :
+    EventTable → ℕ → ReportTable → List ℕ → List ReportEntry → List Linking → List Linking → Type 0
+IsLinking table count reports events past list rest =
+    IsWorking (lrack_of events) linked (IsLinkDraft table count reports events) past list rest
 
 pub linking :
     (table : EventTable) (count : ℕ) (reports : ReportTable) (events : List ℕ) (past : List ReportEntry)
     (list : List Linking) → IsLinkDraft table count reports events past
     → IsLinking table count reports events past list list
 linking table count reports events past list draft =
-    record { at = past; draft = draft; answer = refl; after = refl }
+    begins (lrack_of events) linked (IsLinkDraft table count reports events) past list draft
+
+-- the answer to an entry by what is kept
+abbrev kept_lrack : EventTable → ℕ → ReportTable → Linking → Lrack
+kept_lrack table count reports entry =
+    lrack_by (option_map (λ (event : Event). event.rptids) (lookup (nat_eq entry.ceid) table))
+    (λ rptid. lookup (nat_eq rptid) reports) count entry
+
+-- an entry's answer, and that to those behind it
+first_of_links :
+    (table : EventTable) (count : ℕ) (reports : ReportTable) (events : List ℕ) (at : List ReportEntry)
+    (entry : Linking) (rest : List Linking) (answer : Lrack) → IsLinkDraft table count reports events at
+    → answer ≡ kept_lrack table count reports entry
+    → first_lrack answer (lrack_of events (linked entry at) rest) ≡ lrack_of events at (entry ∷ rest)
+first_of_links table count reports events at entry rest answer draft verdict =
+    ap (λ a. first_lrack a (lrack_of events (linked entry at) rest))
+    (verdict ∙ judged_link table count reports events at entry draft)
 
 pub linking_more :
     (table : EventTable) (count after : ℕ) (reports : ReportTable) (now : EventTable) (events : List ℕ)
     (past : List ReportEntry) (list : List Linking) (i : ℕ) (d : Linking) → i < length list
-    → lrack.Done
-    ≡ lrack_by (option_map (λ (event : Event). event.rptids) (lookup (nat_eq (get_or list i d).ceid) table))
-    (λ rptid. lookup (nat_eq rptid) reports) count (get_or list i d)
-    → now ≡ with_event (get_or list i d).ceid (with_links (get_or list i d).rptids) table
+    → lrack.Done ≡ kept_lrack table count reports (get_or list i d)
+    → now ≡ with_row (get_or list i d).ceid (with_links (get_or list i d).rptids) table
     → IsDistinct nat_eq (keys_of table)
     → after ≡ capped (count - length (links_in_table table (get_or list i d).ceid) + length (get_or list i d).rptids)
     → IsLinking table count reports events past list (drop i list)
     → IsLinking now after reports events past list (drop (i + 1) list)
 linking_more table count after reports now events past list i d within verdict set distinct count_after so_far =
     let entry = get_or list i d in
-    let at = so_far.at in
-    let more = drop (i + 1) list in
-    let done : lrack.Done ≡ lrack_at events at entry =
-    verdict ∙ judged_link table count reports events at entry so_far.draft in
-    record {
-      at = link_entry entry ∷ at;
-      draft = subst (λ t. IsLinkDraft t after reports events (link_entry entry ∷ at)) (sym (set ∙ event_row entry.ceid (with_links entry.rptids) table distinct))
-          (link_entered entry table count after reports events at so_far.draft done count_after);
-      answer = ap (λ a. lrack_then a (lrack_of events (link_entry entry ∷ at) more)) done
-          ∙ ap (lrack_of events at) (sym (opened list i d within)) ∙ so_far.answer;
-      after = ap (past_after_link at) (sym (opened list i d within)) ∙ so_far.after;
-    }
+    let rows = set ∙ event_row entry.ceid (with_links entry.rptids) table distinct in
+    goes_on (lrack_of events) linked (IsLinkDraft table count reports events) (IsLinkDraft now after reports events)
+    past list i d within
+    (λ at draft. subst (λ t. IsLinkDraft t after reports events (linked entry at)) (sym rows)
+    (link_entered entry table count after reports events at draft
+    (verdict ∙ judged_link table count reports events at entry draft) count_after))
+    (λ at draft rest. first_of_links table count reports events at entry rest lrack.Done draft verdict) so_far
 
-first_link_refusal : (answer rest : Lrack) → (answer ≡ lrack.Done → ⊥) → lrack_then answer rest ≡ answer
+first_link_refusal : (answer rest : Lrack) → (answer ≡ lrack.Done → ⊥) → first_lrack answer rest ≡ answer
 first_link_refusal lrack.Done rest refused = absurd (refused refl)
 first_link_refusal lrack.NoSpace rest refused = refl
 first_link_refusal (lrack.Linked ceid) rest refused = refl
@@ -430,18 +438,15 @@ first_link_refusal (lrack.UnknownRptid rptid) rest refused = refl
 pub linking_refused :
     (table : EventTable) (count : ℕ) (reports : ReportTable) (events : List ℕ) (past : List ReportEntry)
     (list : List Linking) (i : ℕ) (d : Linking) (answer : Lrack) → i < length list
-    → answer
-    ≡ lrack_by (option_map (λ (event : Event). event.rptids) (lookup (nat_eq (get_or list i d).ceid) table))
-    (λ rptid. lookup (nat_eq rptid) reports) count (get_or list i d)
+    → answer ≡ kept_lrack table count reports (get_or list i d)
     → (answer ≡ lrack.Done → ⊥) → IsLinking table count reports events past list (drop i list)
     → answer ≡ lrack_of events past list
 linking_refused table count reports events past list i d answer within verdict refused so_far =
+    refuses (lrack_of events) linked (IsLinkDraft table count reports events) past list i d answer within
+    (λ at draft rest.
     let entry = get_or list i d in
-    let at = so_far.at in
-    let rest = lrack_of events (link_entry entry ∷ at) (drop (i + 1) list) in
-    sym (first_link_refusal answer rest refused)
-    ∙ ap (λ a. lrack_then a rest) (verdict ∙ judged_link table count reports events at entry so_far.draft)
-    ∙ ap (lrack_of events at) (sym (opened list i d within)) ∙ so_far.answer
+    sym (first_link_refusal answer (lrack_of events (linked entry at) rest) refused)
+    ∙ first_of_links table count reports events at entry rest answer draft verdict) so_far
 
 pub linking_done :
     (table : EventTable) (count : ℕ) (reports : ReportTable) (events : List ℕ) (past : List ReportEntry)
@@ -449,12 +454,7 @@ pub linking_done :
     → IsLinking table count reports events past list (drop i list)
     → (lrack.Done ≡ lrack_of events past list) × IsLinkDraft table count reports events (past_after_link past list)
 linking_done table count reports events past list i end so_far =
-    let none : drop i list ≡ [] = drop_of_length-le list end in
-    let after : so_far.at ≡ past_after_link past list =
-    ap (past_after_link so_far.at) (sym none) ∙ so_far.after in (
-      ap (lrack_of events so_far.at) (sym none) ∙ so_far.answer,
-      subst (IsLinkDraft table count reports events) after so_far.draft,
-    )
+    ends (lrack_of events) linked (IsLinkDraft table count reports events) past list i lrack.Done end (λ at. refl) so_far
 
 -- the links as they are before a request
 pub link_drafted :

@@ -1,4 +1,4 @@
-mod Copied
+mod Accepted
 mod Counted
 mod Entering
 mod Kept
@@ -6,3 +6,4 @@ mod Members
 mod Rows
 mod Spelled
 mod Steps
+mod Working

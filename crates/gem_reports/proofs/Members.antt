@@ -7,8 +7,7 @@ use Rattle.std.proofs.lemmas.List.Folds.{list_any-append}
 use Rattle.std.proofs.lemmas.Map.Keys.{IsDistinct-push}
 use Rattle.std.proofs.Math.Bool.{or_assoc}
 use Rattle.std.specs.List.{IsDistinct, list_any}
-use Rattle.indexmap.specs.IndexSet.{insert_key}
-use Rattle.gem_reports.specs.History.{each_once}
+use Rattle.gem_reports.specs.History.{each_once, with_number}
 
 pub same_test : (a b : ℕ) → nat_eq a b ≡ nat_eq b a
 same_test a b = nat_eq_equiv.symm a b
@@ -65,7 +64,7 @@ among_filtered p q (x ∷ xs) = go (nat_eq q x) refl (p x) refl (among_filtered 
 -- what is among numbers of which one was put in
 pub among_inserted :
     (xs : List ℕ) (k q : ℕ)
-    → list_any (nat_eq q) (insert_key nat_eq xs k) ≡ (list_any (nat_eq q) xs || nat_eq q k)
+    → list_any (nat_eq q) (with_number xs k) ≡ (list_any (nat_eq q) xs || nat_eq q k)
 among_inserted xs k q = go (list_any (nat_eq k) xs) refl (nat_eq q k) refl
   where
     go : (b : Bool) → list_any (nat_eq k) xs ≡ b → (c : Bool) → nat_eq q k ≡ c
@@ -81,10 +80,10 @@ among_inserted xs k q = go (list_any (nat_eq k) xs) refl (nat_eq q k) refl
 
 among_so_far :
     (so_far xs : List ℕ) (q : ℕ)
-    → list_any (nat_eq q) (fold (insert_key nat_eq) so_far xs) ≡ (list_any (nat_eq q) so_far || list_any (nat_eq q) xs)
+    → list_any (nat_eq q) (fold with_number so_far xs) ≡ (list_any (nat_eq q) so_far || list_any (nat_eq q) xs)
 among_so_far so_far [] q = sym (or_false (list_any (nat_eq q) so_far))
 among_so_far so_far (x ∷ xs) q =
-    among_so_far (insert_key nat_eq so_far x) xs q
+    among_so_far (with_number so_far x) xs q
     ∙ ap (λ b. b || list_any (nat_eq q) xs) (among_inserted so_far x q)
     ∙ or_assoc (list_any (nat_eq q) so_far) (nat_eq q x) (list_any (nat_eq q) xs)
 
@@ -92,7 +91,7 @@ among_so_far so_far (x ∷ xs) q =
 pub among_each_once : (xs : List ℕ) (q : ℕ) → list_any (nat_eq q) (each_once xs) ≡ list_any (nat_eq q) xs
 among_each_once xs q = among_so_far [] xs q
 
-inserted_distinct : (xs : List ℕ) (k : ℕ) → IsDistinct nat_eq xs → IsDistinct nat_eq (insert_key nat_eq xs k)
+inserted_distinct : (xs : List ℕ) (k : ℕ) → IsDistinct nat_eq xs → IsDistinct nat_eq (with_number xs k)
 inserted_distinct xs k distinct = go (list_any (nat_eq k) xs) refl
   where
     go : (b : Bool) → list_any (nat_eq k) xs ≡ b
@@ -101,10 +100,10 @@ inserted_distinct xs k distinct = go (list_any (nat_eq k) xs) refl
     go false lacks = rw lacks (IsDistinct-push nat_eq_equiv xs k distinct lacks)
 
 so_far_distinct :
-    (so_far xs : List ℕ) → IsDistinct nat_eq so_far → IsDistinct nat_eq (fold (insert_key nat_eq) so_far xs)
+    (so_far xs : List ℕ) → IsDistinct nat_eq so_far → IsDistinct nat_eq (fold with_number so_far xs)
 so_far_distinct so_far [] distinct = distinct
 so_far_distinct so_far (x ∷ xs) distinct =
-    so_far_distinct (insert_key nat_eq so_far x) xs (inserted_distinct so_far x distinct)
+    so_far_distinct (with_number so_far x) xs (inserted_distinct so_far x distinct)
 
 pub none_distinct : IsDistinct nat_eq []
 unfolding IsDistinct

@@ -1,19 +1,18 @@
 -- The events as a table, and changes of it.
-use Rattle.std.proofs.Common.{◌≡◌, refl, sym, ◌∙◌, ap, subst, Bool, true, false, cond, ◌==◌, ◌&&◌, ◌||◌, ℕ, zero, suc, ◌<◌, ◌+◌, List, [], ◌∷◌, ◌++◌, length, map, take, get_or, nat_eq, Option, Some, None, is_some, not, add-one}
-use Rattle.std.specs.Prelude.{slice_get}
+use Rattle.std.proofs.Common.{◌≡◌, refl, sym, ◌∙◌, ap, subst, Bool, true, false, cond, ◌==◌, ◌&&◌, ◌||◌, ℕ, ◌<◌, ◌+◌, List, [], ◌∷◌, ◌++◌, length, take, get_or, nat_eq, Option, Some, None, is_some, not}
 use Rattle.std.proofs.lemmas.Bool.{eqb-true}
 use Rattle.std.proofs.lemmas.List.{take_more}
 use Rattle.std.proofs.lemmas.List.Folds.{list_any_more}
 use Rattle.std.proofs.lemmas.List.Sums.{fold-append}
 use Rattle.std.proofs.lemmas.Map.Keys.{IsDistinct-head, IsDistinct-tail}
 use Rattle.std.specs.List.{AllByRecursion, IsDistinct, find, list_any}
-use Rattle.std.specs.Map.{keys_of, lookup, set_value, values_of}
+use Rattle.std.specs.Map.{keys_of, lookup, set_value}
 use Rattle.std.specs.Option.{option_map_or}
-use Rattle.indexmap.specs.IndexMap.{insert_entry, set_value_at}
-use Rattle.indexmap.specs.IndexSet.{insert_key}
+use Rattle.indexmap.specs.IndexMap.{insert_entry}
+use Rattle.gem_tables.specs.Rows.{rows_of, with_each, with_row}
 use Rattle.gem_reports.specs.declared.event.Event.{Event}
-use Rattle.gem_reports.specs.Events.{EventTable, enabled_by, event_after, events_at, with_each, with_enabled, with_event}
-use Rattle.gem_reports.specs.History.{ReportEntry, each_once, is_event}
+use Rattle.gem_reports.specs.Events.{EventTable, enabled_by, event_after, events_at, with_enabled}
+use Rattle.gem_reports.specs.History.{ReportEntry, each_once, is_event, with_number}
 use Rattle.gem_reports.proofs.Members.{among_each_once, same_test}
 
 -- a change of the event of one CEID
@@ -21,16 +20,16 @@ abbrev pub at_event : ℕ → (Event → Event) → ℕ → Event → Event
 at_event ceid change other event = cond (nat_eq ceid other) (change event) event
 
 -- the rows of some events after a history
-abbrev pub rows_of : List ReportEntry → List ℕ → EventTable
-rows_of past ceids = map (λ ceid. (ceid, event_after past ceid)) ceids
+abbrev pub event_rows : List ReportEntry → List ℕ → EventTable
+event_rows past ceids = rows_of (λ ceid. ceid) (event_after past) ceids
 
 rows_after :
     (f : ℕ → Event → Event) (past after : List ReportEntry)
     → ((ceid : ℕ) → f ceid (event_after past ceid) ≡ event_after after ceid)
-    → (ceids : List ℕ) → with_each f (rows_of past ceids) ≡ rows_of after ceids
+    → (ceids : List ℕ) → with_each f (event_rows past ceids) ≡ event_rows after ceids
 rows_after f past after each [] = refl
 rows_after f past after each (k ∷ ks) =
-    ap (λ e. (k, e) ∷ with_each f (rows_of past ks)) (each k)
+    ap (λ e. (k, e) ∷ with_each f (event_rows past ks)) (each k)
     ∙ ap (λ t. (k, event_after after k) ∷ t) (rows_after f past after each ks)
 
 -- a change of each event that leads from a history to another
@@ -42,14 +41,14 @@ each_after f events past after each = rows_after f past after each (each_once ev
 
 found_row :
     (past : List ReportEntry) (ceid : ℕ) (ks : List ℕ)
-    → lookup (nat_eq ceid) (rows_of past ks) ≡ cond (list_any (nat_eq ceid) ks) (Some (event_after past ceid)) None
+    → lookup (nat_eq ceid) (event_rows past ks) ≡ cond (list_any (nat_eq ceid) ks) (Some (event_after past ceid)) None
 found_row past ceid [] = refl
 found_row past ceid (k ∷ ks) = go (nat_eq ceid k) refl (found_row past ceid ks)
   where
     go : (b : Bool) → nat_eq ceid k ≡ b
-        → lookup (nat_eq ceid) (rows_of past ks)
+        → lookup (nat_eq ceid) (event_rows past ks)
         ≡ cond (list_any (nat_eq ceid) ks) (Some (event_after past ceid)) None
-        → cond b (Some (event_after past k)) (lookup (nat_eq ceid) (rows_of past ks))
+        → cond b (Some (event_after past k)) (lookup (nat_eq ceid) (event_rows past ks))
         ≡ cond (b || list_any (nat_eq ceid) ks) (Some (event_after past ceid)) None
     go true same rest = ap (λ n. Some (event_after past n)) (sym (eqb-true ceid k same))
     go false other rest = rest
@@ -137,7 +136,7 @@ no_row ceid change (e ∷ es) none = go (nat_eq ceid e.0) refl (no_row ceid chan
 -- a change of one row
 pub event_row :
     (ceid : ℕ) (change : Event → Event) (table : EventTable) → IsDistinct nat_eq (keys_of table)
-    → with_event ceid change table ≡ with_each (at_event ceid change) table
+    → with_row ceid change table ≡ with_each (at_event ceid change) table
 event_row ceid change table distinct = go (lookup (nat_eq ceid) table) refl
   where
     go : (o : Option Event) → lookup (nat_eq ceid) table ≡ o
@@ -145,49 +144,6 @@ event_row ceid change table distinct = go (lookup (nat_eq ceid) table) refl
         ≡ with_each (at_event ceid change) table
     go None is = no_row ceid change table is
     go (Some event) is = set_row ceid change table event distinct is
-
--- the first rows are changed
-abbrev pub changed_first : (Event → Event) → ℕ → EventTable → EventTable
-changed_first change zero table = table
-changed_first change (suc n) [] = []
-changed_first change (suc n) (e ∷ es) = (e.0, change e.1) ∷ changed_first change n es
-
-length-changed_first :
-    (change : Event → Event) (n : ℕ) (table : EventTable) → length (changed_first change n table) ≡ length table
-length-changed_first change zero table = refl
-length-changed_first change (suc n) [] = refl
-length-changed_first change (suc n) (e ∷ es) = ap suc (length-changed_first change n es)
-
-more :
-    (change : Event → Event) (n : ℕ) (table : EventTable) (event : Event)
-    → slice_get (values_of (changed_first change n table)) n ≡ Some event
-    → set_value_at (changed_first change n table) n (change event) ≡ changed_first change (suc n) table
-more change zero [] event is = refl
-more change zero (e ∷ es) event is =
-    let same : e.1 ≡ event = cc in ap (λ a. (e.0, change a) ∷ es) (sym same)
-more change (suc n) [] event is = refl
-more change (suc n) (e ∷ es) event is = ap (λ t. (e.0, change e.1) ∷ t) (more change n es event is)
-
-pub changed_more :
-    (change : Event → Event) (n : ℕ) (table now : EventTable) (event : Event)
-    → now ≡ changed_first change n table
-    → slice_get (values_of now) n ≡ Some event
-    → set_value_at now n (change event) ≡ changed_first change (n + 1) table
-changed_more change n table now event is at =
-    ap (λ t. set_value_at t n (change event)) is
-    ∙ more change n table event (ap (λ t. slice_get (values_of t) n) (sym is) ∙ at)
-    ∙ ap (λ k. changed_first change k table) (sym (add-one n))
-
-pub changed_whole :
-    (change : Event → Event) (table : EventTable)
-    → changed_first change (length table) table ≡ with_each (λ ceid. change) table
-changed_whole change [] = refl
-changed_whole change (e ∷ es) = ap (λ t. (e.0, change e.1) ∷ t) (changed_whole change es)
-
-pub changed_within :
-    (change : Event → Event) (n : ℕ) (table now : EventTable) → now ≡ changed_first change n table → n < length table
-    → n < length now
-changed_within change n table now is less = rw (is, length-changed_first change n table) less
 
 with_each_twice :
     (f g : ℕ → Event → Event) (table : EventTable)
@@ -251,21 +207,21 @@ enabled_all on ceids table none =
 
 planted_behind :
     (x k : ℕ) (xs : List ℕ) (b : Bool)
-    → (x, event_after [] x) ∷ rows_of [] (cond b xs (xs ++ k ∷ []))
-    ≡ rows_of [] (cond b (x ∷ xs) (x ∷ xs ++ k ∷ []))
+    → (x, event_after [] x) ∷ event_rows [] (cond b xs (xs ++ k ∷ []))
+    ≡ event_rows [] (cond b (x ∷ xs) (x ∷ xs ++ k ∷ []))
 planted_behind x k xs true = refl
 planted_behind x k xs false = refl
 
 planted :
     (ks : List ℕ) (k : ℕ)
-    → insert_entry nat_eq (rows_of [] ks) k (event_after [] k) ≡ rows_of [] (insert_key nat_eq ks k)
+    → insert_entry nat_eq (event_rows [] ks) k (event_after [] k) ≡ event_rows [] (with_number ks k)
 planted [] k = refl
 planted (x ∷ xs) k = go (nat_eq k x) (planted xs k)
   where
-    go : (b : Bool) → insert_entry nat_eq (rows_of [] xs) k (event_after [] k) ≡ rows_of [] (insert_key nat_eq xs k)
-        → cond b ((x, event_after [] k) ∷ rows_of [] xs)
-        ((x, event_after [] x) ∷ insert_entry nat_eq (rows_of [] xs) k (event_after [] k))
-        ≡ rows_of [] (cond (b || list_any (nat_eq k) xs) (x ∷ xs) (x ∷ xs ++ k ∷ []))
+    go : (b : Bool) → insert_entry nat_eq (event_rows [] xs) k (event_after [] k) ≡ event_rows [] (with_number xs k)
+        → cond b ((x, event_after [] k) ∷ event_rows [] xs)
+        ((x, event_after [] x) ∷ insert_entry nat_eq (event_rows [] xs) k (event_after [] k))
+        ≡ event_rows [] (cond (b || list_any (nat_eq k) xs) (x ∷ xs) (x ∷ xs ++ k ∷ []))
     go true rest = refl
     go false rest =
         ap (λ t. (x, event_after [] x) ∷ t) rest ∙ planted_behind x k xs (list_any (nat_eq k) xs)
@@ -280,8 +236,8 @@ planted_more ceids i d table now within so_far inserted =
     inserted
     ∙ ap (λ t. insert_entry nat_eq t k (event_after [] k)) so_far
     ∙ planted (each_once (take i ceids)) k
-    ∙ ap (rows_of []) (sym (fold-append (insert_key nat_eq) [] (take i ceids) (k ∷ [])))
-    ∙ ap (λ ks. rows_of [] (each_once ks)) (sym (take_more ceids i d within))
+    ∙ ap (event_rows []) (sym (fold-append with_number [] (take i ceids) (k ∷ [])))
+    ∙ ap (λ ks. event_rows [] (each_once ks)) (sym (take_more ceids i d within))
 
 pub enabled_known : (b : Bool) (e there : Event) → Some e ≡ cond b (Some there) None → e.is_enabled ≡ (b && there.is_enabled)
 enabled_known true e there is = let same : e ≡ there = cc in ap (λ (x : Event). x.is_enabled) same

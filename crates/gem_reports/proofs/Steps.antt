@@ -5,13 +5,14 @@ use Rattle.std.proofs.lemmas.List.Elements.{filter_agree}
 use Rattle.std.specs.List.{IsDistinct, list_any}
 use Rattle.std.specs.Map.{keys_of, lookup}
 use Rattle.std.specs.Option.{unwrap_or}
+use Rattle.gem_tables.specs.History.{newest}
 use Rattle.gem_shapes.specs.declared.entries.Definition.{Definition}
 use Rattle.gem_shapes.specs.declared.entries.Linking.{Linking}
 use Rattle.gem_reports.specs.declared.event.Event.{Event}
 use Rattle.gem_reports.specs.Answers.{define_entry, link_entry}
 use Rattle.gem_reports.specs.Drafts.{IsDraft}
 use Rattle.gem_reports.specs.Events.{enabled_by, event_after, with_no_links, with_enabled, with_links, without}
-use Rattle.gem_reports.specs.History.{ReportEntry, is_deletion, enabled_at, link_in, links_at, is_named, newest, report_at, since_link}
+use Rattle.gem_reports.specs.History.{ReportEntry, is_deletion, enabled_at, link_in, links_at, is_named, report_at, since_link}
 use Rattle.gem_reports.specs.History.ReportEntry.{Define, Delete, DeleteAll, Link, Unlink, Enable}
 use Rattle.gem_reports.specs.Tables.{ReportTable}
 use Rattle.gem_reports.proofs.Rows.{at_event}

@@ -33,17 +33,17 @@ abbrev pub define_entry : Definition → ReportEntry
 define_entry entry = if length entry.vids == 0 then Delete entry.rptid else Define entry.rptid entry.vids
 
 -- what a first answer and that to the rest are together: the first that refuses decides
-abbrev pub drack_then : Drack → Drack → Drack
-drack_then drack.Done rest = rest
-drack_then drack.NoSpace rest = drack.NoSpace
-drack_then (drack.Defined rptid) rest = drack.Defined rptid
-drack_then (drack.UnknownVid vid) rest = drack.UnknownVid vid
+abbrev pub first_drack : Drack → Drack → Drack
+first_drack drack.Done rest = rest
+first_drack drack.NoSpace rest = drack.NoSpace
+first_drack (drack.Defined rptid) rest = drack.Defined rptid
+first_drack (drack.UnknownVid vid) rest = drack.UnknownVid vid
 
 -- what S2F33 is answered; an entry counts for those behind it (SEMI E30, event data collection)
 abbrev pub drack_of : (ℕ → Option Item) → List ReportEntry → List Definition → Drack
 drack_of value past [] = drack.Done
 drack_of value past (entry ∷ entries) =
-    drack_then (drack_at value past entry) (drack_of value (define_entry entry ∷ past) entries)
+    first_drack (drack_at value past entry) (drack_of value (define_entry entry ∷ past) entries)
 
 abbrev pub past_with_definitions : List ReportEntry → List Definition → List ReportEntry
 past_with_definitions past entries = fold (λ so_far entry. define_entry entry ∷ so_far) past entries
@@ -73,18 +73,18 @@ lrack_at events past entry =
 abbrev pub link_entry : Linking → ReportEntry
 link_entry entry = if length entry.rptids == 0 then Unlink entry.ceid else Link entry.ceid entry.rptids
 
-abbrev pub lrack_then : Lrack → Lrack → Lrack
-lrack_then lrack.Done rest = rest
-lrack_then lrack.NoSpace rest = lrack.NoSpace
-lrack_then (lrack.Linked ceid) rest = lrack.Linked ceid
-lrack_then (lrack.UnknownCeid ceid) rest = lrack.UnknownCeid ceid
-lrack_then (lrack.UnknownRptid rptid) rest = lrack.UnknownRptid rptid
+abbrev pub first_lrack : Lrack → Lrack → Lrack
+first_lrack lrack.Done rest = rest
+first_lrack lrack.NoSpace rest = lrack.NoSpace
+first_lrack (lrack.Linked ceid) rest = lrack.Linked ceid
+first_lrack (lrack.UnknownCeid ceid) rest = lrack.UnknownCeid ceid
+first_lrack (lrack.UnknownRptid rptid) rest = lrack.UnknownRptid rptid
 
 -- what S2F35 is answered; an entry counts for those behind it (SEMI E30, event data collection)
 abbrev pub lrack_of : List ℕ → List ReportEntry → List Linking → Lrack
 lrack_of events past [] = lrack.Done
 lrack_of events past (entry ∷ entries) =
-    lrack_then (lrack_at events past entry) (lrack_of events (link_entry entry ∷ past) entries)
+    first_lrack (lrack_at events past entry) (lrack_of events (link_entry entry ∷ past) entries)
 
 -- the history with an accepted S2F35
 abbrev pub past_after_link : List ReportEntry → List Linking → List ReportEntry

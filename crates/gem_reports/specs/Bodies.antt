@@ -4,10 +4,8 @@ use Rattle.std.specs.List.{filter_map}
 use Rattle.std.specs.Option.{unwrap_or}
 use Rattle.secs_items.specs.declared.item.Item.{Item}
 use Rattle.secs_items.specs.declared.item.Item.TheVariants as item
+use Rattle.secs_items.specs.Items.{number_item}
 use Rattle.gem_reports.specs.History.{ReportEntry, links_of, report_at}
-
-abbrev pub number_item : ℕ → Item
-number_item number = item.U4 (number ∷ [])
 
 -- the values of variables in their order, by what they have at the moment
 abbrev pub values_item : (ℕ → Option Item) → List ℕ → Item

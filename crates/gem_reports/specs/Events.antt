@@ -1,17 +1,15 @@
 -- The plan's events as a table.
-use Rattle.std.specs.Prelude.{ℕ, Bool, not, List, [], length, map, filter, nat_eq, sum_by, Option, if◌then◌else◌}
+use Rattle.std.specs.Prelude.{ℕ, Bool, not, List, [], length, filter, nat_eq, sum_by, Option, if◌then◌else◌}
 use Rattle.std.specs.List.{list_any}
-use Rattle.std.specs.Map.{lookup, set_value}
-use Rattle.std.specs.Option.{option_map, option_map_or, unwrap_or}
+use Rattle.std.specs.Map.{lookup}
+use Rattle.std.specs.Option.{option_map, unwrap_or}
+use Rattle.gem_tables.specs.Rows.{rows_of, with_row}
 use Rattle.gem_reports.specs.declared.event.Event.{Event}
 use Rattle.gem_reports.specs.History.{ReportEntry, each_once, enabled_at, links_at, is_named}
 
 -- the events with their CEIDs, in the plan's order
 abbrev pub EventTable : Type 0
 EventTable = List (ℕ × Event)
-
-abbrev pub with_each : (ℕ → Event → Event) → EventTable → EventTable
-with_each change table = map (λ e. (e.0, change e.0 e.1)) table
 
 abbrev pub with_links : List ℕ → Event → Event
 with_links rptids event = record event { rptids = rptids }
@@ -23,11 +21,6 @@ with_enabled is_enabled event = record event { is_enabled = is_enabled }
 abbrev pub links_in : EventTable → ℕ
 links_in table = sum_by (λ e. length e.1.rptids) table
 
--- the table with a change of the event that has this CEID
-abbrev pub with_event : ℕ → (Event → Event) → EventTable → EventTable
-with_event ceid change table =
-    option_map_or (λ event. set_value (nat_eq ceid) table (change event)) (lookup (nat_eq ceid) table) table
-
 -- the RPTIDs that are kept of an event, if it is there
 abbrev pub rptids_in : EventTable → ℕ → Option (List ℕ)
 rptids_in table ceid = option_map (λ event. event.rptids) (lookup (nat_eq ceid) table)
@@ -38,7 +31,7 @@ links_in_table table ceid = unwrap_or (rptids_in table ceid) []
 
 -- the table with other links of one event
 abbrev pub with_links_of : ℕ → List ℕ → EventTable → EventTable
-with_links_of ceid rptids table = with_event ceid (with_links rptids) table
+with_links_of ceid rptids table = with_row ceid (with_links rptids) table
 
 -- no event has links
 abbrev pub with_no_links : ℕ → Event → Event
@@ -58,4 +51,4 @@ event_after past ceid = record { is_enabled = enabled_at past ceid; rptids = lin
 
 -- the plan's events after a history
 abbrev pub events_at : List ℕ → List ReportEntry → EventTable
-events_at events past = map (λ ceid. (ceid, event_after past ceid)) (each_once events)
+events_at events past = rows_of (λ ceid. ceid) (event_after past) (each_once events)

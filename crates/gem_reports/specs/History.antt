@@ -1,9 +1,8 @@
 -- What holds of reports, links and enables after a history, looked back for. The newest entry stands first.
-use Rattle.std.specs.Prelude.{ℕ, Bool, false, not, ◌||◌, ◌==◌, List, [], ◌∷◌, length, filter, fold, nat_eq, sum_by, Option, Some, None, is_some, if◌then◌else◌}
+use Rattle.std.specs.Prelude.{ℕ, Bool, false, not, ◌||◌, ◌==◌, List, [], ◌∷◌, ◌++◌, length, filter, fold, nat_eq, sum_by, Option, Some, None, is_some, if◌then◌else◌}
 use Rattle.std.specs.List.{filter_map, list_any}
-use Rattle.std.specs.Option.{unwrap_or}
 use Rattle.std.specs.Set.{distinct_count}
-use Rattle.indexmap.specs.IndexSet.{insert_key}
+use Rattle.gem_tables.specs.History.{newest}
 
 -- An entry of an accepted S2F33, which defines a report, deletes one with its links, or all; an entry of an accepted
 -- S2F35, which links an event or unlinks it; and an accepted S2F37, which names some events, or all by naming none
@@ -15,11 +14,6 @@ pub data ReportEntry : Type 0 where
   Link : (ceid : ℕ) (rptids : List ℕ) → ReportEntry
   Unlink : (ceid : ℕ) → ReportEntry
   Enable : (is_enabled : Bool) (ceids : List ℕ) → ReportEntry
-
--- what the newest entry says that says something, and otherwise what held at first
-abbrev pub newest : {X : Type 0} → (ReportEntry → Option X) → X → List ReportEntry → X
-newest said first [] = first
-newest said first (entry ∷ past) = unwrap_or (said entry) (newest said first past)
 
 -- what an entry says of a report, if anything: its VIDs, or that there is none
 abbrev pub report_in : ℕ → ReportEntry → Option (Option (List ℕ))
@@ -69,9 +63,13 @@ enable_in ceid _ = None
 abbrev pub enabled_at : List ReportEntry → ℕ → Bool
 enabled_at past ceid = newest (enable_in ceid) false past
 
+-- the numbers with this one, which goes last where it isn't among them
+abbrev pub with_number : List ℕ → ℕ → List ℕ
+with_number numbers n = if list_any (nat_eq n) numbers then numbers else numbers ++ n ∷ []
+
 -- the numbers, each once, where it first stands
 abbrev pub each_once : List ℕ → List ℕ
-each_once numbers = fold (insert_key nat_eq) [] numbers
+each_once numbers = fold with_number [] numbers
 
 abbrev pub defined_in : ReportEntry → Option ℕ
 defined_in (Define rptid vids) = Some rptid

@@ -4,7 +4,7 @@ ghost use Rattle.std.specs.Prelude.{◌≡◌, ◌++◌, ℕ, List, [], map, nat
 ghost use Rattle.std.specs.List.{cons_option};
 ghost use Rattle.std.specs.Option.{unwrap_or};
 ghost use Rattle.gem_vars.specs.Tables.{value_in};
-ghost use Rattle.gem_reports.specs.Bodies.{event_body_at, event_body_of, number_item, report_body_at, report_body_of, report_item, values_item};
+ghost use Rattle.gem_reports.specs.Bodies.{event_body_at, event_body_of, report_body_at, report_body_of, report_item, values_item};
 ghost use Rattle.gem_reports.specs.Events.{rptids_in};
 ghost use Rattle.gem_reports.specs.History.{ReportEntry};
 ghost use Rattle.gem_reports.specs.Tables.{StandsFor, vids_in};
@@ -53,8 +53,8 @@ impl Reports {
             (rptids_in self.now.events ceid) ceid dataid) }
     {
         let mut items = Row::new(alloc);
-        items.push(number_item(alloc, dataid)?)?;
-        items.push(number_item(alloc, ceid)?)?;
+        items.push(Item::number(alloc, dataid)?)?;
+        items.push(Item::number(alloc, ceid)?)?;
         items.push(Item::L(
             self.standing
                 .report_items(alloc, self.events.links(ceid), vars)?,
@@ -74,7 +74,7 @@ impl Standing {
         ensures { IfOk result (λ item. item ≡ report_item (value_in vars.now) (vids_in self.now) rptid) }
     {
         let mut items = Row::new(alloc);
-        items.push(number_item(alloc, rptid)?)?;
+        items.push(Item::number(alloc, rptid)?)?;
         items.push(self.body(alloc, rptid, vars)?)?;
         Ok(Item::L(items))
     }
@@ -94,12 +94,6 @@ impl Standing {
         }
         Ok(items)
     }
-}
-
-fn number_item(alloc: Global, number: u32) -> Result<Item, NoMemory>
-    ensures { IfOk result (λ item. item ≡ number_item number) }
-{
-    Ok(Item::U4(Row::of(alloc, &[number])?))
 }
 
 fn values_item(alloc: Global, vids: &[u32], vars: &Vars) -> Result<Item, NoMemory>

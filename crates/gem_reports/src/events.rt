@@ -5,7 +5,8 @@ ghost use Rattle.std.specs.List.{IsDistinct, find};
 ghost use Rattle.std.specs.Map.{keys_of, lookup};
 ghost use Rattle.std.specs.Option.{option_copied};
 ghost use Rattle.secs_items.specs.Measures.{capped};
-ghost use Rattle.gem_reports.specs.Events.{enabled_by, events_at, links_in, links_in_table, with_no_links, with_each, with_event, with_enabled, with_links, without};
+ghost use Rattle.gem_tables.specs.Rows.{with_each, with_row};
+ghost use Rattle.gem_reports.specs.Events.{enabled_by, events_at, links_in, links_in_table, with_no_links, with_enabled, with_links, without};
 
 use crate::event::Event;
 use gl_base::{NoMemory, Row};
@@ -101,7 +102,7 @@ impl Events {
     /// Gives the event other links, and answers whether the plan has it.
     pub(crate) fn set_links(&mut self, ceid: u32, rptids: Row<u32>) -> bool
         ensures there { result ≡ is_some (lookup (nat_eq ceid) self.old) }
-        ensures table { self.new ≡ with_event ceid (with_links rptids) self.old }
+        ensures table { self.new ≡ with_row ceid (with_links rptids) self.old }
         ensures distinct { IsDistinct nat_eq (keys_of self.old) }
     {
         match self.rows.get_mut(&ceid) {
@@ -115,7 +116,7 @@ impl Events {
 
     fn set_enabled(&mut self, ceid: u32, on: bool) -> bool
         ensures there { result ≡ is_some (lookup (nat_eq ceid) self.old) }
-        ensures table { self.new ≡ with_event ceid (with_enabled on) self.old }
+        ensures table { self.new ≡ with_row ceid (with_enabled on) self.old }
         ensures distinct { IsDistinct nat_eq (keys_of self.old) }
     {
         match self.rows.get_mut(&ceid) {

@@ -2,9 +2,8 @@
 
 ghost use Rattle.std.specs.Prelude.{◌≡◌, ◌≤◌, ℕ, List, [], length, map, nat_eq};
 ghost use Rattle.std.specs.List.{cons_option, flat_map};
-ghost use Rattle.secs_items.specs.declared.kind.Kind.TheVariants as kind;
 ghost use Rattle.secs_items.specs.Measures.{capped};
-ghost use Rattle.secs_items.specs.Spelling.{shortest_head, shortest_spelling};
+ghost use Rattle.secs_items.specs.Spelling.{shortest_spelling};
 ghost use Rattle.gem_vars.specs.Tables.{value_in};
 ghost use Rattle.gem_reports.specs.Bodies.{event_body_at, report_body_at, report_body_of, report_item, values_item};
 ghost use Rattle.gem_reports.specs.History.{ReportEntry};
@@ -13,6 +12,7 @@ ghost use Rattle.gem_reports.specs.Tables.{StandsFor, vids_in};
 use crate::reports::Reports;
 use crate::standing::Standing;
 use gem_vars::Vars;
+use secs_items::list_len;
 
 impl Reports {
     /// How many bytes the body of [`Reports::event_body`] has, or `usize::MAX` where it has more. It takes no memory.
@@ -22,8 +22,8 @@ impl Reports {
             (event_body_at (value_in vars.now) events past ceid dataid))) }
     {
         let rptids = self.events.links(ceid);
-        let head = head_len(rptids.len());
-        (14 + head).saturating_add(self.standing.report_items_len(rptids, vars))
+        let reports = list_len(rptids.len(), self.standing.report_items_len(rptids, vars));
+        list_len(3, reports.saturating_add(12))
     }
 
     /// How many bytes the body of [`Reports::report_body`] has, or `usize::MAX` where it has more. It takes no memory.
@@ -58,7 +58,7 @@ impl Standing {
         ensures { result ≡ capped (length (shortest_spelling
             (report_item (value_in vars.now) (vids_in self.now) rptid))) }
     {
-        self.body_len(rptid, vars).saturating_add(8)
+        list_len(2, self.body_len(rptid, vars).saturating_add(6))
     }
 }
 
@@ -72,7 +72,7 @@ fn values_len(vids: &[u32], vars: &Vars) -> usize
         count += one;
         len = len.saturating_add(bytes);
     }
-    head_len(count).saturating_add(len)
+    list_len(count, len)
 }
 
 // How many values a VID gives, one or none, and how many bytes they have.
@@ -84,19 +84,5 @@ fn value_size(vid: u32, vars: &Vars) -> (usize, usize)
     match vars.value(vid) {
         Some(value) => (1, value.spelled_len()),
         None => (0, 0),
-    }
-}
-
-/// How many bytes the head of a list of so many items has.
-fn head_len(count: usize) -> usize
-    ensures head { result ≡ length (shortest_head kind.L count) }
-    ensures short { result ≤ 4 }
-{
-    if count < 0x100 {
-        2
-    } else if count < 0x1_0000 {
-        3
-    } else {
-        4
     }
 }

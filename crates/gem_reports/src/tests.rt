@@ -152,6 +152,20 @@ const BARE: [u8; 16] = [
     0x01, 0x03, 0xB1, 0x04, 0x00, 0x00, 0x00, 0x00, 0xB1, 0x04, 0x00, 0x00, 0x00, 0x01, 0x01, 0x00,
 ];
 
+// The body of S6F11 of event 1 with reports 11, 10 and 11, of which 11 has variable 1 twice.
+const TWICE: [u8; 76] = [
+    0x01, 0x03, 0xB1, 0x04, 0x00, 0x00, 0x00, 0x00, 0xB1, 0x04, 0x00, 0x00, 0x00, 0x01, 0x01, 0x03,
+    0x01, 0x02, 0xB1, 0x04, 0x00, 0x00, 0x00, 0x0B, 0x01, 0x02, 0xB1, 0x04, 0x00, 0x00, 0x00, 0x05,
+    0xB1, 0x04, 0x00, 0x00, 0x00, 0x05, 0x01, 0x02, 0xB1, 0x04, 0x00, 0x00, 0x00, 0x0A, 0x01, 0x01,
+    0xB1, 0x04, 0x00, 0x00, 0x00, 0x05, 0x01, 0x02, 0xB1, 0x04, 0x00, 0x00, 0x00, 0x0B, 0x01, 0x02,
+    0xB1, 0x04, 0x00, 0x00, 0x00, 0x05, 0xB1, 0x04, 0x00, 0x00, 0x00, 0x05,
+];
+
+// The body of S6F11 of event 2 without reports.
+const OTHER: [u8; 16] = [
+    0x01, 0x03, 0xB1, 0x04, 0x00, 0x00, 0x00, 0x00, 0xB1, 0x04, 0x00, 0x00, 0x00, 0x02, 0x01, 0x00,
+];
+
 const VALUES: [u8; 8] = [0x01, 0x01, 0xB1, 0x04, 0x00, 0x00, 0x00, 0x05];
 
 const NONE: [u8; 2] = [0x01, 0x00];
@@ -203,5 +217,56 @@ fn a_deleted_report_takes_its_links(rt: HostRuntime) -> Result<(), Fail> {
         Step::Report(10, &NONE),
     ];
     assert!(rt; first_wrong(rt.alloc(), &[1, 2], &steps) == Some(steps.len()));
+    Ok(())
+}
+
+#[test]
+fn reports_stand_in_the_order_of_their_links(rt: HostRuntime) -> Result<(), Fail> {
+    let steps = [
+        Step::Define(&[(10, &[1]), (11, &[1, 1])], Drack::Done),
+        Step::Link(&[(1, &[11, 10, 11])], Lrack::Done),
+        Step::Event(1, &TWICE),
+        Step::Event(2, &OTHER),
+    ];
+    assert!(rt; first_wrong(rt.alloc(), &[1, 2], &steps) == Some(steps.len()));
+    Ok(())
+}
+
+// Definitions of so many reports.
+fn many(alloc: Global, count: u32) -> Result<Row<Definition>, NoMemory> {
+    let mut definitions = Row::new(alloc);
+    for rptid in 0..count {
+        definitions.push(definition(alloc, rptid, &[1])?)?;
+    }
+    Ok(definitions)
+}
+
+// Whether the definitions of so many reports are answered so.
+fn many_are_defined(alloc: Global, reports: &mut Reports, count: u32, answer: Drack) -> bool {
+    match (vars_of(alloc, planned(alloc, 5)), many(alloc, count)) {
+        (Some(vars), Ok(list)) => match reports.define(alloc, &vars, list.as_slice()) {
+            Ok(drack) => drack == answer,
+            Err(NoMemory) => false,
+        },
+        _ => false,
+    }
+}
+
+#[test]
+fn reports_and_links_have_room(rt: HostRuntime) -> Result<(), Fail> {
+    let mut reports = Reports::new(rt.alloc(), &[1, 2]).map_err(|_| "memory")?;
+    let rptids = [7; 4_096];
+    assert!(rt; many_are_defined(rt.alloc(), &mut reports, 1_025, Drack::NoSpace));
+    assert!(rt; many_are_defined(rt.alloc(), &mut reports, 1_024, Drack::Done));
+    assert!(rt;
+        links(
+            &mut reports,
+            rt.alloc(),
+            &[(1, &rptids), (2, &[7])],
+            Lrack::NoSpace
+        )
+    );
+    assert!(rt; links(&mut reports, rt.alloc(), &[(1, &rptids)], Lrack::Done));
+    assert!(rt; links(&mut reports, rt.alloc(), &[(2, &[7])], Lrack::NoSpace));
     Ok(())
 }

@@ -1,6 +1,5 @@
 mod Accepted
 mod Constants
 mod History
-mod Keys
 mod Kept
 mod Sizes

@@ -1,110 +1,75 @@
 -- How long the items of variables and constants are.
-use Rattle.std.specs.Prelude.{min}
-use Rattle.std.proofs.Common.{◌≡◌, ℕ, ◌+◌, ◌-◌, ◌*◌, ◌^◌, List, [], ◌∷◌, ◌++◌, map, length, refl, sym, ap, ◌∙◌, length-append, arith}
-use Rattle.std.proofs.lemmas.List.{length-map}
-use Rattle.std.specs.List.{flat_map}
+use Rattle.std.proofs.Common.{◌≡◌, ℕ, ◌+◌, ◌*◌, List, [], ◌∷◌, length, arith}
 use Rattle.secs_items.specs.declared.item.Item.{Item}
-use Rattle.secs_items.specs.declared.item.Item.TheOpen.{Item-F}
-use Rattle.secs_items.specs.declared.item.Item.TheFolds.{fold-roll-Item}
 use Rattle.secs_items.specs.declared.item.Item.TheVariants as item
-use Rattle.secs_items.specs.declared.item.Item.TheVariants.{rolls-A, rolls-L, rolls-U4}
-use Rattle.secs_items.specs.declared.kind.Kind.TheVariants as kind
-use Rattle.secs_items.specs.Measures.{capped}
-use Rattle.secs_items.specs.Spelling.{shortest_head, shortest_layer, shortest_spelling}
-use Rattle.gem_vars.specs.Listing.{constant_row, name_row, number_item, text_length}
+use Rattle.secs_items.specs.Items.{number_item}
+use Rattle.secs_items.specs.Spelling.{shortest_spelling}
+use Rattle.secs_items.proofs.SpelledLengths.{length-list, length-number, length-text, together, together-cons}
+use Rattle.gem_vars.specs.Listing.{constant_row}
 
-joined : (items : List Item) → flat_map (λ (s : List ℕ). s) (map shortest_spelling items) ≡ flat_map shortest_spelling items
-joined [] = refl
-joined (i ∷ items) = ap (λ (s : List ℕ). shortest_spelling i ++ s) (joined items)
+abbrev long : Item → ℕ
+long i = length (shortest_spelling i)
 
-spelled-L :
-    (items : List Item)
-    → shortest_spelling (item.L items) ≡ shortest_head kind.L (1 * length items) ++ flat_map shortest_spelling items
-spelled-L items =
-    ap shortest_spelling (sym (rolls-L items)) ∙ fold-roll-Item (List ℕ) shortest_layer (Item-F.L items)
-    ∙ ap (λ (n : ℕ). shortest_head kind.L (1 * n) ++ flat_map (λ (s : List ℕ). s) (map shortest_spelling items))
-    (length-map items shortest_spelling)
-    ∙ ap (λ (s : List ℕ). shortest_head kind.L (1 * length items) ++ s) (joined items)
+pub empty_long : long (item.L []) ≡ 2
+empty_long = length-list []
 
-spelled-A : (text : List ℕ) → shortest_spelling (item.A text) ≡ shortest_head kind.A (1 * length text) ++ text
-spelled-A text = ap shortest_spelling (sym (rolls-A text)) ∙ fold-roll-Item (List ℕ) shortest_layer (Item-F.A text)
+empty_text_long : long (item.A []) ≡ 2
+empty_text_long = length-text []
 
-pub number_long : (n : ℕ) → length (shortest_spelling (number_item n)) ≡ 6
-number_long n =
-    ap (λ i. length (shortest_spelling i)) (sym (rolls-U4 (n ∷ [])))
-    ∙ ap length (fold-roll-Item (List ℕ) shortest_layer (Item-F.U4 (n ∷ [])))
+-- SVID, SVNAME and UNITS
+abbrev pub name_parts : ℕ → List ℕ → List ℕ → List Item
+name_parts vid name units = number_item vid ∷ item.A name ∷ item.A units ∷ []
 
-text_long : (text : List ℕ) → length (shortest_spelling (item.A text)) ≡ text_length (length text)
-text_long text =
-    let one : 1 * length text ≡ length text = omega arith in
-    ap length (spelled-A text) ∙ length-append (shortest_head kind.A (1 * length text)) text
-    ∙ ap (λ k. length (shortest_head kind.A k) + length text) one
-
--- the length of a list, from those of its items together
-pub list_long :
-    (items : List Item)
-    → length (shortest_spelling (item.L items))
-    ≡ length (shortest_head kind.L (length items)) + length (flat_map shortest_spelling items)
-list_long items =
-    let one : 1 * length items ≡ length items = omega arith in
-    ap length (spelled-L items)
-    ∙ length-append (shortest_head kind.L (1 * length items)) (flat_map shortest_spelling items)
-    ∙ ap (λ n. length (shortest_head kind.L n) + length (flat_map shortest_spelling items)) one
-
-pub empty_long : length (shortest_spelling (item.L [])) ≡ 2
-empty_long = list_long []
-
--- the length of items together
-abbrev pub long : List Item → ℕ
-long items = length (flat_map shortest_spelling items)
-
-long-cons : (item : Item) (items : List Item) → long (item ∷ items) ≡ length (shortest_spelling item) + long items
-long-cons item items = length-append (shortest_spelling item) (flat_map shortest_spelling items)
-
-pub names_long :
+pub names_together :
     (vid : ℕ) (name units : List ℕ)
-    → length (shortest_spelling (name_row vid name units))
-    ≡ 8 + text_length (length name) + text_length (length units)
-names_long vid name units =
-    let all = list_long (number_item vid ∷ item.A name ∷ item.A units ∷ []) in
-    let a = long-cons (number_item vid) (item.A name ∷ item.A units ∷ []) in
-    let b = long-cons (item.A name) (item.A units ∷ []) in
-    let c = long-cons (item.A units) [] in
-    omega (arith, all, a, b, c, number_long vid, text_long name, text_long units)
+    → together (name_parts vid name units) ≡ 6 + long (item.A name) + long (item.A units)
+names_together vid name units =
+    let a = together-cons (number_item vid) (item.A name ∷ item.A units ∷ []) in
+    let b = together-cons (item.A name) (item.A units ∷ []) in
+    let c = together-cons (item.A units) [] in
+    omega (arith, a, b, c, length-number vid)
+
+-- ECID, ECNAME, ECMIN, ECMAX, ECDEF and UNITS
+abbrev pub limit_parts : ℕ → List ℕ → Item → Item → Item → List ℕ → List Item
+limit_parts ecid name min max default units =
+    number_item ecid ∷ item.A name ∷ min ∷ max ∷ default ∷ item.A units ∷ []
 
 -- limits with so many bytes each
-limits_long :
+limits_together :
     (ecid : ℕ) (name : List ℕ) (min max default : Item) (units : List ℕ) (n : ℕ)
-    → length (shortest_spelling min) ≡ n → length (shortest_spelling max) ≡ n → length (shortest_spelling default) ≡ n
-    → length (shortest_spelling (constant_row ecid name min max default units))
-    ≡ 8 + 3 * n + text_length (length name) + text_length (length units)
-limits_long ecid name min max default units n min_is max_is default_is =
+    → long min ≡ n → long max ≡ n → long default ≡ n
+    → together (limit_parts ecid name min max default units)
+    ≡ 6 + 3 * n + long (item.A name) + long (item.A units)
+limits_together ecid name min max default units n min_is max_is default_is =
     let d : List Item = default ∷ item.A units ∷ [] in
-    let all = list_long (number_item ecid ∷ item.A name ∷ min ∷ max ∷ d) in
-    let a = long-cons (number_item ecid) (item.A name ∷ min ∷ max ∷ d) in
-    let b = long-cons (item.A name) (min ∷ max ∷ d) in
-    let e = long-cons min (max ∷ d) in
-    let f = long-cons max d in
-    let g = long-cons default (item.A units ∷ []) in
-    let h = long-cons (item.A units) [] in
-    omega (arith, all, a, b, e, f, g, h, number_long ecid, text_long name, text_long units, min_is, max_is, default_is)
+    let a = together-cons (number_item ecid) (item.A name ∷ min ∷ max ∷ d) in
+    let b = together-cons (item.A name) (min ∷ max ∷ d) in
+    let e = together-cons min (max ∷ d) in
+    let f = together-cons max d in
+    let g = together-cons default (item.A units ∷ []) in
+    let h = together-cons (item.A units) [] in
+    omega (arith, a, b, e, f, g, h, length-number ecid, min_is, max_is, default_is)
 
-pub known_limits_long :
+pub known_limits_together :
     (ecid : ℕ) (name : List ℕ) (min max default : ℕ) (units : List ℕ)
-    → length (shortest_spelling (constant_row ecid name (number_item min) (number_item max) (number_item default) units))
-    ≡ 26 + text_length (length name) + text_length (length units)
-known_limits_long ecid name min max default units =
-    limits_long ecid name (number_item min) (number_item max) (number_item default) units 6 (number_long min)
-    (number_long max) (number_long default)
+    → together (limit_parts ecid name (number_item min) (number_item max) (number_item default) units)
+    ≡ 24 + long (item.A name) + long (item.A units)
+known_limits_together ecid name min max default units =
+    limits_together ecid name (number_item min) (number_item max) (number_item default) units 6 (length-number min)
+    (length-number max) (length-number default)
 
 pub unknown_limits_long :
-    (ecid : ℕ) → length (shortest_spelling (constant_row ecid [] (item.A []) (item.A []) (item.A []) [])) ≡ 18
+    (ecid : ℕ) → long (constant_row ecid [] (item.A []) (item.A []) (item.A []) []) ≡ 18
 unknown_limits_long ecid =
-    limits_long ecid [] (item.A []) (item.A []) (item.A []) [] 2 (text_long []) (text_long []) (text_long [])
+    let no : Item = item.A [] in
+    let parts = limit_parts ecid [] no no no [] in
+    let all : together parts ≡ 12 + long no + long no =
+    limits_together ecid [] no no no [] 2 empty_text_long empty_text_long empty_text_long in
+    let whole : long (item.L parts) ≡ 2 + together parts = length-list parts in
+    omega (arith, all, whole, empty_text_long)
 
--- a list's length, from those of its head and of its items together
-pub list_len :
-    (items : List Item) (now head all : ℕ) → now ≡ min (head + all) (2 ^ 64 - 1)
-    → head ≡ length (shortest_head kind.L (length items)) → all ≡ capped (long items)
-    → now ≡ capped (length (shortest_spelling (item.L items)))
-list_len items now head all added head_is all_is = omega (arith, added, head_is, all_is, list_long items)
+pub unknown_names_long : (vid : ℕ) → long (item.L (name_parts vid [] [])) ≡ 12
+unknown_names_long vid =
+    let parts = name_parts vid [] [] in
+    let whole : long (item.L parts) ≡ 2 + together parts = length-list parts in
+    omega (arith, whole, names_together vid [] [], empty_text_long)

@@ -1,8 +1,9 @@
 -- What the variables and constants are after a history, looked back for. The newest entry stands first.
-use Rattle.std.specs.Prelude.{ℕ, List, [], ◌∷◌, map, fold, nat_eq, Option, Some, None, if◌then◌else◌}
+use Rattle.std.specs.Prelude.{◌≡◌, ℕ, List, ◌∷◌, fold, nat_eq, Option, Some, None, if◌then◌else◌}
 use Rattle.std.specs.List.{find}
-use Rattle.std.specs.Option.{unwrap_or}
 use Rattle.secs_items.specs.declared.item.Item.{Item}
+use Rattle.gem_tables.specs.History.{newest}
+use Rattle.gem_tables.specs.Rows.{rows_of}
 use Rattle.gem_vars.specs.declared.constant.Constant.{Constant}
 use Rattle.gem_vars.specs.declared.plan.ConstantPlan.{ConstantPlan}
 use Rattle.gem_vars.specs.declared.plan.VariablePlan.{VariablePlan}
@@ -26,11 +27,6 @@ value_from vid (SetConstant ecid value) = None
 abbrev pub constant_from : ℕ → VarsEntry → Option ℕ
 constant_from ecid (SetValue vid value) = None
 constant_from ecid (SetConstant other value) = if nat_eq other ecid then Some value else None
-
--- what the newest entry gives that gives something, and otherwise what was planned
-abbrev pub newest : {X : Type 0} → (VarsEntry → Option X) → X → List VarsEntry → X
-newest given planned [] = planned
-newest given planned (entry ∷ past) = unwrap_or (given entry) (newest given planned past)
 
 -- the value of a variable (SEMI E30, variable data)
 abbrev pub value_at : List VarsEntry → VariablePlan → Item
@@ -56,9 +52,13 @@ constant_after past planned = record {
 -- the tables after a history
 abbrev pub vars_at : VarsPlan → List VarsEntry → VarsTable
 vars_at plan past = record {
-  variables = map (λ planned. (planned.vid, variable_after past planned)) plan.variables;
-  constants = map (λ planned. (planned.ecid, constant_after past planned)) (all_constants plan);
+  variables = rows_of (λ planned. planned.vid) (variable_after past) plan.variables;
+  constants = rows_of (λ planned. planned.ecid) (constant_after past) (all_constants plan);
 }
+
+-- the tables stand for the plan and a history
+abbrev pub StandsFor : VarsTable → VarsPlan → List VarsEntry → Type 0
+StandsFor table plan past = table ≡ vars_at plan past
 
 -- the history with the settings of an S2F15
 abbrev pub with_settings : List (ℕ × ℕ) → List VarsEntry → List VarsEntry

@@ -5,7 +5,7 @@ use Rattle.secs_items.specs.declared.item.Item.{Item}
 use Rattle.gem_vars.specs.declared.plan.ConstantPlan.{ConstantPlan}
 use Rattle.gem_vars.specs.declared.plan.VariablePlan.{VariablePlan}
 use Rattle.gem_vars.specs.declared.plan.VarsPlan.{VarsPlan}
-use Rattle.gem_vars.specs.History.{VarsEntry, constant_at, planned_constant, planned_variable, value_at, vars_at, with_settings}
+use Rattle.gem_vars.specs.History.{StandsFor, VarsEntry, constant_at, planned_constant, planned_variable, value_at, vars_at, with_settings}
 use Rattle.gem_vars.specs.History.VarsEntry.{SetConstant, SetValue}
 use Rattle.gem_vars.specs.Plan.{VarsFit}
 use Rattle.gem_vars.specs.Settings.{entry_fault, is_within, refusal_of, same_kind, value_fits}
@@ -16,21 +16,21 @@ abbrev pub after_entry : VarsTable → VarsEntry → VarsTable
 after_entry table (SetValue vid value) = with_value vid value table
 after_entry table (SetConstant ecid value) = with_constant ecid value table
 
--- the tables after one entry more, or after the settings of an S2F15, are what is looked back for in the longer
--- history; and what they have at an identifier is what is looked back for of the planned variable or constant
+-- where the tables stand for a history, after one entry more, or after the settings of an S2F15, they stand for the
+-- longer one; and what they have at an identifier is what is looked back for of the planned variable or constant
 pub record VarsAreLookedBackFor : Type 0 where
   pub next :
-      (plan : VarsPlan) (past : List VarsEntry) (entry : VarsEntry) → VarsFit plan
-      → after_entry (vars_at plan past) entry ≡ vars_at plan (entry ∷ past)
+      (table : VarsTable) (plan : VarsPlan) (past : List VarsEntry) (entry : VarsEntry) → VarsFit plan
+      → StandsFor table plan past → StandsFor (after_entry table entry) plan (entry ∷ past)
   pub settings :
-      (plan : VarsPlan) (past : List VarsEntry) (list : List (ℕ × ℕ)) → VarsFit plan
-      → with_constants list (vars_at plan past) ≡ vars_at plan (with_settings list past)
+      (table : VarsTable) (plan : VarsPlan) (past : List VarsEntry) (list : List (ℕ × ℕ)) → VarsFit plan
+      → StandsFor table plan past → StandsFor (with_constants list table) plan (with_settings list past)
   pub value :
-      (plan : VarsPlan) (past : List VarsEntry) (vid : ℕ)
-      → value_in (vars_at plan past) vid ≡ option_map (value_at past) (planned_variable plan vid)
+      (table : VarsTable) (plan : VarsPlan) (past : List VarsEntry) (vid : ℕ) → StandsFor table plan past
+      → value_in table vid ≡ option_map (value_at past) (planned_variable plan vid)
   pub constant :
-      (plan : VarsPlan) (past : List VarsEntry) (ecid : ℕ)
-      → constant_in (vars_at plan past) ecid ≡ option_map (constant_at past) (planned_constant plan ecid)
+      (table : VarsTable) (plan : VarsPlan) (past : List VarsEntry) (ecid : ℕ) → StandsFor table plan past
+      → constant_in table ecid ≡ option_map (constant_at past) (planned_constant plan ecid)
 
 -- an entry that isn't refused where the tables are so
 abbrev pub IsAccepted : VarsTable → VarsEntry → Type 0

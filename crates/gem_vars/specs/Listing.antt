@@ -1,23 +1,14 @@
 -- The lists of variables and constants that the host asks for.
-use Rattle.std.specs.Prelude.{ℕ, ◌+◌, List, [], ◌∷◌, length, map, Option, None, Some}
+use Rattle.std.specs.Prelude.{ℕ, List, [], ◌∷◌, map, Option, None, Some}
 use Rattle.std.specs.Option.{option_map_or, unwrap_or}
 use Rattle.secs_items.specs.declared.item.Item.{Item}
 use Rattle.secs_items.specs.declared.item.Item.TheVariants as item
-use Rattle.secs_items.specs.declared.kind.Kind.TheVariants as kind
-use Rattle.secs_items.specs.Spelling.{shortest_head}
+use Rattle.secs_items.specs.Items.{number_item}
 use Rattle.gem_vars.specs.declared.constant.Constant.{Constant}
 use Rattle.gem_vars.specs.declared.listing.Listing.{Listing}
 use Rattle.gem_vars.specs.declared.listing.Listing.TheVariants as listing
 use Rattle.gem_vars.specs.declared.variable.Variable.{Variable}
 use Rattle.gem_vars.specs.Tables.{VarsTable, constant_in, ecids_of, constant_row_in, value_in, variable_in, vids_of}
-
--- a number as it is sent (this profile)
-abbrev pub number_item : ℕ → Item
-number_item n = item.U4 (n ∷ [])
-
--- how many bytes a text of so many characters has
-abbrev pub text_length : ℕ → ℕ
-text_length count = length (shortest_head kind.A count) + count
 
 -- the value; of a VID that isn't there an empty list (SEMI E5, S1F4)
 abbrev pub value_item : VarsTable → ℕ → Item
@@ -83,14 +74,14 @@ item_of table listing.StatusNames = name_item table
 item_of table listing.ConstantValues = constant_item table
 item_of table listing.ConstantNames = constant_name_item table
 
-abbrev pub all_of : VarsTable → Listing → List ℕ
-all_of table listing.StatusValues = vids_of table
-all_of table listing.StatusNames = vids_of table
-all_of table listing.ConstantValues = ecids_of table
-all_of table listing.ConstantNames = ecids_of table
+abbrev pub known_ids : VarsTable → Listing → List ℕ
+known_ids table listing.StatusValues = vids_of table
+known_ids table listing.StatusNames = vids_of table
+known_ids table listing.ConstantValues = ecids_of table
+known_ids table listing.ConstantNames = ecids_of table
 
 abbrev pub ids_of : VarsTable → Listing → List ℕ → List ℕ
-ids_of table listing ids = asked_of (all_of table listing) ids
+ids_of table listing ids = asked_of (known_ids table listing) ids
 
 abbrev pub items_of : VarsTable → Listing → List ℕ → List Item
 items_of table listing ids = map (item_of table listing) (ids_of table listing ids)

@@ -1,8 +1,9 @@
 -- The tables of variables and constants, what they have of an identifier, and what a setting leaves.
 use Rattle.std.specs.Prelude.{ℕ, List, fold, nat_eq, Option}
-use Rattle.std.specs.Map.{keys_of, lookup, set_value}
-use Rattle.std.specs.Option.{option_map, option_map_or}
+use Rattle.std.specs.Map.{keys_of, lookup}
+use Rattle.std.specs.Option.{option_map}
 use Rattle.secs_items.specs.declared.item.Item.{Item}
+use Rattle.gem_tables.specs.Rows.{with_row}
 use Rattle.gem_vars.specs.declared.constant.Constant.{Constant}
 use Rattle.gem_vars.specs.declared.variable.Variable.{Variable}
 
@@ -30,11 +31,6 @@ constant_row_in table ecid = lookup (nat_eq ecid) table.constants
 -- the value of a constant, where there is one with this ECID
 abbrev pub constant_in : VarsTable → ℕ → Option ℕ
 constant_in table ecid = option_map (λ constant. constant.value) (constant_row_in table ecid)
-
--- the rows with a change of the one that has this identifier
-abbrev pub with_row : {V : Type 0} → ℕ → (V → V) → List (ℕ × V) → List (ℕ × V)
-with_row id change rows =
-    option_map_or (λ row. set_value (nat_eq id) rows (change row)) (lookup (nat_eq id) rows) rows
 
 -- a variable, or a constant, with another value
 abbrev pub variable_with : Item → Variable → Variable

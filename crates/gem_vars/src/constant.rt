@@ -3,9 +3,9 @@ ghost use Rattle.secs_items.specs.Measures.{capped};
 ghost use Rattle.secs_items.specs.Spelling.{shortest_spelling};
 ghost use Rattle.gem_vars.specs.Listing.{limits_row};
 
-use crate::rows::{NUMBER_LEN, number_item, text_item, texts_len};
+use crate::rows::{NUMBER_LEN, texts_len};
 use gl_base::{NoMemory, Row};
-use secs_items::Item;
+use secs_items::{Item, list_len};
 use std::alloc::Global;
 
 /// An equipment constant as it stands.
@@ -26,12 +26,12 @@ impl Constant {
         ensures { IfOk result (λ row. row ≡ limits_row ecid (Some self.now)) }
     {
         let mut items = Row::new(alloc);
-        items.push(number_item(alloc, ecid)?)?;
-        items.push(text_item(alloc, self.name.as_slice())?)?;
-        items.push(number_item(alloc, self.min)?)?;
-        items.push(number_item(alloc, self.max)?)?;
-        items.push(number_item(alloc, self.default)?)?;
-        items.push(text_item(alloc, self.units.as_slice())?)?;
+        items.push(Item::number(alloc, ecid)?)?;
+        items.push(Item::text(alloc, self.name.as_slice())?)?;
+        items.push(Item::number(alloc, self.min)?)?;
+        items.push(Item::number(alloc, self.max)?)?;
+        items.push(Item::number(alloc, self.default)?)?;
+        items.push(Item::text(alloc, self.units.as_slice())?)?;
         Ok(Item::L(items))
     }
 
@@ -39,7 +39,8 @@ impl Constant {
     pub(crate) fn limits_len(&self) -> usize
         ensures { (ecid : ℕ) → result ≡ capped (length (shortest_spelling (limits_row ecid (Some self.now)))) }
     {
-        texts_len(2 + 4 * NUMBER_LEN, self.name.len(), self.units.len())
+        let (name, units) = (self.name.as_slice(), self.units.as_slice());
+        list_len(6, texts_len(4 * NUMBER_LEN, name, units))
     }
 }
 
@@ -51,11 +52,11 @@ pub(crate) fn unknown_constant(alloc: Global, ecid: u32) -> Result<Item, NoMemor
     ensures { IfOk result (λ row. row ≡ limits_row ecid None) }
 {
     let mut items = Row::new(alloc);
-    items.push(number_item(alloc, ecid)?)?;
-    items.push(text_item(alloc, &[])?)?;
-    items.push(text_item(alloc, &[])?)?;
-    items.push(text_item(alloc, &[])?)?;
-    items.push(text_item(alloc, &[])?)?;
-    items.push(text_item(alloc, &[])?)?;
+    items.push(Item::number(alloc, ecid)?)?;
+    items.push(Item::text(alloc, &[])?)?;
+    items.push(Item::text(alloc, &[])?)?;
+    items.push(Item::text(alloc, &[])?)?;
+    items.push(Item::text(alloc, &[])?)?;
+    items.push(Item::text(alloc, &[])?)?;
     Ok(Item::L(items))
 }

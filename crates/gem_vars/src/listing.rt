@@ -8,11 +8,11 @@ ghost use Rattle.gem_vars.specs.Listing.{constant_item, constant_name_item, cons
 ghost use Rattle.gem_vars.specs.Tables.{ecids_of, vids_of};
 
 use crate::constant::{UNKNOWN_CONSTANT_LEN, unknown_constant};
-use crate::rows::{EMPTY_LEN, NUMBER_LEN, head_len, number_item};
+use crate::rows::{EMPTY_LEN, NUMBER_LEN};
 use crate::variable::{UNKNOWN_VARIABLE_LEN, unknown_variable};
 use crate::vars::Vars;
 use gl_base::{NoMemory, Row};
-use secs_items::Item;
+use secs_items::{Item, list_len};
 use std::alloc::Global;
 
 /// What the host asks for of each identifier.
@@ -104,7 +104,7 @@ impl Vars {
         for place in 0..count {
             len = len.saturating_add(self.item_len(listing, self.id_at(listing, ids, place)));
         }
-        head_len(count).saturating_add(len)
+        list_len(count, len)
     }
 
     /// How many are asked for.
@@ -181,7 +181,7 @@ impl Vars {
         ensures { IfOk result (λ row. row ≡ constant_item self.now ecid) }
     {
         match self.constant(ecid) {
-            Some(value) => number_item(alloc, value),
+            Some(value) => Item::number(alloc, value),
             None => Ok(Item::L(Row::new(alloc))),
         }
     }

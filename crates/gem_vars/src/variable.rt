@@ -3,9 +3,9 @@ ghost use Rattle.secs_items.specs.Measures.{capped};
 ghost use Rattle.secs_items.specs.Spelling.{shortest_spelling};
 ghost use Rattle.gem_vars.specs.Listing.{name_row, names_row};
 
-use crate::rows::{NUMBER_LEN, number_item, text_item, texts_len};
+use crate::rows::{NUMBER_LEN, texts_len};
 use gl_base::{NoMemory, Row};
-use secs_items::Item;
+use secs_items::{Item, list_len};
 use std::alloc::Global;
 
 /// A variable as it stands.
@@ -28,7 +28,8 @@ impl Variable {
     pub(crate) fn names_len(&self) -> usize
         ensures { (vid : ℕ) → result ≡ capped (length (shortest_spelling (names_row vid (Some self.now)))) }
     {
-        texts_len(2 + NUMBER_LEN, self.name.len(), self.units.len())
+        let (name, units) = (self.name.as_slice(), self.units.as_slice());
+        list_len(3, texts_len(NUMBER_LEN, name, units))
     }
 }
 
@@ -46,8 +47,8 @@ fn name_row(alloc: Global, vid: u32, name: &[u8], units: &[u8]) -> Result<Item, 
     ensures { IfOk result (λ row. row ≡ name_row vid name.now units.now) }
 {
     let mut items = Row::new(alloc);
-    items.push(number_item(alloc, vid)?)?;
-    items.push(text_item(alloc, name)?)?;
-    items.push(text_item(alloc, units)?)?;
+    items.push(Item::number(alloc, vid)?)?;
+    items.push(Item::text(alloc, name)?)?;
+    items.push(Item::text(alloc, units)?)?;
     Ok(Item::L(items))
 }

@@ -1,11 +1,10 @@
-use Rattle.std.proofs.Common.{◌∙◌, ap, List, ℕ, length, arith}
+use Rattle.std.proofs.Common.{sym, ◌∙◌, ap, List, ℕ, length, arith}
 use Rattle.std.proofs.lemmas.List.{take_all}
 use Rattle.std.specs.List.{filter_map}
-use Rattle.secs_items.specs.declared.kind.Kind.TheVariants as kind
 use Rattle.secs_items.specs.Measures.{capped}
-use Rattle.secs_items.specs.Spelling.{shortest_head}
+use Rattle.secs_items.proofs.SpelledLengths.{together}
 use Rattle.gem_vars.specs.Tables.{value_in}
-use Rattle.gem_reports.proofs.Spelled.{list_len, long, measured_more}
+use Rattle.gem_reports.proofs.Spelled.{measured_more}
 use Rattle.gem_reports.proofs.lengths.values_len.Goals as goal
 
 pub loop-vid-preserved : goal.loop-vid-preserved
@@ -18,9 +17,6 @@ pub returns : goal.returns
 returns c =
     let value = value_in c.args.vars.now in
     let all = take_all c.loop-vid.vid-index c.args.vids.now (omega arith) in
-    list_len (filter_map value c.args.vids.now) c.saturating_add.result c.head_len.result c.loop-vid.len
-    c.saturating_add.ensures
-    (c.head_len.ensures.head
-    ∙ ap (λ n. length (shortest_head kind.L n))
-    (c.loop-vid.invariant.count_is ∙ ap (λ (vids : List ℕ). length (filter_map value vids)) all))
-    (c.loop-vid.invariant.len_is ∙ ap (λ (vids : List ℕ). capped (long (filter_map value vids))) all)
+    c.list_len.ensures (filter_map value c.args.vids.now)
+    (sym (c.loop-vid.invariant.count_is ∙ ap (λ (vids : List ℕ). length (filter_map value vids)) all))
+    (c.loop-vid.invariant.len_is ∙ ap (λ (vids : List ℕ). capped (together (filter_map value vids))) all)

@@ -1,13 +1,14 @@
 use Rattle.std.proofs.Common.{◌≡◌, ◌∙◌, ap, ℕ, List, [], ◌++◌, get_or, arith, nat_eq}
 use Rattle.indexmap.specs.IndexMap.{insert_entry}
+use Rattle.gem_tables.specs.Rows.{rows_of}
+use Rattle.gem_tables.proofs.Putting.{put_more}
 use Rattle.gem_vars.specs.declared.constant.Constant.{Constant}
 use Rattle.gem_vars.specs.declared.plan.ConstantPlan.{ConstantPlan}
 use Rattle.gem_vars.specs.History.{constant_after}
-use Rattle.gem_vars.proofs.Keys.{put_more, rows_of}
 use Rattle.gem_vars.proofs.vars.put_constants.Goals as goal
 
-abbrev made : ConstantPlan → List ℕ → List ℕ → Constant
-made p name units =
+abbrev constant_of : ConstantPlan → List ℕ → List ℕ → Constant
+constant_of p name units =
     record { name = name; units = units; min = p.min; max = p.max; default = p.value; value = p.value }
 
 pub loop-planned-preserved : goal.loop-planned-preserved
@@ -17,9 +18,9 @@ loop-planned-preserved c =
     let rows = c.loop-planned.constants.entries in
     let name = c.in_ok-of.ensures ∙ c.as_slice.ensures in
     let units = c.in_ok-of-2.ensures ∙ c.as_slice-in-loop-planned.ensures in
-    let constant = made p c.in_ok-of.field-0 c.in_ok-of-2.field-0 in
+    let constant = constant_of p c.in_ok-of.field-0 c.in_ok-of-2.field-0 in
     let is : constant ≡ constant_after [] (get_or c.args.plan.now i p) =
-    ap (λ (t : List ℕ). made p t c.in_ok-of-2.field-0) name ∙ ap (made p p.name) units
+    ap (λ (t : List ℕ). constant_of p t c.in_ok-of-2.field-0) name ∙ ap (constant_of p p.name) units
     ∙ ap (constant_after []) c.planned-item.is in
     put_more (λ (x : ConstantPlan). x.ecid) (constant_after []) c.args.plan.now i p constant rows
     c.insert.new.self.entries

@@ -1,7 +1,8 @@
 use Rattle.std.proofs.Common.{[], ◌++◌, drop}
+use Rattle.gem_tables.specs.Rows.{rows_of}
+use Rattle.gem_tables.proofs.Putting.{ArePut}
 use Rattle.gem_vars.specs.declared.plan.ConstantPlan.{ConstantPlan}
 use Rattle.gem_vars.specs.History.{constant_after}
-use Rattle.gem_vars.proofs.Keys.{ArePut, rows_of}
 use Rattle.gem_vars.proofs.vars.put_constants.Given as goal
 
 -- the constants so far are put

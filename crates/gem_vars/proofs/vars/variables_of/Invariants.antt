@@ -1,7 +1,8 @@
 use Rattle.std.proofs.Common.{[], drop}
+use Rattle.gem_tables.specs.Rows.{rows_of}
+use Rattle.gem_tables.proofs.Putting.{ArePut}
 use Rattle.gem_vars.specs.declared.plan.VariablePlan.{VariablePlan}
 use Rattle.gem_vars.specs.History.{variable_after}
-use Rattle.gem_vars.proofs.Keys.{ArePut, rows_of}
 use Rattle.gem_vars.proofs.vars.variables_of.Given as goal
 
 -- the variables so far are put

@@ -1,17 +1,17 @@
 use Rattle.std.proofs.Common.{◌≡◌, sym, ◌∙◌, ap, length, arith}
-use Rattle.gem_alarms.specs.Alarms.{AlarmTable, enabled_by}
-use Rattle.gem_alarms.proofs.Enabling.{enabled_first, enabled_more, enabled_whole, enabled_within}
+use Rattle.gem_tables.proofs.First.{changed_first, changed_more, changed_whole, changed_within}
+use Rattle.gem_alarms.specs.Alarms.{AlarmTable, enabled_by, with_enabled}
 use Rattle.gem_alarms.proofs.alarms.Alarms.enable.Goals as goal
 
 pub index_mut-requires : goal.index_mut-requires
 index_mut-requires c =
-    enabled_within c.args.on c.loop-i.i c.args.self.now _ c.loop-i.invariant
+    changed_within (with_enabled c.args.on) c.loop-i.i c.args.self.now _ c.loop-i.invariant
     (let same = ap (λ (t : AlarmTable). length t) c.self.view_is in
     omega (arith, same, c.len-i-end.ensures.len))
 
 pub loop-i-preserved : goal.loop-i-preserved
 loop-i-preserved c =
-    enabled_more c.args.on c.loop-i.i c.args.self.now _ c.index_mut.result.now c.loop-i.invariant
+    changed_more (with_enabled c.args.on) c.loop-i.i c.args.self.now _ c.index_mut.result.now c.loop-i.invariant
     c.index_mut.ensures.value
 
 pub returns-in_default-clause-table : goal.returns-in_default-clause-table
@@ -19,6 +19,6 @@ returns-in_default-clause-table c =
     let same = ap (λ (t : AlarmTable). length t) c.self.view_is in
     let end : c.loop-i.i ≡ length c.args.self.now = omega (arith, same, c.len-i-end.ensures.len) in
     c.loop-i.invariant
-    ∙ ap (λ n. enabled_first c.args.on n c.args.self.now) end
-    ∙ enabled_whole c.args.on c.args.self.now
+    ∙ ap (λ n. changed_first (with_enabled c.args.on) n c.args.self.now) end
+    ∙ changed_whole (with_enabled c.args.on) c.args.self.now
     ∙ ap (λ o. enabled_by o c.args.on c.args.self.now) (sym c.in_default.is)

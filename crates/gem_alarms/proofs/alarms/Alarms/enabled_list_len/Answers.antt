@@ -1,10 +1,9 @@
-use Rattle.std.proofs.Common.{◌≡◌, refl, ◌∙◌, ap, ◌+◌, length, arith, ◌<◌, ◌^◌}
+use Rattle.std.proofs.Common.{◌≡◌, refl, sym, ap, ◌+◌, length, arith, ◌<◌, ◌^◌}
 use Rattle.std.proofs.lemmas.Map.Iter.{rest_all, rest_more}
 use Rattle.std.specs.Map.Iter.{deref_pair}
-use Rattle.secs_items.specs.declared.kind.Kind.TheVariants as kind
-use Rattle.secs_items.specs.Spelling.{shortest_head}
+use Rattle.secs_items.proofs.SpelledLengths.{together}
 use Rattle.gem_alarms.specs.Alarms.{AlarmTable, enabled_items}
-use Rattle.gem_alarms.proofs.Spelled.{counted_more, list_len, long, measured}
+use Rattle.gem_alarms.proofs.Spelled.{counted_more, measured}
 use Rattle.gem_alarms.proofs.alarms.Alarms.enabled_list_len.Goals as goal
 
 pub overflow_add-count : goal.overflow_add-count
@@ -22,10 +21,9 @@ returns c =
     let none = rest_all deref_pair c.loop-alarm.alarm-iterator _ c.next.result c.in-None.is c.next.ensures.steps in
     let items = enabled_items c.args.self.now in
     let len =
-    measured c.loop-alarm.len c.loop-alarm.alarm-iterator enabled_items (long items) refl
+    measured c.loop-alarm.len c.loop-alarm.alarm-iterator enabled_items (together items) refl
     c.loop-alarm.invariant.fits none c.loop-alarm.invariant.len in
     let left : length (enabled_items c.loop-alarm.alarm-iterator) ≡ 0 =
     ap (λ (t : AlarmTable). length (enabled_items t)) none in
     let count : c.loop-alarm.count ≡ length items = omega (arith, c.loop-alarm.invariant.count, left) in
-    list_len items c.saturating_add.result c.head_len.result c.loop-alarm.len c.saturating_add.ensures
-    (c.head_len.ensures.head ∙ ap (λ n. length (shortest_head kind.L n)) count) len
+    c.list_len.ensures items (sym count) len

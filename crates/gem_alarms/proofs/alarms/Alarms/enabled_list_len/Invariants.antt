@@ -1,7 +1,7 @@
 use Rattle.std.proofs.Common.{◌≡◌, ◌+◌, ◌<◌, ◌^◌, length}
 use Rattle.secs_items.specs.Measures.{capped}
+use Rattle.secs_items.proofs.SpelledLengths.{together}
 use Rattle.gem_alarms.specs.Alarms.{enabled_items}
-use Rattle.gem_alarms.proofs.Spelled.{long}
 use Rattle.gem_alarms.proofs.alarms.Alarms.enabled_list_len.Given as goal
 
 -- the number and the length so far, and those of what is left
@@ -9,5 +9,5 @@ abbrev pub invariant-loop-alarm : goal.invariant-loop-alarm
 invariant-loop-alarm l = record {
   count : l.count + length (enabled_items l.alarm-iterator) ≡ length (enabled_items l.self);
   fits : l.len < 2 ^ 64;
-  len : capped (l.len + long (enabled_items l.alarm-iterator)) ≡ capped (long (enabled_items l.self));
+  len : capped (l.len + together (enabled_items l.alarm-iterator)) ≡ capped (together (enabled_items l.self));
 }

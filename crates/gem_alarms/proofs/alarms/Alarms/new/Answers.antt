@@ -1,10 +1,10 @@
 use Rattle.std.proofs.Common.{◌≡◌, ◌∙◌, ap, ℕ, List, [], get_or, false, arith}
 use Rattle.indexmap.specs.IndexMap.{insert_entry}
 use Rattle.std.specs.Prelude.{nat_eq}
+use Rattle.gem_tables.proofs.Putting.{put_more}
 use Rattle.gem_alarms.specs.declared.alarm.Alarm.{Alarm}
 use Rattle.gem_alarms.specs.declared.plan.AlarmPlan.{AlarmPlan}
-use Rattle.gem_alarms.specs.History.{alarm_after}
-use Rattle.gem_alarms.proofs.Planned.{planned_more}
+use Rattle.gem_alarms.specs.History.{alarm_after, alarms_at}
 use Rattle.gem_alarms.proofs.alarms.Alarms.new.Goals as goal
 
 pub loop-planned-preserved : goal.loop-planned-preserved
@@ -21,7 +21,8 @@ loop-planned-preserved c =
     let is : alarm ≡ alarm_after [] (get_or c.args.plan.now i p) =
     ap (λ (t : List ℕ). record { category = p.category; text = t; is_enabled = p.enabled; is_set = false }) text
     ∙ ap (alarm_after []) c.planned-item.is in
-    planned_more c.args.plan.now i p c.loop-planned.alarms.entries c.insert.new.self.entries alarm c.requires.distinct
-    (omega arith) is c.loop-planned.invariant
+    put_more (λ (q : AlarmPlan). q.alid) (alarm_after []) c.args.plan.now i p alarm c.loop-planned.alarms.entries
+    c.insert.new.self.entries (alarms_at c.args.plan.now []) (omega arith) is
     (c.in_ok-insert.ensures.entries
     ∙ ap (λ (q : AlarmPlan). insert_entry nat_eq c.loop-planned.alarms.entries q.alid alarm) c.planned-item.is)
+    c.loop-planned.invariant

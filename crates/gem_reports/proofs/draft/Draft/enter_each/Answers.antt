@@ -4,7 +4,7 @@ use Rattle.gem_shapes.specs.declared.entries.Definition.{Definition}
 use Rattle.gem_vars.specs.Tables.{value_in}
 use Rattle.gem_reports.specs.Answers.{define_entry, drack_by}
 use Rattle.gem_reports.specs.Drafts.{IsDraft}
-use Rattle.gem_reports.proofs.Entering.{defining_done, defining_more, defining_refused, not_done}
+use Rattle.gem_reports.proofs.Entering.{defining, defining_done, defining_more, defining_refused, not_done}
 use Rattle.gem_reports.proofs.draft.Draft.enter_each.Goals as goal
 
 pub returns-then-not-is_done-clause-answer : goal.returns-then-not-is_done-clause-answer
@@ -16,6 +16,11 @@ returns-then-not-is_done-clause-answer c = λ start past draft.
     (c.verdict-answer.ensures
     ∙ ap (λ (e : Definition). drack_by value (lookup (nat_eq e.rptid) reports) (length reports) e) c.entry-item.is)
     (not_done c.is_done.result _ c.is_done.ensures c.if-not-is_done.true) (c.loop-entry.invariant start past draft)
+
+pub loop-entry-init : goal.loop-entry-init
+loop-entry-init c = λ start past draft.
+    defining (value_in c.args.vars.now) c.args.self.now.standing c.args.self.now.deleted.keys start past c.args.list.now
+    draft
 
 pub loop-entry-preserved : goal.loop-entry-preserved
 loop-entry-preserved c = λ start past draft.

@@ -1,6 +1,6 @@
 use Rattle.std.proofs.Common.{◌≡◌, ◌∙◌, ap, length, arith}
+use Rattle.gem_tables.proofs.First.{changed_first, changed_more, changed_whole, changed_within}
 use Rattle.gem_reports.specs.Events.{EventTable, with_enabled}
-use Rattle.gem_reports.proofs.Rows.{changed_first, changed_more, changed_whole, changed_within}
 use Rattle.gem_reports.proofs.events.Events.enable_all.Goals as goal
 
 pub index_mut-requires : goal.index_mut-requires

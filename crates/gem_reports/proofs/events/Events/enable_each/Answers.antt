@@ -1,6 +1,7 @@
 use Rattle.std.proofs.Common.{◌∙◌, ap, arith}
 use Rattle.std.proofs.lemmas.List.{take_all}
-use Rattle.gem_reports.specs.Events.{with_each, with_enabled}
+use Rattle.gem_tables.specs.Rows.{with_each}
+use Rattle.gem_reports.specs.Events.{with_enabled}
 use Rattle.gem_reports.proofs.Rows.{enabled_more, enabled_named, enabled_so_far, event_row, none_enabled}
 use Rattle.gem_reports.proofs.events.Events.enable_each.Goals as goal
 

@@ -1,5 +1,5 @@
 use Rattle.std.proofs.Common.{◌≡◌, take}
-use Rattle.gem_reports.specs.Events.{with_each}
+use Rattle.gem_tables.specs.Rows.{with_each}
 use Rattle.gem_reports.proofs.Rows.{enabled_so_far}
 use Rattle.gem_reports.proofs.events.Events.enable_each.Given as goal
 

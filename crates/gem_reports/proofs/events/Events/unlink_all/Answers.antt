@@ -1,7 +1,7 @@
 use Rattle.std.proofs.Common.{◌≡◌, ◌∙◌, ap, List, [], ℕ, length, arith}
 use Rattle.indexmap.specs.IndexMap.{set_value_at}
+use Rattle.gem_tables.proofs.First.{changed_first, changed_more, changed_whole, changed_within}
 use Rattle.gem_reports.specs.Events.{EventTable, with_links}
-use Rattle.gem_reports.proofs.Rows.{changed_first, changed_more, changed_whole, changed_within}
 use Rattle.gem_reports.proofs.events.Events.unlink_all.Goals as goal
 
 pub index_mut-requires : goal.index_mut-requires

@@ -1,6 +1,6 @@
 use Rattle.std.proofs.Common.{◌≡◌, []}
+use Rattle.gem_tables.proofs.First.{changed_first}
 use Rattle.gem_reports.specs.Events.{with_links}
-use Rattle.gem_reports.proofs.Rows.{changed_first}
 use Rattle.gem_reports.proofs.events.Events.unlink_all.Given as goal
 
 -- the events so far have no links

@@ -4,9 +4,10 @@ use Rattle.std.specs.List.{IsDistinct}
 use Rattle.std.specs.Map.{keys_of}
 use Rattle.std.specs.Map.Iter.{deref_pair}
 use Rattle.indexmap.specs.IndexMap.{insert_entry}
+use Rattle.gem_tables.proofs.Putting.{each_more}
+use Rattle.gem_tables.specs.Rows.{with_each}
 use Rattle.gem_reports.specs.declared.event.Event.{Event}
 use Rattle.gem_reports.specs.Events.{EventTable, without}
-use Rattle.gem_reports.proofs.Copied.{copied, copied_more}
 use Rattle.gem_reports.proofs.events.Events.without.Goals as goal
 
 pub loop-ceid-preserved-in_ok-insert : goal.loop-ceid-preserved-in_ok-insert
@@ -16,11 +17,11 @@ loop-ceid-preserved-in_ok-insert c =
     let at = rest_more deref_pair c.loop-ceid.ceid-iterator _ c.next.result _ c.in-Some.is c.next.ensures.steps in
     let distinct =
     subst (λ (t : EventTable). IsDistinct nat_eq (keys_of t)) c.self.view_is c.iter-ceid-items.ensures.unique in
-    ap (λ (t : EventTable). t ++ copied f c.next.new.self)
+    ap (λ (t : EventTable). t ++ with_each f c.next.new.self)
     (c.in_ok-insert.ensures.entries
     ∙ ap (λ (e : Event). insert_entry nat_eq rows c.in-Some.ceid.now e) (c.in_ok-without.ensures c.in-Some.ceid.now))
-    ∙ copied_more f rows c.args.self.now (c.in-Some.ceid.now, c.in-Some.event.now) c.next.new.self distinct
-    (ap (λ (t : EventTable). rows ++ copied f t) (sym at) ∙ c.loop-ceid.invariant)
+    ∙ each_more f rows c.args.self.now (c.in-Some.ceid.now, c.in-Some.event.now) c.next.new.self distinct
+    (ap (λ (t : EventTable). rows ++ with_each f t) (sym at) ∙ c.loop-ceid.invariant)
 
 pub loop-ceid-preserved : goal.loop-ceid-preserved
 loop-ceid-preserved c =
@@ -29,8 +30,8 @@ loop-ceid-preserved c =
     let at = rest_more deref_pair c.loop-ceid.ceid-iterator _ c.next.result _ c.in-Some.is c.next.ensures.steps in
     let distinct =
     subst (λ (t : EventTable). IsDistinct nat_eq (keys_of t)) c.self.view_is c.iter-ceid-items.ensures.unique in
-    ap (λ (t : EventTable). t ++ copied f c.next.new.self)
+    ap (λ (t : EventTable). t ++ with_each f c.next.new.self)
     (c.in_ok-insert.ensures.entries
     ∙ ap (λ (e : Event). insert_entry nat_eq rows c.in-Some.ceid.now e) (c.in_ok-without.ensures c.in-Some.ceid.now))
-    ∙ copied_more f rows c.args.self.now (c.in-Some.ceid.now, c.in-Some.event.now) c.next.new.self distinct
-    (ap (λ (t : EventTable). rows ++ copied f t) (sym at) ∙ c.loop-ceid.invariant)
+    ∙ each_more f rows c.args.self.now (c.in-Some.ceid.now, c.in-Some.event.now) c.next.new.self distinct
+    (ap (λ (t : EventTable). rows ++ with_each f t) (sym at) ∙ c.loop-ceid.invariant)

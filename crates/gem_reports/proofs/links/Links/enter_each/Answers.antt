@@ -3,10 +3,11 @@ use Rattle.std.specs.Map.{lookup}
 use Rattle.std.specs.Option.{option_map}
 use Rattle.secs_items.specs.Measures.{capped}
 use Rattle.gem_shapes.specs.declared.entries.Linking.{Linking}
+use Rattle.gem_tables.specs.Rows.{with_row}
 use Rattle.gem_reports.specs.declared.event.Event.{Event}
 use Rattle.gem_reports.specs.Answers.{lrack_by}
-use Rattle.gem_reports.specs.Events.{links_in_table, with_event, with_links}
-use Rattle.gem_reports.proofs.Entering.{linking_done, linking_more, linking_refused, not_done}
+use Rattle.gem_reports.specs.Events.{links_in_table, with_links}
+use Rattle.gem_reports.proofs.Entering.{linking, linking_done, linking_more, linking_refused, not_done}
 use Rattle.gem_reports.proofs.links.Links.enter_each.Goals as goal
 
 pub returns-then-not-is_done-clause-answer : goal.returns-then-not-is_done-clause-answer
@@ -20,6 +21,10 @@ returns-then-not-is_done-clause-answer c = λ events past draft.
     (λ rptid. lookup (nat_eq rptid) c.args.standing.now) count e) c.entry-item.is)
     (not_done c.is_done.result _ c.is_done.ensures c.if-not-is_done.true) (c.loop-entry.invariant events past draft)
 
+pub loop-entry-init : goal.loop-entry-init
+loop-entry-init c = λ events past draft.
+    linking c.args.self.now.events c.args.self.now.count c.args.standing.now events past c.args.list.now draft
+
 pub loop-entry-preserved : goal.loop-entry-preserved
 loop-entry-preserved c = λ events past draft.
     let table = c.loop-entry.self.events in
@@ -29,7 +34,7 @@ loop-entry-preserved c = λ events past draft.
     (sym (c.is_done.ensures.0 c.if-not-is_done.false) ∙ c.verdict-answer.ensures
     ∙ ap (λ (e : Linking). lrack_by (option_map (λ (event : Event). event.rptids) (lookup (nat_eq e.ceid) table))
     (λ rptid. lookup (nat_eq rptid) c.args.standing.now) count e) c.entry-item.is)
-    (c.in_ok-enter.ensures.table ∙ ap (λ (e : Linking). with_event e.ceid (with_links e.rptids) table) c.entry-item.is)
+    (c.in_ok-enter.ensures.table ∙ ap (λ (e : Linking). with_row e.ceid (with_links e.rptids) table) c.entry-item.is)
     c.in_ok-enter.ensures.distinct
     (c.in_ok-enter.ensures.count
     ∙ ap (λ (e : Linking). capped (count - length (links_in_table table e.ceid) + length e.rptids)) c.entry-item.is)

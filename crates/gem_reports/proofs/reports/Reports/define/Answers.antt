@@ -1,6 +1,7 @@
 use Rattle.std.proofs.Common.{sym, ◌∙◌, ap, subst}
+use Rattle.gem_tables.specs.Rows.{with_each}
 use Rattle.gem_reports.specs.Answers.{past_with_definitions}
-use Rattle.gem_reports.specs.Events.{with_no_links, with_each, without}
+use Rattle.gem_reports.specs.Events.{with_no_links, without}
 use Rattle.gem_reports.specs.Tables.{ReportsView, StandsFor}
 use Rattle.gem_reports.proofs.Entering.{defined_stands, deleted_stands, drafted_copy, some_defined}
 use Rattle.gem_reports.proofs.reports.Reports.define.Goals as goal

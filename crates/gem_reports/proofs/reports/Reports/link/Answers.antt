@@ -1,5 +1,6 @@
 use Rattle.std.proofs.Common.{sym, ◌∙◌, ap, subst, List, ℕ}
-use Rattle.gem_reports.specs.Events.{with_each, without}
+use Rattle.gem_tables.specs.Rows.{with_each}
+use Rattle.gem_reports.specs.Events.{without}
 use Rattle.gem_reports.specs.Tables.{ReportsView, StandsFor}
 use Rattle.gem_reports.proofs.Entering.{link_drafted}
 use Rattle.gem_reports.proofs.reports.Reports.link.Goals as goal

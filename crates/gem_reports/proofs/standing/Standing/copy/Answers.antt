@@ -4,8 +4,8 @@ use Rattle.std.specs.List.{IsDistinct}
 use Rattle.std.specs.Map.{keys_of}
 use Rattle.std.specs.Map.Iter.{deref_pair}
 use Rattle.indexmap.specs.IndexMap.{insert_entry}
+use Rattle.gem_tables.proofs.Putting.{same_more}
 use Rattle.gem_reports.specs.Tables.{ReportTable}
-use Rattle.gem_reports.proofs.Copied.{same_more}
 use Rattle.gem_reports.proofs.standing.Standing.copy.Goals as goal
 
 pub loop-rptid-preserved-in_ok-insert : goal.loop-rptid-preserved-in_ok-insert

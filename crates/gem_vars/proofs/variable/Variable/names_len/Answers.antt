@@ -1,11 +1,13 @@
-use Rattle.std.proofs.Common.{ap, arith}
-use Rattle.gem_vars.specs.Listing.{text_length}
-use Rattle.gem_vars.proofs.Sizes.{names_long}
+use Rattle.std.proofs.Common.{refl, ap, List, ℕ, length, arith}
+use Rattle.secs_items.specs.declared.item.Item.TheVariants as item
+use Rattle.secs_items.specs.Spelling.{shortest_spelling}
+use Rattle.gem_vars.proofs.Sizes.{name_parts, names_together}
 use Rattle.gem_vars.proofs.variable.Variable.names_len.Goals as goal
 
 pub returns : goal.returns
 returns c = λ vid.
-    let long = names_long vid c.args.self.now.name c.args.self.now.units in
-    let name = ap text_length c.len.ensures in
-    let units = ap text_length c.len-2.ensures in
-    omega (arith, long, name, units, c.texts_len.ensures)
+    let known = c.args.self.now in
+    let name = ap (λ (t : List ℕ). length (shortest_spelling (item.A t))) c.as_slice-name.ensures in
+    let units = ap (λ (t : List ℕ). length (shortest_spelling (item.A t))) c.as_slice-units.ensures in
+    c.list_len.ensures (name_parts vid known.name known.units) refl
+    (omega (arith, names_together vid known.name known.units, name, units, c.texts_len.ensures))
