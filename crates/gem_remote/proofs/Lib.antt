@@ -1,2 +1,3 @@
-mod Distinct
+mod Measured
+mod Reading
 mod Refusing

@@ -1,9 +1,12 @@
 -- What remote commands and texts for terminals are answered.
-use Rattle.std.specs.Prelude.{◌≡◌, ◌≢◌, ◌⊎◌, ◌==◌, ℕ, Bool, true, false, List, [], ◌∷◌, ◌++◌, map, nat_le, Contains, Option, Some, None, if◌then◌else◌}
-use Rattle.std.specs.List.{find}
+use Rattle.std.specs.Prelude.{◌≡◌, ◌≢◌, ◌⊎◌, ◌==◌, ℕ, Bool, true, false, List, [], ◌∷◌, ◌++◌, length, map, nat_le, Contains, Option, Some, None, if◌then◌else◌}
+use Rattle.std.specs.List.{find, flat_map}
 use Rattle.secs_items.specs.declared.item.Item.{Item, out-Item}
 use Rattle.secs_items.specs.declared.item.Item.TheVariants as item
 use Rattle.secs_items.specs.Layers.{kind_of}
+use Rattle.secs_items.specs.Measures.{capped}
+use Rattle.secs_items.specs.Spelling.{shortest_spelling}
+use Rattle.gem_shapes.specs.Answers.{code_item, pair_item}
 use Rattle.gem_remote.specs.declared.plan.CommandPlan.{CommandPlan}
 use Rattle.gem_remote.specs.declared.plan.ParamPlan.{ParamPlan}
 use Rattle.gem_remote.specs.declared.plan.RemotePlan.{RemotePlan}
@@ -18,7 +21,7 @@ pub record Param : Type 0 where
   pub value : Item
 
 abbrev pub param_item : Param → Item
-param_item param = item.L (item.A param.name ∷ param.value ∷ [])
+param_item param = pair_item (item.A param.name) param.value
 
 -- the second part of S2F41 (SEMI E5, S2F41)
 abbrev pub params_item : List Param → Item
@@ -63,11 +66,11 @@ AreRefusals plans (param ∷ params) refusals =
     × (refusals ≡ (if cpack == 0 then others else (param.name, cpack) ∷ others))
 
 abbrev pub refusal_item : List ℕ × ℕ → Item
-refusal_item refusal = item.L (item.A refusal.0 ∷ item.B (refusal.1 ∷ []) ∷ [])
+refusal_item refusal = pair_item (item.A refusal.0) (code_item refusal.1)
 
 -- HCACK, and the body of S2F42 (SEMI E5, S2F42)
 abbrev pub remoted_with : ℕ → List Item → Remoted
-remoted_with hcack items = record { hcack = hcack; reply = item.L (item.B (hcack ∷ []) ∷ item.L items ∷ []) }
+remoted_with hcack items = record { hcack = hcack; reply = pair_item (code_item hcack) (item.L items) }
 
 abbrev pub remoted_of : ℕ → List (List ℕ × ℕ) → Remoted
 remoted_of hcack refusals = remoted_with hcack (map refusal_item refusals)
@@ -77,11 +80,24 @@ abbrev pub HasRefusals : List ParamPlan → List Param → List Item → Type 0
 HasRefusals plans params items =
     (refusals : List (List ℕ × ℕ)) × AreRefusals plans params refusals × (items ≡ map refusal_item refusals)
 
--- the item of one parameter's refusal was put, or none where it is right
+-- the item of a parameter's refusal, or none where it is right
+abbrev pub refusal_items : Param → ℕ → List Item
+refusal_items param cpack = if cpack == 0 then [] else refusal_item (param.name, cpack) ∷ []
+
+-- these were put behind what was there
 abbrev pub PutsRefusal : List ParamPlan → Param → List Item → List Item → Type 0
 PutsRefusal plans param old new =
-    (cpack : ℕ) × IsCpack plans param cpack
-    × (new ≡ old ++ (if cpack == 0 then [] else refusal_item (param.name, cpack) ∷ []))
+    (cpack : ℕ) × IsCpack plans param cpack × (new ≡ old ++ refusal_items param cpack)
+
+-- how many items there are, and how many bytes they have together
+abbrev pub IsSizeOf : List Item → ℕ × ℕ → Type 0
+IsSizeOf items size = (size.0 ≡ length items) × (size.1 ≡ capped (length (flat_map shortest_spelling items)))
+
+-- of a parameter's refusal, if it has one
+abbrev pub HasRefusalSize : List ParamPlan → Param → ℕ × ℕ → Type 0
+HasRefusalSize plans param size =
+    (cpack : ℕ) × IsCpack plans param cpack × (size.0 ≡ (if cpack == 0 then 0 else 1))
+    × (size.1 ≡ (if cpack == 0 then 0 else capped (length (shortest_spelling (refusal_item (param.name, cpack))))))
 
 -- 3 where a parameter isn't right, else 4 where the command will be carried out later, else 0 (SEMI E5, HCACK)
 abbrev pub planned_answer : Bool → List (List ℕ × ℕ) → Remoted

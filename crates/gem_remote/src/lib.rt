@@ -2,10 +2,13 @@
 //! and stream 10).
 #![tactic(auto)]
 
+mod laws;
+mod lengths;
 mod plan;
 mod remote;
 #[cfg(test)]
 mod tests;
 
+pub use laws::parameters_are_read;
 pub use plan::{CommandPlan, ParamPlan, RemotePlan};
 pub use remote::{Ackc10, Remote, Remoted};

@@ -3,6 +3,7 @@ ghost use Rattle.gem_remote.specs.Commands.{Answers, AnswersFor, HasRefusals, Is
 ghost use Rattle.gem_remote.specs.Plan.{RemoteFits};
 
 use crate::plan::{CommandPlan, ParamPlan, RemotePlan};
+use gem_shapes::{code_item, pair_item};
 use gl_base::{NoMemory, Row};
 use secs_items::{Item, ItemView};
 use std::alloc::Global;
@@ -28,7 +29,7 @@ pub enum Ackc10 {
 /// The remote commands of the plan, and its terminals.
 #[derive(Debug, Drop)]
 pub struct Remote {
-    plan: RemotePlan,
+    pub(crate) plan: RemotePlan,
 }
 
 impl Model for Remote {
@@ -144,7 +145,7 @@ fn put_refusal(
     Ok(())
 }
 
-fn cpack_of(command: &CommandPlan, name: &[u8], value: &Item) -> u8
+pub(crate) fn cpack_of(command: &CommandPlan, name: &[u8], value: &Item) -> u8
     ensures { IsCpack command.now.params (record { name = name.now; value = value.now }) result }
 {
     match command.param(name) {
@@ -182,21 +183,15 @@ fn is_allowed(values: &[Item], value: &Item) -> bool
 fn refusal(alloc: Global, name: &[u8], cpack: u8) -> Result<Item, NoMemory>
     ensures { IfOk result (λ refusal. refusal ≡ refusal_item (name.now, cpack)) }
 {
-    let mut parts = Row::new(alloc);
-    parts.push(Item::A(Row::of(alloc, name)?))?;
-    parts.push(Item::B(Row::of(alloc, &[cpack])?))?;
-    Ok(Item::L(parts))
+    let name = Item::text(alloc, name)?;
+    pair_item(alloc, name, code_item(alloc, cpack)?)
 }
 
 // The answer with this HCACK, and with these items on parameters.
 fn answer_of(alloc: Global, hcack: u8, refusals: Row<Item>) -> Result<Remoted, NoMemory>
     ensures { IfOk result (λ answer. answer ≡ remoted_with hcack refusals) }
 {
-    let mut parts = Row::new(alloc);
-    parts.push(Item::B(Row::of(alloc, &[hcack])?))?;
-    parts.push(Item::L(refusals))?;
-    Ok(Remoted {
-        hcack,
-        reply: Item::L(parts),
-    })
+    let code = code_item(alloc, hcack)?;
+    let reply = pair_item(alloc, code, Item::L(refusals))?;
+    Ok(Remoted { hcack, reply })
 }

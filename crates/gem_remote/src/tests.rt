@@ -134,9 +134,13 @@ fn is_answered(alloc: Global, remote: &Remote, case: &Case) -> bool {
     let Ok(answer) = remote.command(alloc, local, name, &params) else {
         return false;
     };
+    let Ok(len) = remote.reply_len(alloc, local, name, &params) else {
+        return false;
+    };
     let mut spelling = Row::new(alloc);
     encode_into(&answer.reply, &mut spelling).is_ok()
         && spelling.as_slice() == reply
+        && len == reply.len()
         && spelling.as_slice().get(4).copied() == Some(answer.hcack)
 }
 

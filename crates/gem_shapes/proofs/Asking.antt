@@ -13,7 +13,7 @@ use Rattle.gem_shapes.specs.declared.primary.Primary.{Primary}
 use Rattle.gem_shapes.specs.declared.primary.Primary.TheVariants as primary
 use Rattle.gem_shapes.specs.declared.request.Request.{Request}
 use Rattle.gem_shapes.specs.Elements.{is_empty_list}
-use Rattle.gem_shapes.specs.Requests.{AsksFor, FitsShape, IsAskedByItem, IsFound, IsNothing, Shape, reads, shape_of}
+use Rattle.gem_shapes.specs.Requests.{AsksFor, FitsShape, IsAskedByItem, IsFound, IsNothing, Shape, request_in, shape_of}
 use Rattle.gem_shapes.specs.Requests.Shape.{Anything, Nothing, OneItem}
 
 -- ---- one thing at most
@@ -77,7 +77,7 @@ nothing_is i body b s e = (
 -- of every other primary what it asks for is asked for by one item
 pub by_item : {E : Type 0} (p : Primary) (body : List ℕ) (r : Result (Option Request) E) → (p ≡ primary.S1F1 → ⊥) → (p ≡ primary.S1F13 → ⊥)
     → (p ≡ primary.S1F15 → ⊥) → (p ≡ primary.S1F17 → ⊥) → (p ≡ primary.S5F7 → ⊥)
-    → IfOk r (λ found. IsFound (IsAskedByItem (reads (shape_of p)) body) found) → IfOk r (λ found. IsFound (AsksFor (Some p) body) found)
+    → IfOk r (λ found. IsFound (IsAskedByItem (request_in (shape_of p)) body) found) → IfOk r (λ found. IsFound (AsksFor (Some p) body) found)
 by_item primary.S1F1 body r a b c d e h = absurd (a refl)
 by_item primary.S1F3 body r a b c d e h = h
 by_item primary.S1F11 body r a b c d e h = h

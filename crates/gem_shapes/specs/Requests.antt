@@ -49,38 +49,38 @@ pub data Shape : Type 0 where
   OneItem : (read : Item → Option Request) → Shape
 
 -- one item, of which the request is made
-abbrev pub made : {T : Type 0} → (T → Request) → (Item → Option T) → Shape
-made make read = OneItem (λ item. option_map make (read item))
+abbrev pub item_shape : {T : Type 0} → (T → Request) → (Item → Option T) → Shape
+item_shape make read = OneItem (λ item. option_map make (read item))
 
 -- what one item is read as, where the shape is one item
-abbrev pub reads : Shape → Item → Option Request
-reads (OneItem read) item = read item
-reads _ item = None
+abbrev pub request_in : Shape → Item → Option Request
+request_in (OneItem read) item = read item
+request_in _ item = None
 
 abbrev pub shape_of : Primary → Shape
 shape_of primary.S1F1 = Nothing request.AreYouThere
-shape_of primary.S1F3 = made request.StatusValues (each identifier)
-shape_of primary.S1F11 = made request.StatusNames (each identifier)
+shape_of primary.S1F3 = item_shape request.StatusValues (each identifier)
+shape_of primary.S1F11 = item_shape request.StatusNames (each identifier)
 shape_of primary.S1F13 = Anything request.Establish
 shape_of primary.S1F15 = Nothing request.GoOffline
 shape_of primary.S1F17 = Nothing request.GoOnline
-shape_of primary.S2F13 = made request.ConstantValues (each identifier)
-shape_of primary.S2F15 = made request.SetConstants (each (both identifier setting))
-shape_of primary.S2F29 = made request.ConstantNames (each identifier)
-shape_of primary.S2F33 = made (λ x. request.Define x.0 x.1) (both identifier (each definition))
-shape_of primary.S2F35 = made (λ x. request.Link x.0 x.1) (both identifier (each linking))
-shape_of primary.S2F37 = made (λ x. request.EnableEvents x.0 x.1) (both flag (each identifier))
-shape_of primary.S2F39 = made (λ x. request.Announce x.0 x.1) (both identifier identifier)
-shape_of primary.S2F41 = made (λ x. request.Command x.0 x.1) (both text parameters)
-shape_of primary.S2F43 = made request.ReplaceRule (each rule_entry)
-shape_of primary.S5F3 = made (λ x. request.EnableAlarms (enables x.0) x.1) (both code identifier_or_all)
-shape_of primary.S5F5 = made request.Alarms identifiers
+shape_of primary.S2F13 = item_shape request.ConstantValues (each identifier)
+shape_of primary.S2F15 = item_shape request.SetConstants (each (both identifier setting))
+shape_of primary.S2F29 = item_shape request.ConstantNames (each identifier)
+shape_of primary.S2F33 = item_shape (λ x. request.Define x.0 x.1) (both identifier (each definition))
+shape_of primary.S2F35 = item_shape (λ x. request.Link x.0 x.1) (both identifier (each linking))
+shape_of primary.S2F37 = item_shape (λ x. request.EnableEvents x.0 x.1) (both flag (each identifier))
+shape_of primary.S2F39 = item_shape (λ x. request.Announce x.0 x.1) (both identifier identifier)
+shape_of primary.S2F41 = item_shape (λ x. request.Command x.0 x.1) (both text parameters)
+shape_of primary.S2F43 = item_shape request.ReplaceRule (each rule_entry)
+shape_of primary.S5F3 = item_shape (λ x. request.EnableAlarms (enables x.0) x.1) (both code identifier_or_all)
+shape_of primary.S5F5 = item_shape request.Alarms identifiers
 shape_of primary.S5F7 = Nothing request.EnabledAlarms
-shape_of primary.S6F15 = made request.EventReport identifier
-shape_of primary.S6F19 = made request.Report identifier
+shape_of primary.S6F15 = item_shape request.EventReport identifier
+shape_of primary.S6F19 = item_shape request.Report identifier
 shape_of primary.S6F23 = OneItem (λ item. option_and_then spool_request (small_number item))
-shape_of primary.S10F3 = made (λ x. request.Display x.0 x.1) (both code text)
-shape_of primary.S10F5 = made (λ x. request.DisplayLines x.0 x.1) (both code (each text))
+shape_of primary.S10F3 = item_shape (λ x. request.Display x.0 x.1) (both code text)
+shape_of primary.S10F5 = item_shape (λ x. request.DisplayLines x.0 x.1) (both code (each text))
 
 -- no byte, or an empty list
 abbrev pub IsNothing : List ℕ → Type 0

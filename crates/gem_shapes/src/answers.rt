@@ -28,7 +28,6 @@ pub fn pair_item(alloc: Global, first: Item, second: Item) -> Result<Item, NoMem
 pub fn identity_item(alloc: Global, mdln: &[u8], softrev: &[u8]) -> Result<Item, NoMemory>
     ensures { IfOk result (λ item. item ≡ identity_item mdln.now softrev.now) }
 {
-    let mdln = Item::A(Row::of(alloc, mdln)?);
-    let softrev = Item::A(Row::of(alloc, softrev)?);
-    pair_item(alloc, mdln, softrev)
+    let mdln = Item::text(alloc, mdln)?;
+    pair_item(alloc, mdln, Item::text(alloc, softrev)?)
 }

@@ -2,21 +2,21 @@
 
 use gl_base::Row;
 
-/// An entry of S2F33: a report and the variables whose values it has. Without variables it takes the report away.
+/// An entry of S2F33: an RPTID and the VIDs that stand with it.
 #[derive(Debug, Drop)]
 pub struct Definition {
     pub rptid: u32,
     pub vids: Row<u32>,
 }
 
-/// An entry of S2F35: an event and the reports that it carries. Without reports it takes the event's links away.
+/// An entry of S2F35: a CEID and the RPTIDs that stand with it.
 #[derive(Debug, Drop)]
 pub struct Linking {
     pub ceid: u32,
     pub rptids: Row<u32>,
 }
 
-/// An entry of S2F43: a stream and its functions that are spooled. Without functions they are all of its primaries.
+/// An entry of S2F43: an STRID and the FCNIDs that stand with it.
 #[derive(Debug, Drop)]
 pub struct RuleEntry {
     pub stream: u8,

@@ -110,14 +110,14 @@ impl Primary {
     }
 }
 
-/// Whether the equipment takes some primary of this stream. Where it doesn't, S9F3 is due.
+/// Whether the equipment takes some primary of this stream.
 pub fn is_known_stream(stream: u8) -> bool
     ensures { result ≡ is_known_stream stream }
 {
     matches!(stream, 1 | 2 | 5 | 6 | 10)
 }
 
-/// Whether the equipment takes this primary. Where it doesn't and its stream is known, S9F5 is due.
+/// Whether the equipment takes the primary of this stream and function.
 pub fn is_known(stream: u8, function: u8) -> bool
     ensures { result ≡ is_known stream function }
 {

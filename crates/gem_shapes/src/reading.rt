@@ -2,7 +2,7 @@
 
 ghost use Rattle.std.specs.Prelude.{◌≡◌, ◌↔◌, Some, IfOk, IsTrue};
 ghost use Rattle.gem_shapes.specs.declared.primary.Primary.TheVariants as primary;
-ghost use Rattle.gem_shapes.specs.Requests.{Asks, AsksFor, FitsShape, IsAskedByItem, IsFound, IsNothing, reads, shape_of};
+ghost use Rattle.gem_shapes.specs.Requests.{Asks, AsksFor, FitsShape, IsAskedByItem, IsFound, IsNothing, request_in, shape_of};
 ghost use Rattle.gem_shapes.specs.Requests.Shape.{Nothing};
 
 use crate::entries::{Definition, Linking, RuleEntry};
@@ -70,7 +70,7 @@ impl Primary {
         alloc: Global,
         body: &'a [u8],
     ) -> Result<Option<Request<'a>>, NoMemory>
-        ensures { IfOk result (λ found. IsFound (IsAskedByItem (reads (shape_of self)) body.now) found) }
+        ensures { IfOk result (λ found. IsFound (IsAskedByItem (request_in (shape_of self)) body.now) found) }
     {
         match part_of(body) {
             Some(part) => self.read(alloc, part),
@@ -80,7 +80,7 @@ impl Primary {
 
     /// What the item asks for.
     fn read<'a>(self, alloc: Global, part: Part<'a>) -> Result<Option<Request<'a>>, NoMemory>
-        ensures { IfOk result (λ found. found ≡ reads (shape_of self) part.entry.item) }
+        ensures { IfOk result (λ found. found ≡ request_in (shape_of self) part.entry.item) }
     {
         match self {
             Primary::S1F3 => status_values(alloc, &part),
@@ -107,7 +107,7 @@ impl Primary {
 }
 
 fn status_values<'a>(alloc: Global, part: &Part<'a>) -> Result<Option<Request<'a>>, NoMemory>
-    ensures { IfOk result (λ found. found ≡ reads (shape_of primary.S1F3) part.now.item) }
+    ensures { IfOk result (λ found. found ≡ request_in (shape_of primary.S1F3) part.now.item) }
 {
     match Each::<Identifier>::read(alloc, part)? {
         Some(ids) => Ok(Some(Request::StatusValues(ids))),
@@ -116,7 +116,7 @@ fn status_values<'a>(alloc: Global, part: &Part<'a>) -> Result<Option<Request<'a
 }
 
 fn status_names<'a>(alloc: Global, part: &Part<'a>) -> Result<Option<Request<'a>>, NoMemory>
-    ensures { IfOk result (λ found. found ≡ reads (shape_of primary.S1F11) part.now.item) }
+    ensures { IfOk result (λ found. found ≡ request_in (shape_of primary.S1F11) part.now.item) }
 {
     match Each::<Identifier>::read(alloc, part)? {
         Some(ids) => Ok(Some(Request::StatusNames(ids))),
@@ -125,7 +125,7 @@ fn status_names<'a>(alloc: Global, part: &Part<'a>) -> Result<Option<Request<'a>
 }
 
 fn constant_values<'a>(alloc: Global, part: &Part<'a>) -> Result<Option<Request<'a>>, NoMemory>
-    ensures { IfOk result (λ found. found ≡ reads (shape_of primary.S2F13) part.now.item) }
+    ensures { IfOk result (λ found. found ≡ request_in (shape_of primary.S2F13) part.now.item) }
 {
     match Each::<Identifier>::read(alloc, part)? {
         Some(ids) => Ok(Some(Request::ConstantValues(ids))),
@@ -134,7 +134,7 @@ fn constant_values<'a>(alloc: Global, part: &Part<'a>) -> Result<Option<Request<
 }
 
 fn set_constants<'a>(alloc: Global, part: &Part<'a>) -> Result<Option<Request<'a>>, NoMemory>
-    ensures { IfOk result (λ found. found ≡ reads (shape_of primary.S2F15) part.now.item) }
+    ensures { IfOk result (λ found. found ≡ request_in (shape_of primary.S2F15) part.now.item) }
 {
     match Each::<Both<Identifier, Setting>>::read(alloc, part)? {
         Some(list) => Ok(Some(Request::SetConstants(list))),
@@ -143,7 +143,7 @@ fn set_constants<'a>(alloc: Global, part: &Part<'a>) -> Result<Option<Request<'a
 }
 
 fn constant_names<'a>(alloc: Global, part: &Part<'a>) -> Result<Option<Request<'a>>, NoMemory>
-    ensures { IfOk result (λ found. found ≡ reads (shape_of primary.S2F29) part.now.item) }
+    ensures { IfOk result (λ found. found ≡ request_in (shape_of primary.S2F29) part.now.item) }
 {
     match Each::<Identifier>::read(alloc, part)? {
         Some(ids) => Ok(Some(Request::ConstantNames(ids))),
@@ -152,7 +152,7 @@ fn constant_names<'a>(alloc: Global, part: &Part<'a>) -> Result<Option<Request<'
 }
 
 fn define<'a>(alloc: Global, part: &Part<'a>) -> Result<Option<Request<'a>>, NoMemory>
-    ensures { IfOk result (λ found. found ≡ reads (shape_of primary.S2F33) part.now.item) }
+    ensures { IfOk result (λ found. found ≡ request_in (shape_of primary.S2F33) part.now.item) }
 {
     match Both::<Identifier, Each<Definition>>::read(alloc, part)? {
         Some((dataid, list)) => Ok(Some(Request::Define { dataid, list })),
@@ -161,7 +161,7 @@ fn define<'a>(alloc: Global, part: &Part<'a>) -> Result<Option<Request<'a>>, NoM
 }
 
 fn link<'a>(alloc: Global, part: &Part<'a>) -> Result<Option<Request<'a>>, NoMemory>
-    ensures { IfOk result (λ found. found ≡ reads (shape_of primary.S2F35) part.now.item) }
+    ensures { IfOk result (λ found. found ≡ request_in (shape_of primary.S2F35) part.now.item) }
 {
     match Both::<Identifier, Each<Linking>>::read(alloc, part)? {
         Some((dataid, list)) => Ok(Some(Request::Link { dataid, list })),
@@ -170,7 +170,7 @@ fn link<'a>(alloc: Global, part: &Part<'a>) -> Result<Option<Request<'a>>, NoMem
 }
 
 fn enable_events<'a>(alloc: Global, part: &Part<'a>) -> Result<Option<Request<'a>>, NoMemory>
-    ensures { IfOk result (λ found. found ≡ reads (shape_of primary.S2F37) part.now.item) }
+    ensures { IfOk result (λ found. found ≡ request_in (shape_of primary.S2F37) part.now.item) }
 {
     match Both::<Flag, Each<Identifier>>::read(alloc, part)? {
         Some((on, ceids)) => Ok(Some(Request::EnableEvents { on, ceids })),
@@ -179,7 +179,7 @@ fn enable_events<'a>(alloc: Global, part: &Part<'a>) -> Result<Option<Request<'a
 }
 
 fn announce<'a>(alloc: Global, part: &Part<'a>) -> Result<Option<Request<'a>>, NoMemory>
-    ensures { IfOk result (λ found. found ≡ reads (shape_of primary.S2F39) part.now.item) }
+    ensures { IfOk result (λ found. found ≡ request_in (shape_of primary.S2F39) part.now.item) }
 {
     match Both::<Identifier, Identifier>::read(alloc, part)? {
         Some((dataid, length)) => Ok(Some(Request::Announce { dataid, length })),
@@ -188,7 +188,7 @@ fn announce<'a>(alloc: Global, part: &Part<'a>) -> Result<Option<Request<'a>>, N
 }
 
 fn replace_rule<'a>(alloc: Global, part: &Part<'a>) -> Result<Option<Request<'a>>, NoMemory>
-    ensures { IfOk result (λ found. found ≡ reads (shape_of primary.S2F43) part.now.item) }
+    ensures { IfOk result (λ found. found ≡ request_in (shape_of primary.S2F43) part.now.item) }
 {
     match Each::<RuleEntry>::read(alloc, part)? {
         Some(list) => Ok(Some(Request::ReplaceRule(list))),
@@ -197,7 +197,7 @@ fn replace_rule<'a>(alloc: Global, part: &Part<'a>) -> Result<Option<Request<'a>
 }
 
 fn alarms<'a>(alloc: Global, part: &Part<'a>) -> Result<Option<Request<'a>>, NoMemory>
-    ensures { IfOk result (λ found. found ≡ reads (shape_of primary.S5F5) part.now.item) }
+    ensures { IfOk result (λ found. found ≡ request_in (shape_of primary.S5F5) part.now.item) }
 {
     match Identifiers::read(alloc, part)? {
         Some(ids) => Ok(Some(Request::Alarms(ids))),
@@ -206,7 +206,7 @@ fn alarms<'a>(alloc: Global, part: &Part<'a>) -> Result<Option<Request<'a>>, NoM
 }
 
 fn event_report<'a>(alloc: Global, part: &Part<'a>) -> Result<Option<Request<'a>>, NoMemory>
-    ensures { IfOk result (λ found. found ≡ reads (shape_of primary.S6F15) part.now.item) }
+    ensures { IfOk result (λ found. found ≡ request_in (shape_of primary.S6F15) part.now.item) }
 {
     match Identifier::read(alloc, part)? {
         Some(ceid) => Ok(Some(Request::EventReport(ceid))),
@@ -215,7 +215,7 @@ fn event_report<'a>(alloc: Global, part: &Part<'a>) -> Result<Option<Request<'a>
 }
 
 fn report<'a>(alloc: Global, part: &Part<'a>) -> Result<Option<Request<'a>>, NoMemory>
-    ensures { IfOk result (λ found. found ≡ reads (shape_of primary.S6F19) part.now.item) }
+    ensures { IfOk result (λ found. found ≡ request_in (shape_of primary.S6F19) part.now.item) }
 {
     match Identifier::read(alloc, part)? {
         Some(rptid) => Ok(Some(Request::Report(rptid))),
@@ -224,7 +224,7 @@ fn report<'a>(alloc: Global, part: &Part<'a>) -> Result<Option<Request<'a>>, NoM
 }
 
 fn display<'a>(alloc: Global, part: &Part<'a>) -> Result<Option<Request<'a>>, NoMemory>
-    ensures { IfOk result (λ found. found ≡ reads (shape_of primary.S10F3) part.now.item) }
+    ensures { IfOk result (λ found. found ≡ request_in (shape_of primary.S10F3) part.now.item) }
 {
     match Both::<Code, Words>::read(alloc, part)? {
         Some((tid, text)) => Ok(Some(Request::Display { tid, text })),
@@ -233,7 +233,7 @@ fn display<'a>(alloc: Global, part: &Part<'a>) -> Result<Option<Request<'a>>, No
 }
 
 fn display_lines<'a>(alloc: Global, part: &Part<'a>) -> Result<Option<Request<'a>>, NoMemory>
-    ensures { IfOk result (λ found. found ≡ reads (shape_of primary.S10F5) part.now.item) }
+    ensures { IfOk result (λ found. found ≡ request_in (shape_of primary.S10F5) part.now.item) }
 {
     match Both::<Code, Each<Words>>::read(alloc, part)? {
         Some((tid, texts)) => Ok(Some(Request::DisplayLines { tid, texts })),
@@ -242,7 +242,7 @@ fn display_lines<'a>(alloc: Global, part: &Part<'a>) -> Result<Option<Request<'a
 }
 
 fn command<'a>(alloc: Global, part: &Part<'a>) -> Result<Option<Request<'a>>, NoMemory>
-    ensures { IfOk result (λ found. found ≡ reads (shape_of primary.S2F41) part.now.item) }
+    ensures { IfOk result (λ found. found ≡ request_in (shape_of primary.S2F41) part.now.item) }
 {
     let Some((name, params)) = two_of(part) else {
         return Ok(None);
@@ -260,7 +260,7 @@ fn command<'a>(alloc: Global, part: &Part<'a>) -> Result<Option<Request<'a>>, No
 }
 
 fn enable_alarms<'a>(alloc: Global, part: &Part<'a>) -> Result<Option<Request<'a>>, NoMemory>
-    ensures { IfOk result (λ found. found ≡ reads (shape_of primary.S5F3) part.now.item) }
+    ensures { IfOk result (λ found. found ≡ request_in (shape_of primary.S5F3) part.now.item) }
 {
     match Both::<Code, IdentifierOrAll>::read(alloc, part)? {
         Some((aled, alid)) => {
@@ -272,7 +272,7 @@ fn enable_alarms<'a>(alloc: Global, part: &Part<'a>) -> Result<Option<Request<'a
 }
 
 fn spool<'a>(alloc: Global, part: &Part<'a>) -> Result<Option<Request<'a>>, NoMemory>
-    ensures { IfOk result (λ found. found ≡ reads (shape_of primary.S6F23) part.now.item) }
+    ensures { IfOk result (λ found. found ≡ request_in (shape_of primary.S6F23) part.now.item) }
 {
     match SmallNumber::read(alloc, part)? {
         Some(0) => Ok(Some(Request::TransmitSpool)),

@@ -1,0 +1,5 @@
+use Rattle.gem_remote.proofs.Reading.{listed, read}
+use Rattle.gem_remote.proofs.laws.parameters_are_read.Goals as goal
+
+pub returns : goal.returns
+returns c = record { listed = listed; read = read }
