@@ -1,6 +1,7 @@
 -- A schedule's text that was read, and what came of it.
 use Rattle.std.proofs.Common.{◌≡◌, ℕ, List, Result, Ok, Err, refl, sym, ap, subst, inl, inr}
-use Rattle.line_schedule.specs.Schedule.{IsSchedule, LaterAt, OutsideAt, ReadsOnly, RefusesOnly}
+use Rattle.line_schedule.specs.Lines.{ReadsOnly, RefusesOnly}
+use Rattle.line_schedule.specs.Schedule.{IsSchedule, LaterAt, OutsideAt}
 use Rattle.line_schedule.specs.declared.event.Event.{Event}
 use Rattle.line_schedule.specs.declared.schedule.Schedule.{Schedule}
 use Rattle.line_schedule.specs.declared.schedule.ScheduleFault.{ScheduleFault}
@@ -16,7 +17,7 @@ use Rattle.gemline_app.specs.declared.outcome.Outcome.{Outcome}
 
 -- what the reading of a text says of its result
 pub record ReadsText (text : List ℕ) (result : Result Schedule ScheduleFault) : Type 0 where
-  pub only : (events : List Event) → IsSchedule text events → ReadsOnly events result
+  pub only : (events : List Event) → IsSchedule text events → ReadsOnly (λ (s : Schedule). s.events) events result
   pub line : (number : ℕ) → result ≡ Err (schedule_fault.Line number) → OutsideAt text number
   pub not_built : (number : ℕ) → result ≡ Err (schedule_fault.NotBuilt number) → LaterAt text number
   pub outside : (number : ℕ) → OutsideAt text number → RefusesOnly (schedule_fault.Line number) result
@@ -38,7 +39,7 @@ refuses text out (schedule_fault.Line number) reads untouched = (reads.line numb
 refuses text out (schedule_fault.NotBuilt number) reads untouched = (reads.not_built number refl, untouched)
 refuses text out schedule_fault.NoMemory reads untouched = untouched
 
-comes_only : (out : SinkTold) (fault named : ScheduleFault) → RefusesOnly named (Err fault) → IsUntouched out
+comes_only : (out : SinkTold) (fault named : ScheduleFault) → RefusesOnly {R = Schedule} named (Err fault) → IsUntouched out
     → ComesOnly (schedule_refusal named) out (schedule_refusal fault)
 comes_only out fault named (inl same) untouched = (inl (ap schedule_refusal same), untouched)
 comes_only out fault named (inr memory) untouched = (inr (ap schedule_refusal memory), untouched)

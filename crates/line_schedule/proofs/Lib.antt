@@ -1,7 +1,11 @@
-pub mod Decisions
-pub mod Following
+pub mod CommandReaders
+pub mod EventReaders
+pub mod ItemReaders
 pub mod LineEnds
-pub mod LineTests
 pub mod Places
+pub mod Ranges
+pub mod Readers
 pub mod ScheduleLaws
-pub mod WordTests
+pub mod ScriptLaws
+pub mod Telling
+pub mod WordReaders

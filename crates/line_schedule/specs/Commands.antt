@@ -1,122 +1,78 @@
--- The lines that are read and not carried out yet (this profile).
-use Rattle.std.specs.Prelude.{ℕ, ◌^◌, ◌-◌, ◌%◌, ◌==◌, ◌||◌, Bool, true, false, List, bytes_eq, codes, Option, Some, None, Result, Ok, Err, is_some}
-use Rattle.std.specs.Option.{option_map_or}
-use Rattle.secs_items.specs.declared.item.Item.{Item, out-Item}
-use Rattle.secs_items.specs.declared.kind.Kind.{Kind}
-use Rattle.secs_items.specs.declared.kind.Kind.TheVariants as kind
-use Rattle.secs_items.specs.Layers.{kind_of}
-use Rattle.secs_text.specs.declared.text_fault.TextFault.{TextFault}
-use Rattle.secs_text.specs.Reading.{read_text}
-use Rattle.line_schedule.specs.Words.{after_side, are_split, follows, is_from_to, is_hex_byte, is_number, number_up_to}
+-- The commands of both ends, found by functions that compute (this profile).
+use Rattle.std.specs.Prelude.{ℕ, ◌%◌, ◌==◌, Bool, true, false, List, codes, Option, Some, None, if◌then◌else◌}
+use Rattle.std.specs.Option.{option_and_then, option_map, option_or}
+use Rattle.trace_log.specs.declared.commands.HostCommand.{HostCommand}
+use Rattle.trace_log.specs.declared.commands.HostCommand.TheVariants as host
+use Rattle.trace_log.specs.declared.commands.ToolCommand.{ToolCommand}
+use Rattle.trace_log.specs.declared.commands.ToolCommand.TheVariants as tool
+use Rattle.line_schedule.specs.Items.{body_in, item_in, text_in}
+use Rattle.line_schedule.specs.Words.{any_number_in, number_in, read_after, read_split, word_in}
 
--- ---- items
+-- ---- the tool
 
-abbrev pub found : Result Item TextFault → Option Item
-found (Ok item) = Some item
-found (Err e) = None
+abbrev pub bare_tool_command_in : List ℕ → Option ToolCommand
+bare_tool_command_in text =
+    option_or (word_in (codes "enable") tool.Enable text)
+    (option_or (word_in (codes "disable") tool.Disable text)
+    (option_or (word_in (codes "online") tool.Online text)
+    (option_or (word_in (codes "offline") tool.Offline text)
+    (option_or (word_in (codes "local") tool.Local text) (word_in (codes "remote") tool.Remote text)))))
 
--- the item that all of the text reads as
-abbrev pub item_in : List ℕ → Option Item
-item_in text = found (read_text text)
+abbrev pub tool_event_in : List ℕ → Option ToolCommand
+tool_event_in text = option_map (λ ceid. tool.Event ceid) (read_after (codes "event ") any_number_in text)
 
-abbrev pub is_item : List ℕ → Bool
-is_item text = is_some (item_in text)
+-- whether an alarm is set
+abbrev pub alarm_state_in : List ℕ → Option Bool
+alarm_state_in text = option_or (word_in (codes "set") true text) (word_in (codes "clear") false text)
 
-abbrev pub is_text_kind : Kind → Bool
-is_text_kind kind.A = true
-is_text_kind _ = false
+abbrev pub alarm_in : List ℕ → Option ToolCommand
+alarm_in text =
+    option_map (λ x. tool.Alarm x.0 x.1)
+    (read_after (codes "alarm ") (read_split 32 any_number_in alarm_state_in) text)
 
--- an A
-abbrev pub is_text : Item → Bool
-is_text item = is_text_kind (kind_of (out-Item item))
+abbrev pub setting_in : List ℕ → Option ToolCommand
+setting_in text =
+    option_map (λ x. tool.Set x.0 x.1) (read_after (codes "set ") (read_split 32 any_number_in item_in) text)
 
-abbrev pub is_text_item : List ℕ → Bool
-is_text_item text = option_map_or is_text (item_in text) false
+abbrev pub terminal_in : List ℕ → Option ToolCommand
+terminal_in text =
+    option_map (λ x. tool.Terminal x.0 x.1)
+    (read_after (codes "terminal ") (read_split 32 (number_in 0 255) text_in) text)
 
--- ---- faults of the line and of the power
+-- a command without an item
+abbrev pub plain_tool_command_in : List ℕ → Option ToolCommand
+plain_tool_command_in text =
+    option_or (bare_tool_command_in text) (option_or (tool_event_in text) (alarm_in text))
 
-abbrev pub is_lose : List ℕ → Bool
-is_lose = follows (codes "lose ") (λ rest. option_map_or (λ x. is_number x.1) (after_side rest) false)
+abbrev pub tool_command_in : List ℕ → Option ToolCommand
+tool_command_in text =
+    option_or (plain_tool_command_in text) (option_or (setting_in text) (terminal_in text))
 
-abbrev pub is_place_and_byte : List ℕ → Bool
-is_place_and_byte = are_split 32 is_number is_hex_byte
-
-abbrev pub is_change : List ℕ → Bool
-is_change = follows (codes "change ") (λ rest. option_map_or (λ x. is_place_and_byte x.1) (after_side rest) false)
-
-abbrev pub is_add : List ℕ → Bool
-is_add = follows (codes "add ") (λ rest. option_map_or (λ x. is_hex_byte x.1) (after_side rest) false)
-
--- what becomes of the disk
-abbrev pub is_choice : List ℕ → Bool
-is_choice text =
-    bytes_eq text (codes "old") || (bytes_eq text (codes "new")
-    || (follows (codes "fill ") is_hex_byte text || follows (codes "first ") is_number text))
-
-abbrev pub is_cut : List ℕ → Bool
-is_cut = follows (codes "cut ") (are_split 32 (is_from_to 1 (2 ^ 32 - 1)) is_choice)
-
--- ---- commands of the tool
-
-abbrev pub is_bare_tool_command : List ℕ → Bool
-is_bare_tool_command text =
-    bytes_eq text (codes "enable") || (bytes_eq text (codes "disable") || (bytes_eq text (codes "online")
-    || (bytes_eq text (codes "offline") || (bytes_eq text (codes "local") || bytes_eq text (codes "remote")))))
-
-abbrev pub is_set : List ℕ → Bool
-is_set = follows (codes "set ") (are_split 32 is_number is_item)
-
-abbrev pub is_event : List ℕ → Bool
-is_event = follows (codes "event ") is_number
-
-abbrev pub is_set_or_clear : List ℕ → Bool
-is_set_or_clear text = bytes_eq text (codes "set") || bytes_eq text (codes "clear")
-
-abbrev pub is_alarm : List ℕ → Bool
-is_alarm = follows (codes "alarm ") (are_split 32 is_number is_set_or_clear)
-
-abbrev pub is_terminal : List ℕ → Bool
-is_terminal = follows (codes "terminal ") (are_split 32 (is_from_to 0 255) is_text_item)
-
-abbrev pub is_tool_command : List ℕ → Bool
-is_tool_command text =
-    is_bare_tool_command text || (is_event text || (is_alarm text || (is_set text || is_terminal text)))
-
--- ---- commands of the host
+-- ---- the host
 
 -- an odd number, as those of primary messages are
-abbrev pub is_function : List ℕ → Bool
-is_function text = option_map_or (λ n. n % 2 == 1) (number_up_to 255 text) false
+abbrev pub if_odd : ℕ → Option ℕ
+if_odd n = if n % 2 == 1 then Some n else None
 
--- SxFy
-abbrev pub is_message_name : List ℕ → Bool
-is_message_name = follows (codes "S") (are_split 70 (is_from_to 1 127) is_function)
+abbrev pub function_in : List ℕ → Option ℕ
+function_in text = option_and_then if_odd (number_in 0 255 text)
 
--- no body, or one item
-abbrev pub is_body : List ℕ → Bool
-is_body text = bytes_eq text (codes "-") || is_item text
+-- stream and function of SxFy
+abbrev pub message_name_in : List ℕ → Option (ℕ × ℕ)
+message_name_in = read_after (codes "S") (read_split 70 (number_in 1 127) function_in)
 
--- with or without the W bit
-abbrev pub is_waiting_body : List ℕ → Bool
-is_waiting_body = follows (codes "W ") is_body
+-- whether the W bit is set, and the body
+abbrev pub wait_and_body_in : List ℕ → Option (Bool × List ℕ)
+wait_and_body_in text =
+    option_or (option_map (λ body. (false, body)) (body_in text))
+    (option_map (λ body. (true, body)) (read_after (codes "W ") body_in text))
 
-abbrev pub is_rest_of_message : List ℕ → Bool
-is_rest_of_message text = is_body text || is_waiting_body text
+abbrev pub sending_in : List ℕ → Option HostCommand
+sending_in text =
+    option_map (λ x. host.Send x.0.0 x.0.1 x.1.0 x.1.1)
+    (read_after (codes "send ") (read_split 32 message_name_in wait_and_body_in) text)
 
-abbrev pub is_send : List ℕ → Bool
-is_send = follows (codes "send ") (are_split 32 is_message_name is_rest_of_message)
-
-abbrev pub is_host_command : List ℕ → Bool
-is_host_command text = bytes_eq text (codes "enable") || (bytes_eq text (codes "disable") || is_send text)
-
--- ---- lines
-
-abbrev pub is_tool_line : List ℕ → Bool
-is_tool_line = follows (codes "tool ") is_tool_command
-
-abbrev pub is_host_line : List ℕ → Bool
-is_host_line = follows (codes "host ") is_host_command
-
-abbrev pub is_later_line : List ℕ → Bool
-is_later_line line =
-    is_lose line || (is_change line || (is_add line || (is_cut line || (is_tool_line line || is_host_line line))))
+abbrev pub host_command_in : List ℕ → Option HostCommand
+host_command_in text =
+    option_or (word_in (codes "enable") host.Enable text)
+    (option_or (word_in (codes "disable") host.Disable text) (sending_in text))

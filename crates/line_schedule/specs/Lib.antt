@@ -1,7 +1,9 @@
 pub mod Commands
+pub mod Events
 pub mod Grammar
+pub mod Items
 pub mod Lines
-pub mod Meaning
 pub mod Reading
 pub mod Schedule
+pub mod Script
 pub mod Words

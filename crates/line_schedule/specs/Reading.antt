@@ -1,62 +1,101 @@
--- Reading a schedule line by line.
-use Rattle.std.specs.Prelude.{◌≡◌, ℕ, ◌+◌, nat_lt, List, [], ◌∷◌, Option, Some, None, Result, Ok, Err, if◌then◌else◌}
-use Rattle.std.specs.List.{filter_map}
-use Rattle.std.specs.Option.{option_and_then, option_or}
+-- Reading a schedule or a script line by line.
+use Rattle.std.specs.Prelude.{◌≡◌, ℕ, ◌+◌, ◌==◌, nat_lt, Bool, true, List, [], ◌∷◌, ◌++◌, Option, Some, None, Result, Ok, Err, if◌then◌else◌}
+use Rattle.gl_base.specs.declared.side.Side.{Side}
+use Rattle.gl_base.specs.declared.side.Side.TheVariants as side
+use Rattle.std.specs.Option.{option_map, option_or}
+use Rattle.std.specs.Prelude.{codes}
 use Rattle.line_schedule.specs.declared.event.Event.{Event}
-use Rattle.line_schedule.specs.declared.schedule.Schedule.{Schedule}
 use Rattle.line_schedule.specs.declared.schedule.ScheduleFault.{ScheduleFault}
 use Rattle.line_schedule.specs.declared.schedule.ScheduleFault.TheVariants as fault
-use Rattle.line_schedule.specs.Grammar.{Meaning, PassedOver, Tells, Later}
-use Rattle.line_schedule.specs.Lines.{lines_of}
-use Rattle.line_schedule.specs.Meaning.{line_meaning}
-use Rattle.line_schedule.specs.Schedule.{most_lines}
+use Rattle.line_schedule.specs.declared.script.ScriptStep.{ScriptStep}
+use Rattle.line_schedule.specs.declared.script.ScriptStep.TheVariants as step
+use Rattle.line_schedule.specs.Commands.{host_command_in, tool_command_in}
+use Rattle.line_schedule.specs.Events.{event_in, is_carried_out}
+use Rattle.line_schedule.specs.Words.{any_number_in, read_split, word_in}
+use Rattle.line_schedule.specs.Schedule.{moment_of_event, most_lines}
+use Rattle.line_schedule.specs.Script.{moment_of_line, most_script_lines}
 
--- ---- events
+-- ---- any lines
 
-abbrev pub told : Meaning → Option Event
-told PassedOver = None
-told (Tells event) = Some event
-told Later = None
+-- how a line of a number is read behind values up to a moment: to its value, to nothing, or to why the reading stops
+-- there; and the moment of a value
+pub record LineReader (V : Type 0) : Type 0 where
+  pub answer : ℕ → ℕ → List ℕ → Result (Option V) ScheduleFault
+  pub moment_of : V → ℕ
 
-abbrev pub told_by : List ℕ → Option Event
-told_by line = option_and_then told (line_meaning line)
+-- values, and then those of what is left
+abbrev pub with_values : {V : Type 0} → List V → Result (List V) ScheduleFault → Result (List V) ScheduleFault
+with_values values (Ok others) = Ok (values ++ others)
+with_values values (Err e) = Err e
 
--- the events that lines tell, in order
-abbrev pub events_of : List (List ℕ) → List Event
-events_of = filter_map told_by
+-- what a line is read to, and then what is left is, by the moment up to which values stand
+abbrev pub and_rest :
+    {V : Type 0} → (V → ℕ) → ℕ → Result (Option V) ScheduleFault → (ℕ → Result (List V) ScheduleFault)
+    → Result (List V) ScheduleFault
+and_rest moment_of least (Ok None) rest = rest least
+and_rest moment_of least (Ok (Some value)) rest = with_values (value ∷ []) (rest (moment_of value))
+and_rest moment_of least (Err e) rest = Err e
 
--- ---- faults
+-- the values of lines before which so many lines stand, or the fault of the first that stops the reading
+abbrev pub read_lines : {V : Type 0} → LineReader V → ℕ → ℕ → List (List ℕ) → Result (List V) ScheduleFault
+read_lines reader before least [] = Ok []
+read_lines reader before least (line ∷ lines) =
+    and_rest reader.moment_of least (reader.answer (before + 1) least line)
+    (λ moment. read_lines reader (before + 1) moment lines)
 
--- why the line of this number, counted from 1, can't be carried out
-abbrev pub fault_in : ℕ → Option Meaning → Option ScheduleFault
-fault_in number None = Some (fault.Line number)
-fault_in number (Some PassedOver) = None
-fault_in number (Some (Tells event)) = None
-fault_in number (Some Later) = Some (fault.NotBuilt number)
+-- what a function returned, seen by view, is what reading gives, unless memory ran out
+abbrev pub Gives : {X Y : Type 0} → (X → Y) → Result X ScheduleFault → Result Y ScheduleFault → Type 0
+Gives view (Ok x) read = read ≡ Ok (view x)
+Gives view (Err (fault.Line n)) read = read ≡ Err (fault.Line n)
+Gives view (Err (fault.NotBuilt n)) read = read ≡ Err (fault.NotBuilt n)
+Gives view (Err fault.NoMemory) read = Unit {0}
 
--- a line past the last that a schedule may have is outside the grammar
-abbrev pub fault_at : ℕ → List ℕ → Option ScheduleFault
-fault_at number line =
-    if nat_lt most_lines number then Some (fault.Line number)
-    else fault_in number (line_meaning line)
+-- ---- lines of a schedule
 
--- the fault of the first line that has one, where so many lines stand before
-abbrev pub first_fault : ℕ → List (List ℕ) → Option ScheduleFault
-first_fault before [] = None
-first_fault before (line ∷ lines) = option_or (fault_at (before + 1) line) (first_fault (before + 1) lines)
+-- an empty line or a comment
+abbrev pub is_passed_over : List ℕ → Bool
+is_passed_over [] = true
+is_passed_over (b ∷ rest) = b == 35
 
--- ---- answers
+-- the event of the line of a number, where it is carried out
+abbrev pub event_answer : ℕ → Option Event → Result (Option Event) ScheduleFault
+event_answer number None = Err (fault.Line number)
+event_answer number (Some event) = if is_carried_out event then Ok (Some event) else Err (fault.NotBuilt number)
 
--- the answer to a line: the event that it tells or nothing, or its fault, unless memory ran out
-abbrev pub AnswersLine : ℕ → List ℕ → Result (Option Event) ScheduleFault → Type 0
-AnswersLine number line (Ok event) = (fault_at number line ≡ None) × (event ≡ told_by line)
-AnswersLine number line (Err (fault.Line n)) = fault_at number line ≡ Some (fault.Line n)
-AnswersLine number line (Err (fault.NotBuilt n)) = fault_at number line ≡ Some (fault.NotBuilt n)
-AnswersLine number line (Err fault.NoMemory) = Unit {0}
+abbrev pub schedule_answer : ℕ → List ℕ → Result (Option Event) ScheduleFault
+schedule_answer number line =
+    if nat_lt most_lines number then Err (fault.Line number)
+    else if is_passed_over line then Ok None
+    else event_answer number (event_in line)
 
--- the answer to a text, unless memory ran out
-abbrev pub Answers : List ℕ → Result Schedule ScheduleFault → Type 0
-Answers text (Ok schedule) = (first_fault 0 (lines_of text) ≡ None) × (schedule.events ≡ events_of (lines_of text))
-Answers text (Err (fault.Line n)) = first_fault 0 (lines_of text) ≡ Some (fault.Line n)
-Answers text (Err (fault.NotBuilt n)) = first_fault 0 (lines_of text) ≡ Some (fault.NotBuilt n)
-Answers text (Err fault.NoMemory) = Unit {0}
+abbrev pub schedule_reader : LineReader Event
+schedule_reader =
+    record { answer = λ number least line. schedule_answer number line; moment_of = moment_of_event }
+
+-- ---- lines of a script
+
+-- a command of this end
+abbrev pub command_in : Side → List ℕ → Option ScriptStep
+command_in side.Equipment text = option_map (λ command. step.Tool command) (tool_command_in text)
+command_in side.Host text = option_map (λ command. step.Host command) (host_command_in text)
+
+abbrev pub step_in : Side → List ℕ → Option ScriptStep
+step_in side text = option_or (command_in side text) (word_in (codes "stop") step.Stop text)
+
+-- a moment, and what is to happen then
+abbrev pub script_line_in : Side → List ℕ → Option (ℕ × ScriptStep)
+script_line_in side = read_split 32 any_number_in (step_in side)
+
+-- what the line of a number tells, where its moment isn't below another
+abbrev pub moment_answer : ℕ → ℕ → Option (ℕ × ScriptStep) → Result (Option (ℕ × ScriptStep)) ScheduleFault
+moment_answer number least None = Err (fault.Line number)
+moment_answer number least (Some line) = if nat_lt line.0 least then Err (fault.Line number) else Ok (Some line)
+
+abbrev pub script_answer : Side → ℕ → ℕ → List ℕ → Result (Option (ℕ × ScriptStep)) ScheduleFault
+script_answer side number least line =
+    if nat_lt most_script_lines number then Err (fault.Line number)
+    else if is_passed_over line then Ok None
+    else moment_answer number least (script_line_in side line)
+
+abbrev pub script_reader : Side → LineReader (ℕ × ScriptStep)
+script_reader side = record { answer = script_answer side; moment_of = moment_of_line }

@@ -1,69 +1,57 @@
 -- What the text of a schedule means, and why it means none (this profile).
-use Rattle.std.specs.Prelude.{◌≡◌, ◌⊎◌, ℕ, ◌+◌, ◌<◌, ◌≤◌, List, [], ◌∷◌, ◌++◌, length, All, Result, Ok, Err}
+use Rattle.std.specs.Prelude.{◌≡◌, ◌⊎◌, ℕ, ◌<◌, ◌≤◌, true, false, List, length, All}
 use Rattle.line_schedule.specs.declared.event.Event.{Event}
-use Rattle.line_schedule.specs.declared.event.Event.TheVariants as event
 use Rattle.line_schedule.specs.declared.schedule.Schedule.{Schedule}
-use Rattle.line_schedule.specs.declared.schedule.ScheduleFault.{ScheduleFault}
-use Rattle.line_schedule.specs.declared.schedule.ScheduleFault.TheVariants as fault
-use Rattle.line_schedule.specs.Grammar.{Meaning, Means, PassedOver, Tells, Later}
-use Rattle.line_schedule.specs.Lines.{lines_of}
+use Rattle.line_schedule.specs.Events.{EventFits, is_carried_out}
+use Rattle.line_schedule.specs.Grammar.{IsEventLine, IsPassedOver}
+use Rattle.line_schedule.specs.Lines.{StopsAt, Tell, lines_of}
 
 -- how many lines a schedule may have
 abbrev pub most_lines : ℕ
 most_lines = 131072
 
--- each line is passed over or tells an event, and these are the events, in order
-abbrev pub Tell : List (List ℕ) → List Event → Type 0
-Tell [] events = events ≡ []
-Tell (line ∷ lines) events =
-    (Means PassedOver line × Tell lines events)
-    ⊎ ((event : Event) × (others : List Event) × (events ≡ event ∷ others)
-    × Means (Tells event) line × Tell lines others)
+abbrev pub IsCarriedOut : Event → Type 0
+IsCarriedOut event = is_carried_out event ≡ true
 
--- the text is a schedule of these events
+-- the line tells an event that is carried out, whatever stands before it
+abbrev pub IsToldEvent : ℕ → Event → List ℕ → Type 0
+IsToldEvent least event line = IsEventLine event line × IsCarriedOut event
+
+-- events of a schedule have no moment of their own
+abbrev pub moment_of_event : Event → ℕ
+moment_of_event event = 0
+
+-- the text is a schedule of these events, and each is carried out
 pub record IsSchedule (text : List ℕ) (events : List Event) : Type 0 where
-  pub tell : Tell (lines_of text) events
+  pub tell : Tell IsToldEvent moment_of_event 0 (lines_of text) events
   pub within : length (lines_of text) ≤ most_lines
 
--- the line of this number, counted from 1, is of a kind, and those before it are passed over or tell events
-pub record StopsAt (text : List ℕ) (number : ℕ) (Is : List ℕ → Type 0) : Type 0 where
-  pub before : List (List ℕ)
-  pub line : List ℕ
-  pub behind : List (List ℕ)
-  pub events : List Event
-  pub lines : lines_of text ≡ before ++ line ∷ behind
-  pub tell : Tell before events
-  pub within : length before ≤ most_lines
-  pub counted : number ≡ length before + 1
-  pub is : Is line
+-- the line of this number, counted from 1, is of a kind, and those before it are passed over or tell such events
+abbrev pub ScheduleStopsAt : List ℕ → ℕ → (List ℕ → Type 0) → Type 0
+ScheduleStopsAt text number Is = StopsAt IsToldEvent moment_of_event most_lines text number (λ least line. Is line)
+
+-- the line is neither passed over nor tells an event
+abbrev pub TellsNoEvent : List ℕ → Type 0
+TellsNoEvent line = (IsPassedOver line → ⊥) × ((event : Event) → IsEventLine event line → ⊥)
+
+-- the line tells an event that isn't carried out yet
+abbrev pub TellsLater : List ℕ → Type 0
+TellsLater line = (event : Event) × IsEventLine event line × (is_carried_out event ≡ false)
 
 -- that line is outside the grammar, or past the last that a schedule may have
 abbrev pub OutsideAt : List ℕ → ℕ → Type 0
-OutsideAt text number =
-    StopsAt text number (λ line. (most_lines < number) ⊎ ((meaning : Meaning) → Means meaning line → ⊥))
+OutsideAt text number = ScheduleStopsAt text number (λ line. (most_lines < number) ⊎ TellsNoEvent line)
 
 -- that line is of the grammar and not carried out yet
 abbrev pub LaterAt : List ℕ → ℕ → Type 0
-LaterAt text number = StopsAt text number (λ line. (number ≤ most_lines) × Means Later line)
-
--- what was read are these events, unless memory ran out
-abbrev pub ReadsOnly : List Event → Result Schedule ScheduleFault → Type 0
-ReadsOnly events (Ok schedule) = schedule.events ≡ events
-ReadsOnly events (Err e) = e ≡ fault.NoMemory
-
--- the text was refused for this fault, unless memory ran out
-abbrev pub RefusesOnly : ScheduleFault → Result Schedule ScheduleFault → Type 0
-RefusesOnly named (Ok schedule) = ⊥
-RefusesOnly named (Err e) = (e ≡ named) ⊎ (e ≡ fault.NoMemory)
+LaterAt text number = ScheduleStopsAt text number (λ line. (number ≤ most_lines) × TellsLater line)
 
 -- ---- ranges
-
--- the clock moves by 1,000 seconds at most
-abbrev pub EventFits : Event → Type 0
-EventFits (event.To side n) = Unit {0}
-EventFits event.Settle = Unit {0}
-EventFits (event.Wait ms) = ms ≤ 1000000
 
 pub record Fits (schedule : Schedule) : Type 0 where
   pub events : All EventFits schedule.events
   pub number : length schedule.events ≤ most_lines
+
+-- each event is carried out by now
+abbrev pub AreCarriedOut : Schedule → Type 0
+AreCarriedOut schedule = All IsCarriedOut schedule.events

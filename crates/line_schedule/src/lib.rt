@@ -1,15 +1,22 @@
-//! Schedules of what befalls the line and its two ends, read from text (this profile).
+//! Schedules of what befalls the line and its two ends, and scripts of what one end is told, read from text (this
+//! profile).
 #![tactic(auto)]
 
-mod commands;
 mod event;
+mod events;
+mod host_commands;
+mod items;
 mod laws;
+mod lines;
 mod schedule;
+mod script;
+mod tool_commands;
 mod words;
 
 pub use event::Event;
-pub use laws::tests_find_the_meaning;
+pub use laws::readers_find_the_meaning;
 pub use schedule::{Schedule, ScheduleFault, read_schedule};
+pub use script::{Script, ScriptStep, read_script};
 
 #[cfg(test)]
 mod tests;

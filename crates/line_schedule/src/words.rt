@@ -1,12 +1,13 @@
 //! The words of a line.
 
 ghost use Rattle.std.specs.Prelude.{◌≡◌, ◌<◌, ◌≤◌, ◌==◌, ◌+◌, ◌*◌, ℕ, length, bytes_eq, true, IfSome};
-ghost use Rattle.std.specs.Char.{is_ascii_digit, is_ascii_hexdigit};
+ghost use Rattle.std.specs.Char.{is_ascii_digit};
 ghost use Rattle.std.specs.List.{list_all, position};
 ghost use Rattle.std.specs.Option.{option_copied, option_map};
-ghost use Rattle.line_schedule.specs.Words.{after, after_side, held, is_hex_byte, is_number, is_numeral, number_of, number_up_to, is_from_to, side_and_number, split_at, value_of};
+ghost use Rattle.line_schedule.specs.Words.{after, after_side, any_number_in, as_u32, byte_in, is_numeral, number_in, split_at, value_of};
 
 use gl_base::Side;
+use short_text::digit_of;
 
 /// What stands behind these bytes at the front.
 pub(crate) fn after<'a>(front: &[u8], text: &'a [u8]) -> Option<&'a [u8]>
@@ -44,12 +45,6 @@ fn are_digits(text: &[u8]) -> bool
     text.iter().all(|byte| byte.is_ascii_digit())
 }
 
-fn are_hex_digits(text: &[u8]) -> bool
-    ensures { result ≡ list_all is_ascii_hexdigit text.now }
-{
-    text.iter().all(|byte| byte.is_ascii_hexdigit())
-}
-
 /// Whether the text is one to ten decimal digits.
 fn is_numeral(text: &[u8]) -> bool
     ensures { result ≡ is_numeral text.now }
@@ -60,7 +55,7 @@ fn is_numeral(text: &[u8]) -> bool
 /// The value of decimal digits, where 32 bits hold it.
 fn value_of(digits: &[u8]) -> Option<u32>
     requires { list_all is_ascii_digit digits.now ≡ true }
-    ensures { result ≡ held (value_of digits.now) }
+    ensures { result ≡ as_u32 (value_of digits.now) }
 {
     let mut value = Some(0);
     for digit in digits {
@@ -71,51 +66,51 @@ fn value_of(digits: &[u8]) -> Option<u32>
 
 /// A number with one more digit at its end, where 32 bits hold it.
 fn with_digit(value: Option<u32>, digit: u8) -> Option<u32>
-    ensures { (n : ℕ) → value ≡ held n → result ≡ held (10 * n + digit) }
+    ensures { (n : ℕ) → value ≡ as_u32 n → result ≡ as_u32 (10 * n + digit) }
 {
     value?.checked_mul(10)?.checked_add(u32::from(digit))
 }
 
-/// The number up to a limit that one to ten decimal digits are.
-pub(crate) fn number_up_to(most: u32, text: &[u8]) -> Option<u32>
-    ensures { result ≡ number_up_to most text.now }
+/// The number in a range that one to ten decimal digits are.
+pub(crate) fn number_in(least: u32, most: u32, text: &[u8]) -> Option<u32>
+    ensures number { result ≡ number_in least most text.now }
+    ensures within { IfSome result (λ n. n ≤ most) }
 {
     if !is_numeral(text) {
         return None;
     }
     let value = value_of(text)?;
-    if value > most {
+    if value < least || value > most {
         return None;
     }
     Some(value)
 }
 
 /// A number of 32 bits.
-pub(crate) fn number_of(text: &[u8]) -> Option<u32>
-    ensures { result ≡ number_of text.now }
+pub(crate) fn any_number_in(text: &[u8]) -> Option<u32>
+    ensures { result ≡ any_number_in text.now }
 {
-    number_up_to(u32::MAX, text)
+    number_in(0, u32::MAX, text)
 }
 
-/// Whether the text is a number of 32 bits.
-pub(crate) fn is_number(text: &[u8]) -> bool
-    ensures { result ≡ is_number text.now }
+/// The number in a range of 8 bits.
+pub(crate) fn small_number_in(least: u8, most: u8, text: &[u8]) -> Option<u8>
+    ensures { result ≡ number_in least most text.now }
 {
-    number_of(text).is_some()
+    let number = number_in(u32::from(least), u32::from(most), text)?;
+    Some(number as u8)
 }
 
-/// Whether the text is a number from a least to a greatest.
-pub(crate) fn is_from_to(least: u32, most: u32, text: &[u8]) -> bool
-    ensures { result ≡ is_from_to least most text.now }
+/// The byte that two hex digits mean, in either case.
+pub(crate) fn byte_in(text: &[u8]) -> Option<u8>
+    ensures { result ≡ byte_in text.now }
 {
-    number_up_to(most, text).is_some_and(|number| least <= number)
-}
-
-/// Whether the text is two hex digits.
-pub(crate) fn is_hex_byte(text: &[u8]) -> bool
-    ensures { result ≡ is_hex_byte text.now }
-{
-    text.len() == 2 && are_hex_digits(text)
+    if text.len() != 2 {
+        return None;
+    }
+    let high = digit_of(text[0])?;
+    let low = digit_of(text[1])?;
+    Some(16 * high + low)
 }
 
 /// The end that a letter names, and what stands behind the letter and a space.
@@ -127,13 +122,4 @@ pub(crate) fn after_side(text: &[u8]) -> Option<(Side, &[u8])>
     }
     let rest = after(b"H ", text)?;
     Some((Side::Host, rest))
-}
-
-/// An end and a number.
-pub(crate) fn side_and_number(text: &[u8]) -> Option<(Side, u32)>
-    ensures { result ≡ side_and_number text.now }
-{
-    let (side, rest) = after_side(text)?;
-    let number = number_of(rest)?;
-    Some((side, number))
 }

@@ -140,8 +140,9 @@ ran_whole {out} plan schedule course result is_course is_result wrote =
     go Slips = (refl, wrote)
     go Turns = (refl, wrote)
 
-pub next_event : (items events : List Event) (i : ℕ) (d : Event) → items ≡ events → i < length items
-    → drop i events ≡ get_or items i d ∷ drop (i + 1) events
-next_event items events i d same below =
-    subst (λ (xs : List Event). drop i xs ≡ get_or items i d ∷ drop (i + 1) xs) same
-    (drop-cons items i d below ∙ ap (λ (k : ℕ). get_or items i d ∷ drop k items) (sym (add-one i)))
+pub next_event : (items events : List Event) (i : ℕ) (item : Event) → items ≡ events → i < length items
+    → item ≡ get_or items i item → drop i events ≡ item ∷ drop (i + 1) events
+next_event items events i item same below is =
+    subst (λ (xs : List Event). drop i xs ≡ item ∷ drop (i + 1) xs) same
+    (drop-cons items i item below ∙ ap (λ (k : ℕ). get_or items i item ∷ drop k items) (sym (add-one i))
+    ∙ ap (λ (e : Event). e ∷ drop (i + 1) items) (sym is))

@@ -294,6 +294,7 @@ keeps-event plan k (happens.To side n) = keeps-given_times plan k n side
 keeps-event plan k happens.Settle = keeps-settled_times plan k world.most_settled
 keeps-event plan k (happens.Wait ms) = λ w log safe.
     keeps-both plan k (record w { moment = w.moment + ms }) log (record { good = safe.good; delivered = safe.delivered })
+keeps-event plan k _ = keeps-still plan
 
 keeps-events : (plan : LinePlan) → IsKeeping plan → (events : List Event) → Keeps plan (after_events events)
 keeps-events plan k [] = keeps-still plan

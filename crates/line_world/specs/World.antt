@@ -127,10 +127,12 @@ both_stepped world = and_more (stepped Equipment false world) (stepped Host fals
 abbrev pub waited : ℕ → World → Piece
 waited ms world = both_stepped (record world { moment = world.moment + ms })
 
+-- an event that isn't carried out yet stands in no schedule that is carried out
 abbrev pub after_event : Event → World → Piece
 after_event (event.To side n) world = given_times n side world
 after_event event.Settle world = settled_times most_settled world
 after_event (event.Wait ms) world = waited ms world
+after_event _ world = still world
 
 -- the events one after another
 abbrev pub after_events : List Event → World → Piece

@@ -1,8 +1,14 @@
-use Rattle.line_schedule.proofs.ScheduleLaws.{fits, found, later_named, later_refused, line_named, only, outside_refused}
+use Rattle.line_schedule.proofs.ScheduleLaws.{carried, fits, found, later_named, later_refused, line_named, only, outside_refused}
 use Rattle.line_schedule.proofs.schedule.read_schedule.Goals as goal
 
 pub returns-clause-found : goal.returns-clause-found
 returns-clause-found c = found c.args.text.now c.events_of.result c.events_of.ensures
+
+pub returns-clause-fits : goal.returns-clause-fits
+returns-clause-fits c = fits c.args.text.now c.events_of.result c.events_of.ensures
+
+pub returns-clause-carried : goal.returns-clause-carried
+returns-clause-carried c = carried c.args.text.now c.events_of.result c.events_of.ensures
 
 pub returns-clause-only : goal.returns-clause-only
 returns-clause-only c = only c.args.text.now c.events_of.result c.events_of.ensures
@@ -18,6 +24,3 @@ returns-clause-outside c = outside_refused c.args.text.now c.events_of.result c.
 
 pub returns-clause-later : goal.returns-clause-later
 returns-clause-later c = later_refused c.args.text.now c.events_of.result c.events_of.ensures
-
-pub returns-clause-fits : goal.returns-clause-fits
-returns-clause-fits c = fits c.args.text.now c.events_of.result c.events_of.ensures

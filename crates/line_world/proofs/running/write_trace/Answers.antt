@@ -28,7 +28,7 @@ returns-in_default-carry_out g c =
 pub events-preserved : goal.events-preserved
 events-preserved g c =
     past_event _ _ _ _ _ _ c.events.invariant _ _ c.as_slice.ensures _ _ _ _
-    (next_event _ _ _ _ c.as_slice-event-items.ensures c.events-test.true) c.in-Done.ensures.passes c.truncate.ensures
+    (next_event _ _ _ _ c.as_slice-event-items.ensures c.events-test.true c.event-item.is) c.in-Done.ensures.passes c.truncate.ensures
     c.in-Ok-carry_out.ensures.world c.in-Ok-carry_out.ensures.page c.in-Ok-carry_out.ensures.now
 
 pub returns-in-Done-write_rest : goal.returns-in-Done-write_rest

@@ -1,6 +1,6 @@
 use Rattle.std.proofs.Common.{sym, ◌∙◌}
 use Rattle.line_schedule.proofs.LineEnds.{first_line, only_line}
-use Rattle.line_schedule.proofs.schedule.split_line.Goals as goal
+use Rattle.line_schedule.proofs.lines.split_line.Goals as goal
 
 pub returns-in-Some-clause-lines : goal.returns-in-Some-clause-lines
 returns-in-Some-clause-lines c = first_line c.args.text.now c.in-Some.at (sym c.place_of.ensures.place ∙ c.in-Some.is)

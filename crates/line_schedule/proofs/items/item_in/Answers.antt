@@ -1,7 +1,7 @@
 use Rattle.std.proofs.Common.{ap, sym}
 use Rattle.secs_text.proofs.TextLaws.{as_read}
-use Rattle.line_schedule.specs.Commands.{found}
-use Rattle.line_schedule.proofs.commands.item_in.Goals as goal
+use Rattle.line_schedule.specs.Items.{found}
+use Rattle.line_schedule.proofs.items.item_in.Goals as goal
 
 pub returns-in-Ok : goal.returns-in-Ok
 returns-in-Ok c = sym (ap found (as_read c.args.text.now c.in-Ok.item c.in-Ok.ensures.found))
