@@ -13,14 +13,16 @@ if not os.path.exists(PROGRAM):
     sys.exit("build it first: (cd crates/gemline && rt run)")
 
 
-def seconds(words, path, runs=7):
-    """The best time of some runs, their output thrown away."""
+def seconds(words, path, runs=7, status=0):
+    """The best time of some runs that end with this status, their output thrown away."""
     best = None
     for _ in range(runs):
         with open(path, "rb") as file:
             start = time.perf_counter()
-            subprocess.run(words, stdin=file, stdout=subprocess.DEVNULL, check=True)
+            ran = subprocess.run(words, stdin=file, stdout=subprocess.DEVNULL, stderr=subprocess.DEVNULL)
             took = time.perf_counter() - start
+        if ran.returncode != status:
+            sys.exit(f"{words} ended with {ran.returncode}")
         best = took if best is None else min(best, took)
     return best
 
