@@ -1,5 +1,5 @@
 -- The system bytes of the primaries that a side sends.
-use Rattle.std.specs.Prelude.{ℕ, zero, suc, ◌+◌, ◌==◌, ◌≤◌, ◌^◌, List, [], ◌∷◌, Option, Some, None, if◌then◌else◌}
+use Rattle.std.specs.Prelude.{ℕ, zero, suc, ◌+◌, ◌==◌, ◌≤◌, ◌^◌, min, List, [], ◌∷◌, Option, Some, None, if◌then◌else◌}
 
 -- the next number, and the number at which they are spent
 pub record NumbersView : Type 0 where
@@ -22,6 +22,10 @@ next_number numbers = if numbers.next == numbers.end then None else Some numbers
 -- what is left after a number was drawn
 abbrev pub after_draw : NumbersView → NumbersView
 after_draw numbers = if numbers.next == numbers.end then numbers else record numbers { next = numbers.next + 1 }
+
+-- this many numbers more behind those that are left, as far as there are numbers of four bytes
+abbrev pub with_more : ℕ → NumbersView → NumbersView
+with_more count numbers = record numbers { end = min (numbers.end + count) (2 ^ 32) }
 
 -- the answers of so many draws
 abbrev pub draws : NumbersView → ℕ → List (Option ℕ)

@@ -1,5 +1,5 @@
 ghost use Rattle.std.specs.Prelude.{◌≡◌, ◌+◌, ◌-◌, ◌^◌, ◌≤◌};
-ghost use Rattle.transact.specs.Numbers.{IsNumbers, NumbersView, after_draw, next_number, numbers_from};
+ghost use Rattle.transact.specs.Numbers.{IsNumbers, NumbersView, after_draw, next_number, numbers_from, with_more};
 
 use std::marker::Model;
 
@@ -44,6 +44,13 @@ impl Numbers {
         let number = self.next as u32;
         self.next += 1;
         Some(number)
+    }
+
+    /// Adds this many numbers behind those that are left, as far as there are numbers of four bytes.
+    pub fn more(&mut self, count: u32)
+        ensures { self.new ≡ with_more count self.old }
+    {
+        self.end = (self.end + u64::from(count)).min(0x1_0000_0000);
     }
 
     /// How many numbers are left.

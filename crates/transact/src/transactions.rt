@@ -145,6 +145,17 @@ impl<K: Copy> Transactions<K> {
         }
     }
 
+    /// The header of the primary that a message with this header answers, and its kind. `None` exactly where it answers
+    /// no open one.
+    pub fn answered(&self, header: &Header) -> Option<(Header, K)>
+        ensures { result ≡ option_map primary_of (find (is_answered_by header.now) self.now.begun) }
+    {
+        self.begun
+            .iter()
+            .find(|begun| begun.is_answered_by(header))
+            .map(|begun| (begun.header, begun.kind))
+    }
+
     /// The header of the primary whose transaction began first, and its kind. `None` exactly where none is open.
     pub fn first(&self) -> Option<(Header, K)>
         ensures { result ≡ option_map primary_of (slice_get self.now.begun 0) }
