@@ -202,8 +202,8 @@ impl Outgoing {
         same_header(&newest, header)
     }
 
-    // The header of a message's last block.
-    fn last_header(&self, message: &Message) -> Header
+    /// The header of a message's last block.
+    pub fn last_header(&self, message: &Message) -> Header
         requires { MessageFits message.now }
         ensures { result ≡ header_of self.now.side self.now.device message.now (block_count message.now) }
     {
