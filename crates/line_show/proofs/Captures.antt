@@ -8,12 +8,11 @@ use Rattle.block_codec.specs.declared.frame.BlockFault.TheVariants.{Long}
 use Rattle.block_codec.specs.Block.{BlockView}
 use Rattle.block_codec.specs.Fault.{fault_of}
 use Rattle.block_codec.proofs.Frames.{fault_of-frame_bytes, frame_bytes-same, take-frame_bytes}
-use Rattle.line_show.specs.Capture.{EndsAs, IsFront, ReadsFrom, break_of, front_frame, is_character, piece_bytes}
+use Rattle.line_show.specs.Capture.{EndsAs, IsFront, Piece, ReadsFrom, break_of, front_frame, is_character, piece_bytes}
 use Rattle.line_show.specs.declared.capture.Break.{Break}
 use Rattle.line_show.specs.declared.capture.Ending.{Ending}
 use Rattle.line_show.specs.declared.capture.Ending.TheVariants.{Whole, Broken}
-use Rattle.line_show.specs.declared.capture.Piece.{Piece}
-use Rattle.line_show.specs.declared.capture.Piece.TheVariants.{Character, Framed}
+use Rattle.line_show.specs.Capture.Piece.{Character, Framed}
 
 -- a frame in front has no fault
 no_fault : (bytes : List ℕ) (block : BlockView) (more : List ℕ) → IsFront bytes (Framed block) more

@@ -7,13 +7,12 @@ use Rattle.block_codec.specs.declared.frame.BlockFault.{BlockFault}
 use Rattle.block_codec.specs.declared.frame.BlockFault.TheVariants as fault
 use Rattle.block_codec.specs.Fault.{fault_of}
 use Rattle.block_codec.proofs.Parts.{faultless-frame}
-use Rattle.line_show.specs.Capture.{IsFront, ReadsFrom, break_of, front_frame, is_character, piece_bytes}
+use Rattle.line_show.specs.Capture.{IsFront, Piece, ReadsFrom, break_of, front_frame, is_character, piece_bytes}
 use Rattle.line_show.specs.declared.capture.Break.{Break}
 use Rattle.line_show.specs.declared.capture.Break.TheVariants as break
 use Rattle.line_show.specs.declared.capture.Ending.{Ending}
 use Rattle.line_show.specs.declared.capture.Ending.TheVariants.{Whole, Broken}
-use Rattle.line_show.specs.declared.capture.Piece.{Piece}
-use Rattle.line_show.specs.declared.capture.Piece.TheVariants.{Character, Framed}
+use Rattle.line_show.specs.Capture.Piece.{Character, Framed}
 use Rattle.line_show.proofs.Captures.{not_long}
 
 abbrev AllBytes : List ℕ → Type 0

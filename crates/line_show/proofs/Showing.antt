@@ -6,12 +6,11 @@ use Rattle.gl_base.specs.Told.{SinkTold}
 use Rattle.gl_base.specs.declared.copying.SinkAnswer.TheVariants.{Done, Failed}
 use Rattle.gl_base.proofs.Appending.{cut_before, finished, passes_behind, told, under_way_first, under_way_more, under_way_on}
 use Rattle.block_codec.specs.Block.{BlockView}
-use Rattle.line_show.specs.Capture.{EndsAs, IsFront, Reads, ReadsFrom, piece_bytes}
+use Rattle.line_show.specs.Capture.{EndsAs, IsFront, Piece, Reads, ReadsFrom, piece_bytes}
 use Rattle.line_show.specs.Lines.{lines_from, lines_of, piece_lines}
 use Rattle.line_show.specs.Messages.{HaveMet, with_piece}
 use Rattle.line_show.specs.Show.{PutsLines, Shows, ShowsPieces}
 use Rattle.line_show.specs.declared.capture.Ending.{Ending}
-use Rattle.line_show.specs.declared.capture.Piece.{Piece}
 use Rattle.line_show.specs.declared.printer.Stop.{Stop}
 use Rattle.line_show.specs.declared.printer.Stop.TheVariants.{NoMemory, WriteFailed}
 use Rattle.line_show.specs.declared.receivers.Receivers.{Receivers}

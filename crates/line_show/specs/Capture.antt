@@ -1,6 +1,6 @@
 -- A capture: frames and characters of the handshake one after another, read until a frame is broken (this profile).
-use Rattle.std.specs.Prelude.{◌≡◌, ◌≢◌, ◌==◌, ◌||◌, ◌+◌, ℕ, Bool, true, false, List, [], ◌∷◌, ◌++◌, length, take, drop, slice_index, Option, Some, None}
-use Rattle.block_codec.specs.Block.{IsBlock}
+use Rattle.std.specs.Prelude.{◌≡◌, ◌≢◌, ◌==◌, ◌||◌, ◌+◌, ℕ, Bool, true, false, List, [], ◌∷◌, ◌++◌, length, take, drop, slice_index, Option, Some, None, Result, Ok, Err}
+use Rattle.block_codec.specs.Block.{BlockView, IsBlock}
 use Rattle.block_codec.specs.Fault.{fault_of}
 use Rattle.block_codec.specs.Frame.{frame_bytes}
 use Rattle.block_codec.specs.Protocol.{ack, enq, eot, nak}
@@ -10,8 +10,11 @@ use Rattle.line_show.specs.declared.capture.Break.{Break}
 use Rattle.line_show.specs.declared.capture.Break.TheVariants as break
 use Rattle.line_show.specs.declared.capture.Ending.{Ending}
 use Rattle.line_show.specs.declared.capture.Ending.TheVariants.{Whole, Broken}
-use Rattle.line_show.specs.declared.capture.Piece.{Piece}
-use Rattle.line_show.specs.declared.capture.Piece.TheVariants.{Character, Framed}
+
+-- what stands at a place of a capture: a character of the handshake, or the frame of a block
+pub data Piece : Type 0 where
+  Character : (byte : ℕ) → Piece
+  Framed : (block : BlockView) → Piece
 
 -- ENQ, EOT, ACK or NAK, which stand between frames (SEMI E4, handshake)
 abbrev pub is_character : ℕ → Bool
@@ -25,16 +28,26 @@ front_frame bytes = take (slice_index bytes 0 + 3) bytes
 abbrev pub HasFault : List ℕ → Type 0
 HasFault bytes = (fault : BlockFault) × (fault_of (front_frame bytes) ≡ Some fault)
 
+-- what the frame in front was read as
+abbrev pub IsRead : List ℕ → Result BlockView BlockFault → Type 0
+IsRead bytes (Ok block) = IsBlock block × (front_frame bytes ≡ frame_bytes block)
+IsRead bytes (Err fault) = fault_of (front_frame bytes) ≡ Some fault
+
+-- the piece in front by this, where it begins with that byte
+abbrev pub piece_of : ℕ → Result BlockView BlockFault → Piece
+piece_of first (Ok block) = Piece.Framed block
+piece_of first (Err fault) = Piece.Character first
+
 -- the bytes of a piece
 abbrev pub piece_bytes : Piece → List ℕ
-piece_bytes (Character byte) = byte ∷ []
-piece_bytes (Framed block) = frame_bytes block
+piece_bytes (Piece.Character byte) = byte ∷ []
+piece_bytes (Piece.Framed block) = frame_bytes block
 
 -- A piece may stand in front of these bytes: a block as its frame, and a character where no good frame begins, as one
 -- may with 21, which is NAK and a length.
 abbrev pub MayStand : Piece → List ℕ → Type 0
-MayStand (Character byte) bytes = (is_character byte ≡ true) × HasFault bytes
-MayStand (Framed block) bytes = IsBlock block
+MayStand (Piece.Character byte) bytes = (is_character byte ≡ true) × HasFault bytes
+MayStand (Piece.Framed block) bytes = IsBlock block
 
 -- a piece in front, and what comes after it
 pub record IsFront (bytes : List ℕ) (piece : Piece) (more : List ℕ) : Type 0 where

@@ -6,9 +6,8 @@ use Rattle.secs_items.specs.Reading.{first_fault}
 use Rattle.secs_items.specs.Spelling.{Spells}
 use Rattle.secs_text.specs.Text.{text_of}
 use Rattle.line_show.specs.Bodies.{body_text, fault_text}
-use Rattle.line_show.specs.Capture.{Reads}
+use Rattle.line_show.specs.Capture.{Piece, Reads}
 use Rattle.line_show.specs.declared.capture.Ending.{Ending}
-use Rattle.line_show.specs.declared.capture.Piece.{Piece}
 
 -- each capture is pieces and an ending
 abbrev pub CapturesRead : Type 0

@@ -10,10 +10,9 @@ use Rattle.message_flow.specs.declared.flow.Flow.TheVariants.{Part, Whole, Dupli
 use Rattle.message_flow.specs.declared.message.Message.{Message}
 use Rattle.short_text.specs.Name.{flag, name_of}
 use Rattle.line_show.specs.Bodies.{body_text}
-use Rattle.line_show.specs.Capture.{piece_bytes}
+use Rattle.line_show.specs.Capture.{Piece, piece_bytes}
 use Rattle.line_show.specs.Messages.{flow_in, with_piece}
-use Rattle.line_show.specs.declared.capture.Piece.{Piece}
-use Rattle.line_show.specs.declared.capture.Piece.TheVariants.{Character, Framed}
+use Rattle.line_show.specs.Capture.Piece.{Character, Framed}
 
 -- what follows the place in the line of a block, and in that of a message: from host to equipment, or the other way
 abbrev pub block_way : Bool → List ℕ

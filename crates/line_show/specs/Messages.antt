@@ -9,8 +9,8 @@ use Rattle.message_flow.specs.Entries.{FlowEntry, StandsFor}
 use Rattle.message_flow.specs.Entries.FlowEntry.{Given}
 use Rattle.message_flow.specs.History.{flow_at}
 use Rattle.message_flow.specs.Receiver.{Receiver}
-use Rattle.line_show.specs.declared.capture.Piece.{Piece}
-use Rattle.line_show.specs.declared.capture.Piece.TheVariants.{Character, Framed}
+use Rattle.line_show.specs.Capture.{Piece}
+use Rattle.line_show.specs.Capture.Piece.{Character, Framed}
 use Rattle.line_show.specs.declared.receivers.Receivers.{Receivers}
 
 -- who receives what goes from the equipment, or from the host: of every device, with the longest texts. T4 never runs

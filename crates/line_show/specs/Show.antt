@@ -3,8 +3,7 @@ use Rattle.std.specs.Prelude.{◌≡◌, ℕ, List, ◌++◌, Result, Ok, Err}
 use Rattle.gl_base.specs.Faults.{Rose}
 use Rattle.gl_base.specs.Sending.{IsUnderWay, WroteShort, WroteText}
 use Rattle.gl_base.specs.Told.{SinkTold}
-use Rattle.line_show.specs.declared.capture.Piece.{Piece}
-use Rattle.line_show.specs.Capture.{Reads}
+use Rattle.line_show.specs.Capture.{Piece, Reads}
 use Rattle.line_show.specs.Lines.{lines_of}
 use Rattle.line_show.specs.declared.capture.Ending.{Ending}
 use Rattle.line_show.specs.declared.printer.Stop.{Stop}

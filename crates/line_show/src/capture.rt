@@ -1,7 +1,8 @@
-ghost use Rattle.std.specs.Prelude.{◌≡◌, ◌+◌, ◌≤◌, drop, length, take, IfErr, IfOk};
-ghost use Rattle.line_show.specs.Capture.{EndsAs, IsFrontAt, break_of, is_character, piece_bytes};
+ghost use Rattle.std.specs.Prelude.{◌≡◌, ◌+◌, ◌<◌, ◌≤◌, ℕ, drop, length, slice_index, take, None, IfSome};
+ghost use Rattle.line_show.specs.Capture.{EndsAs, IsFrontAt, IsRead, break_of, front_frame, is_character, piece_bytes, piece_of};
+ghost use Rattle.line_show.specs.declared.capture.Ending.TheVariants as endings;
 
-use block_codec::{ACK, Block, BlockFault, ENQ, EOT, NAK, SHORTEST_FRAME, block_of};
+use block_codec::{ACK, Block, BlockFault, ENQ, EOT, NAK, SHORTEST_FRAME};
 
 /// A broken frame of a capture. A short one is named at the capture's length, another at its first byte.
 #[derive(Clone, Copy, Debug, PartialEq, Eq)]
@@ -23,50 +24,52 @@ pub enum Ending {
     Broken(Break),
 }
 
-/// What stands at a place of a capture.
-#[derive(Debug, Drop)]
-pub enum Piece {
-    /// ENQ, EOT, ACK or NAK.
-    Character(u8),
-    /// The frame of a block.
-    Framed(Block),
-}
-
-impl Piece {
-    /// How many bytes of the capture it takes: 1 for a character, 13 to 257 for a frame.
-    pub fn size(&self) -> usize
-        ensures size { result ≡ length (piece_bytes self.now) }
-        ensures some { 1 ≤ result }
-        ensures few { result ≤ 257 }
-    {
-        match self {
-            Piece::Character(_) => 1,
-            Piece::Framed(block) => SHORTEST_FRAME + block.body().len(),
-        }
-    }
-}
-
-/// The piece at a place of the capture, or how the capture ends there.
-pub(crate) fn front_of(capture: &[u8], at: usize) -> Result<Piece, Ending>
-    requires { at ≤ length capture.now }
-    ensures piece { IfOk result (λ piece. IsFrontAt at capture.now piece) }
-    ensures ending { IfErr result (λ ending. EndsAs at (drop at capture.now) ending) }
+/// The bytes in front that are a frame where one is there: as many as the first byte announces, or what there is.
+pub(crate) fn front_frame(bytes: &[u8], first: u8) -> &[u8]
+    requires { first ≡ slice_index bytes.now 0 }
+    ensures { result.now ≡ front_frame bytes.now }
 {
-    let (_, rest) = capture.split_at(at);
-    if rest.is_empty() {
-        return Err(Ending::Whole);
+    first_bytes(bytes, first as usize + 3)
+}
+
+/// How many bytes the piece takes that stands in front: 13 to 257 for a frame, 1 for a character.
+pub(crate) fn piece_size(front: &Result<Block, BlockFault>) -> usize
+    ensures size { (first : ℕ) → result ≡ length (piece_bytes (piece_of first front.now)) }
+    ensures some { 1 ≤ result }
+    ensures few { result ≤ 257 }
+{
+    match front {
+        Ok(block) => SHORTEST_FRAME + block.body().len(),
+        Err(_) => 1,
     }
-    let first = rest[0];
-    match block_of(first_bytes(rest, first as usize + 3)) {
-        Ok(block) => Ok(Piece::Framed(block)),
-        Err(_) if is_character(first) => Ok(Piece::Character(first)),
-        Err(BlockFault::Length(length)) => Err(Ending::Broken(Break::Length { at, length })),
-        Err(BlockFault::Short { .. }) => Err(Ending::Broken(Break::Short { at: capture.len() })),
-        Err(BlockFault::Sum { got, want }) => Err(Ending::Broken(Break::Sum {
+}
+
+/// The break at a place of the capture, where what is in front was read as no frame, and is no character either.
+pub(crate) fn break_at(
+    capture: &[u8],
+    at: usize,
+    first: u8,
+    front: &Result<Block, BlockFault>,
+) -> Option<Break>
+    requires within { at < length capture.now }
+    requires first { first ≡ slice_index (drop at capture.now) 0 }
+    requires read { IsRead (drop at capture.now) front.now }
+    ensures broken { IfSome result (λ found. EndsAs at (drop at capture.now) (endings.Broken found)) }
+    ensures piece { result ≡ None → IsFrontAt at capture.now (piece_of first front.now) }
+{
+    match front {
+        Ok(_) => None,
+        Err(_) if is_character(first) => None,
+        Err(BlockFault::Length(length)) => Some(Break::Length {
             at,
-            want,
-            found: got,
-        })),
+            length: *length,
+        }),
+        Err(BlockFault::Short { .. }) => Some(Break::Short { at: capture.len() }),
+        Err(BlockFault::Sum { got, want }) => Some(Break::Sum {
+            at,
+            want: *want,
+            found: *got,
+        }),
         Err(BlockFault::Long { .. }) => unreachable!(
             "no more bytes were taken than the length byte says"
         ),

@@ -9,7 +9,7 @@ mod printer;
 mod receivers;
 
 pub use bodies::put_fault;
-pub use capture::{Break, Ending, Piece};
+pub use capture::{Break, Ending};
 pub use laws::{bodies_are_shown, captures_read, captures_read_in_one_way};
 pub use lines::Line;
 pub use printer::{Stop, show};

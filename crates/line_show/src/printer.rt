@@ -4,14 +4,15 @@ ghost use Rattle.gl_base.specs.Sending.{WroteShort, WroteText};
 ghost use Rattle.gl_base.specs.Told.{sink_told};
 ghost use Rattle.line_show.specs.Lines.{block_lines, character_text, flow_rest, piece_lines};
 ghost use Rattle.line_show.specs.Messages.{HaveMet, with_piece};
-ghost use Rattle.line_show.specs.declared.capture.Piece.TheVariants as pieces;
+ghost use Rattle.line_show.specs.Capture.{piece_of};
+ghost use Rattle.line_show.specs.Capture.Piece.{Framed};
 ghost use Rattle.line_show.specs.Show.{HasStopCause, PutsLines, Shows};
 
 use crate::bodies::put_body;
-use crate::capture::{Ending, Piece, front_of};
+use crate::capture::{Ending, break_at, front_frame, piece_size};
 use crate::lines::{put_block_head, put_character_line};
 use crate::receivers::Receivers;
-use block_codec::Block;
+use block_codec::{Block, BlockFault, block_of};
 use gl_base::{NoMemory, Page, Row, Sink, SinkAnswer};
 use message_flow::Flow;
 use std::alloc::Global;
@@ -38,15 +39,21 @@ pub fn show<W: Sink>(alloc: Global, capture: &[u8], out: &mut W) -> Result<Endin
     let mut receivers = Receivers::new(alloc);
     let mut at = 0;
     'pieces: loop {
-        match front_of(capture, at) {
-            Ok(piece) => {
-                match put_piece(alloc, &mut page, &mut text, &mut receivers, out, at, &piece) {
-                    Ok(()) => at += piece.size(),
-                    Err(Stop::NoMemory) => return finish(&mut page, out, Err(Stop::NoMemory)),
-                    Err(Stop::WriteFailed) => return Err(Stop::WriteFailed),
-                }
-            }
-            Err(ending) => return finish(&mut page, out, Ok(ending)),
+        let (_, rest) = capture.split_at(at);
+        if rest.is_empty() {
+            return finish(&mut page, out, Ok(Ending::Whole));
+        }
+        let first = rest[0];
+        // A block is looked at where it was made: to move it would cost more than its lines.
+        let front = block_of(front_frame(rest, first));
+        match break_at(capture, at, first, &front) {
+            Some(found) => return finish(&mut page, out, Ok(Ending::Broken(found))),
+            None => {}
+        }
+        match put_piece(alloc, &mut page, &mut text, &mut receivers, out, at, first, &front) {
+            Ok(()) => at += piece_size(&front),
+            Err(Stop::NoMemory) => return finish(&mut page, out, Err(Stop::NoMemory)),
+            Err(Stop::WriteFailed) => return Err(Stop::WriteFailed),
         }
     }
 }
@@ -66,7 +73,7 @@ fn finish<W: Sink>(
     }
 }
 
-// Puts the lines of a piece at a place of the capture.
+// Puts the lines of the piece at a place of the capture, of what was read there.
 fn put_piece<W: Sink>(
     alloc: Global,
     page: &mut Page,
@@ -74,21 +81,22 @@ fn put_piece<W: Sink>(
     receivers: &mut Receivers,
     out: &mut W,
     at: usize,
-    piece: &Piece,
+    first: u8,
+    front: &Result<Block, BlockFault>,
 ) -> Result<(), Stop>
     ensures lines { (before : List BlockView) → HaveMet receivers.old before
         → PutsLines
         (sink_told W.Sink out.old out.new)
         page.old.bytes.items
-        (piece_lines at before piece.now)
+        (piece_lines at before (piece_of first front.now))
         page.new.bytes.items
         result }
     ensures met { (before : List BlockView) → HaveMet receivers.old before
-        → OnOk result (HaveMet receivers.new (with_piece before piece.now)) }
+        → OnOk result (HaveMet receivers.new (with_piece before (piece_of first front.now))) }
 {
-    match piece {
-        Piece::Character(byte) => put_character(page, out, at, *byte),
-        Piece::Framed(block) => put_block(alloc, page, text, receivers, out, at, block),
+    match front {
+        Ok(block) => put_block(alloc, page, text, receivers, out, at, block),
+        Err(_) => put_character(page, out, at, first),
     }
 }
 
@@ -122,7 +130,7 @@ fn put_block<W: Sink>(
         → PutsLines
         (sink_told W.Sink out.old out.new)
         page.old.bytes.items
-        (piece_lines at before (pieces.Framed block.now))
+        (piece_lines at before (Framed block.now))
         page.new.bytes.items
         result }
     ensures met { (before : List BlockView) → HaveMet receivers.old before
