@@ -1,15 +1,16 @@
-ghost use Rattle.std.specs.Prelude.{◌≡◌, ℕ, ◌+◌, ◌*◌, ◌<◌, ◌≤◌, ◌^◌, true, List, Option, Some, None, IfSome, drop};
+ghost use Rattle.std.specs.Prelude.{◌≡◌, ℕ, ◌+◌, ◌*◌, ◌%◌, ◌<◌, ◌≤◌, ◌^◌, true, List, [], ◌∷◌, length, Option, Some, None, IfSome, drop};
 ghost use Rattle.std.specs.List.{slice_get};
 ghost use Rattle.disk_base.specs.Story.{bytes_at};
 ghost use Rattle.spool_slots.specs.Area.{put_if};
+ghost use Rattle.spool_slots.specs.Changes.{HasSettled};
 ghost use Rattle.spool_slots.specs.Reading.{AreaIs, EndIs, EndsOn, IsScan, ScanFits, ScanIs, ScansOn, StartIs};
 ghost use Rattle.spool_slots.specs.Reading.{least_with as least_of, reading_answer, slot_from};
 ghost use Rattle.spool_slots.specs.Reads.{HasRead};
 ghost use Rattle.spool_slots.specs.Slot.{Message, ahead_break, head_of, is_open, slot_break, slot_place as place_of};
 
 use crate::reading::{NotSpool, Reading};
-use crate::slot::{NUMBER, OPEN, SLOT_SIZE, head, head_break};
-use disk_base::{Disk, DiskAnswer};
+use crate::slot::{NUMBER, OPEN, SLOT_SIZE, head, head_break, slot_of};
+use disk_base::{Disk, DiskAnswer, settle};
 
 /// The open slots so far: how many there are, and their least number.
 #[derive(Clone, Copy, Debug)]
@@ -23,6 +24,24 @@ pub fn slot_place(slot: u32) -> u64
     ensures { result ≡ place_of slot }
 {
     SLOT_SIZE * (slot as u64 + 1)
+}
+
+/// Writes the gate of a number's slot, and syncs.
+pub fn settle_gate<D: Disk>(disk: &mut D, slots: u32, number: u64, gate: u8) -> DiskAnswer
+    requires some { 0 < slots }
+    requires within { place_of (number % slots) + 1 ≤ D.size_is disk.old }
+    ensures { HasSettled D.Disk disk.old disk.new (place_of (number % slots)) (gate ∷ []) result }
+{
+    settle(disk, slot_place(slot_of(number, slots)), &[gate])
+}
+
+/// Writes all of a number's slot but its gate, from the front on, and syncs.
+pub fn settle_parts<D: Disk>(disk: &mut D, slots: u32, number: u64, parts: &[u8]) -> DiskAnswer
+    requires some { 0 < slots }
+    requires within { place_of (number % slots) + 1 + length parts.now ≤ D.size_is disk.old }
+    ensures { HasSettled D.Disk disk.old disk.new (place_of (number % slots) + 1) parts.now result }
+{
+    settle(disk, slot_place(slot_of(number, slots)) + 1, parts)
 }
 
 // Reads the first fifteen bytes of a slot.

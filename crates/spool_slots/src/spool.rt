@@ -7,13 +7,11 @@ use crate::front::MARK_MOST;
 use crate::marking::write_mark;
 use crate::recovery::{Known, MARK_STEP};
 use crate::slot::{BODY_MOST, CLOSED, NUMBERS, head_in, slot_of};
-use crate::slots::slot_place;
+use crate::slots::{settle_gate, settle_parts, slot_place};
 use crate::staged::{Staged, with_parts};
 use crate::states::{Dropping, OldestAnswer, Reserving, Spent, Staging};
 use crate::stored::{Stored, parts_of};
-use disk_base::{
-    Disk, DiskAnswer, MemDisk, cut_leaves_the_chosen_byte, failed_settle_has_written, settle,
-};
+use disk_base::{Disk, DiskAnswer, MemDisk, cut_leaves_the_chosen_byte, failed_settle_has_written};
 use std::marker::Model;
 
 /// A spool on a device: messages in the order of their numbers, each in a slot, and a mark.
@@ -126,8 +124,7 @@ impl<D: Disk> Spool<D> {
         let parts = parts_of(next, message);
         let known = self.known;
         let mut disk = self.disk;
-        let at = slot_place(slot_of(next, known.slots)) + 1;
-        match settle(&mut disk, at, &parts) {
+        match settle_parts(&mut disk, known.slots, next, &parts) {
             DiskAnswer::Done => Ok(with_parts(disk, known)),
             DiskAnswer::Failed => Err(Staging::Failed(Spent { disk })),
         }
@@ -144,8 +141,7 @@ impl<D: Disk> Spool<D> {
         }
         let known = self.known;
         let mut disk = self.disk;
-        let slot = slot_of(known.first, known.slots);
-        match settle(&mut disk, slot_place(slot), &[CLOSED]) {
+        match settle_gate(&mut disk, known.slots, known.first, CLOSED) {
             DiskAnswer::Done => Ok(taken_up(disk, known.without_first())),
             DiskAnswer::Failed => {
                 failed_settle_has_written();

@@ -4,11 +4,11 @@ ghost use Rattle.disk_base.specs.Story.{Story};
 ghost use Rattle.spool_slots.specs.Spool.{IsStagedSpool, Rests, in_hand, next_of};
 
 use crate::recovery::Known;
-use crate::slot::{OPEN, slot_of};
-use crate::slots::slot_place;
+use crate::slot::OPEN;
+use crate::slots::settle_gate;
 use crate::spool::{Spool, taken_up};
 use crate::states::Spent;
-use disk_base::{Disk, DiskAnswer, cut_leaves_the_chosen_byte, failed_settle_has_written, settle};
+use disk_base::{Disk, DiskAnswer, cut_leaves_the_chosen_byte, failed_settle_has_written};
 use std::marker::Model;
 
 /// A spool with a message that stands in the next slot, which is closed still.
@@ -55,8 +55,8 @@ impl<D: Disk> Staged<D> {
     {
         let known = self.known;
         let mut disk = self.disk;
-        let slot = slot_of(known.first + known.len as u64, known.slots);
-        match settle(&mut disk, slot_place(slot), &[OPEN]) {
+        let number = known.first + known.len as u64;
+        match settle_gate(&mut disk, known.slots, number, OPEN) {
             DiskAnswer::Done => Ok(taken_up(disk, known.with_one_more())),
             DiskAnswer::Failed => {
                 failed_settle_has_written();

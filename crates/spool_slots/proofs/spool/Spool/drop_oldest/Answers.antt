@@ -1,8 +1,7 @@
-use Rattle.std.proofs.Common.{◌≡◌, ◌==◌, not, ◌∙◌, ◌+◌, ◌-◌, ◌%◌, ◌<◌, [], ◌∷◌, Ok, ap, sym, subst, arith}
-use Rattle.disk_base.specs.declared.disk.DiskAnswer.TheVariants.{Done, Failed}
-use Rattle.spool_slots.specs.Changes.{HasDropped, Drops, HasSettled, dropped_in}
+use Rattle.std.proofs.Common.{◌==◌, not, ◌∙◌, ◌+◌, ◌-◌, ◌<◌, Ok, ap, sym, subst, arith}
+use Rattle.disk_base.specs.declared.disk.DiskAnswer.TheVariants.{Failed}
+use Rattle.spool_slots.specs.Changes.{HasDropped, Drops, dropped_in}
 use Rattle.spool_slots.specs.Losses.{IsSure, LeavesByGate}
-use Rattle.spool_slots.specs.Slot.{slot_place}
 use Rattle.spool_slots.specs.Spool.{IsSpool, SpoolView, in_hand}
 use Rattle.spool_slots.specs.declared.recovery.Known.{Known}
 use Rattle.spool_slots.proofs.Lasting.{drop_does, drop_spool, drops}
@@ -11,59 +10,28 @@ use Rattle.spool_slots.proofs.spool.Spool.drop_oldest.Goals as goal
 
 pub taken_up-requires : goal.taken_up-requires
 taken_up-requires g c =
-    let k = c.self.inside.known in
-    let one : 0 < k.len = grind (arith, c.if-self-eq0.false) in
-    let place : c.slot_place.result ≡ slot_place (k.first % k.slots) = c.slot_place.ensures ∙ ap slot_place c.slot_of-slot.ensures.slot in
-    let done : HasSettled g.D.Disk c.self.inside.disk c.settle.new.disk (slot_place (k.first % k.slots)) (0 ∷ []) Done =
-    subst (λ at. HasSettled g.D.Disk c.self.inside.disk c.settle.new.disk at (0 ∷ []) Done) place (record {
-      told = c.in-Done.ensures.told;
-      size = c.in-Done.ensures.size;
-      calls = c.in-Done.ensures.calls;
-      listed = c.in-Done.ensures.listed;
-      cause = c.in-Done.ensures.cause;
-      name = c.in-Done.ensures.name;
-    }) in
-    subst (λ (n : Known). IsSpool g.D.Disk (in_hand c.settle.new.disk n)) (sym c.without_first.ensures)
-    (drop_spool g.D.Disk c.self.inside.disk c.settle.new.disk k c.self.invariant one done)
+    let one : 0 < c.self.inside.known.len = grind (arith, c.if-self-eq0.false) in
+    subst (λ (n : Known). IsSpool g.D.Disk (in_hand c.settle_gate.new.disk n)) (sym c.without_first.ensures)
+    (drop_spool g.D.Disk c.self.inside.disk c.settle_gate.new.disk c.self.inside.known c.self.invariant one c.in-Done.ensures)
 
 pub returns-in-Done : goal.returns-in-Done
 returns-in-Done g c =
     let k = c.self.inside.known in
     let next : Known = record { slots = k.slots; first = k.first + 1; len = k.len - 1; mark = k.mark } in
     let one : 0 < k.len = grind (arith, c.if-self-eq0.false) in
-    let place : c.slot_place.result ≡ slot_place (k.first % k.slots) = c.slot_place.ensures ∙ ap slot_place c.slot_of-slot.ensures.slot in
-    let done : HasSettled g.D.Disk c.self.inside.disk c.settle.new.disk (slot_place (k.first % k.slots)) (0 ∷ []) Done =
-    subst (λ at. HasSettled g.D.Disk c.self.inside.disk c.settle.new.disk at (0 ∷ []) Done) place (record {
-      told = c.in-Done.ensures.told;
-      size = c.in-Done.ensures.size;
-      calls = c.in-Done.ensures.calls;
-      listed = c.in-Done.ensures.listed;
-      cause = c.in-Done.ensures.cause;
-      name = c.in-Done.ensures.name;
-    }) in
     subst (λ (w : SpoolView g.row.D.Denot). Drops g.D.Disk c.args.self (Ok w))
-    (sym (c.taken_up.ensures ∙ ap (λ (n : Known). in_hand c.settle.new.disk n) c.without_first.ensures))
-    (subst (λ (v : SpoolView g.row.D.Denot). Drops g.D.Disk v (Ok (in_hand c.settle.new.disk next))) c.self.view_is
-    (drops g.D.Disk c.self.inside.disk c.settle.new.disk k c.self.invariant one done))
+    (sym (c.taken_up.ensures ∙ ap (λ (n : Known). in_hand c.settle_gate.new.disk n) c.without_first.ensures))
+    (subst (λ (v : SpoolView g.row.D.Denot). Drops g.D.Disk v (Ok (in_hand c.settle_gate.new.disk next))) c.self.view_is
+    (drops g.D.Disk c.self.inside.disk c.settle_gate.new.disk k c.self.invariant one c.in-Done.ensures))
 
 pub returns-in-Failed : goal.returns-in-Failed
 returns-in-Failed g c =
     let k = c.self.inside.known in
     let one : 0 < k.len = grind (arith, c.if-self-eq0.false) in
-    let place : c.slot_place.result ≡ slot_place (k.first % k.slots) = c.slot_place.ensures ∙ ap slot_place c.slot_of-slot.ensures.slot in
-    let done : HasSettled g.D.Disk c.self.inside.disk c.settle.new.disk (slot_place (k.first % k.slots)) (0 ∷ []) Failed =
-    subst (λ at. HasSettled g.D.Disk c.self.inside.disk c.settle.new.disk at (0 ∷ []) Failed) place (record {
-      told = c.in-Failed.ensures.told;
-      size = c.in-Failed.ensures.size;
-      calls = c.in-Failed.ensures.calls;
-      listed = c.in-Failed.ensures.listed;
-      cause = c.in-Failed.ensures.cause;
-      name = c.in-Failed.ensures.name;
-    }) in
-    subst (λ (v : SpoolView g.row.D.Denot). HasDropped g.D.Disk v c.settle.new.disk Failed
+    subst (λ (v : SpoolView g.row.D.Denot). HasDropped g.D.Disk v c.settle_gate.new.disk Failed
     × (IsSure (g.D.Disk.health v.disk) 2 1 →
-    LeavesByGate (g.D.Disk.told v.disk) (g.D.Disk.told c.settle.new.disk) (λ gate. not (gate == 90)) dropped_in)) c.self.view_is (
-      drop_does g.D.Disk c.self.inside.disk c.settle.new.disk k c.self.invariant one Failed done,
-      drop_loss c.failed_settle_has_written.ensures c.cut_leaves_the_chosen_byte.ensures g.D.Disk c.self.inside.disk c.settle.new.disk k
-          (λ s told. g.met.D.Disk.calls_told c.self.inside.disk s told) c.self.invariant one done,
+    LeavesByGate (g.D.Disk.told v.disk) (g.D.Disk.told c.settle_gate.new.disk) (λ gate. not (gate == 90)) dropped_in)) c.self.view_is (
+      drop_does g.D.Disk c.self.inside.disk c.settle_gate.new.disk k c.self.invariant one Failed c.in-Failed.ensures,
+      drop_loss c.failed_settle_has_written.ensures c.cut_leaves_the_chosen_byte.ensures g.D.Disk c.self.inside.disk c.settle_gate.new.disk k
+          (λ s told. g.met.D.Disk.calls_told c.self.inside.disk s told) c.self.invariant one c.in-Failed.ensures,
     )
