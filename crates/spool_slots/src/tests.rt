@@ -134,6 +134,133 @@ fn a_reserve_is_done_with_its_gate(rt: HostRuntime) -> Result<(), Fail> {
     Ok(())
 }
 
+// Whether a body of so many bytes is refused, and why: (full, too long, numbers spent).
+fn refuses(spool: Spool<MemDisk>, body: &[u8]) -> (bool, bool, bool) {
+    let message = Stored {
+        stream: 6,
+        function: 11,
+        body,
+    };
+    match spool.stage(&message) {
+        Ok(_) => (false, false, false),
+        Err(Staging::Full(_)) => (true, false, false),
+        Err(Staging::TooLong(_)) => (false, true, false),
+        Err(Staging::NumbersSpent(_)) => (false, false, true),
+        Err(Staging::Failed(_)) => (true, true, true),
+    }
+}
+
+// A spool of three slots after so many puts.
+fn filled(alloc: Global, puts: u32) -> Option<Spool<MemDisk>> {
+    let Some(mut spool) = formatted(alloc) else {
+        return None;
+    };
+    let mut left = puts;
+    while left > 0 {
+        match put(spool) {
+            Ok(more) => spool = more,
+            Err(_) => return None,
+        }
+        left -= 1;
+    }
+    Some(spool)
+}
+
+// Whether this many puts leave a spool that refuses a body so.
+fn refuses_behind(alloc: Global, puts: u32, body: &[u8], why: (bool, bool, bool)) -> bool {
+    match filled(alloc, puts) {
+        Some(spool) => refuses(spool, body) == why,
+        None => false,
+    }
+}
+
+// Whether the slot of the oldest message is the first one's again once it is dropped and another put.
+fn goes_round(alloc: Global) -> bool {
+    let Some(spool) = filled(alloc, 3) else {
+        return false;
+    };
+    let Ok(spool) = spool.drop_oldest() else {
+        return false;
+    };
+    match put(spool) {
+        Ok(spool) => leaves(alloc, &spool.retire().into_disk(), CutChoice::Old, 3, 1, 0),
+        Err(_) => false,
+    }
+}
+
+// Whether an empty spool says so.
+fn is_empty(alloc: Global) -> bool {
+    match formatted(alloc) {
+        Some(spool) => matches!(spool.drop_oldest(), Err(Dropping::Empty(_))),
+        None => false,
+    }
+}
+
+#[test]
+fn what_has_no_room_is_refused(rt: HostRuntime) -> Result<(), Fail> {
+    let alloc = rt.alloc();
+    assert!(rt; refuses_behind(alloc, 3, &[1, 0], (true, false, false)));
+    assert!(rt; refuses_behind(alloc, 3, &[0; 4082], (false, true, false)));
+    assert!(rt; refuses_behind(alloc, 2, &[0; 4081], (false, false, false)));
+    assert!(rt; goes_round(alloc));
+    assert!(rt; is_empty(alloc));
+    Ok(())
+}
+
+// The spool of a new file of three slots with some bytes at a place.
+fn with_bytes(alloc: Global, at: u64, bytes: &[u8]) -> Option<Spool<MemDisk>>
+    requires { length bytes.now ≤ 100 }
+{
+    let Some(spool) = formatted(alloc) else {
+        return None;
+    };
+    let mut disk = spool.retire().into_disk();
+    let end = at.saturating_add(bytes.len() as u64);
+    if end > disk.size() {
+        return None;
+    }
+    let _ = settle(&mut disk, at, bytes);
+    match Raw::new(disk).recover() {
+        Ok(spool) => Some(spool),
+        Err(_) => None,
+    }
+}
+
+// An open slot with the last number, as it stands in the second slot of three.
+const LAST: [u8; 17] = [
+    0x5A, 0x7F, 0xFF, 0xFF, 0xFF, 0xFF, 0xFF, 0xFF, 0xFF, 0x86, 11, 0, 0, 0, 2, 1, 0,
+];
+
+// The last mark but one.
+const MARK: [u8; 8] = [0, 0, 0, 0, 0xFF, 0xFF, 0xF0, 0];
+
+fn no_number_is_left(alloc: Global) -> bool {
+    match with_bytes(alloc, 8192, &LAST) {
+        Some(spool) => spool.len() == 1 && refuses(spool, &[1, 0]) == (false, false, true),
+        None => false,
+    }
+}
+
+fn no_mark_is_left(alloc: Global) -> bool {
+    let Some(spool) = with_bytes(alloc, 12, &MARK) else {
+        return false;
+    };
+    match spool.reserve() {
+        Ok((spool, number)) => number == 0xFFFF_F000
+            && spool.mark() == 1 << 32
+            && matches!(spool.reserve(), Err(Reserving::NumbersSpent(_))),
+        Err(_) => false,
+    }
+}
+
+#[test]
+fn numbers_are_spent_at_their_ends(rt: HostRuntime) -> Result<(), Fail> {
+    let alloc = rt.alloc();
+    assert!(rt; no_number_is_left(alloc));
+    assert!(rt; no_mark_is_left(alloc));
+    Ok(())
+}
+
 // Whether a new file without slots of this size breaks here.
 fn breaks(alloc: Global, size: u64, front: &[u8], at: u64, got: Option<u8>) -> bool
     requires { length front.now ≤ size }
@@ -151,10 +278,23 @@ fn breaks(alloc: Global, size: u64, front: &[u8], at: u64, got: Option<u8>) -> b
 // What a file of three slots begins with.
 const FRONT: [u8; 12] = [0x47, 0x4C, 0x53, 0x50, 0x4F, 0x4F, 0x4C, 0x31, 0, 0, 0, 3];
 
+// Whether a file of three slots that ends too early breaks at its end: each size within the front, and each 61st then.
+fn prefixes_break(alloc: Global) -> bool {
+    let mut size = 0;
+    while size < 16384 {
+        let front = FRONT.get(..size as usize).unwrap_or(&FRONT);
+        if !breaks(alloc, size, front, size, None) {
+            return false;
+        }
+        size += if size < 40 { 1 } else { 61 };
+    }
+    breaks(alloc, 16383, &FRONT, 16383, None)
+}
+
 #[test]
 fn a_file_breaks_at_its_first_wrong_byte(rt: HostRuntime) -> Result<(), Fail> {
     let alloc = rt.alloc();
     assert!(rt; breaks(alloc, 100, &[], 0, Some(0)));
-    assert!(rt; breaks(alloc, 12288, &FRONT, 12288, None));
+    assert!(rt; prefixes_break(alloc));
     Ok(())
 }
