@@ -1,9 +1,12 @@
 -- The first break of the slots.
-use Rattle.std.proofs.Common.{◌≡◌, ℕ, zero, suc, ◌+◌, ◌<◌, ◌⊎◌, List, length, Option, Some, None, refl, sym, ap, subst, ◌∙◌, arith, inl, inr}
+use Rattle.std.proofs.Common.{◌≡◌, ℕ, zero, suc, ◌+◌, ◌<◌, ◌≤◌, ◌⊎◌, ◌&&◌, Bool, true, false, nat_le, if◌then◌else◌, List, length, Option, Some, None, refl, sym, ap, subst, ◌∙◌, arith, inl, inr}
+use Rattle.std.proofs.lemmas.Bool.Decides.{nat_tests}
+use Rattle.std.specs.List.{All}
 use Rattle.std.proofs.lemmas.Bool.{cases_eq}
 use Rattle.spool_slots.specs.Area.{area_break, end_of, first_at, first_of, messages_below, or_else, put_if}
 use Rattle.spool_slots.specs.File.{slots_in, spool_break}
 use Rattle.spool_slots.specs.Front.{front_break, front_in}
+use Rattle.spool_slots.proofs.Lists.{IsBelow, of_put_if}
 use Rattle.spool_slots.specs.Slot.{Slot, ahead_break, in_slot, is_open, message_of, slot_break, slot_in}
 
 pub one_more : (k : ℕ) → suc k ≡ k + 1
@@ -92,3 +95,23 @@ of_sound slot n is =
     ap (λ o. or_else o (first_at (λ k. in_slot k (ahead_break (end_of (messages_below slot n)) (slot k))) n))
     (first_none (λ k. in_slot k (slot_break n k (slot k))) n (λ k below. ap (in_slot k) (is.fields k below)))
     ∙ first_none (λ k. in_slot k (ahead_break (end_of (messages_below slot n)) (slot k))) n (λ k below. ap (in_slot k) (is.ahead k below))
+
+-- ---- where all numbers lie below an end
+
+abbrev number_where : Bool → Option ℕ
+number_where ahead = if ahead then Some 1 else None
+
+ahead_if : (opened : Bool) (end number behind : ℕ) → behind ≤ end → (opened ≡ true → number < behind) →
+    number_where (opened && nat_le end number) ≡ None
+ahead_if false end number behind less below = refl
+ahead_if true end number behind less below =
+    let above : nat_le end number ≡ false = grind (arith, nat_tests, less, below refl) in
+    ap number_where above
+
+pub none_ahead : (slot : ℕ → Slot) (n behind end : ℕ) → behind ≤ end → All (IsBelow behind) (messages_below slot n) →
+    first_at (λ k. in_slot k (ahead_break end (slot k))) n ≡ None
+none_ahead slot zero behind end less all = refl
+none_ahead slot (suc k) behind end less all =
+    let both = of_put_if (IsBelow behind) (is_open (slot k)) (message_of (slot k)) (messages_below slot k) all in
+    ap (λ o. or_else o (in_slot k (ahead_break end (slot k)))) (none_ahead slot k behind end less both.1)
+    ∙ ap (in_slot k) (ahead_if (is_open (slot k)) end (slot k).head.number behind less both.0)

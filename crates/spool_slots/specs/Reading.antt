@@ -1,6 +1,6 @@
 -- What reading parts of a spool file comes to (this profile).
 use Rattle.std.specs.Prelude.{◌≡◌, ℕ, ◌^◌, ◌<◌, ◌≤◌, ◌==◌, nat_lt, if◌then◌else◌, List, [], length, drop, slice_index, Option, Some, None}
-use Rattle.std.specs.List.{slice_get}
+use Rattle.std.specs.List.{All, slice_get}
 use Rattle.disk_base.specs.Story.{Story, bytes_at}
 use Rattle.disk_base.specs.declared.disk.DiskAnswer.{DiskAnswer}
 use Rattle.disk_base.specs.declared.disk.DiskAnswer.TheVariants.{Done, Failed}
@@ -58,9 +58,11 @@ StartIs told k start Failed = Unit {0}
 abbrev pub slot_from : List ℕ → Slot
 slot_from start = record { gate = slice_index start 0; head = head_of (drop 1 start); area = [] }
 
--- how many messages a list has, and the number of its first one
-abbrev pub IsScan : Scan → List Message → Type 0
-IsScan scan list = (scan.count ≡ length list) × (scan.least ≡ first_of list)
+-- how many messages a list has, the number of its first one, and one above all its numbers
+pub record IsScan (scan : Scan) (list : List Message) : Type 0 where
+  pub count : scan.count ≡ length list
+  pub least : scan.least ≡ first_of list
+  pub behind : All (λ message. message.number < scan.behind) list
 
 -- the least number with one more
 abbrev pub least_with : ℕ → ℕ → ℕ → ℕ
@@ -87,7 +89,7 @@ ScanIs slots told reading.Failed = Unit {0}
 
 -- also over a disk that tells nothing
 abbrev pub ScanFits : ℕ → Reading Scan → Type 0
-ScanFits most (reading.Whole found) = (found.count ≤ most) × (found.least < 2 ^ 63)
+ScanFits most (reading.Whole found) = (found.count ≤ most) × (found.least < 2 ^ 63) × (found.behind ≤ 2 ^ 63)
 ScanFits most (reading.Broken break) = Unit {0}
 ScanFits most reading.Failed = Unit {0}
 

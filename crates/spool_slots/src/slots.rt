@@ -12,11 +12,12 @@ use crate::reading::{NotSpool, Reading};
 use crate::slot::{NUMBER, OPEN, SLOT_SIZE, head, head_break, slot_of};
 use disk_base::{Disk, DiskAnswer, settle};
 
-/// The open slots so far: how many there are, and their least number.
+/// The open slots so far: how many there are, their least number, and the number behind their greatest.
 #[derive(Clone, Copy, Debug)]
 pub struct Scan {
     pub count: u32,
     pub least: u64,
+    pub behind: u64,
 }
 
 /// Where a slot begins.
@@ -70,21 +71,34 @@ fn least_with(scan: Scan, number: u64) -> u64
     scan.least
 }
 
+// The number behind the greatest with one more.
+fn behind_with(behind: u64, number: u64) -> u64
+    requires { number < 2 ^ 63 }
+    ensures old { behind ≤ result }
+    ensures new { number < result }
+    ensures bound { behind ≤ 2 ^ 63 → result ≤ 2 ^ 63 }
+{
+    if number < behind { behind } else { number + 1 }
+}
+
 // Counts a slot if it is open.
 fn counted(scan: Scan, start: &[u8; 15]) -> Scan
     requires count { scan.count < 65535 }
     requires least { scan.least < 2 ^ 63 }
+    requires behind { scan.behind ≤ 2 ^ 63 }
     requires number { is_open (slot_from start.now) ≡ true → (head_of (drop 1 start.now)).number < 2 ^ 63 }
     ensures scan { (message : Message) (list : List Message) → message.number ≡ (head_of (drop 1 start.now)).number →
         IsScan scan list → IsScan result (put_if (is_open (slot_from start.now)) message list) }
-    ensures fits { (result.count ≤ scan.count + 1) × (result.least < 2 ^ 63) }
+    ensures fits { (result.count ≤ scan.count + 1) × (result.least < 2 ^ 63) × (result.behind ≤ 2 ^ 63) }
 {
     if start[0] != OPEN {
         return scan;
     }
+    let number = head(start).number;
     Scan {
         count: scan.count + 1,
-        least: least_with(scan, head(start).number),
+        least: least_with(scan, number),
+        behind: behind_with(scan.behind, number),
     }
 }
 
@@ -121,6 +135,7 @@ fn scan_slot<D: Disk>(disk: &mut D, slots: u32, slot: u32, scan: Scan) -> Readin
     requires slot { slot < slots }
     requires count { scan.count < 65535 }
     requires least { scan.least < 2 ^ 63 }
+    requires behind { scan.behind ≤ 2 ^ 63 }
     ensures scan { ScansOn slots slot scan (D.told disk.old) result }
     ensures fits { ScanFits (scan.count + 1) result }
     ensures told { D.told disk.new ≡ D.told disk.old }
@@ -152,7 +167,11 @@ pub fn scan_slots<D: Disk>(disk: &mut D, slots: u32) -> Reading<Scan>
         (reading_answer result) }
     ensures name { D.name disk.new ≡ D.name disk.old }
 {
-    let mut scan = Scan { count: 0, least: 0 };
+    let mut scan = Scan {
+        count: 0,
+        least: 0,
+        behind: 0,
+    };
     for slot in 0..slots {
         match scan_slot(disk, slots, slot, scan) {
             Reading::Whole(next) => scan = next,
@@ -219,7 +238,7 @@ fn check_slots<D: Disk>(disk: &mut D, slots: u32, end: u64) -> Reading<()>
     Reading::Whole(())
 }
 
-/// Tests the slots, and counts those that are open.
+/// Tests the slots, and counts those that are open. They are read once where the numbers of these have no gap.
 pub fn read_slots<D: Disk>(disk: &mut D, slots: u32) -> Reading<Scan>
     requires size { place_of slots ≤ D.size_is disk.old }
     requires slots { slots ≤ 65535 }
@@ -232,11 +251,17 @@ pub fn read_slots<D: Disk>(disk: &mut D, slots: u32) -> Reading<Scan>
     ensures name { D.name disk.new ≡ D.name disk.old }
 {
     match scan_slots(disk, slots) {
-        Reading::Whole(scan) => match check_slots(disk, slots, scan.least + scan.count as u64) {
-            Reading::Whole(()) => Reading::Whole(scan),
-            Reading::Broken(not_spool) => Reading::Broken(not_spool),
-            Reading::Failed => Reading::Failed,
-        },
+        Reading::Whole(scan) => {
+            let end = scan.least + scan.count as u64;
+            if scan.behind <= end {
+                return Reading::Whole(scan);
+            }
+            match check_slots(disk, slots, end) {
+                Reading::Whole(()) => Reading::Whole(scan),
+                Reading::Broken(not_spool) => Reading::Broken(not_spool),
+                Reading::Failed => Reading::Failed,
+            }
+        }
         Reading::Broken(not_spool) => Reading::Broken(not_spool),
         Reading::Failed => Reading::Failed,
     }

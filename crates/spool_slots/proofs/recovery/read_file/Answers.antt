@@ -12,7 +12,7 @@ returns-in-Whole-read_slots-clause-file g c s is =
     let front = c.in-Whole.ensures.front s is in
     let area = c.in-Whole-read_slots.ensures.area s (c.in-Whole.ensures.told ∙ is) in
     let scan = subst (λ n. IsScan c.in-Whole-read_slots.scan (messages_below (slot_in s.now.bytes) n)) front.1 area.1 in
-    (spool_sound s.now.bytes c.in-Whole.front.slots front.0 front.1 area.0, front.1, front.2, scan.1, scan.0)
+    (spool_sound s.now.bytes c.in-Whole.front.slots front.0 front.1 area.0, front.1, front.2, scan.least, scan.count)
 
 pub returns-in-Whole-read_slots-clause-reads : goal.returns-in-Whole-read_slots-clause-reads
 returns-in-Whole-read_slots-clause-reads g c =

@@ -1,14 +1,23 @@
-use Rattle.std.proofs.Common.{arith, ◌*◌, ◌∙◌, Some, None}
+use Rattle.std.proofs.Common.{arith, ◌+◌, ◌*◌, ◌∙◌, Some, None}
 use Rattle.disk_base.specs.declared.disk.DiskAnswer.TheVariants.{Done, Failed}
 use Rattle.spool_slots.specs.Slot.{slot_in}
-use Rattle.spool_slots.proofs.Firsts.{area_fields, area_numbers}
+use Rattle.spool_slots.proofs.Firsts.{area_fields, area_numbers, none_ahead}
 use Rattle.spool_slots.proofs.Stretches.{read_behind, read_wider}
 use Rattle.spool_slots.proofs.slots.read_slots.Goals as goal
+
+pub returns-then-scan-end-clause-area : goal.returns-then-scan-end-clause-area
+returns-then-scan-end-clause-area g c s is =
+    let scan = c.in-Whole.ensures.scan s is in (
+      area_numbers (slot_in s.now.bytes) c.args.slots c.in-Whole.scan.count c.in-Whole.scan.least None scan.0 scan.1.count scan.1.least
+          (none_ahead (slot_in s.now.bytes) c.args.slots c.in-Whole.scan.behind (c.in-Whole.scan.least + c.in-Whole.scan.count)
+          (omega (arith, c.if-scan-end.true)) scan.1.behind),
+      scan.1,
+    )
 
 pub returns-in-Whole-check_slots-clause-area : goal.returns-in-Whole-check_slots-clause-area
 returns-in-Whole-check_slots-clause-area g c s is =
     let scan = c.in-Whole.ensures.scan s is in (
-      area_numbers (slot_in s.now.bytes) c.args.slots c.in-Whole.scan.count c.in-Whole.scan.least None scan.0 scan.1.0 scan.1.1
+      area_numbers (slot_in s.now.bytes) c.args.slots c.in-Whole.scan.count c.in-Whole.scan.least None scan.0 scan.1.count scan.1.least
           (c.in-Whole-check_slots.ensures.end s (c.in-Whole.ensures.told ∙ is)),
       scan.1,
     )
@@ -17,7 +26,7 @@ pub returns-in-Broken-check_slots-clause-area : goal.returns-in-Broken-check_slo
 returns-in-Broken-check_slots-clause-area g c s is =
     let scan = c.in-Whole.ensures.scan s is in
     let found = c.in-Broken-check_slots.ensures.end s (c.in-Whole.ensures.told ∙ is) in
-    (area_numbers (slot_in s.now.bytes) c.args.slots c.in-Whole.scan.count c.in-Whole.scan.least (Some _) scan.0 scan.1.0 scan.1.1 found.0, found.1)
+    (area_numbers (slot_in s.now.bytes) c.args.slots c.in-Whole.scan.count c.in-Whole.scan.least (Some _) scan.0 scan.1.count scan.1.least found.0, found.1)
 
 pub returns-in-Broken-clause-area : goal.returns-in-Broken-clause-area
 returns-in-Broken-clause-area g c s is =

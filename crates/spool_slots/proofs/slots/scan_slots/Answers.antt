@@ -4,7 +4,9 @@ use Rattle.spool_slots.specs.Reading.{IsScan}
 use Rattle.spool_slots.specs.Slot.{in_slot, slot_break, slot_in}
 use Rattle.disk_base.specs.declared.disk.DiskAnswer.TheVariants.{Done, Failed}
 use Rattle.spool_slots.proofs.Stretches.{none_read, read_behind, read_wider}
+use Rattle.std.proofs.lemmas.List.Elements.{All-nil}
 use Rattle.spool_slots.proofs.Firsts.{first_found, first_next, messages_next}
+use Rattle.spool_slots.proofs.Lists.{IsBelow}
 use Rattle.spool_slots.proofs.slots.scan_slots.Goals as goal
 
 pub returns-in-Broken-clause-scan : goal.returns-in-Broken-clause-scan
@@ -16,7 +18,8 @@ returns-in-Broken-clause-scan g c s is =
     )
 
 pub loop-slot-init : goal.loop-slot-init
-loop-slot-init g c = (λ s is. (refl, (refl, refl)), refl, refl, refl, none_read _ _, omega arith, omega arith)
+loop-slot-init g c =
+    (λ s is. (refl, record { count = refl; least = refl; behind = All-nil (IsBelow 0) }), refl, refl, refl, none_read _ _, omega arith, omega arith, omega arith)
 
 pub loop-slot-preserved : goal.loop-slot-preserved
 loop-slot-preserved g c = (
@@ -33,6 +36,7 @@ loop-slot-preserved g c = (
   read_behind _ _ _ _ _ _ c.loop-slot.slot 1 _ Done (omega arith) c.loop-slot.invariant.4 c.in-Whole.ensures.reads,
   omega (arith, c.in-Whole.ensures.fits.0, c.loop-slot.invariant.5),
   c.in-Whole.ensures.fits.1,
+  c.in-Whole.ensures.fits.2,
 )
 
 pub returns-clause-scan : goal.returns-clause-scan

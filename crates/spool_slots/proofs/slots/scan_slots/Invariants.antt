@@ -18,3 +18,4 @@ invariant-loop-slot g l =
     × HasRead (g.D.Disk.health l.fn.disk) (g.D.Disk.health l.disk) (g.D.Disk.calls l.fn.disk) (g.D.Disk.calls l.disk) l.slot Done
     × (l.scan.count ≤ l.slot)
     × (l.scan.least < 2 ^ 63)
+    × (l.scan.behind ≤ 2 ^ 63)
