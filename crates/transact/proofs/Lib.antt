@@ -1,5 +1,5 @@
 mod Draws
-mod Firsts
+pub mod Firsts
 mod History
-mod Kept
-mod Places
+pub mod Kept
+pub mod Places
