@@ -127,7 +127,7 @@ both_stepped world = and_more (stepped Equipment false world) (stepped Host fals
 abbrev pub waited : ℕ → World → Piece
 waited ms world = both_stepped (record world { moment = world.moment + ms })
 
--- an event that isn't carried out yet stands in no schedule that is carried out
+-- an event that isn't carried out yet does nothing; reading a schedule gives none
 abbrev pub after_event : Event → World → Piece
 after_event (event.To side n) world = given_times n side world
 after_event event.Settle world = settled_times most_settled world

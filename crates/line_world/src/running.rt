@@ -1,6 +1,6 @@
 ghost use Rattle.std.specs.Prelude.{◌≡◌, ◌++◌};
 ghost use Rattle.line_end.specs.Plan.{LinePlanFits};
-ghost use Rattle.line_schedule.specs.Schedule.{AreCarriedOut, Fits};
+ghost use Rattle.line_schedule.specs.Schedule.{Fits};
 ghost use Rattle.gl_base.specs.Sending.{Passes, Sends};
 ghost use Rattle.gl_base.specs.Told.{sink_told};
 ghost use Rattle.line_world.specs.Run.{Runs, course_of, end_of, end_text, log_of, trace_text};
@@ -33,11 +33,11 @@ pub enum RunEnd {
 /// Carries out a schedule on a line between an equipment that has one message to send and a host that only receives,
 /// and writes the trace of what both ends note. In that trace each message delivered was sent.
 ///
-/// The plan and the schedule must fit, and each event must be one that is carried out by now.
+/// The plan and the schedule must fit. An event that isn't carried out yet does nothing; no schedule that was read has
+/// one.
 pub fn run<W: Sink>(alloc: Global, plan: &LinePlan, schedule: &Schedule, out: &mut W) -> RunEnd
     requires plan { LinePlanFits plan.now }
     requires schedule { Fits schedule.now }
-    requires carried { AreCarriedOut schedule.now }
     ensures text { Runs
         (sink_told W.Sink out.old out.new)
         (trace_text plan.now schedule.now)
@@ -53,7 +53,6 @@ pub fn run<W: Sink>(alloc: Global, plan: &LinePlan, schedule: &Schedule, out: &m
 fn write_trace<W: Sink>(alloc: Global, plan: &LinePlan, schedule: &Schedule, out: &mut W) -> RunEnd
     requires plan { LinePlanFits plan.now }
     requires schedule { Fits schedule.now }
-    requires carried { AreCarriedOut schedule.now }
     ensures text { Runs
         (sink_told W.Sink out.old out.new)
         (trace_text plan.now schedule.now)

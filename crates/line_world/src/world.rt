@@ -3,7 +3,6 @@ ghost use Rattle.line_end.specs.Plan.{LinePlanFits};
 ghost use Rattle.gl_base.specs.declared.side.Side.TheVariants as sides;
 ghost use Rattle.trace_log.specs.Text.{text_of};
 ghost use Rattle.line_schedule.specs.Events.{EventFits};
-ghost use Rattle.line_schedule.specs.Schedule.{IsCarriedOut};
 ghost use Rattle.line_world.specs.Kept.{Settles};
 ghost use Rattle.line_world.specs.World.{after_event, at_start, begun, both_stepped, can_give, given_times, goes_on, settled, settled_times, stepped, waited};
 
@@ -88,7 +87,7 @@ impl World {
         self.course
     }
 
-    /// Carries out an event that is carried out by now, and puts the lines of what is noted.
+    /// Carries out an event, and puts the lines of what is noted. One that isn't carried out yet does nothing.
     pub(crate) fn carry_out(
         &mut self,
         alloc: Global,
@@ -96,7 +95,6 @@ impl World {
         page: &mut Row<u8>,
     ) -> Result<(), NoMemory>
         requires fits { EventFits event.now }
-        requires carried { IsCarriedOut event.now }
         requires now { self.old.moment + 1000000 < 2 ^ 62 }
         ensures world { OnOk result (self.new ≡ (after_event event.now self.old).world) }
         ensures page { OnOk result (page.new ≡ page.old ++ text_of (after_event event.now self.old).entries) }
