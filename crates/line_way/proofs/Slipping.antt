@@ -13,7 +13,7 @@ use Rattle.line_end.specs.declared.event.Phase.{Phase}
 use Rattle.line_end.specs.declared.event.Phase.TheVariants.{Idle, AwaitEot, AwaitAck, AwaitLength, Gathering, Settling}
 use Rattle.line_end.specs.Frames.{block_in, is_frame, sum_cause}
 use Rattle.line_end.specs.State.{IsBegun, LineState}
-use Rattle.line_end.specs.Step.{LineCall, Outcome, is_due, line_row, line_step, quietly, refuses_at_last}
+use Rattle.line_end.specs.Step.{Outcome, is_due, line_row, line_step, quietly, refuses_at_last}
 use Rattle.line_end.specs.Step as row
 use Rattle.line_end.specs.Step.LineCall.{Take, Tick}
 use Rattle.line_end.specs.Step.LineInput.{Deadline, Character}

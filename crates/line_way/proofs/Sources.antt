@@ -3,7 +3,6 @@ use Rattle.std.proofs.Common.{◌≡◌, ◌<◌, ◌⊎◌, zero, suc, ℕ, ◌
 use Rattle.std.specs.List.{Contains}
 use Rattle.line_order.specs.Acts.{changed}
 use Rattle.line_order.specs.Characters as order
-use Rattle.line_order.specs.Characters.{writes_frame}
 use Rattle.line_order.specs.Line.{WrittenFrame}
 use Rattle.line_order.proofs.Given.{contains-cases, contains-more}
 use Rattle.line_way.specs.declared.character.Character.{Character}

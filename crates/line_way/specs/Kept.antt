@@ -23,6 +23,13 @@ abbrev pub direction_from : Side → Ways → Way
 direction_from Equipment ways = ways.to_host
 direction_from Host ways = ways.to_equipment
 
+-- on a line on which nothing has happened
+abbrev pub empty_way : Way
+empty_way = record { under_way = []; gathered = [] }
+
+abbrev pub new_ways : Ways
+new_ways = record { to_equipment = empty_way; to_host = empty_way; written = 0 }
+
 -- with these instead
 abbrev pub with_direction : Side → Way → Ways → Ways
 with_direction Equipment way ways = record ways { to_equipment = way }

@@ -3,7 +3,7 @@ ghost use Rattle.line_end.specs.Plan.{TimesFit};
 ghost use Rattle.line_end.specs.declared.plan.Times.{Times};
 ghost use Rattle.line_order.specs.Acts.Act.{Lose, Change, Add, PowerLoss};
 ghost use Rattle.line_order.specs.Line.{Line, new_line};
-ghost use Rattle.line_way.specs.Kept.{IsSlipAt, IsSlipOf, count_after, gathered_with_next, makes_slip_in, way_after, direction_to, ways_after, with_change, with_noise_to, with_direction, with_written, without_next, without_power};
+ghost use Rattle.line_way.specs.Kept.{IsSlipAt, IsSlipOf, count_after, gathered_with_next, makes_slip_in, new_ways, way_after, direction_to, ways_after, with_change, with_noise_to, with_direction, with_written, without_next, without_power};
 ghost use Rattle.line_way.specs.Slip.{TellsSlip};
 ghost use Rattle.line_way.specs.Step.{DoesStep};
 ghost use Rattle.line_way.specs.Ways.{DoesDeed, StandsFor, StandsForNew, characters_of, is_under_way, next_byte, way_to};
@@ -43,6 +43,7 @@ impl Ways {
     /// A line on which nothing has happened. It takes no memory yet.
     pub fn new(alloc: Global) -> Ways
         ensures stands { StandsForNew result }
+        ensures ways { result ≡ new_ways }
         ensures count { result.written ≡ 0 }
     {
         Ways {
@@ -54,14 +55,16 @@ impl Ways {
 
     /// Whether a character is on its way to an end.
     pub fn is_under_way(&self, side: Side) -> bool
-        ensures { (line : Line) → StandsFor self.now line → result ≡ is_under_way (way_to side line) }
+        ensures line { (line : Line) → StandsFor self.now line → result ≡ is_under_way (way_to side line) }
+        ensures way { result ≡ is_under_way (characters_of (direction_to side self.now).under_way) }
     {
         self.next(side).is_some()
     }
 
     /// The next character on its way to an end, where there is one. It stays on its way.
     pub fn next(&self, side: Side) -> Option<u8>
-        ensures { (line : Line) → StandsFor self.now line → result ≡ next_byte (way_to side line) }
+        ensures line { (line : Line) → StandsFor self.now line → result ≡ next_byte (way_to side line) }
+        ensures way { result ≡ next_byte (characters_of (direction_to side self.now).under_way) }
     {
         self.next_to(side)
     }
@@ -78,6 +81,7 @@ impl Ways {
     /// The next character on its way to an end is lost, where there is one.
     pub fn lose(&mut self, side: Side)
         ensures deed { DoesDeed self.old side Lose self.new }
+        ensures ways { self.new ≡ with_direction side (without_next (direction_to side self.old)) self.old }
         ensures count { self.new.written ≡ self.old.written }
     {
         self.lose_to(side);
@@ -96,6 +100,7 @@ impl Ways {
     /// Where it comes from stays, so that a change and its change back leave no trace.
     pub fn change(&mut self, side: Side, place: u32, byte: u8)
         ensures deed { DoesDeed self.old side (Change place byte) self.new }
+        ensures ways { self.new ≡ with_direction side (with_change place byte (direction_to side self.old)) self.old }
         ensures count { self.new.written ≡ self.old.written }
     {
         self.change_to(side, place as usize, byte);
@@ -115,6 +120,7 @@ impl Ways {
     /// `NoMemory` where memory runs out; all stays as it was then.
     pub fn add(&mut self, side: Side, byte: u8) -> Result<(), NoMemory>
         ensures deed { OnOk result (DoesDeed self.old side (Add byte) self.new) }
+        ensures ways { OnOk result (self.new ≡ with_noise_to side byte self.old) }
         ensures err { OnErr result (self.new ≡ self.old) }
         ensures count { self.new.written ≡ self.old.written }
     {
@@ -134,6 +140,7 @@ impl Ways {
     /// An end has lost its power: both directions are empty, and it has gathered nothing. The numbers of frames go on.
     pub fn empty(&mut self, side: Side)
         ensures deed { DoesDeed self.old side PowerLoss self.new }
+        ensures ways { self.new ≡ without_power side self.old }
         ensures count { self.new.written ≡ self.old.written }
     {
         self.empty_both(side);
@@ -156,7 +163,8 @@ impl Ways {
     /// It is told before the step, from the phase in which the end is and whether T1 has run out since its last
     /// character (of `Gathering` alone; elsewhere any answer will do), what was gathered, and the next character.
     pub fn slip(&self, side: Side, phase: Phase, is_late: bool) -> Option<Slip>
-        ensures { TellsSlip self.now side phase is_late result }
+        ensures line { TellsSlip self.now side phase is_late result }
+        ensures way { IsSlipAt phase is_late (direction_to side self.now) result }
     {
         self.slip_at(side, phase, is_late)
     }
@@ -184,6 +192,7 @@ impl Ways {
     ) -> Result<(), NoMemory>
         requires { self.old.written < 2 ^ 62 }
         ensures deeds { OnOk result (DoesStep self.old side gives phase written.now self.new) }
+        ensures ways { OnOk result (self.new ≡ ways_after side gives phase written.now self.old) }
         ensures count { self.new.written ≤ self.old.written + 1 }
     {
         self.step_at(side, gives, phase, written)
