@@ -17,6 +17,7 @@ pub use event::Event;
 pub use laws::readers_find_the_meaning;
 pub use schedule::{Schedule, ScheduleFault, read_schedule};
 pub use script::{Script, ScriptStep, read_script};
+pub use words::number_in;
 
 #[cfg(test)]
 mod tests;

@@ -72,8 +72,9 @@ fn with_digit(value: Option<u32>, digit: u8) -> Option<u32>
 }
 
 /// The number in a range that one to ten decimal digits are.
-pub(crate) fn number_in(least: u32, most: u32, text: &[u8]) -> Option<u32>
+pub fn number_in(least: u32, most: u32, text: &[u8]) -> Option<u32>
     ensures number { result ≡ number_in least most text.now }
+    ensures from { IfSome result (λ n. least ≤ n) }
     ensures within { IfSome result (λ n. n ≤ most) }
 {
     if !is_numeral(text) {
