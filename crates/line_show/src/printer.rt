@@ -50,7 +50,16 @@ pub fn show<W: Sink>(alloc: Global, capture: &[u8], out: &mut W) -> Result<Endin
             Some(found) => return finish(&mut page, out, Ok(Ending::Broken(found))),
             None => {}
         }
-        match put_piece(alloc, &mut page, &mut text, &mut receivers, out, at, first, &front) {
+        match put_piece(
+            alloc,
+            &mut page,
+            &mut text,
+            &mut receivers,
+            out,
+            at,
+            first,
+            &front,
+        ) {
             Ok(()) => at += piece_size(&front),
             Err(Stop::NoMemory) => return finish(&mut page, out, Err(Stop::NoMemory)),
             Err(Stop::WriteFailed) => return Err(Stop::WriteFailed),
