@@ -1,0 +1,11 @@
+pub mod Carrying
+mod Courses
+pub mod Duties
+mod Keeps
+pub mod Lawful
+pub mod Lines
+mod Lists
+mod Open
+pub mod Reading
+pub mod Steps
+pub mod Such

@@ -1,0 +1,188 @@
+-- What an end of the line is to those above: what it is given in a step, what it makes of that, and the law that it
+-- keeps.
+use Rattle.std.specs.Prelude.{◌≡◌, ◌≢◌, ◌<◌, ◌≤◌, ℕ, List, [], ◌∷◌, ◌++◌, None, Result, Ok, Err}
+use Rattle.std.specs.List.{filter_map}
+use Rattle.line_end.specs.Plan.{LinePlanFits}
+use Rattle.line_end.specs.State.{LineState}
+use Rattle.line_end.specs.Step.{LineCall}
+use Rattle.line_end.specs.Step.LineCall.{Cancel, Resume, Send, Take, Tick}
+use Rattle.message_flow.specs.declared.step.NodeInput.{NodeInput}
+use Rattle.message_flow.specs.declared.step.NodeInput.TheVariants as given
+use Rattle.message_flow.specs.declared.step.Note.{Note}
+use Rattle.message_flow.specs.declared.step.StepOut.{StepOut}
+use Rattle.trace_log.specs.Log.{Happening}
+use Rattle.trace_log.specs.Log.Happening.{Power, Wrote}
+use Rattle.trace_log.specs.Names.{Spooled}
+use Rattle.trace_log.specs.Text.{printed_note}
+use Rattle.message_end.specs.declared.end.Stop.{Stop}
+use Rattle.message_end.specs.declared.end.Stop.TheVariants as stop
+use Rattle.message_end.specs.Core.{Step, Went}
+use Rattle.message_end.specs.Core.Went.{Goes, Spent}
+use Rattle.message_end.specs.Doings.{AreLawful, Doing, line_of, own_of}
+use Rattle.message_end.specs.Doings.Doing.{Says}
+use Rattle.message_end.specs.History.{noted_in, written_in}
+use Rattle.message_end.specs.LineCalls.{calls_in}
+use Rattle.message_end.specs.Log.{start_of}
+use Rattle.message_end.specs.Own.{Has, drawn_in, whole_in}
+use Rattle.message_end.specs.Plan.{EndPlan}
+
+-- what an end is given in a step: a character, time, or a command of its own side
+pub data Input (C : Type 0) : Type 0 where
+  Char : (byte : ℕ) → Input C
+  Time : Input C
+  Command : (command : C) → Input C
+
+-- what an end makes of its state in a step at a moment, and when it starts anew without power; and its line
+pub record Machine (S C : Type 0) : Type 0 where
+  pub act : S → Input C → ℕ → Went S Happening
+  pub restart : S → ℕ → Went S Happening
+  pub line : S → LineState
+
+-- ---- what the code is given, and what it gives
+
+abbrev pub input_of : {C : Type 0} → NodeInput C → Input C
+input_of (given.Char byte) = Char byte
+input_of given.Time = Time
+input_of (given.Command command) = Command command.now
+
+-- a character is a byte, and a command one that the end takes
+abbrev pub MayTake : {C : Type 0} → (C → Type 0) → Input C → Type 0
+MayTake takes (Char byte) = byte < 256
+MayTake takes Time = Unit {0}
+MayTake takes (Command command) = takes command
+
+-- the output of a call is empty when it begins
+pub record IsEmpty (out : StepOut) : Type 0 where
+  pub line : out.line.items ≡ []
+  pub notes : out.notes ≡ []
+
+-- the lines of what was noted, the oldest first
+abbrev pub printed : List Happening → List Note
+printed = filter_map printed_note
+
+-- what a step has come to, its notes and its characters
+pub record HasGone {S : Type 0} (went : Went S Happening) (next : S) (out : StepOut) : Type 0 where
+  pub step : Step S Happening
+  pub is : went ≡ Goes step
+  pub next_is : step.next ≡ next
+  pub notes : out.notes ≡ printed step.notes
+  pub written : out.line.items ≡ step.written
+
+-- the numbers are spent: what was noted is there, and nothing is sent
+pub record HasSpent {S : Type 0} (went : Went S Happening) (out : StepOut) : Type 0 where
+  pub step : Step S Happening
+  pub is : went ≡ Spent step
+  pub notes : out.notes ≡ printed step.notes
+  pub quiet : out.line.items ≡ []
+
+-- a step goes on, or the numbers are spent. Where memory runs out nothing is sent, and no more is said
+abbrev pub Leaves : {S : Type 0} → Went S Happening → S → StepOut → Result (Unit {0}) Stop → Type 0
+Leaves went next out (Ok done) = HasGone went next out
+Leaves went next out (Err stop.NumbersSpent) = HasSpent went out
+Leaves went next out (Err stop.NoMemory) = out.line.items ≡ []
+
+-- ---- the law
+
+-- a call on which an end decides at a moment, behind the timer and the character
+abbrev pub IsDecidedAt : ℕ → LineCall → Type 0
+IsDecidedAt now (Send block at) = at ≡ now
+IsDecidedAt now (Resume at) = at ≡ now
+IsDecidedAt now Cancel = Unit {0}
+IsDecidedAt now (Take byte at) = ⊥
+IsDecidedAt now (Tick at) = ⊥
+
+abbrev pub AreDecidedAt : ℕ → List LineCall → Type 0
+AreDecidedAt now [] = Unit {0}
+AreDecidedAt now (call ∷ before) = IsDecidedAt now call × AreDecidedAt now before
+
+-- the timer, and behind it the character where one is given
+abbrev pub taking_calls : {C : Type 0} → Input C → ℕ → List LineCall
+taking_calls (Char byte) now = Take byte now ∷ Tick now ∷ []
+taking_calls Time now = Tick now ∷ []
+taking_calls (Command command) now = Tick now ∷ []
+
+-- the calls of one step are these, and then decisions (this profile)
+pub record AreOfStep {C : Type 0} (input : Input C) (now : ℕ) (calls : List LineCall) : Type 0 where
+  pub decided : List LineCall
+  pub are : calls ≡ decided ++ taking_calls input now
+  pub decisions : AreDecidedAt now decided
+
+-- they are the first ones of a step
+pub record AreBegunOf {C : Type 0} (input : Input C) (now : ℕ) (calls : List LineCall) : Type 0 where
+  pub later : List LineCall
+  pub whole : AreOfStep input now (later ++ calls)
+
+-- an end that these doings have made what it is does some more, with calls of the line that are such
+pub record DoesMore {S : Type 0}
+    (plan : EndPlan) (did : ℕ → List Doing → S → Type 0) (base : ℕ) (doings : List Doing)
+    (Such : List LineCall → Type 0) (step : Step S Happening) : Type 0 where
+  pub done : List Doing
+  pub is : did base (done ++ doings) step.next
+  pub notes : noted_in (done ++ doings) ≡ noted_in doings ++ step.notes
+  pub written : written_in plan (done ++ doings) ≡ written_in plan doings ++ step.written
+  pub calls : Such (calls_in done)
+
+-- all of a step, or what was done until the numbers were spent
+abbrev pub DoesStep :
+    {S C : Type 0} → EndPlan → (ℕ → List Doing → S → Type 0) → ℕ → List Doing → Input C → ℕ
+    → Went S Happening → Type 0
+DoesStep plan did base doings input now (Goes step) = DoesMore plan did base doings (AreOfStep input now) step
+DoesStep plan did base doings input now (Spent step) = DoesMore plan did base doings (AreBegunOf input now) step
+
+-- a start: the end has done nothing yet, may draw numbers from a base on, and notes the start alone
+pub record HasStarted {S : Type 0}
+    (plan : EndPlan) (did : ℕ → List Doing → S → Type 0) (least : ℕ) (step : Step S Happening) : Type 0 where
+  pub base : ℕ
+  pub found : List (ℕ × Spooled)
+  pub is : did base [] step.next
+  pub above : least ≤ base
+  pub notes : step.notes ≡ start_of plan.side found base ∷ []
+  pub written : step.written ≡ []
+
+-- it draws no number again that was drawn in the start before
+pub record HasRestarted {S : Type 0}
+    (plan : EndPlan) (did : ℕ → List Doing → S → Type 0) (base : ℕ) (doings : List Doing) (step : Step S Happening)
+    : Type 0 where
+  pub least : ℕ
+  pub no_lower : base ≤ least
+  pub above : (drawn : ℕ) → Has (drawn_in (own_of plan doings)) drawn → drawn < least
+  pub started : HasStarted plan did least step
+
+-- where there are no more numbers an end doesn't start, and notes nothing
+abbrev pub OnRestart : {S : Type 0} → (Step S Happening → Type 0) → Went S Happening → Type 0
+OnRestart P (Goes step) = P step
+OnRestart P (Spent step) = step.notes ≡ []
+
+-- these doings keep the law of histories, and have made of the line what it is; no message that is whole is left to be
+-- received
+pub record IsMadeOf (plan : EndPlan) (base : ℕ) (doings : List Doing) (line : LineState) : Type 0 where
+  pub lawful : AreLawful plan base doings
+  pub line_is : line ≡ line_of plan doings
+  pub received : whole_in (own_of plan doings) ≡ None
+
+-- what the world itself notes of an end
+abbrev pub IsOfWorld : Happening → Type 0
+IsOfWorld (Wrote characters) = Unit {0}
+IsOfWorld Power = Unit {0}
+IsOfWorld _ = ⊥
+
+-- the law of an end, where `did base doings s` says that these doings since a start, which may draw numbers from the
+-- base on, have made the state s: whatever it is given, it keeps the law of histories (this profile)
+pub record KeepsLaw {S C : Type 0}
+    (plan : EndPlan) (did : ℕ → List Doing → S → Type 0) (takes : C → Type 0) (start : Step S Happening)
+    (machine : Machine S C) : Type 0 where
+  pub fits : LinePlanFits plan.line
+  pub starts : HasStarted plan did 0 start
+  -- the first step of the first start has numbers to draw
+  pub begins : (step : Step S Happening) → machine.act start.next Time 0 ≢ Spent step
+  pub keeps : (base : ℕ) (doings : List Doing) (s : S) → did base doings s → IsMadeOf plan base doings (machine.line s)
+  pub goes_on :
+      (base : ℕ) (doings : List Doing) (s : S) (input : Input C) (now : ℕ) → did base doings s → MayTake takes input
+      → DoesStep plan did base doings input now (machine.act s input now)
+  -- the world notes some of what becomes of it
+  pub says :
+      (base : ℕ) (doings : List Doing) (s : S) (what : Happening) → did base doings s → IsOfWorld what
+      → did base (Says what ∷ doings) s
+  pub restarts :
+      (base : ℕ) (doings : List Doing) (s : S) (now : ℕ) → did base doings s
+      → OnRestart (HasRestarted plan did base doings) (machine.restart s now)

@@ -1,0 +1,13 @@
+pub mod Calls
+pub mod Core
+pub mod Doings
+pub mod Duties
+pub mod Ends
+pub mod History
+pub mod Laws
+pub mod LineCalls
+pub mod Log
+pub mod Moves
+pub mod Own
+pub mod Plan
+pub mod Worked

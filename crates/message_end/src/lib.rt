@@ -1,0 +1,14 @@
+//! The core of every end of the link: talker, host and equipment.
+#![tactic(auto)]
+
+mod end;
+mod ends;
+mod laws;
+#[cfg(test)]
+mod tests;
+mod unsent;
+
+pub use end::{MessageEnd, Stop, Took};
+pub use ends::End;
+pub use laws::{ends_are_lawful, notes_are_read, worked_run};
+pub use unsent::Unsent;
