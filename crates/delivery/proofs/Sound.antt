@@ -1,0 +1,225 @@
+-- Each doing of an end, and each power loss, keeps what holds of two ends; and what follows for the messages received.
+use Rattle.std.proofs.Common.{◌≡◌, sym, ap, ◌∙◌, ℕ, [], length, Some}
+use Rattle.block_codec.specs.Block.{BlockView}
+use Rattle.gl_base.specs.Side.{other_side}
+use Rattle.message_end.specs.Plan.{EndPlan, receiver_of}
+use Rattle.message_flow.specs.declared.flow.Flow.{Flow}
+use Rattle.message_flow.specs.declared.message.Message.{Message}
+use Rattle.message_flow.specs.History.{flow_after, met_of}
+use Rattle.message_flow.specs.Laws.{BlocksMakeMessages}
+use Rattle.message_flow.specs.Message.{is_primary}
+use Rattle.delivery.proofs.Answering.{answering-asked, answering-heard, answering-none, answering-received, answering-restarted, answering-sent, answering-told, answering-unheard, answering-wrote, sent-new}
+use Rattle.delivery.proofs.Facts.{AreApart, IsDelivered, IsLive, IsSound, IsWay}
+use Rattle.delivery.proofs.Facts.IsLive.{past, present}
+use Rattle.delivery.proofs.Hearing.{apart-fewer, apart-sent, hearing-dropped, hearing-gave, hearing-heard, hearing-none, live-heard, live-restarted, live-unheard}
+use Rattle.delivery.proofs.Receiving.{made-given, received-once, receiving-heard, receiving-none, receiving-received}
+use Rattle.delivery.proofs.Sending.{sending-emptied, sending-gave, sending-none, sending-restarted, sending-sent, sending-wrote}
+use Rattle.delivery.proofs.Tags.{Arrives, MayDoOne, MayGiveOne, MaySendOne, MayWriteOne, TaggedBlock, TaggedDoing, TaggedEnd, TaggedMessage, TaggedWhole, done, emptied, new_end, restarted}
+use Rattle.delivery.proofs.Tags.TaggedDoing.{DroppedOne, GaveOne, HeardOne, ReceivedOne, SentOne, WroteOne}
+
+-- ---- at the start
+
+apart-none : AreApart [] []
+apart-none = λ a b live_a live_b system parity. go a b live_a
+  where
+    go : (a b : TaggedMessage) → IsLive [] [] a → a ≡ b
+    go a b (present has) = absurd has
+    go a b (past h has of) = absurd has
+
+way-none : (here there : EndPlan) → IsWay (new_end here) (new_end there)
+way-none here there = record {
+  hearing = hearing-none here [] (receiver_of there);
+  apart = apart-none;
+  receiving = receiving-none;
+  answering = answering-none here.side [];
+}
+
+pub sound-new :
+    (here there : EndPlan) → here.side ≡ other_side there.side → IsSound (new_end here) (new_end there)
+sound-new here there sides = record {
+  sides = sides;
+  here_sends = sending-none;
+  there_sends = sending-none;
+  out = way-none here there;
+  back = way-none there here;
+}
+
+-- ---- each doing
+
+sound-sent :
+    (x y : TaggedEnd) (message : TaggedMessage) → MaySendOne x.plan.side x.ever x.asked message → IsSound x y
+    → IsSound (done (SentOne message) x) y
+sound-sent x y message may is = record {
+  sides = is.sides;
+  here_sends = sending-sent x.plan.side x.sent x.ever x.given x.frames x.asked message may is.here_sends;
+  there_sends = is.there_sends;
+  out = record {
+    hearing = is.out.hearing;
+    apart = apart-sent x.sent y.heard message (sent-new x y message is may) is.out.apart;
+    receiving = is.out.receiving;
+    answering = answering-sent x y message is may;
+  };
+  back = record {
+    hearing = is.back.hearing;
+    apart = is.back.apart;
+    receiving = is.back.receiving;
+    answering = answering-asked x y message is may;
+  };
+}
+
+sound-received :
+    (x y : TaggedEnd) (w : TaggedWhole) → x.whole ≡ Some w → IsSound x y → IsSound (done (ReceivedOne w) x) y
+sound-received x y w whole is = record {
+  sides = is.sides;
+  here_sends = is.here_sends;
+  there_sends = is.there_sends;
+  out = record {
+    hearing = is.out.hearing;
+    apart = is.out.apart;
+    receiving = is.out.receiving;
+    answering = answering-received x y w is whole;
+  };
+  back = record {
+    hearing = is.back.hearing;
+    apart = is.back.apart;
+    receiving = receiving-received x.heard x.received x.whole w whole is.back.receiving;
+    answering = is.back.answering;
+  };
+}
+
+sound-gave :
+    (x y : TaggedEnd) (block : TaggedBlock) → MayGiveOne x.sent x.given block → IsSound x y
+    → IsSound (done (GaveOne block) x) y
+sound-gave x y block may is = record {
+  sides = is.sides;
+  here_sends = sending-gave x.sent x.ever x.given x.frames block may is.here_sends;
+  there_sends = is.there_sends;
+  out = record {
+    hearing = hearing-gave x.plan x.given (receiver_of y.plan) y.heard y.entries block is.out.hearing;
+    apart = is.out.apart;
+    receiving = is.out.receiving;
+    answering = is.out.answering;
+  };
+  back = record {
+    hearing = is.back.hearing;
+    apart = is.back.apart;
+    receiving = is.back.receiving;
+    answering = is.back.answering;
+  };
+}
+
+sound-wrote :
+    (x y : TaggedEnd) (block : TaggedBlock) → MayWriteOne x.plan.side x.sent x.given x.heard block → IsSound x y
+    → IsSound (done (WroteOne block) x) y
+sound-wrote x y block may is = record {
+  sides = is.sides;
+  here_sends = sending-wrote x.sent x.ever x.given x.frames block may.is_given may.of_sent is.here_sends;
+  there_sends = is.there_sends;
+  out = record {
+    hearing = is.out.hearing;
+    apart = is.out.apart;
+    receiving = is.out.receiving;
+    answering = is.out.answering;
+  };
+  back = record {
+    hearing = is.back.hearing;
+    apart = is.back.apart;
+    receiving = is.back.receiving;
+    answering = answering-wrote x y block is may;
+  };
+}
+
+sound-heard :
+    BlocksMakeMessages → (x y : TaggedEnd) (block : TaggedBlock) (view : BlockView) (now : ℕ) (flow : Flow)
+    → Arrives y.plan y.frames x.heard block view
+    → flow ≡ flow_after (receiver_of x.plan) (met_of (receiver_of x.plan) x.entries) view
+    → IsSound x y → IsSound (done (HeardOne block view now flow) x) y
+sound-heard make x y block view now flow arrives flow_is is =
+    let frame = is.there_sends.frames_are block arrives.written in
+    record {
+      sides = is.sides;
+      here_sends = is.here_sends;
+      there_sends = is.there_sends;
+      out = record {
+        hearing = is.out.hearing;
+        apart = is.out.apart;
+        receiving = is.out.receiving;
+        answering = answering-heard x y block flow is arrives.written;
+      };
+      back = record {
+        hearing =
+            hearing-heard y.plan y.given y.frames (receiver_of x.plan) x.heard x.entries block view now (length x.ever)
+            frame.is_given arrives is.back.hearing;
+        apart = apart-fewer y.sent y.sent x.heard _ (live-heard y.sent x.heard _ frame.of_sent) is.back.apart;
+        receiving = receiving-heard make x y block view flow (length x.ever) is arrives flow_is;
+        answering = answering-told x y block view is frame.of_sent;
+      };
+    }
+
+pub sound-done :
+    BlocksMakeMessages → (x y : TaggedEnd) (doing : TaggedDoing) → MayDoOne x y doing → IsSound x y
+    → IsSound (done doing x) y
+sound-done make x y (SentOne message) may is = sound-sent x y message may is
+sound-done make x y (ReceivedOne whole) may is = sound-received x y whole may is
+sound-done make x y (GaveOne block) may is = sound-gave x y block may is
+sound-done make x y (WroteOne block) may is = sound-wrote x y block may is
+sound-done make x y (HeardOne block view now flow) may is =
+    sound-heard make x y block view now flow may.0 may.1 is
+sound-done make x y (DroppedOne header now) may is = record {
+  sides = is.sides;
+  here_sends = is.here_sends;
+  there_sends = is.there_sends;
+  out = record {
+    hearing = is.out.hearing;
+    apart = is.out.apart;
+    receiving = is.out.receiving;
+    answering = is.out.answering;
+  };
+  back = record {
+    hearing = hearing-dropped y.plan y.given (receiver_of x.plan) x.heard x.entries header now is.back.hearing;
+    apart = is.back.apart;
+    receiving = is.back.receiving;
+    answering = is.back.answering;
+  };
+}
+
+-- ---- the end here loses its power
+
+pub sound-restarted : (x y : TaggedEnd) → IsSound x y → IsSound (restarted x) (emptied y)
+sound-restarted x y is = record {
+  sides = is.sides;
+  here_sends = sending-restarted x.sent x.ever x.given x.frames is.here_sends;
+  there_sends = sending-emptied y.sent y.ever y.given y.frames is.there_sends;
+  out = record {
+    hearing = is.out.hearing;
+    apart = apart-fewer x.sent [] y.heard y.heard (live-restarted x.sent y.heard) is.out.apart;
+    receiving = is.out.receiving;
+    answering = answering-restarted x y is;
+  };
+  back = record {
+    hearing = hearing-none y.plan y.given (receiver_of x.plan);
+    apart = apart-fewer y.sent y.sent x.heard [] (live-unheard y.sent x.heard) is.back.apart;
+    receiving = receiving-none;
+    answering = answering-unheard x y is;
+  };
+}
+
+-- ---- what an end receives was sent, and is received once
+
+pub delivered : (x y : TaggedEnd) (w : TaggedWhole) → IsSound x y → x.whole ≡ Some w → IsDelivered x y w
+delivered x y w is whole =
+    let made = is.back.receiving.whole_is w whole in
+    let given = made-given x y w is made in
+    record {
+      message = made.message;
+      sent = (is.there_sends.given_are w.block given).sent;
+      given = given;
+      last = made.last;
+      newest = is.back.receiving.newest w whole;
+      once = λ r has parity system.
+          let message = (is.back.receiving.received_are r has).message in
+          received-once x y r w is whole has
+          (sym (ap (λ (m : Message). m.system) message) ∙ system ∙ ap (λ (m : Message). m.system) made.message)
+          (sym (ap is_primary message) ∙ parity ∙ ap is_primary made.message);
+      order = λ r has. is.back.receiving.later w whole r has;
+    }
