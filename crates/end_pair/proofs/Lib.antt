@@ -1,0 +1,13 @@
+pub mod ByteWays
+pub mod Bytes
+pub mod Causes
+pub mod Doing
+pub mod Holding
+pub mod LineDeeds
+pub mod Moved
+pub mod Outcomes
+pub mod Pieces
+pub mod Progress
+pub mod Stepping
+pub mod Texts
+pub mod Times

@@ -1,0 +1,444 @@
+-- What an end does in a step keeps the laws, makes no slip, and is noted.
+use Rattle.std.proofs.Common.{◌≡◌, ℕ, false, List, [], ◌∷◌, ◌++◌, None, refl, sym, ap, subst, ◌∙◌, append_assoc, append-nil}
+use Rattle.std.proofs.lemmas.List.{append_cancel_left}
+use Rattle.gl_base.specs.declared.side.Side.{Side}
+use Rattle.gl_base.specs.declared.side.Side.TheVariants.{Equipment, Host}
+use Rattle.gl_base.specs.Side.{other_side}
+use Rattle.line_end.specs.State.{LineState}
+use Rattle.line_end.specs.Step.{LineCall, is_due}
+use Rattle.line_end.specs.Step.LineCall.{Cancel, Resume, Send, Take, Tick}
+use Rattle.line_order.specs.Acts.{Deed, HasNoSlip, IsRun, act_here, handed, line_after}
+use Rattle.line_order.specs.Characters.{Character}
+use Rattle.line_order.specs.Line.{Line, View, new_line, seen_from}
+use Rattle.line_way.specs.Kept.{ways_after}
+use Rattle.line_way.specs.Step as way
+use Rattle.line_way.specs.Step.{AreDecisions, step_deeds}
+use Rattle.line_way.specs.Ways.{StandsFor, Ways}
+use Rattle.line_way.proofs.Slipping.{slip-stands}
+use Rattle.line_way.proofs.Steps.{step-stands}
+use Rattle.message_end.specs.Core.{Step}
+use Rattle.message_end.specs.Doings.{AreLawful, Doing, IsLawful, line_of}
+use Rattle.message_end.specs.Doings.Doing.{Calls, Does, Gives, Says}
+use Rattle.message_end.specs.Ends.{AreBegunOf, AreOfStep, DoesMore, Input, KeepsLaw, Machine, taking_calls}
+use Rattle.message_end.specs.Ends.Input.{Char, Command, Time}
+use Rattle.message_end.specs.History.{noted_in, notes_of_own, written_in}
+use Rattle.message_end.specs.Log.{log_of, noted_of_own, with_note}
+use Rattle.message_end.specs.LineCalls.{calls_in}
+use Rattle.message_end.specs.Moves.{IsOnWay, KeepLaws, LinePlans, Move, act_of_call, deeds_of, Run, line_of_moves, plan_at, run_at, seen_at}
+use Rattle.message_end.specs.Moves.Kind.{Did}
+use Rattle.message_end.specs.Own.{Own}
+use Rattle.message_end.specs.Own.Own.{DrewNumber, DroppedMessage, GaveBlock, HeardBlock, ReceivedMessage, SentMessage, WroteFrame}
+use Rattle.trace_log.specs.Laws.{log_with}
+use Rattle.trace_log.specs.Log.{Entry, Happening}
+use Rattle.trace_log.specs.Log.Entry.{Noted}
+use Rattle.trace_log.specs.Log.Happening.{Received, Sent, Wrote}
+use Rattle.end_pair.specs.Steps.{entries_of, gives, slips, wrote}
+use Rattle.end_pair.proofs.Bytes.{AreBytes, are-written, behind}
+use Rattle.end_pair.proofs.Doing.{AreDone, AreOnWay, IsNext, NoSlipIn, are-done, call_deed, deeds_by, deeds_with, line-after, no-slip, no-slip-first, on-way-first, seen-after, step-deeds, step-no-slip, step-on-way}
+
+-- ---- doings as moves
+
+abbrev pub move_of : Side → ℕ → Doing → Move
+move_of side now doing = record { side = side; moment = now; kind = Did doing }
+
+abbrev pub moves_with : Side → ℕ → List Doing → List Move → List Move
+moves_with side now [] moves = moves
+moves_with side now (doing ∷ before) moves = move_of side now doing ∷ moves_with side now before moves
+
+pub moves-split :
+    (side : Side) (now : ℕ) (done : List Doing) (moves : List Move)
+    → moves_with side now done moves ≡ moves_with side now done [] ++ moves
+moves-split side now [] moves = refl
+moves-split side now (doing ∷ before) moves =
+    ap (λ (ms : List Move). move_of side now doing ∷ ms) (moves-split side now before moves)
+
+deeds-moves :
+    (side : Side) (now : ℕ) (done : List Doing) (moves : List Move)
+    → deeds_of (moves_with side now done moves) ≡ deeds_with side (calls_in done) (deeds_of moves)
+deeds-moves side now [] moves = refl
+deeds-moves side now (Does own ∷ before) moves = deeds-moves side now before moves
+deeds-moves side now (Says what ∷ before) moves = deeds-moves side now before moves
+deeds-moves side now (Gives place number block at ∷ before) moves =
+    ap (λ (ds : List Deed). call_deed side (Send block at) ∷ ds) (deeds-moves side now before moves)
+deeds-moves side now (Calls call ∷ before) moves =
+    ap (λ (ds : List Deed). call_deed side call ∷ ds) (deeds-moves side now before moves)
+
+pub line-moves :
+    (plans : LinePlans) (side : Side) (now : ℕ) (done : List Doing) (moves : List Move)
+    → line_of_moves plans (moves_with side now done moves)
+    ≡ line_after (line_of_moves plans moves) (deeds_by side (calls_in done))
+line-moves plans side now done moves =
+    ap (line_after (new_line plans.equipment.times plans.host.times)) (deeds-moves side now done moves)
+    ∙ line-after side (calls_in done) (new_line plans.equipment.times plans.host.times) (deeds_of moves)
+
+own-base :
+    (side : Side) (plans : LinePlans) (now : ℕ) (done : List Doing) (moves : List Move)
+    → (run_at side plans (moves_with side now done moves)).base ≡ (run_at side plans moves).base
+own-base side plans now [] moves = refl
+own-base Equipment plans now (doing ∷ before) moves = own-base Equipment plans now before moves
+own-base Host plans now (doing ∷ before) moves = own-base Host plans now before moves
+
+own-doings :
+    (side : Side) (plans : LinePlans) (now : ℕ) (done : List Doing) (moves : List Move)
+    → (run_at side plans (moves_with side now done moves)).doings ≡ done ++ (run_at side plans moves).doings
+own-doings side plans now [] moves = refl
+own-doings Equipment plans now (doing ∷ before) moves =
+    ap (λ (ds : List Doing). doing ∷ ds) (own-doings Equipment plans now before moves)
+own-doings Host plans now (doing ∷ before) moves =
+    ap (λ (ds : List Doing). doing ∷ ds) (own-doings Host plans now before moves)
+
+-- ---- the laws
+
+keep-done :
+    (side : Side) (plans : LinePlans) (now : ℕ) (done : List Doing) (moves : List Move)
+    → AreLawful (plan_at side plans) (run_at side plans moves).base (done ++ (run_at side plans moves).doings)
+    → AreOnWay side (line_of_moves plans moves) (calls_in done) → KeepLaws plans moves
+    → KeepLaws plans (moves_with side now done moves)
+keep-done side plans now [] moves lawful on keep = keep
+keep-done side plans now (doing ∷ before) moves lawful on keep =
+    ((is_lawful, on_way doing on), keep-done side plans now before moves lawful.1 (on_before doing on) keep)
+  where
+    earlier : List Move
+    earlier = moves_with side now before moves
+
+    is_lawful : IsLawful (plan_at side plans) (run_at side plans earlier).base (run_at side plans earlier).doings doing
+    is_lawful =
+        subst (λ (b : ℕ). IsLawful (plan_at side plans) b (run_at side plans earlier).doings doing)
+        (sym (own-base side plans now before moves))
+        (subst (λ (ds : List Doing). IsLawful (plan_at side plans) (run_at side plans moves).base ds doing)
+        (sym (own-doings side plans now before moves)) lawful.0)
+
+    on_way : (doing : Doing) → AreOnWay side (line_of_moves plans moves) (calls_in (doing ∷ before))
+        → IsOnWay (seen_at side plans earlier).there.under_way doing
+    on_way (Does own) on = tt
+    on_way (Says what) on = tt
+    on_way (Gives place number block at) on = tt
+    on_way (Calls call) on =
+        subst (λ (l : Line). IsOnWay (seen_from side l).there.under_way (Calls call))
+        (sym (line-moves plans side now before moves)) on.0
+
+    on_before : (doing : Doing) → AreOnWay side (line_of_moves plans moves) (calls_in (doing ∷ before))
+        → AreOnWay side (line_of_moves plans moves) (calls_in before)
+    on_before (Does own) on = on
+    on_before (Says what) on = on
+    on_before (Gives place number block at) on = on.1
+    on_before (Calls call) on = on.1
+
+-- ---- the log
+
+log_with-snoc : (now : ℕ) (side : Side) (noted : List Happening) (what : Happening) (log : List Entry)
+    → log_with now side (noted ++ what ∷ []) log ≡ Noted now side what ∷ log_with now side noted log
+log_with-snoc now side [] what log = refl
+log_with-snoc now side (first ∷ rest) what log = log_with-snoc now side rest what (Noted now side first ∷ log)
+
+pub log_with-behind : (now : ℕ) (side : Side) (noted : List Happening) (newer log : List Entry)
+    → log_with now side noted (newer ++ log) ≡ log_with now side noted newer ++ log
+log_with-behind now side [] newer log = refl
+log_with-behind now side (first ∷ rest) newer log = log_with-behind now side rest (Noted now side first ∷ newer) log
+
+log-own :
+    (side : Side) (now : ℕ) (before : List Doing) (earlier log : List Entry) (own : Own) → log ≡ log_with now side (noted_in before) earlier
+    → with_note now side (noted_of_own own) log ≡ log_with now side (noted_in before ++ notes_of_own own) earlier
+log-own side now before earlier log own same = go own
+  where
+    none : log ≡ log_with now side (noted_in before ++ []) earlier
+    none = same ∙ ap (λ (ns : List Happening). log_with now side ns earlier) (sym (append-nil (noted_in before)))
+
+    some : (what : Happening) → Noted now side what ∷ log ≡ log_with now side (noted_in before ++ what ∷ []) earlier
+    some what =
+        ap (λ (l : List Entry). Noted now side what ∷ l) same ∙ sym (log_with-snoc now side (noted_in before) what earlier)
+
+    go : (own : Own) → with_note now side (noted_of_own own) log ≡ log_with now side (noted_in before ++ notes_of_own own) earlier
+    go (SentMessage message) = some (Sent message)
+    go (ReceivedMessage message) = some (Received message)
+    go (DrewNumber number) = none
+    go (GaveBlock place number) = none
+    go (WroteFrame place number) = none
+    go (HeardBlock block at flow) = none
+    go (DroppedMessage header at) = none
+
+log-done :
+    (side : Side) (now : ℕ) (done : List Doing) (moves : List Move)
+    → log_of (moves_with side now done moves) ≡ log_with now side (noted_in done) (log_of moves)
+log-done side now [] moves = refl
+log-done side now (Gives place number block at ∷ before) moves = log-done side now before moves
+log-done side now (Calls call ∷ before) moves = log-done side now before moves
+log-done side now (Says what ∷ before) moves =
+    ap (λ (l : List Entry). Noted now side what ∷ l) (log-done side now before moves)
+    ∙ sym (log_with-snoc now side (noted_in before) what (log_of moves))
+log-done side now (Does own ∷ before) moves =
+    log-own side now before (log_of moves) (log_of (moves_with side now before moves)) own (log-done side now before moves)
+
+noted-behind : (done doings : List Doing) → noted_in (done ++ doings) ≡ noted_in doings ++ noted_in done
+noted-behind [] doings = sym (append-nil (noted_in doings))
+noted-behind (Gives place number block at ∷ before) doings = noted-behind before doings
+noted-behind (Calls call ∷ before) doings = noted-behind before doings
+noted-behind (Does own ∷ before) doings =
+    ap (λ (ns : List Happening). ns ++ notes_of_own own) (noted-behind before doings)
+    ∙ append_assoc (noted_in doings) (noted_in before) (notes_of_own own)
+noted-behind (Says what ∷ before) doings =
+    ap (λ (ns : List Happening). ns ++ what ∷ []) (noted-behind before doings)
+    ∙ append_assoc (noted_in doings) (noted_in before) (what ∷ [])
+
+-- ---- the end, and the other one
+
+-- these moves have made the end what it is
+pub record IsAt {S : Type 0} (did : ℕ → List Doing → S → Type 0) (side : Side) (plans : LinePlans) (moves : List Move) (s : S) : Type 0 where
+  pub is : did (run_at side plans moves).base (run_at side plans moves).doings s
+  pub state : (seen_at side plans moves).here.state ≡ line_of (plan_at side plans) (run_at side plans moves).doings
+
+there-state : (call : LineCall) (view : View) → (act_here (act_of_call call) view).there.state ≡ view.there.state
+there-state (Send block now) view = refl
+there-state (Resume now) view = refl
+there-state Cancel view = refl
+there-state (Tick now) view = refl
+there-state (Take byte now) view = go view.there.under_way
+  where
+    go : (under_way : List Character) → (handed now under_way view).there.state ≡ view.there.state
+    go [] = refl
+    go (character ∷ rest) = refl
+
+other-state :
+    (side : Side) (calls : List LineCall) (line : Line)
+    → (seen_from side (line_after line (deeds_by side calls))).there.state ≡ (seen_from side line).there.state
+other-state side [] line = refl
+other-state side (call ∷ before) line =
+    ap (λ (v : View). v.there.state) (seen-after side call (line_after line (deeds_by side before)))
+    ∙ there-state call (seen_from side (line_after line (deeds_by side before)))
+    ∙ other-state side before line
+
+pub other-is :
+    {S : Type 0} (did : ℕ → List Doing → S → Type 0) (side : Side) (plans : LinePlans) (now : ℕ) (done : List Doing) (moves : List Move)
+    (s : S)
+    → IsAt did (other_side side) plans moves s → IsAt did (other_side side) plans (moves_with side now done moves) s
+other-is did Equipment plans now done moves s at = record {
+  is = subst (λ (r : Run). did r.base r.doings s) (sym (run done)) at.is;
+  state =
+      ap (λ (l : Line). l.host.state) (line-moves plans Equipment now done moves)
+      ∙ other-state Equipment (calls_in done) (line_of_moves plans moves) ∙ at.state
+      ∙ ap (λ (r : Run). line_of (plan_at Host plans) r.doings) (sym (run done));
+}
+  where
+    run : (done : List Doing) → run_at Host plans (moves_with Equipment now done moves) ≡ run_at Host plans moves
+    run [] = refl
+    run (doing ∷ before) = run before
+other-is did Host plans now done moves s at = record {
+  is = subst (λ (r : Run). did r.base r.doings s) (sym (run done)) at.is;
+  state =
+      ap (λ (l : Line). l.equipment.state) (line-moves plans Host now done moves)
+      ∙ other-state Host (calls_in done) (line_of_moves plans moves) ∙ at.state
+      ∙ ap (λ (r : Run). line_of (plan_at Equipment plans) r.doings) (sym (run done));
+}
+  where
+    run : (done : List Doing) → run_at Equipment plans (moves_with Host now done moves) ≡ run_at Equipment plans moves
+    run [] = refl
+    run (doing ∷ before) = run before
+
+-- ---- a step
+
+-- the doings of a step are moves
+pub record AreMoves {S : Type 0}
+    (did : ℕ → List Doing → S → Type 0) (side : Side) (plans : LinePlans) (now : ℕ) (moves : List Move) (next : S)
+    (noted : List Happening) (done : List Doing) : Type 0 where
+  pub keep : KeepLaws plans (moves_with side now done moves)
+  pub no_slip : HasNoSlip (new_line plans.equipment.times plans.host.times) (deeds_of (moves_with side now done moves))
+  pub at : IsAt did side plans (moves_with side now done moves) next
+  pub log : log_of (moves_with side now done moves) ≡ entries_of side now noted ++ log_of moves
+
+module _ {S C : Type 0} (did : ℕ → List Doing → S → Type 0) (takes : C → Type 0) (first : Step S Happening) (machine : Machine S C)
+    (side : Side) (plans : LinePlans) (law : KeepsLaw (plan_at side plans) did takes first machine) where
+  are-moves :
+      (now : ℕ) (moves : List Move) (next : S) (done : List Doing) (noted : List Happening)
+      → KeepLaws plans moves → HasNoSlip (new_line plans.equipment.times plans.host.times) (deeds_of moves)
+      → did (run_at side plans moves).base (done ++ (run_at side plans moves).doings) next
+      → AreDone (plan_at side plans) side (line_of_moves plans moves) (run_at side plans moves).doings done
+      → AreOnWay side (line_of_moves plans moves) (calls_in done)
+      → HasNoSlip (line_of_moves plans moves) (deeds_by side (calls_in done)) → noted_in done ≡ noted
+      → AreMoves did side plans now moves next noted done
+  are-moves now moves next done noted keep clean is are on quiet same = record {
+    keep =
+        keep-done side plans now done moves
+        (law.keeps (run_at side plans moves).base (done ++ (run_at side plans moves).doings) next is).lawful on keep;
+    no_slip =
+        subst (λ (ds : List Deed). HasNoSlip (new_line plans.equipment.times plans.host.times) ds)
+        (sym (deeds-moves side now done moves))
+        (no-slip side (calls_in done) (new_line plans.equipment.times plans.host.times) (deeds_of moves) quiet clean);
+    at = record {
+      is =
+          subst (λ (b : ℕ). did b (run_at side plans (moves_with side now done moves)).doings next)
+          (sym (own-base side plans now done moves))
+          (subst (λ (ds : List Doing). did (run_at side plans moves).base ds next)
+          (sym (own-doings side plans now done moves)) is);
+      state =
+          ap (λ (l : Line). (seen_from side l).here.state) (line-moves plans side now done moves) ∙ are.state
+          ∙ ap (line_of (plan_at side plans)) (sym (own-doings side plans now done moves));
+    };
+    log =
+        log-done side now done moves ∙ ap (λ (ns : List Happening). log_with now side ns (log_of moves)) same
+        ∙ log_with-behind now side noted [] (log_of moves);
+  }
+
+  -- a step's doings on the line
+  record IsStepping (line : Line) (doings done : List Doing) (step : Step S Happening) : Type 0 where
+    are : AreDone (plan_at side plans) side line doings done
+    on : AreOnWay side line (calls_in done)
+    quiet : HasNoSlip line (deeds_by side (calls_in done))
+    noted : noted_in done ≡ step.notes
+    written : way.written_in line (deeds_by side (calls_in done)) ≡ step.written
+
+  is-stepping :
+      (base : ℕ) (line : Line) (doings : List Doing) (Such : List LineCall → Type 0) (step : Step S Happening)
+      (more : DoesMore (plan_at side plans) did base doings Such step)
+      → (seen_from side line).here.state ≡ line_of (plan_at side plans) doings
+      → AreOnWay side line (calls_in more.done) → HasNoSlip line (deeds_by side (calls_in more.done))
+      → IsStepping line doings more.done step
+  is-stepping base line doings Such step more state on quiet = record {
+    are = are;
+    on = on;
+    quiet = quiet;
+    noted = append_cancel_left (noted_in doings) (noted_in more.done) step.notes (sym (noted-behind more.done doings) ∙ more.notes);
+    written =
+        append_cancel_left (written_in (plan_at side plans) doings) (way.written_in line (deeds_by side (calls_in more.done))) step.written
+        (sym are.written ∙ more.written);
+  }
+    where
+      are : AreDone (plan_at side plans) side line doings more.done
+      are =
+          are-done (plan_at side plans) base side line doings more.done state
+          (law.keeps base (more.done ++ doings) step.next more.is).lawful on
+
+  -- the calls of a step can be made, and make no slip
+  calls-on : (now : ℕ) (line : Line) (input : Input C) (calls : List LineCall) → AreOfStep input now calls
+      → IsNext (seen_from side line).there.under_way input → AreOnWay side line calls
+  calls-on now line input calls of next =
+      subst (AreOnWay side line) (sym of.are) (step-on-way side input now line of.decided of.decisions next)
+
+  calls-quiet : (now : ℕ) (line : Line) (input : Input C) (calls : List LineCall) → AreOfStep input now calls
+      → NoSlipIn side now line input → HasNoSlip line (deeds_by side calls)
+  calls-quiet now line input calls of quiet =
+      subst (λ (cs : List LineCall). HasNoSlip line (deeds_by side cs)) (sym of.are)
+      (step-no-slip side input now line of.decided of.decisions quiet)
+
+  -- what was written is noted behind all else
+  abbrev with_wrote : List ℕ → List Doing → List Doing
+  with_wrote [] done = done
+  with_wrote (byte ∷ bytes) done = Says (Wrote (byte ∷ bytes)) ∷ done
+
+  wrote-calls : (written : List ℕ) (done : List Doing) → calls_in (with_wrote written done) ≡ calls_in done
+  wrote-calls [] done = refl
+  wrote-calls (byte ∷ bytes) done = refl
+
+  wrote-noted : (written : List ℕ) (done : List Doing) → noted_in (with_wrote written done) ≡ noted_in done ++ wrote written
+  wrote-noted [] done = sym (append-nil (noted_in done))
+  wrote-noted (byte ∷ bytes) done = refl
+
+  wrote-did : (written : List ℕ) (base : ℕ) (done doings : List Doing) (next : S) → did base (done ++ doings) next
+      → did base (with_wrote written done ++ doings) next
+  wrote-did [] base done doings next is = is
+  wrote-did (byte ∷ bytes) base done doings next is = law.says base (done ++ doings) next (Wrote (byte ∷ bytes)) is tt
+
+  wrote-done : (written : List ℕ) (line : Line) (doings done : List Doing) → AreDone (plan_at side plans) side line doings done
+      → AreDone (plan_at side plans) side line doings (with_wrote written done)
+  wrote-done [] line doings done are = are
+  wrote-done (byte ∷ bytes) line doings done are = record { state = are.state; run = are.run; written = are.written }
+
+  -- a step in which the numbers are spent
+  pub spent-moves :
+      (now : ℕ) (moves : List Move) (s : S) (input : Input C) (step : Step S Happening) → KeepLaws plans moves
+      → HasNoSlip (new_line plans.equipment.times plans.host.times) (deeds_of moves) → IsAt did side plans moves s
+      → IsNext (seen_at side plans moves).there.under_way input → NoSlipIn side now (line_of_moves plans moves) input
+      → (more : DoesMore (plan_at side plans) did (run_at side plans moves).base (run_at side plans moves).doings (AreBegunOf input now) step)
+      → AreMoves did side plans now moves step.next step.notes more.done
+  spent-moves now moves s input step keep clean at next quiet more =
+      are-moves now moves step.next more.done step.notes keep clean more.is are.are are.on are.quiet are.noted
+    where
+      line : Line
+      line = line_of_moves plans moves
+
+      are : IsStepping line (run_at side plans moves).doings more.done step
+      are =
+          is-stepping (run_at side plans moves).base line (run_at side plans moves).doings (AreBegunOf input now) step more at.state
+          (on-way-first side line more.calls.later (calls_in more.done) (calls-on now line input (more.calls.later ++ calls_in more.done) more.calls.whole next))
+          (no-slip-first side line more.calls.later (calls_in more.done) (calls-quiet now line input (more.calls.later ++ calls_in more.done) more.calls.whole quiet))
+
+  -- a step that goes on, with the characters that it has written
+  pub record HasMoved (now : ℕ) (moves : List Move) (input : Input C) (ways : Ways) (step : Step S Happening) : Type 0 where
+    pub done : List Doing
+    pub are : AreMoves did side plans now moves step.next (step.notes ++ wrote step.written) done
+    pub bytes : AreBytes step.written
+    pub ways_are :
+        StandsFor (ways_after side (gives input) (machine.line step.next).phase step.written ways)
+        (line_of_moves plans (moves_with side now done moves))
+
+  pub goes-moves :
+      (now : ℕ) (moves : List Move) (s : S) (input : Input C) (ways : Ways) (step : Step S Happening) → KeepLaws plans moves
+      → HasNoSlip (new_line plans.equipment.times plans.host.times) (deeds_of moves) → IsAt did side plans moves s
+      → IsNext (seen_at side plans moves).there.under_way input → NoSlipIn side now (line_of_moves plans moves) input
+      → StandsFor ways (line_of_moves plans moves)
+      → DoesMore (plan_at side plans) did (run_at side plans moves).base (run_at side plans moves).doings (AreOfStep input now) step
+      → HasMoved now moves input ways step
+  goes-moves now moves s input ways step keep clean at next quiet stands more = record {
+    done = all;
+    are =
+        are-moves now moves step.next all (step.notes ++ wrote step.written) keep clean
+        (wrote-did step.written run.base more.done run.doings step.next more.is) (wrote-done step.written line run.doings more.done are.are)
+        (subst (AreOnWay side line) (sym (wrote-calls step.written more.done)) are.on)
+        (subst (λ (cs : List LineCall). HasNoSlip line (deeds_by side cs)) (sym (wrote-calls step.written more.done)) are.quiet)
+        (wrote-noted step.written more.done ∙ ap (λ (ns : List Happening). ns ++ wrote step.written) are.noted);
+    bytes =
+        behind (written_in (plan_at side plans) run.doings) step.written
+        (subst AreBytes more.written
+        (are-written (plan_at side plans) run.base (more.done ++ run.doings) (law.keeps run.base (more.done ++ run.doings) step.next more.is).lawful).bytes);
+    ways_are =
+        subst (StandsFor (ways_after side (gives input) (machine.line step.next).phase step.written ways))
+        (ap (line_after line) (sym deeds_are) ∙ ap (λ (cs : List LineCall). line_after line (deeds_by side cs)) (sym (wrote-calls step.written more.done))
+        ∙ sym (line-moves plans side now all moves))
+        (step-stands side (gives input) (machine.line step.next).phase step.written ways line now more.calls.decided stands (record {
+          decided = deeds.1;
+          run = subst (IsRun line) deeds_are are.are.run;
+          phase_is =
+              ap (λ (ds : List Deed). (seen_from side (line_after line ds)).here.state.phase) (sym deeds_are)
+              ∙ ap (λ (state : LineState). state.phase)
+              (are.are.state ∙ sym (law.keeps run.base (more.done ++ run.doings) step.next more.is).line_is);
+          written_is = ap (way.written_in line) (sym deeds_are) ∙ are.written;
+        }));
+  }
+    where
+      run : Run
+      run = run_at side plans moves
+
+      line : Line
+      line = line_of_moves plans moves
+
+      all : List Doing
+      all = with_wrote step.written more.done
+
+      are : IsStepping line run.doings more.done step
+      are =
+          is-stepping run.base line run.doings (AreOfStep input now) step more at.state
+          (calls-on now line input (calls_in more.done) more.calls next) (calls-quiet now line input (calls_in more.done) more.calls quiet)
+
+      deeds :
+          (deeds_by side (more.calls.decided ++ taking_calls input now) ≡ step_deeds side now (gives input) more.calls.decided)
+          × AreDecisions more.calls.decided
+      deeds = step-deeds side input now more.calls.decided more.calls.decisions
+
+      deeds_are : deeds_by side (calls_in more.done) ≡ step_deeds side now (gives input) more.calls.decided
+      deeds_are = ap (deeds_by side) more.calls.are ∙ deeds.0
+
+  -- no slip was found before the step
+  pub no-slip-in :
+      (now : ℕ) (moves : List Move) (s : S) (input : Input C) (ways : Ways) → IsAt did side plans moves s
+      → StandsFor ways (line_of_moves plans moves) → slips machine side now input s ways ≡ false
+      → NoSlipIn side now (line_of_moves plans moves) input
+  no-slip-in now moves s Time ways at stands none = tt
+  no-slip-in now moves s (Command command) ways at stands none = tt
+  no-slip-in now moves s (Char byte) ways at stands none =
+      slip-stands side ways (line_of_moves plans moves) now (machine.line s).phase (is_due (machine.line s).deadline now) None stands
+      (record {
+        phase_is = ap (λ (state : LineState). state.phase) same;
+        late = λ gathers. ap (λ (state : LineState). is_due state.deadline now) same;
+      }) none
+    where
+      same : (seen_at side plans moves).here.state ≡ machine.line s
+      same = at.state ∙ sym (law.keeps (run_at side plans moves).base (run_at side plans moves).doings s at.is).line_is

@@ -1,0 +1,210 @@
+-- The log of a run as that of moves; and how many steps a run makes.
+use Rattle.std.proofs.Common.{◌≡◌, ◌≤◌, zero, suc, ℕ, ◌+◌, ◌==◌, Bool, true, false, List, [], ◌∷◌, ◌++◌, Option, Some, None, if◌then◌else◌, refl, sym, ap, ◌∙◌, append-nil, arith}
+use Rattle.std.specs.List.{All}
+use Rattle.std.proofs.lemmas.Bool.Decides.{nat_tests}
+use Rattle.gl_base.specs.declared.side.Side.{Side}
+use Rattle.gl_base.specs.declared.side.Side.TheVariants.{Equipment, Host}
+use Rattle.line_schedule.specs.declared.event.Event.{Event}
+use Rattle.line_schedule.specs.declared.event.Event.TheVariants as event
+use Rattle.line_way.specs.Ways.{characters_of, is_under_way, next_byte}
+use Rattle.message_end.specs.Core.{Step, Went}
+use Rattle.message_end.specs.Core.Went.{Goes, Spent}
+use Rattle.message_end.specs.Doings.{Doing}
+use Rattle.message_end.specs.Ends.{Input, KeepsLaw, Machine}
+use Rattle.message_end.specs.Ends.Input.{Char, Command, Time}
+use Rattle.message_end.specs.Log.{log_of}
+use Rattle.message_end.specs.Moves.{LinePlans, plan_at}
+use Rattle.trace_log.specs.Log.{Entry, Happening}
+use Rattle.trace_log.specs.Log.Entry.{Ended}
+use Rattle.trace_log.specs.declared.commands.HostCommand.{HostCommand}
+use Rattle.trace_log.specs.declared.commands.ToolCommand.{ToolCommand}
+use Rattle.end_pair.specs.declared.answers.WorldStep.{WorldStep}
+use Rattle.end_pair.specs.declared.answers.WorldStep.TheVariants as answer
+use Rattle.end_pair.specs.Kept.{MayHappen}
+use Rattle.end_pair.specs.Laws.{HasBytes, IsOfMoves, RunsAreBounded}
+use Rattle.end_pair.specs.Run.{closing, piece_of, whole_log}
+use Rattle.end_pair.specs.Run as run
+use Rattle.end_pair.specs.Steps.{made, slipped, slips, stepped}
+use Rattle.end_pair.specs.World.{Piece, World, after_event, after_events, and_more, and_on, at_start, begun, both_stepped, equipment_stepped, given, given_next, given_times, host_stepped, later, most_steps, settled, settled_times, still, turned_out, way_to, with_equipment, with_host}
+use Rattle.end_pair.proofs.Holding.{Good, run-is}
+
+-- ---- the whole log
+
+pub log-is :
+    {S T : Type 0} (did_e : ℕ → List Doing → S → Type 0) (did_h : ℕ → List Doing → T → Type 0)
+    (tool : ToolCommand → Type 0) (user : HostCommand → Type 0) (first_e : Step S Happening) (first_h : Step T Happening)
+    (e : Machine S ToolCommand) (h : Machine T HostCommand) (plans : LinePlans)
+    (law_e : KeepsLaw (plan_at Equipment plans) did_e tool first_e e)
+    (law_h : KeepsLaw (plan_at Host plans) did_h user first_h h)
+    → (events : List Event) → All (MayHappen tool user) events → All HasBytes events
+    → IsOfMoves did_e did_h plans (run.log_of e h first_e first_h events)
+log-is {S} {T} did_e did_h tool user first_e first_h e h plans law_e law_h events may bytes =
+    go piece.went refl
+  where
+    piece : Piece S T
+    piece = piece_of e h first_e first_h events
+
+    good : Good did_e did_h tool user first_e first_h e h plans law_e law_h piece []
+    good = run-is did_e did_h tool user first_e first_h e h plans law_e law_h events may bytes
+
+    entries : piece.entries ≡ good.last ++ log_of good.moves
+    entries = sym (append-nil piece.entries) ∙ good.log
+
+    some : piece.entries ≡ whole_log piece → IsOfMoves did_e did_h plans (whole_log piece)
+    some is = record {
+      moves = good.moves;
+      keep = good.keep;
+      no_slip = good.clean;
+      steps = good.steps;
+      last = good.last;
+      at_most_one = good.few;
+      no_notes = good.no_notes;
+      is = sym is ∙ entries;
+    }
+
+    same : (how : WorldStep) → piece.went ≡ how → closing how piece.world.moment ≡ [] → piece.entries ≡ whole_log piece
+    same how is none =
+        sym (ap (λ (w : WorldStep). closing w piece.world.moment ++ piece.entries) is ∙ ap (λ (es : List Entry). es ++ piece.entries) none)
+
+    go : (went : WorldStep) → piece.went ≡ went → IsOfMoves did_e did_h plans (whole_log piece)
+    go answer.Went is = record {
+      moves = good.moves;
+      keep = good.keep;
+      no_slip = good.clean;
+      steps = good.steps;
+      at_most_one = omega arith;
+      last = Ended piece.world.moment ∷ [];
+      no_notes = (tt, tt);
+      is =
+          ap (λ (w : WorldStep). closing w piece.world.moment ++ piece.entries) is
+          ∙ ap (λ (es : List Entry). Ended piece.world.moment ∷ es)
+          (entries ∙ ap (λ (es : List Entry). es ++ log_of good.moves) (good.on is).0);
+    }
+    go answer.Slip is = some (same answer.Slip is refl)
+    go answer.Turns is = some (same answer.Turns is refl)
+    go answer.NumbersSpent is = some (same answer.NumbersSpent is refl)
+    go answer.NoMemory is = some (same answer.NoMemory is refl)
+
+-- ---- how many steps it makes
+
+pub record IsBounded {S T : Type 0} (piece : Piece S T) : Type 0 where
+  pub steps : piece.world.steps ≤ 4000000
+  pub turns : piece.went ≡ answer.Turns → piece.world.steps ≡ 4000000
+
+module _ {S T : Type 0} (e : Machine S ToolCommand) (h : Machine T HostCommand) where
+  abbrev Bounds : (World S T → Piece S T) → Type 0
+  Bounds more = (world : World S T) → world.steps ≤ 4000000 → IsBounded (more world)
+
+  still-bounds : Bounds still
+  still-bounds world few = record { steps = few; turns = λ is. cc }
+
+  bounded-then : (piece : Piece S T) (more : World S T → Piece S T) → IsBounded piece → Bounds more → IsBounded (and_more piece more)
+  bounded-then piece more is bounds = go piece.went
+    where
+      go : (went : WorldStep) → IsBounded (and_on went piece more)
+      go answer.Went = let next = bounds piece.world is.steps in record { steps = next.steps; turns = next.turns }
+      go answer.Slip = is
+      go answer.Turns = is
+      go answer.NumbersSpent = is
+      go answer.NoMemory = is
+
+  bounds-then : (first more : World S T → Piece S T) → Bounds first → Bounds more → Bounds (λ world. and_more (first world) more)
+  bounds-then first more one two world few = bounded-then (first world) more (one world few) two
+
+  equipment-bounds : (input : Input ToolCommand) → Bounds (equipment_stepped e h input)
+  equipment-bounds input world few = by_turn (world.steps == most_steps) refl
+    where
+      by_went : (went : Went S Happening) → world.steps + 1 ≤ 4000000
+          → IsBounded (with_equipment e h world (made e Equipment world.moment input world.ways went))
+      by_went (Goes step) fits = record { steps = fits; turns = λ is. cc }
+      by_went (Spent step) fits = record { steps = fits; turns = λ is. cc }
+
+      by_slip : (b : Bool) → world.steps + 1 ≤ 4000000
+          → IsBounded (with_equipment e h world
+          (if b then slipped Equipment world.moment world.equipment world.ways
+          else made e Equipment world.moment input world.ways (e.act world.equipment input world.moment)))
+      by_slip true fits = record { steps = fits; turns = λ is. cc }
+      by_slip false fits = by_went (e.act world.equipment input world.moment) fits
+
+      by_turn : (b : Bool) → (world.steps == most_steps) ≡ b
+          → IsBounded (if b then turned_out world
+          else with_equipment e h world (stepped e Equipment world.moment input world.equipment world.ways))
+      by_turn true is = record { steps = few; turns = λ turns. grind (arith, nat_tests) }
+      by_turn false is =
+          let fits : world.steps + 1 ≤ 4000000 = grind (arith, nat_tests) in
+          by_slip (slips e Equipment world.moment input world.equipment world.ways) fits
+
+  host-bounds : (input : Input HostCommand) → Bounds (host_stepped e h input)
+  host-bounds input world few = by_turn (world.steps == most_steps) refl
+    where
+      by_went : (went : Went T Happening) → world.steps + 1 ≤ 4000000
+          → IsBounded (with_host e h world (made h Host world.moment input world.ways went))
+      by_went (Goes step) fits = record { steps = fits; turns = λ is. cc }
+      by_went (Spent step) fits = record { steps = fits; turns = λ is. cc }
+
+      by_slip : (b : Bool) → world.steps + 1 ≤ 4000000
+          → IsBounded (with_host e h world
+          (if b then slipped Host world.moment world.host world.ways
+          else made h Host world.moment input world.ways (h.act world.host input world.moment)))
+      by_slip true fits = record { steps = fits; turns = λ is. cc }
+      by_slip false fits = by_went (h.act world.host input world.moment) fits
+
+      by_turn : (b : Bool) → (world.steps == most_steps) ≡ b
+          → IsBounded (if b then turned_out world
+          else with_host e h world (stepped h Host world.moment input world.host world.ways))
+      by_turn true is = record { steps = few; turns = λ turns. grind (arith, nat_tests) }
+      by_turn false is =
+          let fits : world.steps + 1 ≤ 4000000 = grind (arith, nat_tests) in
+          by_slip (slips h Host world.moment input world.host world.ways) fits
+
+  given-bounds : (side : Side) → Bounds (given e h side)
+  given-bounds side world few = go side (next_byte (characters_of (way_to side world).under_way))
+    where
+      go : (side : Side) (next : Option ℕ) → IsBounded (given_next e h side next world)
+      go side None = still-bounds world few
+      go Equipment (Some byte) = equipment-bounds (Char byte) world few
+      go Host (Some byte) = host-bounds (Char byte) world few
+
+  times-bounds : (n : ℕ) (side : Side) → Bounds (given_times e h n side)
+  times-bounds zero side = still-bounds
+  times-bounds (suc n) side = bounds-then (given e h side) (given_times e h n side) (given-bounds side) (times-bounds n side)
+
+  settled-bounds : Bounds (settled e h)
+  settled-bounds world few = go (is_under_way (characters_of (way_to Equipment world).under_way))
+    where
+      go : (b : Bool) → IsBounded (if b then given e h Equipment world else given e h Host world)
+      go true = given-bounds Equipment world few
+      go false = given-bounds Host world few
+
+  settles-bounds : (n : ℕ) → Bounds (settled_times e h n)
+  unfolding settled_times
+  settles-bounds zero = still-bounds
+  settles-bounds (suc n) = bounds-then (settled e h) (settled_times e h n) settled-bounds (settles-bounds n)
+
+  both-bounds : Bounds (both_stepped e h)
+  both-bounds = bounds-then (equipment_stepped e h Time) (host_stepped e h Time) (equipment-bounds Time) (host-bounds Time)
+
+  event-bounds : (event : Event) → Bounds (after_event e h event)
+  event-bounds (event.To side n) = times-bounds n side
+  event-bounds (event.Lose side n) = λ world few. record { steps = few; turns = λ is. cc }
+  event-bounds (event.Change side place byte) = λ world few. record { steps = few; turns = λ is. cc }
+  event-bounds (event.Add side byte) = λ world few. record { steps = few; turns = λ is. cc }
+  event-bounds event.Settle = settles-bounds 65536
+  event-bounds (event.Wait ms) = λ world few. both-bounds (later ms world) few
+  event-bounds (event.Tool command) = equipment-bounds (Command command)
+  event-bounds (event.Host command) = host-bounds (Command command)
+  event-bounds (event.Cut call choice) = still-bounds
+
+  events-bounds : (events : List Event) → Bounds (after_events e h events)
+  events-bounds [] = still-bounds
+  events-bounds (event ∷ events) = bounds-then (after_event e h event) (after_events e h events) (event-bounds event) (events-bounds events)
+
+  run-bounds : (first_e : Step S Happening) (first_h : Step T Happening) (events : List Event) → IsBounded (piece_of e h first_e first_h events)
+  run-bounds first_e first_h events =
+      bounded-then (begun e h first_e first_h) (after_events e h events)
+      (bounded-then (at_start first_e first_h) (both_stepped e h) (record { steps = omega arith; turns = λ is. cc }) both-bounds)
+      (events-bounds events)
+
+pub runs-bounded : (S T : Type 0) → RunsAreBounded S T
+runs-bounded S T e h equipment host events =
+    let is = run-bounds e h equipment host events in (is.steps, is.turns)

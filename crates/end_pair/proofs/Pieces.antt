@@ -1,0 +1,191 @@
+-- Pieces of a run, one after another, and their text.
+use Rattle.std.proofs.Common.{◌≡◌, ◌≢◌, ℕ, List, [], ◌∷◌, ◌++◌, refl, sym, ap, subst, ◌∙◌, append_assoc, append-nil}
+use Rattle.trace_log.specs.Log.{Entry}
+use Rattle.trace_log.specs.Text.{entry_text, text_of}
+use Rattle.end_pair.specs.declared.answers.WorldStep.{WorldStep}
+use Rattle.end_pair.specs.declared.answers.WorldStep.TheVariants.{Went, Slip, Turns, NumbersSpent, NoMemory}
+use Rattle.end_pair.specs.Kept.{IfWent, PutPart, Puts}
+use Rattle.end_pair.specs.World.{Piece, World, and_more, and_on, still}
+
+pub text_of-append : (newer older : List Entry) → text_of (newer ++ older) ≡ text_of older ++ text_of newer
+text_of-append [] older = sym (append-nil (text_of older))
+text_of-append (entry ∷ newer) older =
+    ap (λ (t : List ℕ). t ++ entry_text entry) (text_of-append newer older)
+    ∙ append_assoc (text_of older) (text_of newer) (entry_text entry)
+
+-- ---- a text that was put, or a part of it
+
+-- nothing was put, and memory ran out
+pub put_none : (text lines : List ℕ) → PutPart text lines lines
+put_none text lines = record { front = []; rest = text; whole = refl; lines = sym (append-nil lines) }
+
+-- with more behind it
+pub put_before : (first second old lines : List ℕ) → PutPart first old lines → PutPart (first ++ second) old lines
+put_before first second old lines part = record {
+  front = part.front;
+  rest = part.rest ++ second;
+  whole = ap (λ (t : List ℕ). t ++ second) part.whole ∙ append_assoc part.front part.rest second;
+  lines = part.lines;
+}
+
+-- behind what was put whole
+pub put_behind :
+    (first second old between lines : List ℕ) → between ≡ old ++ first → PutPart second between lines
+    → PutPart (first ++ second) old lines
+put_behind first second old between lines one part = record {
+  front = first ++ part.front;
+  rest = part.rest;
+  whole = ap (λ (t : List ℕ). first ++ t) part.whole ∙ sym (append_assoc first part.front part.rest);
+  lines = part.lines ∙ ap (λ (t : List ℕ). t ++ part.front) one ∙ append_assoc old first part.front;
+}
+
+pub put_all : (text old lines : List ℕ) → lines ≡ old ++ text → PutPart text old lines
+put_all text old lines all =
+    record { front = text; rest = []; whole = sym (append-nil text); lines = all }
+
+pub puts_behind :
+    (how answer : WorldStep) (first second old between lines : List ℕ) → between ≡ old ++ first
+    → Puts how second between lines answer → Puts how (first ++ second) old lines answer
+puts_behind how Went first second old between lines one two = (two.0, joined first second old between lines one two.1)
+  where
+    joined :
+        (first second old between lines : List ℕ) → between ≡ old ++ first → lines ≡ between ++ second
+        → lines ≡ old ++ (first ++ second)
+    joined first second old between lines one two =
+        two ∙ ap (λ (t : List ℕ). t ++ second) one ∙ append_assoc old first second
+puts_behind how Slip first second old between lines one two =
+    (two.0, two.1 ∙ ap (λ (t : List ℕ). t ++ second) one ∙ append_assoc old first second)
+puts_behind how Turns first second old between lines one two =
+    (two.0, two.1 ∙ ap (λ (t : List ℕ). t ++ second) one ∙ append_assoc old first second)
+puts_behind how NumbersSpent first second old between lines one two =
+    (two.0, two.1 ∙ ap (λ (t : List ℕ). t ++ second) one ∙ append_assoc old first second)
+puts_behind how NoMemory first second old between lines one two = put_behind first second old between lines one two
+
+-- ---- pieces
+
+-- what a call has made of a world and of the lines is this piece
+pub record Comes {E H : Type 0} (piece : Piece E H) (new : World E H) (old lines : List ℕ) (answer : WorldStep) : Type 0 where
+  pub puts : Puts piece.went (text_of piece.entries) old lines answer
+  pub world : IfWent answer (new ≡ piece.world)
+
+pub comes_still : {E H : Type 0} (world : World E H) (lines : List ℕ) → Comes (still world) world lines lines Went
+comes_still world lines = record { puts = (refl, sym (append-nil lines)); world = refl }
+
+and_more-went :
+    {E H : Type 0} (first : Piece E H) (more : World E H → Piece E H) → first.went ≡ Went
+    → and_more first more ≡ and_on Went first more
+and_more-went first more went = ap (λ (w : WorldStep). and_on w first more) went
+
+pub comes_more :
+    {E H : Type 0} (first : Piece E H) (more : World E H → Piece E H) (mid new : World E H) (old between lines : List ℕ)
+    (answer : WorldStep)
+    → Comes first mid old between Went → Comes (more mid) new between lines answer
+    → Comes (and_more first more) new old lines answer
+comes_more {E} {H} first more mid new old between lines answer one two =
+    subst (λ (p : Piece E H). Comes p new old lines answer) (sym (and_more-went first more one.puts.0)) (record {
+      puts =
+          subst (λ (t : List ℕ). Puts (more first.world).went t old lines answer)
+          (sym (text_of-append (more first.world).entries first.entries))
+          (puts_behind (more first.world).went answer (text_of first.entries) (text_of (more first.world).entries) old between
+          lines one.puts.1 here.puts);
+      world = here.world;
+    })
+  where
+    here : Comes (more first.world) new between lines answer
+    here = subst (λ (w : World E H). Comes (more w) new between lines answer) one.world two
+
+-- a text of a piece has that of its first part in front
+more_text :
+    {E H : Type 0} (went : WorldStep) (first : Piece E H) (more : World E H → Piece E H)
+    → (rest : List ℕ) × (text_of (and_on went first more).entries ≡ text_of first.entries ++ rest)
+more_text Went first more =
+    (text_of (more first.world).entries, text_of-append (more first.world).entries first.entries)
+more_text Slip first more = ([], sym (append-nil (text_of first.entries)))
+more_text Turns first more = ([], sym (append-nil (text_of first.entries)))
+more_text NumbersSpent first more = ([], sym (append-nil (text_of first.entries)))
+more_text NoMemory first more = ([], sym (append-nil (text_of first.entries)))
+
+-- it goes on no further
+pub comes_stop :
+    {E H : Type 0} (first : Piece E H) (more : World E H → Piece E H) (mid : World E H) (old lines : List ℕ) (answer : WorldStep)
+    → answer ≢ Went → Comes first mid old lines answer → Comes (and_more first more) mid old lines answer
+comes_stop {E} {H} first more mid old lines answer stops one = go answer stops one
+  where
+    same : (w : WorldStep) → first.went ≡ w → and_on w first more ≡ first → and_more first more ≡ first
+    same w is stays = ap (λ (v : WorldStep). and_on v first more) is ∙ stays
+
+    go : (answer : WorldStep) → answer ≢ Went → Comes first mid old lines answer → Comes (and_more first more) mid old lines answer
+    go Went stops one = absurd (stops refl)
+    go Slip stops one =
+        subst (λ (p : Piece E H). Comes p mid old lines Slip) (sym (same Slip one.puts.0 refl)) one
+    go Turns stops one =
+        subst (λ (p : Piece E H). Comes p mid old lines Turns) (sym (same Turns one.puts.0 refl)) one
+    go NumbersSpent stops one =
+        subst (λ (p : Piece E H). Comes p mid old lines NumbersSpent) (sym (same NumbersSpent one.puts.0 refl)) one
+    go NoMemory stops one =
+        let text = more_text first.went first more in
+        record {
+          puts =
+              subst (λ (t : List ℕ). PutPart t old lines) (sym text.1)
+              (put_before (text_of first.entries) text.0 old lines one.puts);
+          world = tt;
+        }
+
+-- whatever comes of what is left, comes of the whole
+abbrev pub Leads : {E H : Type 0} → Piece E H → List ℕ → Piece E H → List ℕ → Type 0
+Leads {E} {H} left between whole old =
+    (new : World E H) (lines : List ℕ) (answer : WorldStep) → Comes left new between lines answer
+    → Comes whole new old lines answer
+
+pub leads_first : {E H : Type 0} (whole : Piece E H) (lines : List ℕ) → Leads whole lines whole lines
+leads_first whole lines new after answer comes = comes
+
+pub leads_on :
+    {E H : Type 0} (first : Piece E H) (more : World E H → Piece E H) (mid : World E H) (between lines : List ℕ) (whole : Piece E H)
+    (old : List ℕ)
+    → Comes first mid between lines Went → Leads (and_more first more) between whole old
+    → Leads (more mid) lines whole old
+leads_on first more mid between lines whole old one leads new after answer comes =
+    leads new after answer (comes_more first more mid new between lines after answer one comes)
+
+pub leads_stop :
+    {E H : Type 0} (first : Piece E H) (more : World E H → Piece E H) (mid : World E H) (between lines : List ℕ) (answer : WorldStep)
+    (whole : Piece E H) (old : List ℕ)
+    → answer ≢ Went → Comes first mid between lines answer → Leads (and_more first more) between whole old
+    → Comes whole mid old lines answer
+leads_stop first more mid between lines answer whole old stops one leads =
+    leads mid lines answer (comes_stop first more mid between lines answer stops one)
+
+pub leads_done :
+    {E H : Type 0} (world : World E H) (lines : List ℕ) (whole : Piece E H) (old : List ℕ) → Leads (still world) lines whole old
+    → Comes whole world old lines Went
+leads_done world lines whole old leads = leads world lines Went (comes_still world lines)
+
+-- all of it behind a text
+pub puts_shift : (how : WorldStep) (put text old lines : List ℕ) (answer : WorldStep) → Puts how put old lines answer
+    → Puts how put (text ++ old) (text ++ lines) answer
+puts_shift how put text old lines answer puts = go answer puts
+  where
+    shift : (more : List ℕ) → lines ≡ old ++ more → text ++ lines ≡ (text ++ old) ++ more
+    shift more same = ap (λ (t : List ℕ). text ++ t) same ∙ sym (append_assoc text old more)
+
+    go : (answer : WorldStep) → Puts how put old lines answer → Puts how put (text ++ old) (text ++ lines) answer
+    go Went puts = (puts.0, shift put puts.1)
+    go Slip puts = (puts.0, shift put puts.1)
+    go Turns puts = (puts.0, shift put puts.1)
+    go NumbersSpent puts = (puts.0, shift put puts.1)
+    go NoMemory puts = record { front = puts.front; rest = puts.rest; whole = puts.whole; lines = shift puts.front puts.lines }
+
+pub comes_behind :
+    {E H : Type 0} (piece : Piece E H) (new : World E H) (text old lines : List ℕ) (answer : WorldStep)
+    → Comes piece new old lines answer → Comes piece new (text ++ old) (text ++ lines) answer
+comes_behind piece new text old lines answer one =
+    record { puts = puts_shift piece.went (text_of piece.entries) text old lines answer one.puts; world = one.world }
+
+-- all of it, or a part
+pub part_of : (how : WorldStep) (text old lines : List ℕ) (answer : WorldStep) → Puts how text old lines answer → PutPart text old lines
+part_of how text old lines Went puts = put_all text old lines puts.1
+part_of how text old lines Slip puts = put_all text old lines puts.1
+part_of how text old lines Turns puts = put_all text old lines puts.1
+part_of how text old lines NumbersSpent puts = put_all text old lines puts.1
+part_of how text old lines NoMemory part = part

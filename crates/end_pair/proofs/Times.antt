@@ -1,0 +1,111 @@
+-- Characters given one by one.
+use Rattle.std.proofs.Common.{◌≡◌, ◌≢◌, zero, suc, ℕ, ◌+◌, not, ◌&&◌, Bool, true, false, List, [], ◌∷◌, ◌++◌, Option, None, if◌then◌else◌, refl, ap, subst, ◌∙◌, add-one}
+use Rattle.gl_base.specs.declared.side.Side.{Side}
+use Rattle.gl_base.specs.declared.side.Side.TheVariants.{Equipment, Host}
+use Rattle.line_way.specs.declared.character.Character.{Character}
+use Rattle.line_way.specs.Ways.{characters_of, is_under_way, next_byte}
+use Rattle.message_end.specs.Ends.{Machine}
+use Rattle.trace_log.specs.declared.commands.HostCommand.{HostCommand}
+use Rattle.trace_log.specs.declared.commands.ToolCommand.{ToolCommand}
+use Rattle.end_pair.specs.declared.answers.WorldStep.{WorldStep}
+use Rattle.end_pair.specs.declared.answers.WorldStep.TheVariants.{Went}
+use Rattle.end_pair.specs.World.{Piece, World, and_more, given, given_next, given_times, settled, settled_times, still, way_to}
+use Rattle.end_pair.proofs.Pieces.{Comes, Leads, leads_done, leads_on, leads_stop}
+
+abbrev pub IsEmptyTo : {S T : Type 0} → Side → World S T → Type 0
+IsEmptyTo side world = is_under_way (characters_of (way_to side world).under_way) ≡ false
+
+pub both_empty : (a b : Bool) → (not a && not b) ≡ true → (a ≡ false) × (b ≡ false)
+both_empty true b is = cc
+both_empty false true is = cc
+both_empty false false is = (refl, refl)
+
+none-next : (cs : List Character) → is_under_way (characters_of cs) ≡ false → next_byte (characters_of cs) ≡ None
+none-next [] none = refl
+none-next (c ∷ cs) none = cc
+
+module _ {S T : Type 0} (e : Machine S ToolCommand) (h : Machine T HostCommand) where
+  given-none : (side : Side) (world : World S T) → IsEmptyTo side world → given e h side world ≡ still world
+  given-none side world none =
+      ap (λ (next : Option ℕ). given_next e h side next world) (none-next (way_to side world).under_way none)
+
+  times-more : (n m : ℕ) (side : Side) (world : World S T) → n ≡ m + 1
+      → given_times e h n side world ≡ and_more (given e h side world) (given_times e h m side)
+  times-more n m side world is_n = ap (λ (k : ℕ). given_times e h k side world) (is_n ∙ add-one m)
+
+  times-none : (n : ℕ) (side : Side) (world : World S T) → IsEmptyTo side world → given_times e h n side world ≡ still world
+  times-none zero side world none = refl
+  times-none (suc n) side world none =
+      ap (λ (first : Piece S T). and_more first (given_times e h n side)) (given-none side world none)
+      ∙ ap (λ (next : Piece S T). record { world = next.world; entries = next.entries ++ []; went = next.went }) (times-none n side world none)
+
+  pub give_done : (n : ℕ) (side : Side) (world : World S T) (lines : List ℕ) (whole : Piece S T) (old : List ℕ) → IsEmptyTo side world
+      → Leads (given_times e h n side world) lines whole old → Comes whole world old lines Went
+  give_done n side world lines whole old none leads =
+      leads_done world lines whole old (subst (λ (p : Piece S T). Leads p lines whole old) (times-none n side world none) leads)
+
+  pub give_over : (n : ℕ) (side : Side) (world : World S T) (lines : List ℕ) (whole : Piece S T) (old : List ℕ) → n ≡ 0
+      → Leads (given_times e h n side world) lines whole old → Comes whole world old lines Went
+  give_over n side world lines whole old over leads =
+      leads_done world lines whole old (subst (λ (k : ℕ). Leads (given_times e h k side world) lines whole old) over leads)
+
+  pub give_on : (n m : ℕ) (side : Side) (world after : World S T) (between lines : List ℕ) (whole : Piece S T) (old : List ℕ) → n ≡ m + 1
+      → Comes (given e h side world) after between lines Went → Leads (given_times e h n side world) between whole old
+      → Leads (given_times e h m side after) lines whole old
+  give_on n m side world after between lines whole old is_n comes leads =
+      leads_on (given e h side world) (given_times e h m side) after between lines whole old comes
+      (subst (λ (p : Piece S T). Leads p between whole old) (times-more n m side world is_n) leads)
+
+  pub give_stop : (n m : ℕ) (side : Side) (world after : World S T) (between lines : List ℕ) (answer : WorldStep) (whole : Piece S T) (old : List ℕ)
+      → n ≡ m + 1 → answer ≢ Went → Comes (given e h side world) after between lines answer
+      → Leads (given_times e h n side world) between whole old → Comes whole after old lines answer
+  give_stop n m side world after between lines answer whole old is_n stops comes leads =
+      leads_stop (given e h side world) (given_times e h m side) after between lines answer whole old stops comes
+      (subst (λ (p : Piece S T). Leads p between whole old) (times-more n m side world is_n) leads)
+
+  -- ---- to both ends
+
+  settled-none : (world : World S T) → IsEmptyTo Equipment world → IsEmptyTo Host world → settled e h world ≡ still world
+  settled-none world none empty =
+      ap (λ (b : Bool). if b then given e h Equipment world else given e h Host world) none ∙ given-none Host world empty
+
+  settles-more : (n m : ℕ) (world : World S T) → n ≡ m + 1
+      → settled_times e h n world ≡ and_more (settled e h world) (settled_times e h m)
+  unfolding settled_times
+  settles-more n m world is_n = ap (λ (k : ℕ). settled_times e h k world) (is_n ∙ add-one m)
+
+  settles-none : (n : ℕ) (world : World S T) → IsEmptyTo Equipment world → IsEmptyTo Host world → settled_times e h n world ≡ still world
+  unfolding settled_times
+  settles-none zero world none empty = refl
+  settles-none (suc n) world none empty =
+      ap (λ (first : Piece S T). and_more first (settled_times e h n)) (settled-none world none empty)
+      ∙ ap (λ (next : Piece S T). record { world = next.world; entries = next.entries ++ []; went = next.went }) (settles-none n world none empty)
+
+  settles-zero : (world : World S T) → settled_times e h 0 world ≡ still world
+  unfolding settled_times
+  settles-zero world = refl
+
+  pub settle_done : (n : ℕ) (world : World S T) (lines : List ℕ) (whole : Piece S T) (old : List ℕ) → IsEmptyTo Equipment world → IsEmptyTo Host world
+      → Leads (settled_times e h n world) lines whole old → Comes whole world old lines Went
+  settle_done n world lines whole old none empty leads =
+      leads_done world lines whole old (subst (λ (p : Piece S T). Leads p lines whole old) (settles-none n world none empty) leads)
+
+  pub settle_over : (n : ℕ) (world : World S T) (lines : List ℕ) (whole : Piece S T) (old : List ℕ) → n ≡ 0
+      → Leads (settled_times e h n world) lines whole old → Comes whole world old lines Went
+  settle_over n world lines whole old over leads =
+      leads_done world lines whole old
+      (subst (λ (p : Piece S T). Leads p lines whole old) (ap (λ (k : ℕ). settled_times e h k world) over ∙ settles-zero world) leads)
+
+  pub settle_on : (n m : ℕ) (world after : World S T) (between lines : List ℕ) (whole : Piece S T) (old : List ℕ) → n ≡ m + 1
+      → Comes (settled e h world) after between lines Went → Leads (settled_times e h n world) between whole old
+      → Leads (settled_times e h m after) lines whole old
+  settle_on n m world after between lines whole old is_n comes leads =
+      leads_on (settled e h world) (settled_times e h m) after between lines whole old comes
+      (subst (λ (p : Piece S T). Leads p between whole old) (settles-more n m world is_n) leads)
+
+  pub settle_stop : (n m : ℕ) (world after : World S T) (between lines : List ℕ) (answer : WorldStep) (whole : Piece S T) (old : List ℕ)
+      → n ≡ m + 1 → answer ≢ Went → Comes (settled e h world) after between lines answer
+      → Leads (settled_times e h n world) between whole old → Comes whole after old lines answer
+  settle_stop n m world after between lines answer whole old is_n stops comes leads =
+      leads_stop (settled e h world) (settled_times e h m) after between lines answer whole old stops comes
+      (subst (λ (p : Piece S T). Leads p between whole old) (settles-more n m world is_n) leads)

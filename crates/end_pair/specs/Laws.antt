@@ -1,0 +1,102 @@
+-- What holds of every run.
+use Rattle.std.specs.Prelude.{◌≡◌, ◌≢◌, ◌↔◌, ◌≤◌, ◌<◌, ℕ, true, false, List, [], ◌∷◌, ◌++◌, length}
+use Rattle.gl_base.specs.declared.side.Side.{Side}
+use Rattle.gl_base.specs.declared.side.Side.TheVariants.{Equipment, Host}
+use Rattle.line_order.specs.Acts.{HasNoSlip}
+use Rattle.line_order.specs.Line.{new_line}
+use Rattle.line_schedule.specs.declared.event.Event.{Event}
+use Rattle.line_schedule.specs.declared.event.Event.TheVariants as event
+use Rattle.line_way.specs.Ways.{Ways}
+use Rattle.message_end.specs.Core.{Step}
+use Rattle.message_end.specs.Core.Went.{Spent}
+use Rattle.message_end.specs.Doings.{Doing}
+use Rattle.message_end.specs.Ends.{Input, Machine}
+use Rattle.message_end.specs.Log.{log_of}
+use Rattle.message_end.specs.Moves.{KeepLaws, LinePlans, Move, deeds_of, plan_at, run_at}
+use Rattle.message_end.specs.Plan.{EndPlan}
+use Rattle.trace_log.specs.Log.{Entry, Happening}
+use Rattle.trace_log.specs.Log.Entry.{Ended, Noted, Slipped}
+use Rattle.trace_log.specs.declared.commands.HostCommand.{HostCommand}
+use Rattle.trace_log.specs.declared.commands.ToolCommand.{ToolCommand}
+use Rattle.end_pair.specs.declared.answers.WorldStep.TheVariants.{NoMemory, NumbersSpent, Slip, Turns}
+use Rattle.end_pair.specs.Run.{piece_of}
+use Rattle.end_pair.specs.Steps.{slips, stepped}
+use Rattle.end_pair.specs.World.{most_steps}
+
+-- a run's steps never pass the most of them, and it ends for want of steps only with all of them made
+abbrev pub RunsAreBounded : Type 0 → Type 0 → Type 0
+RunsAreBounded E H =
+    (e : Machine E ToolCommand) (h : Machine H HostCommand) (equipment : Step E Happening)
+    (host : Step H Happening) (events : List Event)
+    → let piece = piece_of e h equipment host events in
+    (piece.world.steps ≤ most_steps) × (piece.went ≡ Turns → piece.world.steps ≡ most_steps)
+
+-- a step ends a run for a slip and for spent numbers, where there is such a one, and never else: a slip goes first
+pub record EndsByCause {S C : Type 0}
+    (machine : Machine S C) (side : Side) (now : ℕ) (input : Input C) (s : S) (ways : Ways) : Type 0 where
+  pub slip : (stepped machine side now input s ways).went ≡ Slip ↔ slips machine side now input s ways ≡ true
+  pub spent :
+      (stepped machine side now input s ways).went ≡ NumbersSpent
+      ↔ ((slips machine side now input s ways ≡ false)
+      × ((step : Step S Happening) × (machine.act s input now ≡ Spent step)))
+  pub no_other :
+      ((stepped machine side now input s ways).went ≢ Turns) × ((stepped machine side now input s ways).went ≢ NoMemory)
+
+abbrev pub StepsEndByCause : Type 0 → Type 0 → Type 0
+StepsEndByCause S C =
+    (machine : Machine S C) (side : Side) (now : ℕ) (input : Input C) (s : S) (ways : Ways)
+    → EndsByCause machine side now input s ways
+
+-- an entry that no end has noted
+abbrev pub IsNoNote : Entry → Type 0
+IsNoNote (Noted moment side what) = ⊥
+IsNoNote (Slipped moment side frame characters) = Unit {0}
+IsNoNote (Ended moment) = Unit {0}
+
+abbrev pub AreNoNotes : List Entry → Type 0
+AreNoNotes [] = Unit {0}
+AreNoNotes (entry ∷ before) = IsNoNote entry × AreNoNotes before
+
+-- the doings of both ends have made states of theirs, where `did` says so of each
+pub record AreAtStates {S T : Type 0}
+    (equipment : ℕ → List Doing → S → Type 0) (host : ℕ → List Doing → T → Type 0) (plans : LinePlans)
+    (moves : List Move) : Type 0 where
+  pub state_of_equipment : S
+  pub state_of_host : T
+  pub equipment_did :
+      equipment (run_at Equipment plans moves).base (run_at Equipment plans moves).doings state_of_equipment
+  pub host_did : host (run_at Host plans moves).base (run_at Host plans moves).doings state_of_host
+
+-- the moves come step by step, behind each of which both ends are in states that their doings have made
+pub data AreSteps {S T : Type 0}
+    (equipment : ℕ → List Doing → S → Type 0) (host : ℕ → List Doing → T → Type 0) (plans : LinePlans)
+    : List Move → Type 0 where
+  no_moves : AreSteps equipment host plans []
+  one_step :
+      (moves step before : List Move) → moves ≡ step ++ before → AreAtStates equipment host plans moves
+      → AreSteps equipment host plans before → AreSteps equipment host plans moves
+
+-- the log is that of moves of which each end keeps the law, none of them a slip, and at most one entry behind them,
+-- that of a slip or of the end
+pub record IsOfMoves {S T : Type 0}
+    (equipment : ℕ → List Doing → S → Type 0) (host : ℕ → List Doing → T → Type 0) (plans : LinePlans)
+    (log : List Entry) : Type 0 where
+  pub moves : List Move
+  pub keep : KeepLaws plans moves
+  pub no_slip : HasNoSlip (new_line plans.equipment.times plans.host.times) (deeds_of moves)
+  pub steps : AreSteps equipment host plans moves
+  pub last : List Entry
+  pub at_most_one : length last ≤ 1
+  pub no_notes : AreNoNotes last
+  pub is : log ≡ last ++ log_of moves
+
+-- the plans of the two ends of one line
+pub record AreOnLine (plans : LinePlans) (equipment host : EndPlan) : Type 0 where
+  pub equipment_is : equipment ≡ plan_at Equipment plans
+  pub host_is : host ≡ plan_at Host plans
+
+-- what becomes of characters are bytes
+abbrev pub HasBytes : Event → Type 0
+HasBytes (event.Change side place byte) = byte < 256
+HasBytes (event.Add side byte) = byte < 256
+HasBytes _ = Unit {0}

@@ -1,0 +1,74 @@
+-- One step of an end on the line (this profile).
+use Rattle.std.specs.Prelude.{◌&&◌, ℕ, Bool, true, false, List, [], ◌∷◌, ◌++◌, if◌then◌else◌}
+use Rattle.gl_base.specs.declared.side.Side.{Side}
+use Rattle.line_end.specs.Step.{is_due}
+use Rattle.line_way.specs.Kept.{direction_to, gathered_with_next, makes_slip_in, ways_after}
+use Rattle.line_way.specs.Slip.{first_frame}
+use Rattle.line_way.specs.Ways.{Ways, bytes_of, characters_of}
+use Rattle.message_end.specs.Core.{Went}
+use Rattle.message_end.specs.Core.Went.{Goes, Spent}
+use Rattle.message_end.specs.Ends.{Input, Machine}
+use Rattle.message_end.specs.Ends.Input.{Char, Command, Time}
+use Rattle.trace_log.specs.Laws.{log_with}
+use Rattle.trace_log.specs.Log.{Entry, Happening}
+use Rattle.trace_log.specs.Log.Entry.{Slipped}
+use Rattle.trace_log.specs.Log.Happening.{Wrote}
+use Rattle.end_pair.specs.declared.answers.WorldStep.{WorldStep}
+use Rattle.end_pair.specs.declared.answers.WorldStep.TheVariants as answer
+
+-- what a step leaves: the end, both directions of the line, the entries that were made, the newest first, and how it
+-- went
+pub record Stepped (S : Type 0) : Type 0 where
+  pub end : S
+  pub ways : Ways
+  pub entries : List Entry
+  pub went : WorldStep
+
+-- the end is given the next character on its way
+abbrev pub gives : {C : Type 0} → Input C → Bool
+gives (Char byte) = true
+gives Time = false
+gives (Command command) = false
+
+-- that character completes a block whose characters are no frame's: this is decided before the end takes it, from the
+-- phase of its line, whether T1 has run out since the last character, and what it has gathered
+abbrev pub slips : {S C : Type 0} → Machine S C → Side → ℕ → Input C → S → Ways → Bool
+slips machine side now input s ways =
+    gives input
+    && makes_slip_in (machine.line s).phase (is_due (machine.line s).deadline now) (direction_to side ways)
+
+-- the number of the frame of the first character, and all characters
+abbrev pub slip_of : Side → ℕ → Ways → Entry
+slip_of side now ways =
+    let characters = characters_of (gathered_with_next (direction_to side ways)) in
+    Slipped now side (first_frame characters) (bytes_of characters)
+
+-- the characters that a step has written are noted last, where there are any
+abbrev pub wrote : List ℕ → List Happening
+wrote [] = []
+wrote (byte ∷ bytes) = Wrote (byte ∷ bytes) ∷ []
+
+-- what a step has noted, as entries
+abbrev pub entries_of : Side → ℕ → List Happening → List Entry
+entries_of side now noted = log_with now side noted []
+
+-- the step goes on, or the numbers are spent and nothing is sent
+abbrev pub made : {S C : Type 0} → Machine S C → Side → ℕ → Input C → Ways → Went S Happening → Stepped S
+made machine side now input ways (Goes step) = record {
+  end = step.next;
+  ways = ways_after side (gives input) (machine.line step.next).phase step.written ways;
+  entries = entries_of side now (step.notes ++ wrote step.written);
+  went = answer.Went;
+}
+made machine side now input ways (Spent step) =
+    record { end = step.next; ways = ways; entries = entries_of side now step.notes; went = answer.NumbersSpent }
+
+-- a slip's entry stands for the whole step
+abbrev pub slipped : {S : Type 0} → Side → ℕ → S → Ways → Stepped S
+slipped side now s ways =
+    record { end = s; ways = ways; entries = slip_of side now ways ∷ []; went = answer.Slip }
+
+abbrev pub stepped : {S C : Type 0} → Machine S C → Side → ℕ → Input C → S → Ways → Stepped S
+stepped machine side now input s ways =
+    if slips machine side now input s ways then slipped side now s ways
+    else made machine side now input ways (machine.act s input now)

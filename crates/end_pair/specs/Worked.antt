@@ -1,0 +1,89 @@
+-- A run that can be followed by hand: a host that sends one block, to an equipment that takes it, with no layer above.
+use Rattle.std.specs.Prelude.{◌≡◌, ℕ, List, [], ◌∷◌, ◌++◌, Option, Some, None}
+use Rattle.block_codec.specs.Block.{BlockView}
+use Rattle.gl_base.specs.declared.side.Side.{Side}
+use Rattle.gl_base.specs.declared.side.Side.TheVariants.{Equipment, Host}
+use Rattle.line_end.specs.State.{LineState, new_state}
+use Rattle.line_end.specs.Step.{LineCall, line_step}
+use Rattle.line_end.specs.Step.LineCall.{Send, Take, Tick}
+use Rattle.line_end.specs.Worked.{are_you_there, its_frame, times_with}
+use Rattle.line_schedule.specs.declared.event.Event.{Event}
+use Rattle.line_schedule.specs.declared.event.Event.TheVariants as event
+use Rattle.message_end.specs.Core.{Step, Went}
+use Rattle.message_end.specs.Core.Went.{Goes}
+use Rattle.message_end.specs.Ends.{Input, Machine}
+use Rattle.message_end.specs.Ends.Input.{Char, Command, Time}
+use Rattle.trace_log.specs.Log.{Entry, Happening}
+use Rattle.trace_log.specs.Log.Entry.{Ended, Noted, Slipped}
+use Rattle.trace_log.specs.Log.Happening.{EquipmentStarted, HostStarted, Wrote}
+use Rattle.end_pair.specs.declared.answers.WorldStep.TheVariants as answer
+use Rattle.end_pair.specs.Run.{log_of, piece_of, went_of}
+
+-- its line, and the block that it is still to give to it
+pub record Sender : Type 0 where
+  pub line : LineState
+  pub unsent : Option BlockView
+
+-- a call of the line behind those before it, with what they have written
+abbrev pub called : LineCall → Step LineState Happening → Step LineState Happening
+called call step =
+    let outcome = line_step step.next call in
+    record { next = outcome.next; notes = step.notes; written = step.written ++ outcome.written }
+
+abbrev pub taken : {C : Type 0} → Input C → ℕ → Step LineState Happening → Step LineState Happening
+taken (Char byte) now step = called (Take byte now) (called (Tick now) step)
+taken Time now step = called (Tick now) step
+taken (Command command) now step = called (Tick now) step
+
+abbrev pub sent : Option BlockView → ℕ → Step LineState Happening → Step LineState Happening
+sent None now step = step
+sent (Some block) now step = called (Send block now) step
+
+-- it sends its block in its first step
+abbrev pub sends : {C : Type 0} → Sender → Input C → ℕ → Went Sender Happening
+sends s input now =
+    let step = sent s.unsent now (taken input now (record { next = s.line; notes = []; written = [] })) in
+    Goes (record { next = record { line = step.next; unsent = None }; notes = step.notes; written = step.written })
+
+abbrev pub sender : {C : Type 0} → Machine Sender C
+sender = record {
+  act = λ s input now. sends s input now;
+  restart = λ s now. Goes (record { next = s; notes = []; written = [] });
+  line = λ s. s.line;
+}
+
+abbrev pub begins : Side → Option BlockView → Happening → Step Sender Happening
+begins side unsent start = record {
+  next = record { line = new_state side (times_with 3); unsent = unsent };
+  notes = start ∷ [];
+  written = [];
+}
+
+abbrev pub equipment : Step Sender Happening
+equipment = begins Equipment None (EquipmentStarted [] 0)
+
+abbrev pub host : Step Sender Happening
+host = begins Host (Some are_you_there) HostStarted
+
+-- ENQ, EOT, 13 characters of the frame, ACK
+abbrev pub events : List Event
+events = event.To Equipment 1 ∷ event.To Host 1 ∷ event.To Equipment 13 ∷ event.To Host 1 ∷ []
+
+-- the first character of the frame is lost, and noise of the same byte comes in its place
+abbrev pub replaced : List Event
+replaced =
+    event.To Equipment 1 ∷ event.To Host 1 ∷ event.Lose Equipment 1 ∷ event.Add Equipment 10 ∷ event.To Equipment 13
+    ∷ event.Wait 5 ∷ []
+
+abbrev pub first_entries : List Entry
+first_entries =
+    Noted 0 Host (Wrote its_frame) ∷ Noted 0 Equipment (Wrote (4 ∷ [])) ∷ Noted 0 Host (Wrote (5 ∷ []))
+    ∷ Noted 0 Host HostStarted ∷ Noted 0 Equipment (EquipmentStarted [] 0) ∷ []
+
+-- the block arrives, and the host takes its ACK: 18 steps. With the noise in it, it is a slip, and nothing follows
+pub record WorkedRuns : Type 0 where
+  pub carried :
+      log_of sender sender equipment host events ≡ Ended 0 ∷ Noted 0 Equipment (Wrote (6 ∷ [])) ∷ first_entries
+  pub steps : (piece_of sender sender equipment host events).world.steps ≡ 18
+  pub slipped : log_of sender sender equipment host replaced ≡ Slipped 0 Equipment None its_frame ∷ first_entries
+  pub ended : went_of sender sender equipment host replaced ≡ answer.Slip

@@ -1,0 +1,186 @@
+-- The world of two ends and the line between them, under a schedule (this profile).
+use Rattle.std.specs.Prelude.{zero, suc, ℕ, ◌+◌, ◌==◌, List, [], ◌∷◌, ◌++◌, drop, Option, Some, None, if◌then◌else◌}
+use Rattle.gl_base.specs.declared.side.Side.{Side}
+use Rattle.gl_base.specs.declared.side.Side.TheVariants.{Equipment, Host}
+use Rattle.line_schedule.specs.declared.event.Event.{Event}
+use Rattle.line_schedule.specs.declared.event.Event.TheVariants as event
+use Rattle.line_way.specs.Kept.{direction_to, new_ways, with_change, with_direction, with_noise_to}
+use Rattle.line_way.specs.Ways.{Way, Ways, characters_of, is_under_way, next_byte}
+use Rattle.message_end.specs.Core.{Step}
+use Rattle.message_end.specs.Ends.{Input, Machine}
+use Rattle.message_end.specs.Ends.Input.{Char, Command, Time}
+use Rattle.trace_log.specs.Laws.{log_with}
+use Rattle.trace_log.specs.Log.{Entry, Happening}
+use Rattle.trace_log.specs.declared.commands.HostCommand.{HostCommand}
+use Rattle.trace_log.specs.declared.commands.ToolCommand.{ToolCommand}
+use Rattle.end_pair.specs.declared.answers.WorldStep.{WorldStep}
+use Rattle.end_pair.specs.declared.answers.WorldStep.TheVariants.{Went, Slip, Turns, NumbersSpent, NoMemory}
+use Rattle.end_pair.specs.Steps.{Stepped, stepped}
+
+-- both ends, both directions of the line between them, the moment in milliseconds, and how many steps the ends have
+-- made
+pub record World (E H : Type 0) : Type 0 where
+  pub equipment : E
+  pub host : H
+  pub ways : Ways
+  pub moment : ℕ
+  pub steps : ℕ
+
+-- what some of a run leaves: the world, the entries that were made, the newest first, and how it went
+pub record Piece (E H : Type 0) : Type 0 where
+  pub world : World E H
+  pub entries : List Entry
+  pub went : WorldStep
+
+abbrev pub still : {E H : Type 0} → World E H → Piece E H
+still world = record { world = world; entries = []; went = Went }
+
+-- some of a run, and more of it where that went on
+abbrev pub and_on : {E H : Type 0} → WorldStep → Piece E H → (World E H → Piece E H) → Piece E H
+and_on Went piece more =
+    let next = more piece.world in
+    record { world = next.world; entries = next.entries ++ piece.entries; went = next.went }
+and_on Slip piece more = piece
+and_on Turns piece more = piece
+and_on NumbersSpent piece more = piece
+and_on NoMemory piece more = piece
+
+abbrev pub and_more : {E H : Type 0} → Piece E H → (World E H → Piece E H) → Piece E H
+and_more piece more = and_on piece.went piece more
+
+-- the most steps of ends that a run makes, and the most characters that one line of a schedule lets settle
+abbrev pub most_steps : ℕ
+most_steps = 4000000
+
+abbrev pub most_settled : ℕ
+most_settled = 65536
+
+-- no step is left
+abbrev pub turned_out : {E H : Type 0} → World E H → Piece E H
+turned_out world = record { world = world; entries = []; went = Turns }
+
+-- the characters on their way to an end are others
+abbrev pub with_way : {E H : Type 0} → Side → Way → World E H → World E H
+with_way side way world = record world { ways = with_direction side way world.ways }
+
+abbrev pub way_to : {E H : Type 0} → Side → World E H → Way
+way_to side world = direction_to side world.ways
+
+-- so many of them are lost
+abbrev pub lost : ℕ → Way → Way
+lost n way = record way { under_way = drop n way.under_way }
+
+abbrev pub lost_from : {E H : Type 0} → ℕ → Side → World E H → World E H
+lost_from n side world = with_way side (lost n (way_to side world)) world
+
+abbrev pub changed_at : {E H : Type 0} → Side → ℕ → ℕ → World E H → World E H
+changed_at side place byte world = with_way side (with_change place byte (way_to side world)) world
+
+abbrev pub added_to : {E H : Type 0} → Side → ℕ → World E H → World E H
+added_to side byte world = record world { ways = with_noise_to side byte world.ways }
+
+abbrev pub later : {E H : Type 0} → ℕ → World E H → World E H
+later ms world = record world { moment = world.moment + ms }
+
+-- both ends have started
+abbrev pub at_start : {E H : Type 0} → Step E Happening → Step H Happening → Piece E H
+at_start equipment host = record {
+  world =
+      record { equipment = equipment.next; host = host.next; ways = new_ways; moment = 0; steps = 0 };
+  entries = log_with 0 Host host.notes (log_with 0 Equipment equipment.notes []);
+  went = Went;
+}
+
+module _ {E H : Type 0} (e : Machine E ToolCommand) (h : Machine H HostCommand) where
+  -- a step of the equipment, or of the host, is one of all steps
+  abbrev pub with_equipment : World E H → Stepped E → Piece E H
+  with_equipment world step = record {
+    world =
+        record {
+          equipment = step.end;
+          host = world.host;
+          ways = step.ways;
+          moment = world.moment;
+          steps = world.steps + 1;
+        };
+    entries = step.entries;
+    went = step.went;
+  }
+
+  abbrev pub with_host : World E H → Stepped H → Piece E H
+  with_host world step = record {
+    world =
+        record {
+          equipment = world.equipment;
+          host = step.end;
+          ways = step.ways;
+          moment = world.moment;
+          steps = world.steps + 1;
+        };
+    entries = step.entries;
+    went = step.went;
+  }
+
+  abbrev pub equipment_stepped : Input ToolCommand → World E H → Piece E H
+  equipment_stepped input world =
+      if world.steps == most_steps then turned_out world
+      else with_equipment world (stepped e Equipment world.moment input world.equipment world.ways)
+
+  abbrev pub host_stepped : Input HostCommand → World E H → Piece E H
+  host_stepped input world =
+      if world.steps == most_steps then turned_out world
+      else with_host world (stepped h Host world.moment input world.host world.ways)
+
+  -- the character is given to an end
+  abbrev pub given_to : Side → ℕ → World E H → Piece E H
+  given_to Equipment byte world = equipment_stepped (Char byte) world
+  given_to Host byte world = host_stepped (Char byte) world
+
+  -- the next character on its way to it, where there is one
+  abbrev pub given_next : Side → Option ℕ → World E H → Piece E H
+  given_next side (Some byte) world = given_to side byte world
+  given_next side None world = still world
+
+  abbrev pub given : Side → World E H → Piece E H
+  given side world = given_next side (next_byte (characters_of (way_to side world).under_way)) world
+
+  -- so many times
+  abbrev pub given_times : ℕ → Side → World E H → Piece E H
+  given_times zero side world = still world
+  given_times (suc n) side world = and_more (given side world) (given_times n side)
+
+  -- one character for the equipment where one is on its way there, otherwise one for the host
+  abbrev pub settled : World E H → Piece E H
+  settled world =
+      if is_under_way (characters_of (way_to Equipment world).under_way) then given Equipment world
+      else given Host world
+
+  -- so many times, or until no character is left
+  unfoldable pub settled_times : ℕ → World E H → Piece E H
+  settled_times zero world = still world
+  settled_times (suc n) world = and_more (settled world) (settled_times n)
+
+  -- the equipment looks at the clock first, then the host
+  abbrev pub both_stepped : World E H → Piece E H
+  both_stepped world = and_more (equipment_stepped Time world) (host_stepped Time)
+
+  -- what a line of a schedule has happen. Power is not lost yet
+  abbrev pub after_event : Event → World E H → Piece E H
+  after_event (event.To side n) world = given_times n side world
+  after_event (event.Lose side n) world = still (lost_from n side world)
+  after_event (event.Change side place byte) world = still (changed_at side place byte world)
+  after_event (event.Add side byte) world = still (added_to side byte world)
+  after_event event.Settle world = settled_times most_settled world
+  after_event (event.Wait ms) world = both_stepped (later ms world)
+  after_event (event.Tool command) world = equipment_stepped (Command command) world
+  after_event (event.Host command) world = host_stepped (Command command) world
+  after_event (event.Cut call choice) world = still world
+
+  -- one event after the other, as long as it goes on
+  abbrev pub after_events : List Event → World E H → Piece E H
+  after_events [] world = still world
+  after_events (event ∷ events) world = and_more (after_event event world) (after_events events)
+
+  -- both ends have started, and each has made its first step
+  abbrev pub begun : Step E Happening → Step H Happening → Piece E H
+  begun equipment host = and_more (at_start equipment host) both_stepped

@@ -1,0 +1,40 @@
+ghost use Rattle.std.specs.Prelude.{List, All};
+ghost use Rattle.line_schedule.specs.declared.event.Event.{Event};
+ghost use Rattle.message_end.specs.Moves.{LinePlans};
+ghost use Rattle.end_pair.specs.Kept.{MayHappen};
+ghost use Rattle.end_pair.specs.Laws.{AreOnLine, HasBytes, IsOfMoves, RunsAreBounded, StepsEndByCause};
+ghost use Rattle.end_pair.specs.Run.{log_of};
+ghost use Rattle.end_pair.specs.Worked.{WorkedRuns};
+
+use message_end::End;
+use trace_log::{HostCommand, ToolCommand};
+
+/// A run makes 4,000,000 steps at most, and ends for want of steps only with all of them made.
+pub fn runs_are_bounded<E: End<Command = ToolCommand>, H: End<Command = HostCommand>>()
+    ensures { RunsAreBounded E.State H.State }
+{}
+
+/// A step of an end ends a run exactly where a slip is found before it, or where the end was to draw a number and had
+/// none.
+pub fn steps_end_by_cause<E: End>()
+    ensures { StepsEndByCause E.State E.Command }
+{}
+
+/// Whatever a schedule does to two ends that keep their law, its log is that of moves on one line, each of which its
+/// end may make, and none of which is a slip. Only a last entry, of a slip or of the end, is no move's.
+pub fn runs_are_moves<E: End<Command = ToolCommand>, H: End<Command = HostCommand>>()
+    ensures { (equipment : E.Plan) (host : H.Plan) (plans : LinePlans) (events : List Event)
+        → E.fits equipment → H.fits host → AreOnLine plans (E.plan_of equipment) (H.plan_of host)
+        → All (MayHappen E.takes H.takes) events → All HasBytes events
+        → IsOfMoves
+        (E.did equipment)
+        (H.did host)
+        plans
+        (log_of E.machine H.machine (E.start equipment) (H.start host) events) }
+{}
+
+/// Two runs that can be followed by hand: a block is carried, and with one character of its frame replaced it is a
+/// slip.
+pub fn worked_runs()
+    ensures { WorkedRuns }
+{}

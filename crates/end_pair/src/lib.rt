@@ -1,0 +1,15 @@
+//! The world of two ends and the line between them, whatever ends they are: a schedule is carried out, and what both
+//! ends note is written.
+#![tactic(auto)]
+
+mod answers;
+mod laws;
+mod putting;
+mod running;
+mod step;
+mod world;
+
+pub use answers::{RunEnd, WorldFault, WorldStep};
+pub use laws::{runs_are_bounded, runs_are_moves, steps_end_by_cause, worked_runs};
+pub use running::run;
+pub use world::World;

@@ -1,0 +1,105 @@
+ghost use Rattle.std.specs.Prelude.{◌≡◌, ◌++◌, All};
+ghost use Rattle.gl_base.specs.Sending.{Sends};
+ghost use Rattle.end_pair.specs.declared.answers.WorldStep.TheVariants as answer;
+ghost use Rattle.gl_base.specs.Told.{sink_told};
+ghost use Rattle.trace_log.specs.Log.Entry.{Ended};
+ghost use Rattle.trace_log.specs.Text.{entry_text};
+ghost use Rattle.end_pair.specs.Kept.{MayHappen, Puts, seen};
+ghost use Rattle.end_pair.specs.Run.{Ends, HandsBack, Runs, end_of, piece_of, trace_text, went_of};
+
+use crate::answers::{RunEnd, WorldStep};
+use crate::world::World;
+use gl_base::{NoMemory, Page, Row, Sink, SinkAnswer};
+use line_schedule::Schedule;
+use message_end::End;
+use std::alloc::Global;
+use trace_log::{HostCommand, ToolCommand, put_end};
+
+/// Carries out a schedule on the line between two ends, and writes the trace of what both note. Hands the world back
+/// exactly where it answers `Whole`.
+///
+/// The plans must fit, and each event must be one that may happen.
+pub fn run<E: End<Command = ToolCommand>, H: End<Command = HostCommand>, W: Sink>(
+    alloc: Global,
+    equipment: &E::Plan,
+    host: &H::Plan,
+    schedule: &Schedule,
+    out: &mut W,
+) -> (RunEnd, Option<World<E, H>>)
+    requires equipment { E.fits equipment.now }
+    requires host { H.fits host.now }
+    requires events { All (MayHappen E.takes H.takes) schedule.now.events }
+    ensures text { Runs
+        (sink_told W.Sink out.old out.new)
+        (trace_text E.machine H.machine (E.start equipment.now) (H.start host.now) schedule.now.events)
+        (went_of E.machine H.machine (E.start equipment.now) (H.start host.now) schedule.now.events)
+        result.0 }
+    ensures world { HandsBack
+        (seen E.means H.means)
+        (piece_of E.machine H.machine (E.start equipment.now) (H.start host.now) schedule.now.events).world
+        result.0
+        result.1 }
+{
+    let mut page = Page::new();
+    let mut lines = Row::new(alloc);
+    let Ok(mut world) = World::<E, H>::start(alloc, equipment, host, &mut lines) else {
+        return (RunEnd::NoMemory, None);
+    };
+    'events: for event in schedule.events.as_slice() {
+        let SinkAnswer::Done = page.put(out, lines.as_slice()) else {
+            return (RunEnd::WriteFailed, None);
+        };
+        lines.truncate(0);
+        match world.step(alloc, event, &mut lines) {
+            WorldStep::Went => {}
+            went => return (stop(went, lines.as_slice(), &mut page, out), None),
+        }
+    }
+    let went = close(world.moment(), &mut lines);
+    match stop(went, lines.as_slice(), &mut page, out) {
+        RunEnd::Whole => (RunEnd::Whole, Some(world)),
+        end => (end, None),
+    }
+}
+
+// Puts the line of the end.
+fn close(now: u64, lines: &mut Row<u8>) -> WorldStep
+    ensures { Puts answer.Went (entry_text (Ended now)) lines.old lines.new result }
+{
+    match put_end(now, lines) {
+        Ok(()) => WorldStep::Went,
+        Err(NoMemory) => WorldStep::NoMemory,
+    }
+}
+
+// Sends what the page holds and these lines, the last of a run that went on no further.
+fn stop<W: Sink>(went: WorldStep, lines: &[u8], page: &mut Page, out: &mut W) -> RunEnd
+    ensures { Ends (sink_told W.Sink out.old out.new) (page.old.bytes.items ++ lines.now) went result }
+{
+    match write_rest(lines, page, out) {
+        SinkAnswer::Done => end_of(went),
+        SinkAnswer::Failed => RunEnd::WriteFailed,
+    }
+}
+
+fn end_of(went: WorldStep) -> RunEnd
+    ensures { result ≡ end_of went }
+{
+    match went {
+        WorldStep::Went => RunEnd::Whole,
+        WorldStep::Slip => RunEnd::Slip,
+        WorldStep::Turns => RunEnd::Turns,
+        WorldStep::NumbersSpent => RunEnd::NumbersSpent,
+        WorldStep::NoMemory => RunEnd::NoMemory,
+    }
+}
+
+// Sends what the page holds, and these lines.
+fn write_rest<W: Sink>(lines: &[u8], page: &mut Page, out: &mut W) -> SinkAnswer
+    ensures { Sends (sink_told W.Sink out.old out.new) (page.old.bytes.items ++ lines.now) result }
+{
+    let SinkAnswer::Done = page.put(out, lines) else {
+        return SinkAnswer::Failed;
+    };
+    page.send(out)
+}

@@ -1,0 +1,395 @@
+ghost use Rattle.std.specs.Prelude.{◌≡◌, ◌<◌, ◌≤◌, ◌+◌, ◌*◌, ◌^◌, ◌++◌, ◌&&◌, not, IfOk, OnErr, OnOk};
+ghost use Rattle.gl_base.specs.declared.side.Side.TheVariants as sides;
+ghost use Rattle.message_end.specs.Ends.{MayTake, input_of};
+ghost use Rattle.trace_log.specs.Text.{text_of};
+ghost use Rattle.end_pair.specs.Kept.{MayHappen, IfWent, PutPart, Puts, seen};
+ghost use Rattle.line_way.specs.Kept.{direction_to, with_direction};
+ghost use Rattle.line_way.specs.Ways.{characters_of, is_under_way};
+ghost use Rattle.end_pair.specs.Steps.{entries_of};
+ghost use Rattle.end_pair.specs.World.{added_to, after_event, at_start, begun, both_stepped, changed_at, equipment_stepped, given, given_times, host_stepped, later, lost, lost_from, settled, settled_times, way_to};
+ghost use Rattle.end_pair.specs.declared.answers.WorldStep.TheVariants as answer;
+
+use crate::answers::{WorldFault, WorldStep};
+use crate::putting::put_notes;
+use crate::step::step_end;
+use arrayvec::ArrayVec;
+use gl_base::{NoMemory, Row, Side};
+use line_schedule::Event;
+use line_way::Ways;
+use message_end::End;
+use message_flow::{NodeInput, StepOut};
+use std::alloc::Global;
+use std::marker::Model;
+use trace_log::{HostCommand, ToolCommand, notes_are_lines};
+
+/// The most steps of ends that a run makes.
+const MOST_STEPS: u32 = 4_000_000;
+
+/// The most characters that one line of a schedule lets settle.
+const MOST_SETTLED: u32 = 65_536;
+
+/// Two ends and the line between them. Its ends come from their own starts and steps alone.
+///
+/// After a call that answers anything but `Went` nothing is said of it any more.
+#[derive(Drop)]
+pub struct World<E: End, H: End> {
+    equipment: E,
+    host: H,
+    ways: Ways,
+    moment: u64,
+    steps: u32,
+}
+
+impl<E: End, H: End> Model for World<E, H> {
+    ghost use Rattle.std.specs.Prelude.{◌≤◌, ◌*◌};
+    ghost use Rattle.end_pair.specs.World.{World};
+
+    ghost Value = { World E H };
+
+    ghost view = { λ w. record {
+      equipment = w.equipment;
+      host = w.host;
+      ways = w.ways;
+      moment = w.moment;
+      steps = w.steps;
+    } };
+
+    ghost invariant = { λ w. (E.sound w.equipment)
+        × (H.sound w.host)
+        × (w.steps ≤ 4000000)
+        × (w.moment ≤ 1000000 * w.steps)
+        × (w.ways.written ≤ w.steps) };
+}
+
+impl<E: End<Command = ToolCommand>, H: End<Command = HostCommand>> World<E, H> {
+    /// Both ends at their starts, each of which has made its first step; the lines of that are put at the end.
+    pub fn start(
+        alloc: Global,
+        equipment: &E::Plan,
+        host: &H::Plan,
+        lines: &mut Row<u8>,
+    ) -> Result<World<E, H>, WorldFault>
+        requires equipment { E.fits equipment.now }
+        requires host { H.fits host.now }
+        ensures world { IfOk result (λ world. seen E.means H.means world
+            ≡ (begun E.machine H.machine (E.start equipment.now) (H.start host.now)).world) }
+        ensures went { OnOk result
+            ((begun E.machine H.machine (E.start equipment.now) (H.start host.now)).went ≡ answer.Went) }
+        ensures lines { OnOk result (lines.new
+            ≡ lines.old ++ text_of (begun E.machine H.machine (E.start equipment.now) (H.start host.now)).entries) }
+        ensures part { OnErr result (PutPart
+            (text_of (begun E.machine H.machine (E.start equipment.now) (H.start host.now)).entries)
+            lines.old
+            lines.new) }
+    {
+        let mut world = World::at_start(alloc, equipment, host, lines)?;
+        match world.step_both(alloc, 0, lines) {
+            WorldStep::Went => Ok(world),
+            _ => Err(WorldFault::NoMemory),
+        }
+    }
+
+    // Both ends at their starts, the lines of which are put.
+    fn at_start(
+        alloc: Global,
+        equipment: &E::Plan,
+        host: &H::Plan,
+        lines: &mut Row<u8>,
+    ) -> Result<World<E, H>, WorldFault>
+        requires equipment { E.fits equipment.now }
+        requires host { H.fits host.now }
+        ensures world { IfOk result (λ world. seen E.means H.means world
+            ≡ (at_start (E.start equipment.now) (H.start host.now)).world) }
+        ensures lines { OnOk result (lines.new
+            ≡ lines.old ++ text_of (at_start (E.start equipment.now) (H.start host.now)).entries) }
+        ensures part { OnErr result (PutPart
+            (text_of (at_start (E.start equipment.now) (H.start host.now)).entries)
+            lines.old
+            lines.new) }
+    {
+        let equipment = start_end::<E>(alloc, Side::Equipment, equipment, lines)?;
+        let host = start_end::<H>(alloc, Side::Host, host, lines)?;
+        Ok(World {
+            equipment,
+            host,
+            ways: Ways::new(alloc),
+            moment: 0,
+            steps: 0,
+        })
+    }
+
+    /// The equipment as it is after the events so far.
+    pub fn equipment(&self) -> &E
+        ensures { result.now ≡ self.now.equipment }
+    {
+        &self.equipment
+    }
+
+    /// The host, likewise.
+    pub fn host(&self) -> &H
+        ensures { result.now ≡ self.now.host }
+    {
+        &self.host
+    }
+
+    /// The moment, in milliseconds.
+    pub(crate) fn moment(&self) -> u64
+        ensures { result ≡ self.now.moment }
+    {
+        self.moment
+    }
+
+    /// Carries out an event, and puts its lines at the end. Every earlier call must have answered `Went`.
+    pub fn step(&mut self, alloc: Global, event: &Event, lines: &mut Row<u8>) -> WorldStep
+        requires { MayHappen E.takes H.takes event.now }
+        ensures lines { let piece = after_event E.machine H.machine event.now (seen E.means H.means self.old) in
+            Puts piece.went (text_of piece.entries) lines.old lines.new result }
+        ensures world { IfWent result (seen E.means H.means self.new
+            ≡ (after_event E.machine H.machine event.now (seen E.means H.means self.old)).world) }
+    {
+        match event {
+            Event::To(side, n) => self.give(alloc, *side, *n, lines),
+            Event::Settle => self.settle(alloc, MOST_SETTLED, lines),
+            Event::Wait(milliseconds) => self.step_both(alloc, *milliseconds, lines),
+            Event::Tool(command) => {
+                self.step_equipment(alloc, 0, NodeInput::Command(command), lines)
+            }
+            Event::Host(command) => self.step_host(alloc, NodeInput::Command(command), lines),
+            Event::Lose(side, n) => {
+                self.lose(*side, *n);
+                WorldStep::Went
+            }
+            Event::Change(side, place, byte) => {
+                self.change(*side, *place, *byte);
+                WorldStep::Went
+            }
+            Event::Add(side, byte) => match self.add(*side, *byte) {
+                Ok(()) => WorldStep::Went,
+                Err(NoMemory) => WorldStep::NoMemory,
+            },
+            Event::Cut(_, _) => WorldStep::Went,
+        }
+    }
+
+    // Hands characters to one end: n of them, or as many as are on their way to it.
+    fn give(&mut self, alloc: Global, side: Side, n: u32, lines: &mut Row<u8>) -> WorldStep
+        ensures lines { let piece = given_times E.machine H.machine n side (seen E.means H.means self.old) in
+            Puts piece.went (text_of piece.entries) lines.old lines.new result }
+        ensures world { IfWent result (seen E.means H.means self.new
+            ≡ (given_times E.machine H.machine n side (seen E.means H.means self.old)).world) }
+    {
+        let mut left = n;
+        'characters: while left > 0 {
+            if !self.is_under_way(side) {
+                return WorldStep::Went;
+            }
+            match self.hand(alloc, side, lines) {
+                WorldStep::Went => {}
+                stop => return stop,
+            }
+            left -= 1;
+        }
+        WorldStep::Went
+    }
+
+    // Hands characters to both ends: n in all, or as many as are on their way.
+    fn settle(&mut self, alloc: Global, n: u32, lines: &mut Row<u8>) -> WorldStep
+        ensures lines { let piece = settled_times E.machine H.machine n (seen E.means H.means self.old) in
+            Puts piece.went (text_of piece.entries) lines.old lines.new result }
+        ensures world { IfWent result (seen E.means H.means self.new
+            ≡ (settled_times E.machine H.machine n (seen E.means H.means self.old)).world) }
+    {
+        let mut left = n;
+        'characters: while left > 0 {
+            if self.is_quiet() {
+                return WorldStep::Went;
+            }
+            match self.settle_one(alloc, lines) {
+                WorldStep::Went => {}
+                stop => return stop,
+            }
+            left -= 1;
+        }
+        WorldStep::Went
+    }
+
+    // Hands one character to the equipment where one is on its way there, otherwise one to the host.
+    fn settle_one(&mut self, alloc: Global, lines: &mut Row<u8>) -> WorldStep
+        ensures lines { let piece = settled E.machine H.machine (seen E.means H.means self.old) in
+            Puts piece.went (text_of piece.entries) lines.old lines.new result }
+        ensures world { IfWent result (seen E.means H.means self.new
+            ≡ (settled E.machine H.machine (seen E.means H.means self.old)).world) }
+    {
+        if self.is_under_way(Side::Equipment) {
+            self.hand(alloc, Side::Equipment, lines)
+        } else {
+            self.hand(alloc, Side::Host, lines)
+        }
+    }
+
+    // Whether no character is on its way.
+    fn is_quiet(&self) -> bool
+        ensures { result
+            ≡ (not (is_under_way (characters_of (way_to sides.Equipment self.now).under_way))
+            && not (is_under_way (characters_of (way_to sides.Host self.now).under_way))) }
+    {
+        !self.is_under_way(Side::Equipment) && !self.is_under_way(Side::Host)
+    }
+
+    fn is_under_way(&self, side: Side) -> bool
+        ensures { result ≡ is_under_way (characters_of (way_to side self.now).under_way) }
+    {
+        self.ways.is_under_way(side)
+    }
+
+    // Hands the next character to an end, where one is on its way to it.
+    fn hand(&mut self, alloc: Global, side: Side, lines: &mut Row<u8>) -> WorldStep
+        ensures lines { let piece = given E.machine H.machine side (seen E.means H.means self.old) in
+            Puts piece.went (text_of piece.entries) lines.old lines.new result }
+        ensures world { IfWent result (seen E.means H.means self.new
+            ≡ (given E.machine H.machine side (seen E.means H.means self.old)).world) }
+    {
+        let Some(byte) = self.ways.next(side) else {
+            return WorldStep::Went;
+        };
+        match side {
+            Side::Equipment => self.step_equipment(alloc, 0, NodeInput::Char(byte), lines),
+            Side::Host => self.step_host(alloc, NodeInput::Char(byte), lines),
+        }
+    }
+
+    // The clock goes on, and each end looks at it.
+    fn step_both(&mut self, alloc: Global, milliseconds: u32, lines: &mut Row<u8>) -> WorldStep
+        requires { milliseconds ≤ 1000000 }
+        ensures lines { let moved = later milliseconds (seen E.means H.means self.old) in
+            let piece = both_stepped E.machine H.machine moved in
+            Puts piece.went (text_of piece.entries) lines.old lines.new result }
+        ensures world { IfWent result (seen E.means H.means self.new
+            ≡ (both_stepped E.machine H.machine (later milliseconds (seen E.means H.means self.old))).world) }
+    {
+        match self.step_equipment(alloc, milliseconds, NodeInput::Time, lines) {
+            WorldStep::Went => self.step_host(alloc, NodeInput::Time, lines),
+            stop => stop,
+        }
+    }
+
+    // The clock goes on, and the equipment makes a step, where one is left.
+    fn step_equipment(
+        &mut self,
+        alloc: Global,
+        milliseconds: u32,
+        input: NodeInput<'_, ToolCommand>,
+        lines: &mut Row<u8>,
+    ) -> WorldStep
+        requires milliseconds { milliseconds ≤ 1000000 }
+        requires input { MayTake E.takes (input_of input) }
+        ensures lines { let moved = later milliseconds (seen E.means H.means self.old) in
+            let piece = equipment_stepped E.machine H.machine (input_of input.entry) moved in
+            Puts piece.went (text_of piece.entries) lines.old lines.new result }
+        ensures world { let moved = later milliseconds (seen E.means H.means self.old) in
+            IfWent result (seen E.means H.means self.new
+            ≡ (equipment_stepped E.machine H.machine (input_of input.entry) moved).world) }
+    {
+        if self.steps == MOST_STEPS {
+            return WorldStep::Turns;
+        }
+        self.steps += 1;
+        self.moment += u64::from(milliseconds);
+        step_end(
+            alloc,
+            self.moment,
+            Side::Equipment,
+            input,
+            &mut self.equipment,
+            &mut self.ways,
+            lines,
+        )
+    }
+
+    // The host makes a step, where one is left.
+    fn step_host(
+        &mut self,
+        alloc: Global,
+        input: NodeInput<'_, HostCommand>,
+        lines: &mut Row<u8>,
+    ) -> WorldStep
+        requires { MayTake H.takes (input_of input) }
+        ensures lines { let piece =
+            host_stepped E.machine H.machine (input_of input.entry) (seen E.means H.means self.old) in
+            Puts piece.went (text_of piece.entries) lines.old lines.new result }
+        ensures world { IfWent result (seen E.means H.means self.new
+            ≡ (host_stepped E.machine H.machine (input_of input.entry) (seen E.means H.means self.old)).world) }
+    {
+        if self.steps == MOST_STEPS {
+            return WorldStep::Turns;
+        }
+        self.steps += 1;
+        step_end(
+            alloc,
+            self.moment,
+            Side::Host,
+            input,
+            &mut self.host,
+            &mut self.ways,
+            lines,
+        )
+    }
+
+    // So many of the next characters are lost, or all.
+    fn lose(&mut self, side: Side, n: u32)
+        ensures { self.new ≡ lost_from n side self.old }
+    {
+        lose_from(&mut self.ways, side, n);
+    }
+
+    fn change(&mut self, side: Side, place: u32, byte: u8)
+        ensures { self.new ≡ changed_at side place byte self.old }
+    {
+        self.ways.change(side, place, byte);
+    }
+
+    fn add(&mut self, side: Side, byte: u8) -> Result<(), NoMemory>
+        ensures { OnOk result (self.new ≡ added_to side byte self.old) }
+    {
+        self.ways.add(side, byte)
+    }
+}
+
+// So many of the next characters on their way to an end are lost, or all.
+fn lose_from(ways: &mut Ways, side: Side, n: u32)
+    ensures ways { ways.new ≡ with_direction side (lost n (direction_to side ways.old)) ways.old }
+    ensures count { ways.new.written ≡ ways.old.written }
+{
+    let mut left = n;
+    'characters: while left > 0 && ways.is_under_way(side) {
+        ways.lose(side);
+        left -= 1;
+    }
+}
+
+// An end starts, and the line of that is put.
+fn start_end<E: End>(
+    alloc: Global,
+    side: Side,
+    plan: &E::Plan,
+    lines: &mut Row<u8>,
+) -> Result<E, WorldFault>
+    requires { E.fits plan.now }
+    ensures end { IfOk result (λ end. E.means end ≡ (E.start plan.now).next) }
+    ensures sound { IfOk result (λ end. E.sound end) }
+    ensures lines { OnOk result (lines.new ≡ lines.old ++ text_of (entries_of side 0 (E.start plan.now).notes)) }
+    ensures part { OnErr result (PutPart (text_of (entries_of side 0 (E.start plan.now).notes)) lines.old lines.new) }
+{
+    notes_are_lines();
+    let mut out = StepOut {
+        line: ArrayVec::new(),
+        notes: Row::new(alloc),
+    };
+    let Ok(end) = E::start(alloc, plan, &mut out) else {
+        return Err(WorldFault::NoMemory);
+    };
+    let Ok(()) = put_notes(0, side, out.notes.as_slice(), lines) else {
+        return Err(WorldFault::NoMemory);
+    };
+    Ok(end)
+}
