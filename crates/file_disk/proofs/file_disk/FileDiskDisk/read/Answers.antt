@@ -1,0 +1,5 @@
+use Rattle.file_disk.proofs.Causes.{counted}
+use Rattle.file_disk.proofs.file_disk.FileDiskDisk.read.Goals as goal
+
+pub returns-clause-cause : goal.returns-clause-cause
+returns-clause-cause g c = counted _ _ _ _ _ c.counts.ensures.count

@@ -1,0 +1,21 @@
+-- What a real file counts as a disk (this profile).
+use Rattle.std.specs.Prelude.{◌≡◌, ℕ, false}
+use Rattle.disk_base.specs.Faults.{DiskHealth, Rose}
+use Rattle.disk_base.specs.declared.disk.DiskAnswer.{DiskAnswer}
+use Rattle.disk_base.specs.declared.disk.DiskAnswer.TheVariants.{Done, Failed}
+
+-- no call is sure
+abbrev pub file_health : ℕ → DiskHealth
+file_health faults = record {
+  faults = faults;
+  calls = 0;
+  room = 0;
+  fail_in = 0;
+  stop_in = 0;
+  stopped = false;
+}
+
+-- one fault was counted where a call failed, and none otherwise
+abbrev pub Counts : ℕ → ℕ → DiskAnswer → Type 0
+Counts before now Done = now ≡ before
+Counts before now Failed = Rose before now

@@ -1,0 +1,158 @@
+ghost use Rattle.std.specs.Prelude.{◌≡◌, ◌≤◌, IfOk, None};
+ghost use Rattle.disk_base.specs.Faults.{Rose};
+ghost use Rattle.disk_base.specs.declared.disk.DiskAnswer.{DiskAnswer};
+ghost use Rattle.file_disk.specs.FileDisk.{Counts, file_health};
+
+use disk_base::{Disk, DiskAnswer};
+use std::fs::{OpenFile, OpenOptions};
+use std::os::unix::fs::FileExt;
+use std::{io, rt};
+
+/// A real file as a disk, which tells nothing of its bytes. A sync is the system's sync of the file with all that
+/// belongs to it. It counts its faults: a file that can't be opened or made longer, a read or a write that doesn't take
+/// its whole range, a sync that fails, and each call but `attach` where no file is attached.
+#[derive(Drop)]
+pub struct FileDisk<R: rt::Files> {
+    system: R,
+    file: Option<R::File>,
+    size: u64,
+    faults: u64,
+}
+
+impl<R: rt::Files> FileDisk<R> {
+    /// No file yet, and no byte.
+    pub fn new(system: R) -> FileDisk<R>
+        ensures { result.faults ≡ 0 }
+    {
+        FileDisk {
+            system,
+            file: None,
+            size: 0,
+            faults: 0,
+        }
+    }
+
+    // The disk's answer where the system gave this one, which is counted where it is a fault.
+    fn counts<T>(&mut self, answer: &io::Result<T>) -> DiskAnswer
+        ensures count { Counts self.old.faults self.new.faults result }
+        ensures size { self.new.size ≡ self.old.size }
+    {
+        match answer {
+            Ok(_) => DiskAnswer::Done,
+            Err(_) => self.fail(),
+        }
+    }
+
+    // Counts a fault.
+    fn fail(&mut self) -> DiskAnswer
+        ensures failed { result ≡ DiskAnswer.Failed }
+        ensures rose { Rose self.old.faults self.new.faults }
+        ensures size { self.new.size ≡ self.old.size }
+    {
+        self.faults = self.faults.saturating_add(1);
+        DiskAnswer::Failed
+    }
+}
+
+impl<R: rt::Files> Disk for FileDisk<R>
+where
+    R::File: FileExt,
+{
+    ghost told = { λ _. None };
+
+    ghost calls = { λ _. None };
+
+    ghost size_is = { λ disk. disk.size };
+
+    ghost health = { λ disk. file_health disk.faults };
+
+    ghost name = { λ _. 0 };
+
+    ghost sized = { λ disk s is. absurd cc };
+
+    ghost calls_told = { λ disk s is. absurd cc };
+
+    // The file is made where it isn't there and some bytes are asked for.
+    fn attach(&mut self, file: &str, grow: u64) -> DiskAnswer {
+        match opened(&self.system, file, grow) {
+            Ok((file, size)) => {
+                self.file = Some(file);
+                self.size = size;
+                DiskAnswer::Done
+            }
+            Err(_) => self.fail(),
+        }
+    }
+
+    fn size(&self) -> u64 {
+        self.size
+    }
+
+    fn read(&mut self, at: u64, into: &mut [u8]) -> DiskAnswer {
+        let answer = match &self.file {
+            Some(file) => file.read_exact_at(into, at),
+            None => Err(io::Error::from(io::ErrorKind::NotFound)),
+        };
+        self.counts(&answer)
+    }
+
+    fn write(&mut self, at: u64, bytes: &[u8]) -> DiskAnswer {
+        let answer = match &self.file {
+            Some(file) => file.write_all_at(bytes, at),
+            None => Err(io::Error::from(io::ErrorKind::NotFound)),
+        };
+        self.counts(&answer)
+    }
+
+    fn sync(&mut self) -> DiskAnswer {
+        let answer = match &self.file {
+            Some(file) => file.sync_all(),
+            None => Err(io::Error::from(io::ErrorKind::NotFound)),
+        };
+        self.counts(&answer)
+    }
+}
+
+// The file of a name, with as many bytes as are asked for at least, and how many it has.
+fn opened<R: rt::Files>(system: &R, name: &str, grow: u64) -> io::Result<(R::File, u64)>
+    ensures { IfOk result (λ opened. grow ≤ opened.1) }
+{
+    let mut options = OpenOptions::new();
+    options.read(true).write(true).create(grow > 0);
+    let file = options.open(system, name)?;
+    let size = file.metadata()?.len();
+    if size >= grow {
+        return Ok((file, size));
+    }
+    file.set_len(grow)?;
+    Ok((file, grow))
+}
+
+#[cfg(test)]
+mod tests {
+    use super::*;
+    use std::test::Fail;
+    use std::{env, fs, process};
+
+    #[test]
+    fn keeps_bytes_in_a_file_of_the_system(rt: HostRuntime) -> Result<(), Fail> {
+        let alloc = rt.alloc();
+        let folder = env::temp_dir(&rt)?;
+        let name = format!(in alloc; "file-disk-{}", process::id(rt.process()))?;
+        let path = folder.join(alloc, name.as_str())?;
+        let mut disk = FileDisk::new(&rt);
+        let missing = disk.attach(path.as_str(), 0);
+        let made = disk.attach(path.as_str(), 8);
+        let mut into = [0; 2];
+        let done = disk.size() == 8
+            && disk.write(6, b"ab") == DiskAnswer::Done
+            && disk.sync() == DiskAnswer::Done
+            && disk.read(6, &mut into) == DiskAnswer::Done;
+        fs::remove_file(&rt, path.as_path())?;
+        assert_eq!(rt; missing, DiskAnswer::Failed);
+        assert_eq!(rt; made, DiskAnswer::Done);
+        assert!(rt; done && into == *b"ab");
+        assert_eq!(rt; disk.faults, 1);
+        Ok(())
+    }
+}
