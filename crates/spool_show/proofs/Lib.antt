@@ -1,0 +1,4 @@
+mod MessageLines
+mod NewFiles
+mod ShownFiles
+mod SpoolFiles

@@ -1,0 +1,127 @@
+-- From the spool in hand to the file that the disk was given.
+use Rattle.std.proofs.Common.{◌≡◌, refl, ◌∙◌, ap, subst, ℕ, List, [], Option, Some, None, Ok, Err, inl, inr, arith}
+use Rattle.std.specs.Option.{option_map}
+use Rattle.disk_base.specs.Disk.{Attaches}
+use Rattle.disk_base.specs.Faults.{Rose}
+use Rattle.disk_base.specs.Story.{Story, with_growth, with_sync}
+use Rattle.disk_base.specs.declared.disk.Disk as trait
+use Rattle.disk_base.specs.declared.disk.DiskAnswer.TheVariants as answer
+use Rattle.gl_base.specs.Sink.{SinkHealth}
+use Rattle.gl_base.specs.Told.{SinkTold}
+use Rattle.gl_base.proofs.Appending.{told, wrote_nothing}
+use Rattle.spool_show.specs.Showing.{HasShown, IsCounted, IsSound, ShowsList, ShowsSpool, TellsSpool, end_of_refusal, refused_disk}
+use Rattle.spool_show.specs.Text.{file_text}
+use Rattle.spool_show.specs.Told.{DiskTold}
+use Rattle.spool_show.specs.declared.spool_end.SpoolEnd.{SpoolEnd}
+use Rattle.spool_show.specs.declared.spool_end.SpoolEnd.TheVariants as end
+use Rattle.spool_slots.specs.Changes.{HasRecovered, Recovers, most_reads}
+use Rattle.spool_slots.specs.File.{file_in}
+use Rattle.spool_slots.specs.Spool.{Rests, SpoolView}
+use Rattle.spool_slots.specs.declared.states.Recovering.{Recovering}
+use Rattle.spool_slots.specs.declared.states.Recovering.TheVariants as recovering
+
+-- what a disk told, by its parts
+abbrev pub disk_parts : Option Story → Option Story → ℕ → ℕ → DiskTold
+disk_parts before after faults faults_after =
+    record { before = before; after = after; faults = faults; faults_after = faults_after }
+
+-- a file that was taken as it is has its bytes
+pub attached : {before after : Option Story} → Attaches 0 before after → after ≡ before
+attached {before = None} is = is.grown
+attached {before = Some s} is = is.grown ∙ ap (λ more. Some (with_growth more s)) (is.enough s refl (omega arith))
+
+-- what was written of a list that was recovered
+pub recovered_list : (before : Option Story) (out : SinkTold) (e : SpoolEnd)
+    → ShowsList (option_map with_sync before) out e → ShowsList before out e
+recovered_list before out end.Done (text, wrote, is) =
+    (text, wrote, λ s told_is. is (with_sync s) (ap (option_map with_sync) told_is))
+recovered_list before out end.DiskFailed (text, wrote, is) =
+    (text, wrote, λ s told_is. is (with_sync s) (ap (option_map with_sync) told_is))
+recovered_list before out end.WriteFailed (text, wrote, is) =
+    (text, wrote, λ s told_is. is (with_sync s) (ap (option_map with_sync) told_is))
+recovered_list before out (end.NotSpool place) is = absurd is
+
+tells : (before : Option Story) (out : SinkTold) (e : SpoolEnd) → IsSound before → ShowsList before out e
+    → TellsSpool before out e
+tells before out end.Done sound shows = (sound, shows)
+tells before out end.DiskFailed sound shows = shows
+tells before out end.WriteFailed sound shows = (sound, shows)
+tells before out (end.NotSpool place) sound shows = absurd shows
+
+-- and of the file
+pub recovered_text : (before here : Option Story) (slots first len mark : ℕ) (out : SinkTold) (e : SpoolEnd)
+    → here ≡ option_map with_sync before
+    → ((s : Story) → before ≡ Some s → Rests (with_sync s) slots first len mark) → ShowsList here out e
+    → TellsSpool before out e
+recovered_text before here slots first len mark out e is rests shows =
+    tells before out e (λ s told_is. (rests s told_is).sound)
+    (recovered_list before out e (subst (λ t. ShowsList t out e) is shows))
+
+-- the same of the disk before it took the file
+pub shows_before : {before mid after : Option Story} {a b c : ℕ} (out : SinkTold) (e : SpoolEnd) → mid ≡ before → b ≡ a
+    → ShowsSpool (disk_parts mid after b c) out e → ShowsSpool (disk_parts before after a c) out e
+shows_before {before} {mid} {after} {a} {b} {c} out e is same shows =
+    subst (λ t. ShowsSpool (disk_parts t after a c) out e) is
+    (subst (λ n. ShowsSpool (disk_parts mid after n c) out e) same shows)
+
+-- a disk was read behind a sync, and its count of faults stands or rose by the last read
+recovered_count : {D : Type 0} {members : trait.Ghosts D} {old new : D} {most : ℕ}
+    → HasRecovered members old new most answer.Done → (members.health new).faults ≡ (members.health old).faults
+recovered_count is = is.reads.cause.same ∙ is.cause.same
+
+failed_count : {D : Type 0} {members : trait.Ghosts D} (old new : D) (most : ℕ)
+    → HasRecovered members old new most answer.Failed → Rose (members.health old).faults (members.health new).faults
+failed_count {D} {members} old new most is =
+    subst (λ n. Rose n (members.health new).faults) is.cause.same is.reads.cause.rose
+
+-- where a device wasn't recovered, nothing was written
+pub not_recovered : {D : Type 0} (members : trait.Ghosts D) {was : Option (List ℕ)} {a : SinkHealth} (old : D)
+    (refusal : Recovering D) → Recovers members old (Err refusal)
+    → ShowsSpool
+    (disk_parts (members.told old) (members.told (refused_disk refusal)) (members.health old).faults
+    (members.health (refused_disk refusal)).faults)
+    (told was was a a) (end_of_refusal refusal)
+not_recovered members old (recovering.NotSpool raw place) (read, breaks) =
+    record { written = (wrote_nothing, breaks); kept = inr read.told; count = recovered_count read }
+not_recovered members old (recovering.Failed spent) (inl unsynced) = record {
+  written = ([], wrote_nothing, λ s told_is. (file_text (file_in s.now.bytes), refl));
+  kept = inl unsynced.told;
+  count = unsynced.cause.rose;
+}
+not_recovered members old (recovering.Failed spent) (inr read) = record {
+  written = ([], wrote_nothing, λ s told_is. (file_text (file_in s.now.bytes), refl));
+  kept = inr read.told;
+  count = failed_count old spent.disk (most_reads (members.size_is old)) read;
+}
+
+-- the list of a recovered file was shown
+pub shows_recovered : {D : Type 0} {members : trait.Ghosts D} {out : SinkTold} (old : D) (v w : SpoolView D) (e : SpoolEnd)
+    → Recovers members old (Ok v) → HasShown members v w e → ShowsList (members.told v.disk) out e
+    → ShowsSpool
+    (disk_parts (members.told old) (members.told w.disk) (members.health old).faults (members.health w.disk).faults) out e
+shows_recovered {D} {members} {out} old v w e (read, stands) shown shows = record {
+  written = recovered_text (members.told old) (members.told v.disk) v.slots v.first v.len v.mark out e read.told
+      (λ s told_is. (stands s told_is).0) shows;
+  kept = inr (shown.told ∙ read.told);
+  count = subst (λ n. IsCounted n (members.health w.disk).faults e) (recovered_count read) shown.count;
+}
+
+-- the file wasn't taken
+pub not_attached : {before after : Option Story} {a b : ℕ} {was : Option (List ℕ)} {h : SinkHealth} → Attaches 0 before after
+    → Rose a b → ShowsSpool (disk_parts before after a b) (told was was h h) end.DiskFailed
+not_attached is rose = record {
+  written = ([], wrote_nothing, λ s told_is. (file_text (file_in s.now.bytes), refl));
+  kept = inl (attached is);
+  count = rose;
+}
+
+-- the same of equal disks and ends
+pub shows_same : {before before' after after' : Option Story} {a a' b b' : ℕ} {e e' : SpoolEnd} (out : SinkTold)
+    → before ≡ before' → after ≡ after' → a ≡ a' → b ≡ b' → e ≡ e' → ShowsSpool (disk_parts before after a b) out e
+    → ShowsSpool (disk_parts before' after' a' b') out e'
+shows_same {before} {before'} {after} {after'} {a} {a'} {b} {b'} {e} {e'} out one two three four five shows =
+    subst (ShowsSpool (disk_parts before' after' a' b') out) five
+    (subst (λ n. ShowsSpool (disk_parts before' after' a' n) out e) four
+    (subst (λ n. ShowsSpool (disk_parts before' after' n b) out e) three
+    (subst (λ t. ShowsSpool (disk_parts before' t a b) out e) two
+    (subst (λ t. ShowsSpool (disk_parts t after a b) out e) one shows))))

@@ -1,0 +1,42 @@
+-- What making a spool file comes to (this profile).
+use Rattle.std.specs.Prelude.{ℕ, [], Option}
+use Rattle.disk_base.specs.Story.{Story}
+use Rattle.disk_base.specs.declared.disk.DiskAnswer.{DiskAnswer}
+use Rattle.disk_base.specs.declared.disk.DiskAnswer.TheVariants as answer
+use Rattle.gl_base.specs.Sending.{WroteShort, WroteText}
+use Rattle.gl_base.specs.Told.{SinkTold}
+use Rattle.spool_show.specs.Showing.{IsCounted}
+use Rattle.spool_show.specs.Text.{formatted_line}
+use Rattle.spool_show.specs.Told.{DiskTold}
+use Rattle.spool_show.specs.declared.spool_end.SpoolEnd.{SpoolEnd}
+use Rattle.spool_show.specs.declared.spool_end.SpoolEnd.TheVariants.{Done, DiskFailed, WriteFailed}
+use Rattle.spool_slots.specs.Format.{StandsEmpty}
+use Rattle.spool_slots.specs.declared.states.Formatting.{Formatting}
+use Rattle.spool_slots.specs.declared.states.Formatting.TheVariants as formatting
+
+-- how a file ends that was to be made
+abbrev pub end_of_answer : DiskAnswer → SpoolEnd
+end_of_answer answer.Done = Done
+end_of_answer answer.Failed = DiskFailed
+
+-- the device that a refusal holds
+abbrev pub unformatted_disk : {D : Type 0} → Formatting D → D
+unformatted_disk (formatting.Slots raw) = raw.disk
+unformatted_disk (formatting.Small raw size need) = raw.disk
+unformatted_disk (formatting.Failed spent) = spent.disk
+
+-- the line was written, or a part of it
+abbrev pub WritesFormatted : ℕ → SinkTold → SpoolEnd → Type 0
+WritesFormatted slots out Done = WroteText out (formatted_line slots)
+WritesFormatted slots out WriteFailed = WroteShort out (formatted_line slots)
+WritesFormatted slots out _ = ⊥
+
+-- an empty list stands, with mark 0, all of it settled, and then the line was to go out; or the disk failed, and
+-- nothing was written
+abbrev pub MakesSpool : ℕ → Option Story → SinkTold → SpoolEnd → Type 0
+MakesSpool slots after out DiskFailed = WroteText out []
+MakesSpool slots after out end = StandsEmpty after slots answer.Done × WritesFormatted slots out end
+
+pub record FormatsSpool (slots : ℕ) (disk : DiskTold) (out : SinkTold) (end : SpoolEnd) : Type 0 where
+  pub made : MakesSpool slots disk.after out end
+  pub count : IsCounted disk.faults disk.faults_after end

@@ -1,0 +1,4 @@
+pub mod Formatting
+pub mod Showing
+pub mod Text
+pub mod Told

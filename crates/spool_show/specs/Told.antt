@@ -1,0 +1,19 @@
+-- What a disk told before a call and after it (this profile).
+use Rattle.std.specs.Prelude.{ℕ, Option}
+use Rattle.disk_base.specs.Story.{Story}
+use Rattle.disk_base.specs.declared.disk.Disk as disk
+
+-- the bytes that a disk held, and how many faults it had counted
+pub record DiskTold : Type 0 where
+  pub before : Option Story
+  pub after : Option Story
+  pub faults : ℕ
+  pub faults_after : ℕ
+
+abbrev pub disk_told : {D : Type 0} → disk.Ghosts D → D → D → DiskTold
+disk_told members old new = record {
+  before = members.told old;
+  after = members.told new;
+  faults = (members.health old).faults;
+  faults_after = (members.health new).faults;
+}

@@ -1,0 +1,103 @@
+ghost use Rattle.std.specs.Prelude.{◌≡◌, ◌+◌, ◌*◌, ◌++◌, ◌≤◌, drop, length, take};
+ghost use Rattle.arrayvec.specs.ArrayVec.{array_vec_len};
+ghost use Rattle.spool_show.specs.Text.{count_text, formatted_line, head_line, line_of};
+ghost use Rattle.spool_slots.specs.Slot.{slot_place};
+ghost use Rattle.trace_log.specs.Text.{body_text};
+
+use arrayvec::ArrayVec;
+use short_text::{put, put_hex, put_name, put_number};
+use spool_slots::SlotHead;
+
+/// How long a line is at most.
+pub const LINE: usize = 8300;
+
+/// The line of a new file.
+pub type Short = ArrayVec<u8, 100>;
+
+// Where the body stands in a slot.
+const BODY: usize = 15;
+
+/// Puts the first line, behind what stands in a page with room for a line.
+pub fn put_head_line<const N: usize>(line: &mut ArrayVec<u8, N>, slots: u32, mark: u64, len: u32)
+    requires { array_vec_len line.old + 8300 ≤ N }
+    ensures { line.new.items ≡ line.old.items ++ head_line slots mark len }
+{
+    put_count(line, b"spool slots=", u64::from(slots));
+    put_count(line, b" mark=", mark);
+    put_count(line, b" len=", u64::from(len));
+    put(line, b"\n");
+}
+
+/// The line of a new file of so many slots.
+pub fn formatted_line(slots: u32) -> Short
+    requires { slots ≤ 65535 }
+    ensures { result.items ≡ formatted_line slots }
+{
+    let mut line = Short::new();
+    put_count(&mut line, b"formatted slots=", u64::from(slots));
+    put_count(&mut line, b" bytes=", bytes_of(slots));
+    put(&mut line, b"\n");
+    line
+}
+
+/// How many bytes a file of so many slots takes.
+pub fn bytes_of(slots: u32) -> u64
+    requires { slots ≤ 65535 }
+    ensures { result ≡ slot_place slots }
+{
+    4096 * (u64::from(slots) + 1)
+}
+
+// Puts a word, and a number behind it.
+fn put_count<const N: usize>(line: &mut ArrayVec<u8, N>, word: &[u8], number: u64)
+    requires { array_vec_len line.old + length word.now + 20 ≤ N }
+    ensures items { line.new.items ≡ line.old.items ++ count_text word.now number }
+    ensures len { array_vec_len line.new ≤ array_vec_len line.old + length word.now + 20 }
+{
+    put(line, word);
+    put_number(line, number);
+}
+
+/// Puts the line of a message of which a slot's bytes hold the body.
+pub fn put_message_line<const N: usize>(
+    line: &mut ArrayVec<u8, N>,
+    head: &SlotHead,
+    slot: &[u8; 4096],
+)
+    requires { array_vec_len line.old + 8300 ≤ N }
+    ensures { line.new.items ≡ line.old.items ++ line_of head.now (take head.now.len (drop 15 slot.now)) }
+{
+    put_number(line, head.number);
+    put(line, b" ");
+    put_name(line, head.stream, head.function, true);
+    put(line, b" ");
+    put_body(line, body_in(head.len, slot));
+    put(line, b"\n");
+}
+
+// The body in a slot's bytes.
+fn body_in(len: u32, slot: &[u8; 4096]) -> &[u8]
+    ensures body { result.now ≡ take len (drop 15 slot.now) }
+    ensures short { length result.now ≤ 4081 }
+{
+    let (_, area) = slot.split_at(BODY);
+    if (len as usize) < area.len() {
+        &area[..len as usize]
+    } else {
+        area
+    }
+}
+
+// Puts a body as a trace shows it.
+fn put_body<const N: usize>(line: &mut ArrayVec<u8, N>, body: &[u8])
+    requires short { length body.now ≤ 4081 }
+    requires room { array_vec_len line.old + 8200 ≤ N }
+    ensures items { line.new.items ≡ line.old.items ++ body_text body.now }
+    ensures len { array_vec_len line.new ≤ array_vec_len line.old + 8162 }
+{
+    if body.is_empty() {
+        put(line, b"-");
+    } else {
+        put_hex(line, body);
+    }
+}
