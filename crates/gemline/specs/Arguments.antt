@@ -9,8 +9,10 @@ use Rattle.std.specs.declared.io.ErrorKind.TheVariants.{OutOfMemory}
 use Rattle.std.specs.declared.string.String.{String}
 use Rattle.std.specs.declared.vec.IntoIter.{IntoIter}
 use Rattle.gl_base.specs.Told.{FilesTold, SinkTold, SourceTold}
+use Rattle.spool_show.specs.Told.{DiskTold}
 use Rattle.gemline_app.specs.Gemline.{AreUnread, IsRun, IsUnread, WereSent}
 use Rattle.gemline_app.specs.Outcome.{line_of, status_of}
+use Rattle.gemline_app.specs.Spool.{IsUnused}
 use Rattle.gemline_app.specs.Written.{IsUntouched}
 use Rattle.gemline_app.specs.declared.outcome.Outcome.{Outcome}
 use Rattle.gemline_app.specs.declared.outcome.Outcome.TheVariants as outcome
@@ -29,17 +31,20 @@ refusal_of OutOfMemory = outcome.NoMemory
 refusal_of _ = outcome.Usage
 
 -- nothing was read and nothing written, and the outcome gives the status and the line on the sink of errors
-pub record IsRefusal (refusal : Outcome) (source : SourceTold) (files : FilesTold) (out err : SinkTold) (status : ℕ)
-    : Type 0 where
+pub record IsRefusal (refusal : Outcome) (source : SourceTold) (files : FilesTold) (disk : DiskTold)
+    (out err : SinkTold) (status : ℕ) : Type 0 where
   pub status_is : status ≡ status_of refusal
   pub input : IsUnread source
   pub unread : AreUnread files
+  pub unused : IsUnused disk
   pub written : IsUntouched out
   pub line : WereSent (line_of [] refusal) err
 
 -- a run over the words of the arguments, unless memory runs out before it; or, where there are none, a refusal by the
 -- cause
-abbrev pub RunsOver : Result Arguments Error → SourceTold → FilesTold → SinkTold → SinkTold → ℕ → Type 0
-RunsOver (Ok arguments) source files out err status =
-    IsRun (words_of arguments) source files out err status ⊎ IsRefusal outcome.NoMemory source files out err status
-RunsOver (Err error) source files out err status = IsRefusal (refusal_of (error_kind error)) source files out err status
+abbrev pub RunsOver : Result Arguments Error → SourceTold → FilesTold → DiskTold → SinkTold → SinkTold → ℕ → Type 0
+RunsOver (Ok arguments) source files disk out err status =
+    IsRun (words_of arguments) source files disk out err status
+    ⊎ IsRefusal outcome.NoMemory source files disk out err status
+RunsOver (Err error) source files disk out err status =
+    IsRefusal (refusal_of (error_kind error)) source files disk out err status

@@ -3,8 +3,10 @@ ghost use Rattle.std.specs.Process.{exit_status};
 ghost use Rattle.std.specs.IoError.{error_kind};
 ghost use Rattle.std.specs.Vec.Iter.{into_iter_items};
 ghost use Rattle.gl_base.specs.Told.{files_told, sink_told, source_told};
+ghost use Rattle.spool_show.specs.Told.{disk_told};
 ghost use Rattle.gemline.specs.Arguments.{IsRefusal, RunsOver, refusal_of};
 
+use disk_base::Disk;
 use gemline_app::{Outcome, gemline, report};
 use gl_base::{Files, NoMemory, Sink, Source};
 use std::alloc::Global;
@@ -14,44 +16,48 @@ use std::process::ExitCode;
 
 /// Runs the program over the arguments that the system gave, its name in front of the words, and answers the status to
 /// end with. Where the system gave none, nothing is read: an argument that is no text is a fault of usage.
-pub(crate) fn run_arguments<F: Files, R: Source, W: Sink, E: Sink>(
+pub(crate) fn run_arguments<F: Files, R: Source, W: Sink, E: Sink, D: Disk>(
     alloc: Global,
     arguments: io::Result<Args>,
     files: &mut F,
     input: &mut R,
     out: &mut W,
     err: &mut E,
+    disk: &mut D,
 ) -> ExitCode
     ensures { RunsOver arguments
         (source_told R.Source input.old input.new)
         (files_told F.Files files.old files.new)
+        (disk_told D.Disk disk.old disk.new)
         (sink_told W.Sink out.old out.new)
         (sink_told E.Sink err.old err.new)
         (exit_status result) }
 {
-    let status = run_over(alloc, arguments, files, input, out, err);
+    let status = run_over(alloc, arguments, files, input, out, err, disk);
     ExitCode::from(status)
 }
 
 // Runs the program over the arguments, and answers the number of its status.
-fn run_over<F: Files, R: Source, W: Sink, E: Sink>(
+fn run_over<F: Files, R: Source, W: Sink, E: Sink, D: Disk>(
     alloc: Global,
     arguments: io::Result<Args>,
     files: &mut F,
     input: &mut R,
     out: &mut W,
     err: &mut E,
+    disk: &mut D,
 ) -> u8
     ensures { RunsOver arguments
         (source_told R.Source input.old input.new)
         (files_told F.Files files.old files.new)
+        (disk_told D.Disk disk.old disk.new)
         (sink_told W.Sink out.old out.new)
         (sink_told E.Sink err.old err.new)
         result }
 {
     match arguments {
         Ok(arguments) => match words_of(alloc, arguments) {
-            Ok(words) => gemline(alloc, &words, files, input, out, err),
+            Ok(words) => gemline(alloc, &words, files, input, out, err, disk),
             Err(NoMemory) => report(&Outcome::NoMemory, &[], err),
         },
         Err(error) => report(&refusal_of(&error), &[], err),
@@ -83,6 +89,7 @@ fn refusal_of(error: &io::Error) -> Outcome
 #[cfg(test)]
 mod tests {
     use super::*;
+    use disk_base::MemDisk;
     use gl_base::{MemFiles, MemSink, MemSource, Row};
 
     /// Words that a system gives, the program's name in front.
@@ -94,16 +101,17 @@ mod tests {
         Ok(all.into_iter())
     }
 
-    /// The status of a run over these arguments, without a file or a byte of input.
+    /// The status of a run over these arguments, without a file or a byte of input or of a disk.
     fn status_of(
         alloc: Global,
         arguments: io::Result<Args>,
         out: &mut MemSink,
         err: &mut MemSink,
+        disk: &mut MemDisk,
     ) -> ExitCode {
         let mut files = MemFiles::new(Row::new(alloc));
         let mut input = MemSource::new(Row::new(alloc));
-        run_arguments(alloc, arguments, &mut files, &mut input, out, err)
+        run_arguments(alloc, arguments, &mut files, &mut input, out, err, disk)
     }
 
     /// Whether such a run ends with this status and this line.
@@ -114,12 +122,12 @@ mod tests {
         wanted: u8,
         line: &[u8],
     ) -> bool {
-        match MemSink::new(alloc, 100) {
-            Ok(mut err) => {
-                status_of(alloc, arguments, out, &mut err) == ExitCode::from(wanted)
+        match (MemSink::new(alloc, 100), MemDisk::new(alloc, 0, 10, 10)) {
+            (Ok(mut err), Ok(mut disk)) => {
+                status_of(alloc, arguments, out, &mut err, &mut disk) == ExitCode::from(wanted)
                     && err.bytes() == line
             }
-            Err(_) => false,
+            _ => false,
         }
     }
 
@@ -143,6 +151,8 @@ mod tests {
         let replay = ["gemline", "replay", "plan", "schedule"];
         assert!(rt; words_end_so(alloc, &["gemline", "show"], 0, b""));
         assert!(rt; words_end_so(alloc, &replay, 66, b"gemline: 66 file plan\n"));
+        let spool = ["gemline", "spool", "SPOOL"];
+        assert!(rt; words_end_so(alloc, &spool, 78, b"gemline: 78 not a spool at 0\n"));
     }
 
     #[test]

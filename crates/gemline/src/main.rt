@@ -7,6 +7,7 @@ mod reading;
 mod writing;
 
 use arguments::run_arguments;
+use file_disk::FileDisk;
 use host_files::HostFiles;
 use reading::Reading;
 use std::env;
@@ -21,5 +22,6 @@ fn main(rt: HostRuntime) -> ExitCode {
         &mut Reading::new(rt.stdin()),
         &mut Writing::new(rt.stdout()),
         &mut Writing::new(rt.stderr()),
+        &mut FileDisk::new(&rt),
     )
 }

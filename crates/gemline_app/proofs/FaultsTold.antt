@@ -1,5 +1,5 @@
--- Each fault of the input, the files and the output is the outcome.
-use Rattle.std.proofs.Common.{◌≡◌, ◌⊎◌, ℕ, Bool, true, false, List, length, Option, Some, None, Result, Ok, Err, refl, sym, ap, subst, ◌∙◌, inl, inr}
+-- Each fault of the input, the files, the disk and the output is the outcome.
+use Rattle.std.proofs.Common.{◌≡◌, ℕ, Bool, false, List, Option, Some, None, Result, Ok, Err, refl, sym, ap, subst, inl, inr}
 use Rattle.gl_base.specs.Sink.{SinkHealth}
 use Rattle.gl_base.specs.Files.{FilesHealth}
 use Rattle.gl_base.specs.Source.{SourceHealth}
@@ -15,41 +15,49 @@ use Rattle.line_world.specs.Run.{Runs}
 use Rattle.line_world.specs.declared.course.Course.{Course}
 use Rattle.line_world.specs.declared.running.RunEnd.{RunEnd}
 use Rattle.line_world.specs.declared.running.RunEnd.TheVariants as end
+use Rattle.spool_show.specs.Told.{DiskTold}
+use Rattle.spool_show.specs.Formatting.{FormatsSpool}
+use Rattle.spool_show.specs.Showing.{ShowsSpool}
+use Rattle.spool_show.specs.declared.spool_end.SpoolEnd.{SpoolEnd}
+use Rattle.spool_show.specs.declared.spool_end.SpoolEnd.TheVariants as spool
+use Rattle.gemline_app.specs.Spool.{EndedAs, IsUnused, outcome_of_spool}
+use Rattle.gemline_app.proofs.SpoolDue.{rose_of}
 use Rattle.gemline_app.specs.Gemline.{AreUnread, ComesFrom, ComesOnInput, HexRefuses, InputRefuses, IsRun, IsUnread, TextRefuses, WasPrinted, WasShown, WasSpelled, WasWritten}
-use Rattle.gemline_app.specs.Laws.{CountsFaults, IsCounted, is_file_fault, is_read_fault, is_write_fault}
+use Rattle.gemline_app.specs.Laws.{CountsFaults, IsCounted, is_disk_fault, is_file_fault, is_read_fault, is_write_fault}
 use Rattle.gemline_app.specs.Outcome.{outcome_of_show}
-use Rattle.gemline_app.specs.Replay.{FileRefuses, ReplayComes, ScheduleComes, ScheduleRefuses, TextRuns, files_since, files_until, outcome_of_end, schedule_refusal}
+use Rattle.gemline_app.specs.Replay.{FileRefuses, ReplayComes, ScheduleComes, ScheduleRefuses, TextRuns, files_since, outcome_of_end, schedule_refusal}
 use Rattle.gemline_app.specs.Words.{capture_limit, command_of, item_limit, name_in}
 use Rattle.gemline_app.specs.Written.{IsUntouched}
 use Rattle.gemline_app.specs.declared.outcome.FileRole.{FileRole}
 use Rattle.gemline_app.specs.declared.outcome.FileRole.TheVariants as role
 use Rattle.gemline_app.specs.declared.outcome.Outcome.{Outcome}
-use Rattle.gemline_app.specs.declared.outcome.Outcome.TheVariants.{Done, Usage, BadFrame, BadText, BadHex, BadItem, BadLine, Longer, FileLonger, FileFailed, ReadFailed, NoMemory, WriteFailed, TurnsSpent, Slip, PlanNotBuilt, LineNotBuilt}
+use Rattle.gemline_app.specs.declared.outcome.Outcome.TheVariants.{Done, Usage, BadFrame, BadText, BadHex, BadItem, BadLine, Longer, FileLonger, FileFailed, ReadFailed, NoMemory, WriteFailed, TurnsSpent, Slip, DiskFailed, NotSpool, PlanNotBuilt, LineNotBuilt}
 use Rattle.gemline_app.specs.declared.words.Command.{Command}
-use Rattle.gemline_app.specs.declared.words.Command.TheVariants.{Show, Spell, SpellHex, Replay}
+use Rattle.gemline_app.specs.declared.words.Command.TheVariants.{Show, Spell, SpellHex, Replay, Format, Spool}
 
 -- ---- the output
 
--- what a command of its whole input came to: no fault of the input and no fault of a file
+-- what a command of its whole input came to: no fault of the input, of a file or of the disk
 record CountsWrites (out : SinkTold) (outcome : Outcome) : Type 0 where
   read : is_read_fault outcome ≡ false
   file : is_file_fault outcome ≡ false
+  on_disk : is_disk_fault outcome ≡ false
   write : IsCounted (is_write_fault outcome) out.health.faults out.health_after.faults
 
 untouched : (out : SinkTold) → IsUntouched out → out.health_after.faults ≡ out.health.faults
 untouched out is = ap (λ (h : SinkHealth). h.faults) is.health
 
 by_show : (out : SinkTold) (result : Result Ending Stop) → HasStopCause out result → CountsWrites out (outcome_of_show result)
-by_show out (Ok Whole) cause = record { read = refl; file = refl; write = cause }
-by_show out (Ok (Broken named)) cause = record { read = refl; file = refl; write = cause }
-by_show out (Err stop.NoMemory) cause = record { read = refl; file = refl; write = cause }
-by_show out (Err stop.WriteFailed) cause = record { read = refl; file = refl; write = cause }
+by_show out (Ok Whole) cause = record { read = refl; file = refl; on_disk = refl; write = cause }
+by_show out (Ok (Broken named)) cause = record { read = refl; file = refl; on_disk = refl; write = cause }
+by_show out (Err stop.NoMemory) cause = record { read = refl; file = refl; on_disk = refl; write = cause }
+by_show out (Err stop.WriteFailed) cause = record { read = refl; file = refl; on_disk = refl; write = cause }
 
 shown_counts : (capture : List ℕ) (out : SinkTold) (outcome : Outcome) → WasShown capture out outcome → CountsWrites out outcome
 shown_counts capture out outcome was = subst (CountsWrites out) (sym was.outcome_is) (by_show out was.result was.cause)
 
 written_counts : (line : List ℕ) (out : SinkTold) (outcome : Outcome) → WasWritten line out outcome → CountsWrites out outcome
-written_counts line out Done was = record { read = refl; file = refl; write = was.health.same }
+written_counts line out Done was = record { read = refl; file = refl; on_disk = refl; write = was.health.same }
 written_counts line out Usage was = absurd was
 written_counts line out (BadFrame named) was = absurd was
 written_counts line out (BadText at) was = absurd was
@@ -61,8 +69,10 @@ written_counts line out (FileLonger which) was = absurd was
 written_counts line out (FileFailed which) was = absurd was
 written_counts line out ReadFailed was = absurd was
 written_counts line out NoMemory was = absurd was
-written_counts line out WriteFailed was = record { read = refl; file = refl; write = was.fault.rose }
+written_counts line out WriteFailed was = record { read = refl; file = refl; on_disk = refl; write = was.fault.rose }
 written_counts line out TurnsSpent was = absurd was
+written_counts line out DiskFailed was = absurd was
+written_counts line out (NotSpool at) was = absurd was
 written_counts line out Slip was = absurd was
 written_counts line out PlanNotBuilt was = absurd was
 written_counts line out (LineNotBuilt number) was = absurd was
@@ -71,13 +81,14 @@ written_counts line out (LineNotBuilt number) was = absurd was
 record IsPlain (outcome : Outcome) : Type 0 where
   read : is_read_fault outcome ≡ false
   file : is_file_fault outcome ≡ false
+  on_disk : is_disk_fault outcome ≡ false
   write : is_write_fault outcome ≡ false
 
 text_plain : (text : List ℕ) (refusal : Outcome) → TextRefuses text refusal → IsPlain refusal
 text_plain text Done was = absurd was
 text_plain text Usage was = absurd was
 text_plain text (BadFrame named) was = absurd was
-text_plain text (BadText at) was = record { read = refl; file = refl; write = refl }
+text_plain text (BadText at) was = record { read = refl; file = refl; on_disk = refl; write = refl }
 text_plain text (BadHex at) was = absurd was
 text_plain text (BadItem fault) was = absurd was
 text_plain text (BadLine number) was = absurd was
@@ -85,9 +96,11 @@ text_plain text Longer was = absurd was
 text_plain text (FileLonger which) was = absurd was
 text_plain text (FileFailed which) was = absurd was
 text_plain text ReadFailed was = absurd was
-text_plain text NoMemory was = record { read = refl; file = refl; write = refl }
+text_plain text NoMemory was = record { read = refl; file = refl; on_disk = refl; write = refl }
 text_plain text WriteFailed was = absurd was
 text_plain text TurnsSpent was = absurd was
+text_plain text DiskFailed was = absurd was
+text_plain text (NotSpool at) was = absurd was
 text_plain text Slip was = absurd was
 text_plain text PlanNotBuilt was = absurd was
 text_plain text (LineNotBuilt number) was = absurd was
@@ -97,16 +110,18 @@ hex_plain digits Done was = absurd was
 hex_plain digits Usage was = absurd was
 hex_plain digits (BadFrame named) was = absurd was
 hex_plain digits (BadText at) was = absurd was
-hex_plain digits (BadHex at) was = record { read = refl; file = refl; write = refl }
-hex_plain digits (BadItem fault) was = record { read = refl; file = refl; write = refl }
+hex_plain digits (BadHex at) was = record { read = refl; file = refl; on_disk = refl; write = refl }
+hex_plain digits (BadItem fault) was = record { read = refl; file = refl; on_disk = refl; write = refl }
 hex_plain digits (BadLine number) was = absurd was
 hex_plain digits Longer was = absurd was
 hex_plain digits (FileLonger which) was = absurd was
 hex_plain digits (FileFailed which) was = absurd was
 hex_plain digits ReadFailed was = absurd was
-hex_plain digits NoMemory was = record { read = refl; file = refl; write = refl }
+hex_plain digits NoMemory was = record { read = refl; file = refl; on_disk = refl; write = refl }
 hex_plain digits WriteFailed was = absurd was
 hex_plain digits TurnsSpent was = absurd was
+hex_plain digits DiskFailed was = absurd was
+hex_plain digits (NotSpool at) was = absurd was
 hex_plain digits Slip was = absurd was
 hex_plain digits PlanNotBuilt was = absurd was
 hex_plain digits (LineNotBuilt number) was = absurd was
@@ -115,6 +130,7 @@ plain_counts : (out : SinkTold) (outcome : Outcome) → IsPlain outcome → out.
 plain_counts out outcome plain stands = record {
   read = plain.read;
   file = plain.file;
+  on_disk = plain.on_disk;
   write = subst (λ (b : Bool). IsCounted b out.health.faults out.health_after.faults) (sym plain.write) stands;
 }
 
@@ -130,13 +146,14 @@ printed_counts digits out outcome (Err refusal, refuses, (is, left)) =
 
 -- ---- the input
 
-module _ (source : SourceTold) (files : FilesTold) (out : SinkTold) where
-  -- the files stand
-  abbrev FilesStand : Type 0
-  FilesStand = files.health_after.faults ≡ files.health.faults
+-- the files and the disk stand
+record OthersStand (files : FilesTold) (disk : DiskTold) : Type 0 where
+  file : files.health_after.faults ≡ files.health.faults
+  on_disk : disk.faults_after ≡ disk.faults
 
-  unread_counts : (limit : ℕ) → FilesStand → out.health_after.faults ≡ out.health.faults → (outcome : Outcome) → InputRefuses limit source outcome →
-      CountsFaults source files out outcome
+module _ (source : SourceTold) (files : FilesTold) (disk : DiskTold) (out : SinkTold) where
+  unread_counts : (limit : ℕ) → OthersStand files disk → out.health_after.faults ≡ out.health.faults → (outcome : Outcome) → InputRefuses limit source outcome →
+      CountsFaults source files disk out outcome
   unread_counts limit stands left Done was = absurd was
   unread_counts limit stands left Usage was = absurd was
   unread_counts limit stands left (BadFrame named) was = absurd was
@@ -144,37 +161,41 @@ module _ (source : SourceTold) (files : FilesTold) (out : SinkTold) where
   unread_counts limit stands left (BadHex at) was = absurd was
   unread_counts limit stands left (BadItem fault) was = absurd was
   unread_counts limit stands left (BadLine number) was = absurd was
-  unread_counts limit stands left Longer was = record { read = was.cause.same; file = stands; write = left }
+  unread_counts limit stands left Longer was = record { read = was.cause.same; file = stands.file; on_disk = stands.on_disk; write = left }
   unread_counts limit stands left (FileLonger which) was = absurd was
   unread_counts limit stands left (FileFailed which) was = absurd was
-  unread_counts limit stands left ReadFailed was = record { read = was.cause.rose; file = stands; write = left }
-  unread_counts limit stands left NoMemory was = record { read = was.cause.same; file = stands; write = left }
+  unread_counts limit stands left ReadFailed was = record { read = was.cause.rose; file = stands.file; on_disk = stands.on_disk; write = left }
+  unread_counts limit stands left NoMemory was = record { read = was.cause.same; file = stands.file; on_disk = stands.on_disk; write = left }
   unread_counts limit stands left WriteFailed was = absurd was
   unread_counts limit stands left TurnsSpent was = absurd was
+  unread_counts limit stands left DiskFailed was = absurd was
+  unread_counts limit stands left (NotSpool at) was = absurd was
   unread_counts limit stands left Slip was = absurd was
   unread_counts limit stands left PlanNotBuilt was = absurd was
   unread_counts limit stands left (LineNotBuilt number) was = absurd was
 
-  -- the source and the files stand
-  written_only : (outcome : Outcome) → source.health_after.faults ≡ source.health.faults → FilesStand → CountsWrites out outcome
-      → CountsFaults source files out outcome
+  -- the source, the files and the disk stand
+  written_only : (outcome : Outcome) → source.health_after.faults ≡ source.health.faults → OthersStand files disk → CountsWrites out outcome
+      → CountsFaults source files disk out outcome
   written_only outcome read stands counts = record {
     read = subst (λ (b : Bool). IsCounted b source.health.faults source.health_after.faults) (sym counts.read) read;
-    file = subst (λ (b : Bool). IsCounted b files.health.faults files.health_after.faults) (sym counts.file) stands;
+    file = subst (λ (b : Bool). IsCounted b files.health.faults files.health_after.faults) (sym counts.file) stands.file;
+    on_disk = subst (λ (b : Bool). IsCounted b disk.faults disk.faults_after) (sym counts.on_disk) stands.on_disk;
     write = counts.write;
   }
 
-  input_counts : (limit : ℕ) (Was : List ℕ → SinkTold → Outcome → Type 0) (outcome : Outcome) → FilesStand →
+  input_counts : (limit : ℕ) (Was : List ℕ → SinkTold → Outcome → Type 0) (outcome : Outcome) → OthersStand files disk →
       ((bytes : List ℕ) → Was bytes out outcome → CountsWrites out outcome) → ComesOnInput limit Was source out outcome →
-      CountsFaults source files out outcome
+      CountsFaults source files disk out outcome
   input_counts limit Was outcome stands each (inl (refuses, left)) = unread_counts limit stands (untouched out left) outcome refuses
   input_counts limit Was outcome stands each (inr (bytes, read, was)) = written_only outcome read.cause.same stands (each bytes was)
 
 -- ---- the files
 
--- what `replay` came to from here on: no fault of the input
+-- what `replay` came to from here on: no fault of the input or of the disk
 record CountsFiles (files : FilesTold) (out : SinkTold) (outcome : Outcome) : Type 0 where
   read : is_read_fault outcome ≡ false
+  on_disk : is_disk_fault outcome ≡ false
   file : IsCounted (is_file_fault outcome) files.health.faults files.health_after.faults
   write : IsCounted (is_write_fault outcome) out.health.faults out.health_after.faults
 
@@ -188,12 +209,14 @@ file_refused which name files out left (BadHex at) was = absurd was
 file_refused which name files out left (BadItem fault) was = absurd was
 file_refused which name files out left (BadLine number) was = absurd was
 file_refused which name files out left Longer was = absurd was
-file_refused which name files out left (FileLonger found) was = record { read = refl; file = was.1.cause.same; write = left }
-file_refused which name files out left (FileFailed found) was = record { read = refl; file = was.1.cause.rose; write = left }
+file_refused which name files out left (FileLonger found) was = record { read = refl; on_disk = refl; file = was.1.cause.same; write = left }
+file_refused which name files out left (FileFailed found) was = record { read = refl; on_disk = refl; file = was.1.cause.rose; write = left }
 file_refused which name files out left ReadFailed was = absurd was
-file_refused which name files out left NoMemory was = record { read = refl; file = was.cause.same; write = left }
+file_refused which name files out left NoMemory was = record { read = refl; on_disk = refl; file = was.cause.same; write = left }
 file_refused which name files out left WriteFailed was = absurd was
 file_refused which name files out left TurnsSpent was = absurd was
+file_refused which name files out left DiskFailed was = absurd was
+file_refused which name files out left (NotSpool at) was = absurd was
 file_refused which name files out left Slip was = absurd was
 file_refused which name files out left PlanNotBuilt was = absurd was
 file_refused which name files out left (LineNotBuilt number) was = absurd was
@@ -203,16 +226,17 @@ stand_files : (files : FilesTold) (out : SinkTold) (outcome : Outcome) → files
     → CountsFiles files out outcome
 stand_files files out outcome stands counts = record {
   read = counts.read;
+  on_disk = counts.on_disk;
   file = subst (λ (b : Bool). IsCounted b files.health.faults files.health_after.faults) (sym counts.file) stands;
   write = counts.write;
 }
 
 by_end : (out : SinkTold) (text : List ℕ) (course : Course) (ended : RunEnd) → Runs out text course ended → CountsWrites out (outcome_of_end ended)
-by_end out text course end.Whole (at, wrote) = record { read = refl; file = refl; write = wrote.health.same }
-by_end out text course end.Slip (at, wrote) = record { read = refl; file = refl; write = wrote.health.same }
-by_end out text course end.Turns (at, wrote) = record { read = refl; file = refl; write = wrote.health.same }
-by_end out text course end.NoMemory part = record { read = refl; file = refl; write = part.wrote.health.same }
-by_end out text course end.WriteFailed short = record { read = refl; file = refl; write = short.fault.rose }
+by_end out text course end.Whole (at, wrote) = record { read = refl; file = refl; on_disk = refl; write = wrote.health.same }
+by_end out text course end.Slip (at, wrote) = record { read = refl; file = refl; on_disk = refl; write = wrote.health.same }
+by_end out text course end.Turns (at, wrote) = record { read = refl; file = refl; on_disk = refl; write = wrote.health.same }
+by_end out text course end.NoMemory part = record { read = refl; file = refl; on_disk = refl; write = part.wrote.health.same }
+by_end out text course end.WriteFailed short = record { read = refl; file = refl; on_disk = refl; write = short.fault.rose }
 
 left_of : (text : List ℕ) (out : SinkTold) (fault : ScheduleFault) → ScheduleRefuses text out fault → IsUntouched out
 left_of text out (schedule_fault.Line number) (at, left) = left
@@ -220,9 +244,9 @@ left_of text out (schedule_fault.NotBuilt number) (at, left) = left
 left_of text out schedule_fault.NoMemory left = left
 
 schedule_plain : (fault : ScheduleFault) → IsPlain (schedule_refusal fault)
-schedule_plain (schedule_fault.Line number) = record { read = refl; file = refl; write = refl }
-schedule_plain (schedule_fault.NotBuilt number) = record { read = refl; file = refl; write = refl }
-schedule_plain schedule_fault.NoMemory = record { read = refl; file = refl; write = refl }
+schedule_plain (schedule_fault.Line number) = record { read = refl; file = refl; on_disk = refl; write = refl }
+schedule_plain (schedule_fault.NotBuilt number) = record { read = refl; file = refl; on_disk = refl; write = refl }
+schedule_plain schedule_fault.NoMemory = record { read = refl; file = refl; on_disk = refl; write = refl }
 
 text_counts : (text : List ℕ) (out : SinkTold) (outcome : Outcome) → TextRuns text out outcome → CountsWrites out outcome
 text_counts text out outcome runs = elim runs.because [
@@ -241,6 +265,7 @@ since_counts : (files later : FilesTold) (out : SinkTold) (outcome : Outcome) �
     later.health_after ≡ files.health_after → CountsFiles later out outcome → CountsFiles files out outcome
 since_counts files later out outcome since same counts = record {
   read = counts.read;
+  on_disk = counts.on_disk;
   file = subst (λ (n : ℕ). IsCounted (is_file_fault outcome) n files.health_after.faults) since
       (subst (λ (h : FilesHealth). IsCounted (is_file_fault outcome) later.health.faults h.faults) same counts.file);
   write = counts.write;
@@ -248,7 +273,7 @@ since_counts files later out outcome since same counts = record {
 
 not_built : (out : SinkTold) (outcome : Outcome) → outcome ≡ PlanNotBuilt → IsUntouched out → CountsWrites out outcome
 not_built out outcome is left =
-    plain_counts out outcome (subst IsPlain (sym is) (record { read = refl; file = refl; write = refl })) (untouched out left)
+    plain_counts out outcome (subst IsPlain (sym is) (record { read = refl; file = refl; on_disk = refl; write = refl })) (untouched out left)
 
 replay_counts : (plan schedule : List ℕ) (files : FilesTold) (out : SinkTold) (outcome : Outcome) → ReplayComes plan schedule files out outcome
     → CountsFiles files out outcome
@@ -267,31 +292,89 @@ files_stand files unread = ap (λ (h : FilesHealth). h.faults) unread.health
 source_stands : (source : SourceTold) → IsUnread source → source.health_after.faults ≡ source.health.faults
 source_stands source unread = ap (λ (h : SourceHealth). h.faults) unread.health
 
-comes_counts : (command : Option Command) (words : List (List ℕ)) (source : SourceTold) (files : FilesTold) (out : SinkTold) (outcome : Outcome) →
-    ComesFrom command words source files out outcome → CountsFaults source files out outcome
-comes_counts None words source files out outcome refused =
-    subst (CountsFaults source files out) (sym refused.usage) (record {
+others_stand : (files : FilesTold) (disk : DiskTold) → AreUnread files → IsUnused disk → OthersStand files disk
+others_stand files disk unread unused = record { file = files_stand files unread; on_disk = unused.faults }
+
+-- ---- a word about a spool file
+
+-- no fault of the input or of a file
+record CountsDisk (disk : DiskTold) (out : SinkTold) (outcome : Outcome) : Type 0 where
+  read : is_read_fault outcome ≡ false
+  file : is_file_fault outcome ≡ false
+  on_disk : IsCounted (is_disk_fault outcome) disk.faults disk.faults_after
+  write : IsCounted (is_write_fault outcome) out.health.faults out.health_after.faults
+
+by_making : (slots : ℕ) (disk : DiskTold) (out : SinkTold) (ended : SpoolEnd) → FormatsSpool slots disk out ended
+    → CountsDisk disk out (outcome_of_spool ended)
+by_making slots disk out spool.Done was =
+    record { read = refl; file = refl; on_disk = was.count; write = was.made.1.health.same }
+by_making slots disk out (spool.NotSpool place) was = absurd was.made.1
+by_making slots disk out spool.DiskFailed was =
+    record { read = refl; file = refl; on_disk = rose_of was.count; write = was.made.health.same }
+by_making slots disk out spool.WriteFailed was =
+    record { read = refl; file = refl; on_disk = was.count; write = was.made.1.fault.rose }
+
+by_listing : (disk : DiskTold) (out : SinkTold) (ended : SpoolEnd) → ShowsSpool disk out ended
+    → CountsDisk disk out (outcome_of_spool ended)
+by_listing disk out spool.Done was =
+    record { read = refl; file = refl; on_disk = was.count; write = was.written.1.1.health.same }
+by_listing disk out (spool.NotSpool place) was =
+    record { read = refl; file = refl; on_disk = was.count; write = was.written.0.health.same }
+by_listing disk out spool.DiskFailed was =
+    record { read = refl; file = refl; on_disk = rose_of was.count; write = was.written.1.health.same }
+by_listing disk out spool.WriteFailed was =
+    record { read = refl; file = refl; on_disk = was.count; write = was.written.1.1.fault.rose }
+
+spool_counts : (source : SourceTold) (files : FilesTold) (disk : DiskTold) (out : SinkTold) (outcome : Outcome)
+    (Ends : SpoolEnd → Type 0) → IsUnread source → AreUnread files
+    → ((ended : SpoolEnd) → Ends ended → CountsDisk disk out (outcome_of_spool ended)) → EndedAs Ends outcome
+    → CountsFaults source files disk out outcome
+spool_counts source files disk out outcome Ends unread files_unread each was =
+    let counts = subst (CountsDisk disk out) (sym was.outcome_is) (each was.ended was.ends) in
+    record {
+      read = subst (λ (b : Bool). IsCounted b source.health.faults source.health_after.faults) (sym counts.read)
+          (source_stands source unread);
+      file = subst (λ (b : Bool). IsCounted b files.health.faults files.health_after.faults) (sym counts.file)
+          (files_stand files files_unread);
+      on_disk = counts.on_disk;
+      write = counts.write;
+    }
+
+-- ---- all commands
+
+comes_counts : (command : Option Command) (words : List (List ℕ)) (source : SourceTold) (files : FilesTold) (disk : DiskTold) (out : SinkTold) (outcome : Outcome) →
+    ComesFrom command words source files disk out outcome → CountsFaults source files disk out outcome
+comes_counts None words source files disk out outcome refused =
+    subst (CountsFaults source files disk out) (sym refused.usage) (record {
       read = source_stands source refused.input;
       file = files_stand files refused.unread;
+      on_disk = refused.unused.faults;
       write = untouched out refused.written;
     })
-comes_counts (Some Show) words source files out outcome (unread, comes) =
-    input_counts source files out capture_limit WasShown outcome (files_stand files unread)
+comes_counts (Some Show) words source files disk out outcome (unread, unused, comes) =
+    input_counts source files disk out capture_limit WasShown outcome (others_stand files disk unread unused)
     (λ capture was. shown_counts capture out outcome was) comes
-comes_counts (Some Spell) words source files out outcome (unread, comes) =
-    input_counts source files out item_limit WasSpelled outcome (files_stand files unread)
+comes_counts (Some Spell) words source files disk out outcome (unread, unused, comes) =
+    input_counts source files disk out item_limit WasSpelled outcome (others_stand files disk unread unused)
     (λ text was. spelled_counts text out outcome was) comes
-comes_counts (Some SpellHex) words source files out outcome (unread, comes) =
-    input_counts source files out item_limit WasPrinted outcome (files_stand files unread)
+comes_counts (Some SpellHex) words source files disk out outcome (unread, unused, comes) =
+    input_counts source files disk out item_limit WasPrinted outcome (others_stand files disk unread unused)
     (λ digits was. printed_counts digits out outcome was) comes
-comes_counts (Some Replay) words source files out outcome (unread, comes) =
+comes_counts (Some Replay) words source files disk out outcome (unread, unused, comes) =
     let counts = replay_counts (name_in words role.Plan) (name_in words role.Schedule) files out outcome comes in
     record {
       read = subst (λ (b : Bool). IsCounted b source.health.faults source.health_after.faults) (sym counts.read) (source_stands source unread);
       file = counts.file;
+      on_disk = subst (λ (b : Bool). IsCounted b disk.faults disk.faults_after) (sym counts.on_disk) unused.faults;
       write = counts.write;
     }
+comes_counts (Some (Format slots)) words source files disk out outcome (unread, files_unread, was) =
+    spool_counts source files disk out outcome (FormatsSpool slots disk out) unread files_unread
+    (λ ended formats. by_making slots disk out ended formats) was
+comes_counts (Some Spool) words source files disk out outcome (unread, files_unread, was) =
+    spool_counts source files disk out outcome (ShowsSpool disk out) unread files_unread
+    (λ ended shows. by_listing disk out ended shows) was
 
-pub faults_told : (words : List (List ℕ)) (source : SourceTold) (files : FilesTold) (out err : SinkTold) (status : ℕ)
-    → (run : IsRun words source files out err status) → CountsFaults source files out run.outcome
-faults_told words source files out err status run = comes_counts (command_of words) words source files out run.outcome run.comes
+pub faults_told : (words : List (List ℕ)) (source : SourceTold) (files : FilesTold) (disk : DiskTold) (out err : SinkTold) (status : ℕ)
+    → (run : IsRun words source files disk out err status) → CountsFaults source files disk out run.outcome
+faults_told words source files disk out err status run = comes_counts (command_of words) words source files disk out run.outcome run.comes

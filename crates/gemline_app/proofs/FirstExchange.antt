@@ -1,5 +1,5 @@
 -- The capture of the first exchange, and what `show` of it over objects that do not fail comes to.
-use Rattle.std.proofs.Common.{◌≡◌, ◌⊎◌, ℕ, ◌≤◌, List, [], ◌∷◌, true, false, length, Some, refl, sym, ap, ◌∙◌, inl, inr, arith}
+use Rattle.std.proofs.Common.{◌≡◌, [], ◌∷◌, true, false, length, Some, refl, ap, ◌∙◌, inl, inr, arith}
 use Rattle.std.specs.Fmt.{digits}
 use Rattle.hex.specs.Hex.{encode_with}
 use Rattle.gl_base.specs.Sink.{with_bytes}
@@ -7,10 +7,8 @@ use Rattle.block_codec.specs.Block.{BlockView, IsBlock}
 use Rattle.line_show.specs.Capture.{Reads}
 use Rattle.line_show.specs.Lines.{lines_of}
 use Rattle.line_show.specs.declared.capture.Ending.TheVariants.{Whole}
-use Rattle.line_show.specs.declared.capture.Piece.TheVariants.{Framed}
+use Rattle.line_show.specs.Capture.Piece.{Framed}
 use Rattle.gemline_app.specs.FirstExchange.{ShowsTheFirst, first_frame, first_lines}
-use Rattle.gemline_app.specs.Words.{command_of}
-use Rattle.gemline_app.specs.declared.words.Command.TheVariants.{Show}
 use Rattle.gemline_app.proofs.Due.{whole_capture}
 
 abbrev pub first_block : BlockView
@@ -34,9 +32,9 @@ unfolding encode_with digits
 first_text = refl
 
 pub first_ends : ShowsTheFirst
-first_ends words source files out err status run shows told reliable empty room =
+first_ends words source files disk out err status run shows told reliable empty room =
     let long : length (lines_of (Framed first_block ∷ [])) ≡ 88 = ap length first_text in
-    elim (whole_capture words source files out err status run shows first_frame (Framed first_block ∷ []) told (omega arith) reliable first_reads (omega arith)) [
+    elim (whole_capture words source files disk out err status run shows first_frame (Framed first_block ∷ []) told (omega arith) reliable first_reads (omega arith)) [
       | inl memory ↦ inl memory
       | inr done ↦
           inr (done.0, done.1 ∙ ap (λ r. with_bytes r (lines_of (Framed first_block ∷ []))) empty ∙ ap Some first_text)

@@ -7,4 +7,5 @@ mod ReadBack
 mod ReplayDue
 mod Replaying
 mod SpelledBytes
+mod SpoolDue
 mod TextItems

@@ -6,6 +6,7 @@ use Rattle.gl_base.specs.declared.files.FileAnswer.{FileAnswer}
 use Rattle.gl_base.specs.declared.files.FileAnswer.TheVariants as file
 use Rattle.gl_base.specs.declared.files.MemFile.{MemFile}
 use Rattle.gl_base.specs.Told.{FilesTold, SinkTold, SourceTold}
+use Rattle.spool_show.specs.Told.{DiskTold}
 use Rattle.line_world.specs.Run.{Runs, course_of, trace_text}
 use Rattle.line_world.specs.declared.course.Course.{Course}
 use Rattle.line_world.specs.declared.running.RunEnd.{RunEnd}
@@ -16,7 +17,7 @@ use Rattle.gemline_app.specs.Words.{file_limit}
 use Rattle.gemline_app.specs.declared.outcome.FileRole.{FileRole}
 use Rattle.gemline_app.specs.declared.outcome.FileRole.TheVariants as role
 use Rattle.gemline_app.specs.declared.outcome.Outcome.{Outcome}
-use Rattle.gemline_app.specs.declared.outcome.Outcome.TheVariants.{Done, Usage, BadFrame, BadText, BadHex, BadItem, BadLine, Longer, FileLonger, FileFailed, ReadFailed, NoMemory, WriteFailed, TurnsSpent, Slip, PlanNotBuilt, LineNotBuilt}
+use Rattle.gemline_app.specs.declared.outcome.Outcome.TheVariants.{Done, Usage, BadFrame, BadText, BadHex, BadItem, BadLine, Longer, FileLonger, FileFailed, ReadFailed, NoMemory, WriteFailed, TurnsSpent, Slip, DiskFailed, NotSpool, PlanNotBuilt, LineNotBuilt}
 
 -- what reading a file came to, where the files tell its bytes
 told_answer : (limit : ℕ) (name bytes : List ℕ) (told : Option (List MemFile)) (answer : FileAnswer) → told_file name told ≡ Some bytes →
@@ -51,6 +52,8 @@ refused which name bytes files Longer told refuses = absurd refuses
 refused which name bytes files ReadFailed told refuses = absurd refuses
 refused which name bytes files WriteFailed told refuses = absurd refuses
 refused which name bytes files TurnsSpent told refuses = absurd refuses
+refused which name bytes files DiskFailed told refuses = absurd refuses
+refused which name bytes files (NotSpool at) told refuses = absurd refuses
 refused which name bytes files Slip told refuses = absurd refuses
 refused which name bytes files PlanNotBuilt told refuses = absurd refuses
 refused which name bytes files (LineNotBuilt number) told refuses = absurd refuses
@@ -67,89 +70,89 @@ whole_is which name bytes found files told was =
     go is = cc
 
 -- the outcome is the one that is due, or hinders it
-abbrev pub Comes : SourceTold → FilesTold → SinkTold → Outcome → Outcome → Type 0
-Comes source files out outcome due = (outcome ≡ due) ⊎ Hinders source files out outcome
+abbrev pub Comes : SourceTold → FilesTold → DiskTold → SinkTold → Outcome → Outcome → Type 0
+Comes source files disk out outcome due = (outcome ≡ due) ⊎ Hinders source files disk out outcome
 
-hindered : (source : SourceTold) (files : FilesTold) (out : SinkTold) (outcome : Outcome) → outcome ≡ NoMemory → Hinders source files out outcome
-hindered source files out outcome is = subst (Hinders source files out) (sym is) tt
+hindered : (source : SourceTold) (files : FilesTold) (disk : DiskTold) (out : SinkTold) (outcome : Outcome) → outcome ≡ NoMemory → Hinders source files disk out outcome
+hindered source files disk out outcome is = subst (Hinders source files disk out) (sym is) tt
 
-failed : (source : SourceTold) (files : FilesTold) (out : SinkTold) (outcome : Outcome) (found : FileRole) → outcome ≡ FileFailed found →
-    Rose files.health.faults files.health_after.faults → Hinders source files out outcome
-failed source files out outcome found is rose = subst (Hinders source files out) (sym is) rose
+failed : (source : SourceTold) (files : FilesTold) (disk : DiskTold) (out : SinkTold) (outcome : Outcome) (found : FileRole) → outcome ≡ FileFailed found →
+    Rose files.health.faults files.health_after.faults → Hinders source files disk out outcome
+failed source files disk out outcome found is rose = subst (Hinders source files disk out) (sym is) rose
 
 -- ---- a schedule that was carried out
 
-ended_due : (source : SourceTold) (files : FilesTold) (out : SinkTold) (text : List ℕ) (course : Course) (ended : RunEnd) (outcome due : Outcome) →
-    outcome ≡ outcome_of_end ended → Runs out text course ended → due ≡ outcome_of_course course → Comes source files out outcome due
-ended_due source files out text course end.Whole outcome due is (at, wrote) is_due = inl (is ∙ sym (is_due ∙ ap outcome_of_course at))
-ended_due source files out text course end.Slip outcome due is (at, wrote) is_due = inl (is ∙ sym (is_due ∙ ap outcome_of_course at))
-ended_due source files out text course end.Turns outcome due is (at, wrote) is_due = inl (is ∙ sym (is_due ∙ ap outcome_of_course at))
-ended_due source files out text course end.NoMemory outcome due is part is_due = inr (hindered source files out outcome is)
-ended_due source files out text course end.WriteFailed outcome due is short is_due =
-    inr (subst (Hinders source files out) (sym is) short.fault.rose)
+ended_due : (source : SourceTold) (files : FilesTold) (disk : DiskTold) (out : SinkTold) (text : List ℕ) (course : Course) (ended : RunEnd) (outcome due : Outcome) →
+    outcome ≡ outcome_of_end ended → Runs out text course ended → due ≡ outcome_of_course course → Comes source files disk out outcome due
+ended_due source files disk out text course end.Whole outcome due is (at, wrote) is_due = inl (is ∙ sym (is_due ∙ ap outcome_of_course at))
+ended_due source files disk out text course end.Slip outcome due is (at, wrote) is_due = inl (is ∙ sym (is_due ∙ ap outcome_of_course at))
+ended_due source files disk out text course end.Turns outcome due is (at, wrote) is_due = inl (is ∙ sym (is_due ∙ ap outcome_of_course at))
+ended_due source files disk out text course end.NoMemory outcome due is part is_due = inr (hindered source files disk out outcome is)
+ended_due source files disk out text course end.WriteFailed outcome due is short is_due =
+    inr (subst (Hinders source files disk out) (sym is) short.fault.rose)
 
-text_due : (source : SourceTold) (files : FilesTold) (out : SinkTold) (text : List ℕ) (outcome due : Outcome) → TextRuns text out outcome
+text_due : (source : SourceTold) (files : FilesTold) (disk : DiskTold) (out : SinkTold) (text : List ℕ) (outcome due : Outcome) → TextRuns text out outcome
     → ScheduleAsks text due →
-    Comes source files out outcome due
-text_due source files out text outcome due runs (inl (schedule, is, is_due)) = elim (runs.only schedule is) [
-  | inl was ↦ ended_due source files out (trace_text empty_plan schedule) (course_of empty_plan schedule) was.ended outcome due was.outcome_is was.wrote is_due
-  | inr memory ↦ inr (hindered source files out outcome memory.0)
+    Comes source files disk out outcome due
+text_due source files disk out text outcome due runs (inl (schedule, is, is_due)) = elim (runs.only schedule is) [
+  | inl was ↦ ended_due source files disk out (trace_text empty_plan schedule) (course_of empty_plan schedule) was.ended outcome due was.outcome_is was.wrote is_due
+  | inr memory ↦ inr (hindered source files disk out outcome memory.0)
 ]
-text_due source files out text outcome due runs (inr (inl (number, at, is_due))) = elim (runs.outside number at).0 [
+text_due source files disk out text outcome due runs (inr (inl (number, at, is_due))) = elim (runs.outside number at).0 [
   | inl named ↦ inl (named ∙ sym is_due)
-  | inr memory ↦ inr (hindered source files out outcome memory)
+  | inr memory ↦ inr (hindered source files disk out outcome memory)
 ]
-text_due source files out text outcome due runs (inr (inr (number, at, is_due))) = elim (runs.later number at).0 [
+text_due source files disk out text outcome due runs (inr (inr (number, at, is_due))) = elim (runs.later number at).0 [
   | inl named ↦ inl (named ∙ sym is_due)
-  | inr memory ↦ inr (hindered source files out outcome memory)
+  | inr memory ↦ inr (hindered source files disk out outcome memory)
 ]
 
 -- ---- both files
 
-schedule_due : (source : SourceTold) (files later : FilesTold) (out : SinkTold) (name text : List ℕ) (outcome due : Outcome) →
+schedule_due : (source : SourceTold) (files later : FilesTold) (disk : DiskTold) (out : SinkTold) (name text : List ℕ) (outcome due : Outcome) →
     later.health.faults ≡ files.health.faults → later.health_after ≡ files.health_after → told_file name later.before ≡ Some text →
-    ScheduleComes name later out outcome → IsScheduleDue text due → Comes source files out outcome due
-schedule_due source files later out name text outcome due since same told (inl (refuses, untouched)) is_due =
+    ScheduleComes name later out outcome → IsScheduleDue text due → Comes source files disk out outcome due
+schedule_due source files later disk out name text outcome due since same told (inl (refuses, untouched)) is_due =
     go (refused role.Schedule name text later outcome told refuses) is_due
   where
-    go : Refused role.Schedule text later outcome → IsScheduleDue text due → Comes source files out outcome due
+    go : Refused role.Schedule text later outcome → IsScheduleDue text due → Comes source files disk out outcome due
     go (inl (longer, past)) (inl (also, is)) = inl (longer ∙ sym is)
     go (inl (longer, past)) (inr (within, asks)) = absurd (omega arith)
     go (inr (inl (found, is, rose))) due_is =
-        inr (failed source files out outcome found is
+        inr (failed source files disk out outcome found is
         (subst (λ (n : ℕ). Rose n files.health_after.faults) since (subst (λ h. Rose later.health.faults h.faults) same rose)))
-    go (inr (inr memory)) due_is = inr (hindered source files out outcome memory)
-schedule_due source files later out name text outcome due since same told (inr (whole, was, runs)) is_due = go is_due
+    go (inr (inr memory)) due_is = inr (hindered source files disk out outcome memory)
+schedule_due source files later disk out name text outcome due since same told (inr (whole, was, runs)) is_due = go is_due
   where
     read : (text ≡ whole) × (length text ≤ file_limit role.Schedule)
     read = whole_is role.Schedule name text whole later told was
 
-    go : IsScheduleDue text due → Comes source files out outcome due
+    go : IsScheduleDue text due → Comes source files disk out outcome due
     go (inl (past, is)) = let within = read.1 in absurd (omega arith)
-    go (inr (within, asks)) = text_due source files out text outcome due (subst (λ (t : List ℕ). TextRuns t out outcome) (sym read.0) runs) asks
+    go (inr (within, asks)) = text_due source files disk out text outcome due (subst (λ (t : List ℕ). TextRuns t out outcome) (sym read.0) runs) asks
 
-pub replay_due : (source : SourceTold) (files : FilesTold) (out : SinkTold) (plan schedule bytes : List ℕ) (outcome due : Outcome) →
+pub replay_due : (source : SourceTold) (files : FilesTold) (disk : DiskTold) (out : SinkTold) (plan schedule bytes : List ℕ) (outcome due : Outcome) →
     told_file plan files.before ≡ Some bytes → ReplayComes plan schedule files out outcome → IsPlanDue schedule files bytes due →
-    Comes source files out outcome due
-replay_due source files out plan schedule bytes outcome due told (inl (refuses, untouched)) is_due =
+    Comes source files disk out outcome due
+replay_due source files disk out plan schedule bytes outcome due told (inl (refuses, untouched)) is_due =
     go (refused role.Plan plan bytes files outcome told refuses) is_due
   where
-    go : Refused role.Plan bytes files outcome → IsPlanDue schedule files bytes due → Comes source files out outcome due
+    go : Refused role.Plan bytes files outcome → IsPlanDue schedule files bytes due → Comes source files disk out outcome due
     go (inl (longer, past)) (inl (_, is)) = inl (longer ∙ sym is)
     go (inl (longer, past)) (inr (inl (within, some, is))) = absurd (omega arith)
     go (inl (longer, past)) (inr (inr (empty, text, also, rest))) = let long = ap length empty in absurd (omega arith)
-    go (inr (inl (found, is, rose))) due_is = inr (failed source files out outcome found is rose)
-    go (inr (inr memory)) due_is = inr (hindered source files out outcome memory)
-replay_due source files out plan schedule bytes outcome due told (inr (inl (found, was, some, is, untouched))) is_due = go is_due
+    go (inr (inl (found, is, rose))) due_is = inr (failed source files disk out outcome found is rose)
+    go (inr (inr memory)) due_is = inr (hindered source files disk out outcome memory)
+replay_due source files disk out plan schedule bytes outcome due told (inr (inl (found, was, some, is, untouched))) is_due = go is_due
   where
     read : (bytes ≡ found) × (length bytes ≤ file_limit role.Plan)
     read = whole_is role.Plan plan bytes found files told was
 
-    go : IsPlanDue schedule files bytes due → Comes source files out outcome due
+    go : IsPlanDue schedule files bytes due → Comes source files disk out outcome due
     go (inl (past, is_longer)) = let within = read.1 in absurd (omega arith)
     go (inr (inl (within, something, is_due'))) = inl (is ∙ sym is_due')
     go (inr (inr (empty, text, also, rest))) = absurd (some (sym read.0 ∙ empty))
-replay_due source files out plan schedule bytes outcome due told (inr (inr over)) is_due = go is_due
+replay_due source files disk out plan schedule bytes outcome due told (inr (inr over)) is_due = go is_due
   where
     first : FilesTold
     first = files_until files over.told over.health
@@ -157,9 +160,9 @@ replay_due source files out plan schedule bytes outcome due told (inr (inr over)
     read : (bytes ≡ []) × (length bytes ≤ file_limit role.Plan)
     read = whole_is role.Plan plan bytes [] first told over.read
 
-    go : IsPlanDue schedule files bytes due → Comes source files out outcome due
+    go : IsPlanDue schedule files bytes due → Comes source files disk out outcome due
     go (inl (past, is_longer)) = let within = read.1 in absurd (omega arith)
     go (inr (inl (within, something, is_due'))) = absurd (something read.0)
     go (inr (inr (empty, text, also, rest))) =
-        schedule_due source files (files_since files over.told over.health) out schedule text outcome due
+        schedule_due source files (files_since files over.told over.health) disk out schedule text outcome due
         over.read.cause.same refl (ap (told_file schedule) over.read.same ∙ also) over.rest rest

@@ -1,5 +1,5 @@
 -- What a run of the program is, by its words and what the outside tells (this profile).
-use Rattle.std.specs.Prelude.{◌≡◌, ◌⊎◌, ℕ, List, length, Option, Some, None, Result, Ok, Err}
+use Rattle.std.specs.Prelude.{◌≡◌, ◌⊎◌, ℕ, List, Option, Some, None, Result, Ok, Err}
 use Rattle.gl_base.specs.Input.{HasInputCause, ReadsAll}
 use Rattle.gl_base.specs.Sending.{Sends, WroteShort, WroteText}
 use Rattle.gl_base.specs.Told.{FilesTold, SinkTold, SourceTold}
@@ -15,17 +15,21 @@ use Rattle.secs_items.specs.Spelling.{Spells}
 use Rattle.secs_text.specs.Faults.{HasFault}
 use Rattle.secs_text.specs.Grammar.{ReadsAs}
 use Rattle.secs_text.specs.declared.text_fault.TextFault.{TextFault}
+use Rattle.spool_show.specs.Formatting.{FormatsSpool}
+use Rattle.spool_show.specs.Showing.{ShowsSpool}
+use Rattle.spool_show.specs.Told.{DiskTold}
 use Rattle.gemline_app.specs.HexInput.{HexMeans, IsHexBreak}
 use Rattle.gemline_app.specs.Outcome.{file_of, line_of, outcome_of_show, status_of}
 use Rattle.gemline_app.specs.Spelling.{HexSpells, spelled_line, text_line, text_place}
 use Rattle.gemline_app.specs.Replay.{ReplayComes}
+use Rattle.gemline_app.specs.Spool.{EndedAs, IsUnused}
 use Rattle.gemline_app.specs.Words.{capture_limit, command_of, item_limit, name_in}
 use Rattle.gemline_app.specs.Written.{IsUntouched}
 use Rattle.gemline_app.specs.declared.outcome.FileRole.TheVariants as role
 use Rattle.gemline_app.specs.declared.outcome.Outcome.{Outcome}
 use Rattle.gemline_app.specs.declared.outcome.Outcome.TheVariants.{Done, Usage, BadText, BadHex, BadItem, Longer, ReadFailed, NoMemory, WriteFailed}
 use Rattle.gemline_app.specs.declared.words.Command.{Command}
-use Rattle.gemline_app.specs.declared.words.Command.TheVariants.{Show, Spell, SpellHex, Replay}
+use Rattle.gemline_app.specs.declared.words.Command.TheVariants.{Show, Spell, SpellHex, Replay, Format, Spool}
 
 -- nothing was read
 pub record IsUnread (source : SourceTold) : Type 0 where
@@ -120,32 +124,40 @@ ComesOnInput limit Was source out outcome =
     ⊎ ((bytes : List ℕ) × WasRead limit source (input.Whole bytes) × Was bytes out outcome)
 
 -- no words of a command: nothing is read and nothing written
-pub record IsRefused (source : SourceTold) (files : FilesTold) (out : SinkTold) (outcome : Outcome) : Type 0 where
+pub record IsRefused (source : SourceTold) (files : FilesTold) (disk : DiskTold) (out : SinkTold)
+    (outcome : Outcome) : Type 0 where
   pub usage : outcome ≡ Usage
   pub input : IsUnread source
   pub unread : AreUnread files
+  pub unused : IsUnused disk
   pub written : IsUntouched out
 
 -- what each outcome comes from: the command of the words, if they are one's, and what it reads
-abbrev pub ComesFrom : Option Command → List (List ℕ) → SourceTold → FilesTold → SinkTold → Outcome → Type 0
-ComesFrom None words source files out outcome = IsRefused source files out outcome
-ComesFrom (Some Show) words source files out outcome =
-    AreUnread files × ComesOnInput capture_limit WasShown source out outcome
-ComesFrom (Some Spell) words source files out outcome =
-    AreUnread files × ComesOnInput item_limit WasSpelled source out outcome
-ComesFrom (Some SpellHex) words source files out outcome =
-    AreUnread files × ComesOnInput item_limit WasPrinted source out outcome
-ComesFrom (Some Replay) words source files out outcome =
-    IsUnread source × ReplayComes (name_in words role.Plan) (name_in words role.Schedule) files out outcome
+abbrev pub ComesFrom :
+    Option Command → List (List ℕ) → SourceTold → FilesTold → DiskTold → SinkTold → Outcome → Type 0
+ComesFrom None words source files disk out outcome = IsRefused source files disk out outcome
+ComesFrom (Some Show) words source files disk out outcome =
+    AreUnread files × IsUnused disk × ComesOnInput capture_limit WasShown source out outcome
+ComesFrom (Some Spell) words source files disk out outcome =
+    AreUnread files × IsUnused disk × ComesOnInput item_limit WasSpelled source out outcome
+ComesFrom (Some SpellHex) words source files disk out outcome =
+    AreUnread files × IsUnused disk × ComesOnInput item_limit WasPrinted source out outcome
+ComesFrom (Some Replay) words source files disk out outcome =
+    IsUnread source × IsUnused disk
+    × ReplayComes (name_in words role.Plan) (name_in words role.Schedule) files out outcome
+ComesFrom (Some (Format slots)) words source files disk out outcome =
+    IsUnread source × AreUnread files × EndedAs (FormatsSpool slots disk out) outcome
+ComesFrom (Some Spool) words source files disk out outcome =
+    IsUnread source × AreUnread files × EndedAs (ShowsSpool disk out) outcome
 
 -- the bytes went to a sink, all of them or, where a write failed, a part
 abbrev pub WereSent : List ℕ → SinkTold → Type 0
 WereSent bytes err = (answer : SinkAnswer) × Sends err bytes answer
 
 -- a run: its outcome, which comes only from its cause and gives the status and the line on the sink of errors
-pub record IsRun (words : List (List ℕ)) (source : SourceTold) (files : FilesTold) (out err : SinkTold) (status : ℕ)
-    : Type 0 where
+pub record IsRun (words : List (List ℕ)) (source : SourceTold) (files : FilesTold) (disk : DiskTold)
+    (out err : SinkTold) (status : ℕ) : Type 0 where
   pub outcome : Outcome
   pub status_is : status ≡ status_of outcome
-  pub comes : ComesFrom (command_of words) words source files out outcome
+  pub comes : ComesFrom (command_of words) words source files disk out outcome
   pub line : WereSent (line_of (file_of words outcome) outcome) err

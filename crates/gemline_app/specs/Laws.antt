@@ -9,11 +9,10 @@ use Rattle.line_schedule.specs.declared.schedule.Schedule.{Schedule}
 use Rattle.line_world.specs.Run.{course_of}
 use Rattle.line_world.specs.declared.course.Course.{Course}
 use Rattle.line_world.specs.declared.course.Course.TheVariants.{GoesOn, Slips, Turns}
-use Rattle.line_show.specs.Capture.{Reads}
+use Rattle.line_show.specs.Capture.{Piece, Reads}
 use Rattle.line_show.specs.Lines.{lines_of}
 use Rattle.line_show.specs.declared.capture.Ending.{Ending}
 use Rattle.line_show.specs.declared.capture.Ending.TheVariants.{Whole}
-use Rattle.line_show.specs.declared.capture.Piece.{Piece}
 use Rattle.secs_items.specs.Reading.{first_fault}
 use Rattle.secs_items.specs.declared.item.Item.{Item}
 use Rattle.secs_items.specs.Spelling.{Spells}
@@ -21,6 +20,9 @@ use Rattle.secs_items.specs.declared.item_fault.ItemFault.{ItemFault}
 use Rattle.secs_text.specs.Faults.{HasFault}
 use Rattle.secs_text.specs.Grammar.{ReadsAs}
 use Rattle.secs_text.specs.declared.text_fault.TextFault.{TextFault}
+use Rattle.disk_base.specs.Story.{Story}
+use Rattle.spool_show.specs.Told.{DiskTold}
+use Rattle.spool_slots.specs.File.{spool_break}
 use Rattle.gemline_app.specs.Gemline.{IsRun}
 use Rattle.gemline_app.specs.HexInput.{HexMeans, IsHexBreak}
 use Rattle.gemline_app.specs.Outcome.{outcome_of_show}
@@ -29,9 +31,9 @@ use Rattle.gemline_app.specs.Replay.{empty_plan}
 use Rattle.gemline_app.specs.Words.{capture_limit, command_of, file_limit, item_limit, name_in}
 use Rattle.gemline_app.specs.declared.outcome.FileRole.TheVariants as role
 use Rattle.gemline_app.specs.declared.outcome.Outcome.{Outcome}
-use Rattle.gemline_app.specs.declared.outcome.Outcome.TheVariants.{Done, Usage, BadText, BadHex, BadItem, BadLine, Longer, FileLonger, FileFailed, ReadFailed, NoMemory, WriteFailed, TurnsSpent, Slip, PlanNotBuilt, LineNotBuilt}
+use Rattle.gemline_app.specs.declared.outcome.Outcome.TheVariants.{Done, Usage, BadText, BadHex, BadItem, BadLine, Longer, FileLonger, FileFailed, ReadFailed, NoMemory, WriteFailed, TurnsSpent, Slip, DiskFailed, NotSpool, PlanNotBuilt, LineNotBuilt}
 use Rattle.gemline_app.specs.declared.words.Command.{Command}
-use Rattle.gemline_app.specs.declared.words.Command.TheVariants.{Show, Spell, SpellHex, Replay}
+use Rattle.gemline_app.specs.declared.words.Command.TheVariants.{Show, Spell, SpellHex, Replay, Format, Spool}
 
 -- what a capture asks for: its pieces, and the outcome of how they end
 abbrev pub CaptureAsks : List ℕ → Outcome → Type 0
@@ -93,22 +95,35 @@ abbrev pub IsReplayDue : List ℕ → List ℕ → FilesTold → Outcome → Typ
 IsReplayDue plan schedule files due =
     (bytes : List ℕ) × (told_file plan files.before ≡ Some bytes) × IsPlanDue schedule files bytes due
 
--- the outcome that is due of words: usage where they are no command's, else what the command's input or files ask for
-abbrev pub IsDue : Option Command → List (List ℕ) → SourceTold → FilesTold → Outcome → Type 0
-IsDue None words source files due = due ≡ Usage
-IsDue (Some Show) words source files due = IsInputDue capture_limit CaptureAsks source due
-IsDue (Some Spell) words source files due = IsInputDue item_limit TextAsks source due
-IsDue (Some SpellHex) words source files due = IsInputDue item_limit HexAsks source due
-IsDue (Some Replay) words source files due =
+-- what the bytes of a spool file ask for: its list, or the first place at which they break
+abbrev pub outcome_of_break : Option ℕ → Outcome
+outcome_of_break None = Done
+outcome_of_break (Some at) = NotSpool at
+
+-- the outcome that is due of a disk that tells its bytes
+abbrev pub IsSpoolDue : DiskTold → Outcome → Type 0
+IsSpoolDue disk due = (s : Story) × (disk.before ≡ Some s) × (due ≡ outcome_of_break (spool_break s.now.bytes))
+
+-- the outcome that is due of words: usage where they are no command's, else what the command's input, files or disk ask
+-- for
+abbrev pub IsDue : Option Command → List (List ℕ) → SourceTold → FilesTold → DiskTold → Outcome → Type 0
+IsDue None words source files disk due = due ≡ Usage
+IsDue (Some Show) words source files disk due = IsInputDue capture_limit CaptureAsks source due
+IsDue (Some Spell) words source files disk due = IsInputDue item_limit TextAsks source due
+IsDue (Some SpellHex) words source files disk due = IsInputDue item_limit HexAsks source due
+IsDue (Some Replay) words source files disk due =
     IsReplayDue (name_in words role.Plan) (name_in words role.Schedule) files due
+IsDue (Some (Format slots)) words source files disk due = due ≡ Done
+IsDue (Some Spool) words source files disk due = IsSpoolDue disk due
 
 -- an outcome that may come in place of the one that is due: memory ran out, or a count of faults rose
-abbrev pub Hinders : SourceTold → FilesTold → SinkTold → Outcome → Type 0
-Hinders source files out NoMemory = Unit {0}
-Hinders source files out ReadFailed = Rose source.health.faults source.health_after.faults
-Hinders source files out (FileFailed which) = Rose files.health.faults files.health_after.faults
-Hinders source files out WriteFailed = Rose out.health.faults out.health_after.faults
-Hinders source files out _ = ⊥
+abbrev pub Hinders : SourceTold → FilesTold → DiskTold → SinkTold → Outcome → Type 0
+Hinders source files disk out NoMemory = Unit {0}
+Hinders source files disk out ReadFailed = Rose source.health.faults source.health_after.faults
+Hinders source files disk out (FileFailed which) = Rose files.health.faults files.health_after.faults
+Hinders source files disk out DiskFailed = Rose disk.faults disk.faults_after
+Hinders source files disk out WriteFailed = Rose out.health.faults out.health_after.faults
+Hinders source files disk out _ = ⊥
 
 -- which object's fault an outcome is
 abbrev pub is_read_fault : Outcome → Bool
@@ -119,6 +134,10 @@ abbrev pub is_file_fault : Outcome → Bool
 is_file_fault (FileFailed which) = true
 is_file_fault _ = false
 
+abbrev pub is_disk_fault : Outcome → Bool
+is_disk_fault DiskFailed = true
+is_disk_fault _ = false
+
 abbrev pub is_write_fault : Outcome → Bool
 is_write_fault WriteFailed = true
 is_write_fault _ = false
@@ -128,30 +147,35 @@ abbrev pub IsCounted : Bool → ℕ → ℕ → Type 0
 IsCounted true before now = Rose before now
 IsCounted false before now = now ≡ before
 
--- each fault of the input, the files and the output is the outcome
-pub record CountsFaults (source : SourceTold) (files : FilesTold) (out : SinkTold) (outcome : Outcome) : Type 0 where
+-- each fault of the input, the files, the disk and the output is the outcome
+pub record CountsFaults (source : SourceTold) (files : FilesTold) (disk : DiskTold) (out : SinkTold)
+    (outcome : Outcome) : Type 0 where
   pub read : IsCounted (is_read_fault outcome) source.health.faults source.health_after.faults
   pub file : IsCounted (is_file_fault outcome) files.health.faults files.health_after.faults
+  pub on_disk : IsCounted (is_disk_fault outcome) disk.faults disk.faults_after
   pub write : IsCounted (is_write_fault outcome) out.health.faults out.health_after.faults
 
 abbrev pub FaultsAreTold : Type 0
 FaultsAreTold =
-    (words : List (List ℕ)) (source : SourceTold) (files : FilesTold) (out err : SinkTold) (status : ℕ)
-    → (run : IsRun words source files out err status) → CountsFaults source files out run.outcome
+    (words : List (List ℕ)) (source : SourceTold) (files : FilesTold) (disk : DiskTold)
+    (out err : SinkTold) (status : ℕ)
+    → (run : IsRun words source files disk out err status) → CountsFaults source files disk out run.outcome
 
 -- the outcome that is due comes, unless one hinders it
 abbrev pub OutcomesAreDue : Type 0
 OutcomesAreDue =
-    (words : List (List ℕ)) (source : SourceTold) (files : FilesTold) (out err : SinkTold) (status : ℕ) (due : Outcome)
-    → (run : IsRun words source files out err status) → IsDue (command_of words) words source files due
-    → (run.outcome ≡ due) ⊎ Hinders source files out run.outcome
+    (words : List (List ℕ)) (source : SourceTold) (files : FilesTold) (disk : DiskTold)
+    (out err : SinkTold) (status : ℕ) (due : Outcome)
+    → (run : IsRun words source files disk out err status) → IsDue (command_of words) words source files disk due
+    → (run.outcome ≡ due) ⊎ Hinders source files disk out run.outcome
 
 -- over objects that do not fail, `show` of a capture without a break ends with status 0 and its lines, but for want of
 -- memory
 abbrev pub ShowsWholeCaptures : Type 0
 ShowsWholeCaptures =
-    (words : List (List ℕ)) (source : SourceTold) (files : FilesTold) (out err : SinkTold) (status : ℕ)
-    → IsRun words source files out err status → command_of words ≡ Some Show
+    (words : List (List ℕ)) (source : SourceTold) (files : FilesTold) (disk : DiskTold)
+    (out err : SinkTold) (status : ℕ)
+    → IsRun words source files disk out err status → command_of words ≡ Some Show
     → (capture : List ℕ) (pieces : List Piece) → source.before ≡ Some capture → length capture ≤ capture_limit
     → source.health.reliable ≡ true → Reads capture pieces Whole → length (lines_of pieces) ≤ out.health.room
     → (status ≡ 71) ⊎ ((status ≡ 0) × (out.after ≡ with_bytes out.before (lines_of pieces)))
@@ -175,9 +199,10 @@ pub record WroteSpelling (text line : List ℕ) : Type 0 where
   pub words : List (List ℕ)
   pub source : SourceTold
   pub files : FilesTold
+  pub disk : DiskTold
   pub out : SinkTold
   pub err : SinkTold
-  pub run : IsRun words source files out err 0
+  pub run : IsRun words source files disk out err 0
   pub asks : command_of words ≡ Some Spell
   pub told : source.before ≡ Some text
   pub empty : out.before ≡ Some []
@@ -192,6 +217,8 @@ pub record ReadsBack (item : Item) (out : SinkTold) (outcome : Outcome) : Type 0
 abbrev pub SpelledReadsBack : Type 0
 SpelledReadsBack =
     (text line : List ℕ) (item : Item) → ReadsAs text item → WroteSpelling text line → length line ≤ item_limit
-    → (words : List (List ℕ)) (source : SourceTold) (files : FilesTold) (out err : SinkTold) (status : ℕ)
-    → (run : IsRun words source files out err status) → command_of words ≡ Some SpellHex → source.before ≡ Some line
-    → ReadsBack item out run.outcome ⊎ Hinders source files out run.outcome
+    → (words : List (List ℕ)) (source : SourceTold) (files : FilesTold) (disk : DiskTold)
+    (out err : SinkTold) (status : ℕ)
+    → (run : IsRun words source files disk out err status) → command_of words ≡ Some SpellHex
+    → source.before ≡ Some line
+    → ReadsBack item out run.outcome ⊎ Hinders source files disk out run.outcome

@@ -6,5 +6,6 @@ pub mod Laws
 pub mod Outcome
 pub mod Replay
 pub mod Spelling
+pub mod Spool
 pub mod Words
 pub mod Written

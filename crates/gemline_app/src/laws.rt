@@ -7,8 +7,8 @@ pub fn outcomes_are_due()
     ensures { OutcomesAreDue }
 {}
 
-/// No fault is passed over, but one of the errors: the count of the input, of the files and of the output rises where
-/// the outcome is its fault, by one, and stands otherwise.
+/// No fault is passed over, but one of the errors: the count of the input, of the files, of the disk and of the output
+/// rises where the outcome is its fault, by one, and stands otherwise.
 pub fn faults_are_told()
     ensures { FaultsAreTold }
 {}

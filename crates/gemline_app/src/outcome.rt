@@ -46,6 +46,10 @@ pub enum Outcome {
     TurnsSpent,
     /// A slip arrived: a block with right length and sum that isn't one whole frame of the other end.
     Slip,
+    /// The disk failed.
+    DiskFailed,
+    /// The bytes of the spool file stand for no list. They break there.
+    NotSpool { at: u64 },
     /// The plan has some text, which isn't built yet.
     PlanNotBuilt,
     /// The line of this number, from 1, is of a kind that isn't built yet.
@@ -75,6 +79,8 @@ impl Outcome {
             Outcome::WriteFailed => 73,
             Outcome::TurnsSpent => 75,
             Outcome::Slip => 76,
+            Outcome::DiskFailed => 74,
+            Outcome::NotSpool { .. } => 78,
             Outcome::PlanNotBuilt | Outcome::LineNotBuilt { .. } => 79,
         }
     }
@@ -92,15 +98,15 @@ impl Outcome {
                 put_break(&mut line, *named);
                 put(&mut line, b"\n");
             }
-            Outcome::BadText { at } => put_place(&mut line, b"gemline: 65 text at ", *at),
-            Outcome::BadHex { at } => put_place(&mut line, b"gemline: 65 hex at ", *at),
+            Outcome::BadText { at } => put_place(&mut line, b"gemline: 65 text at ", *at as u64),
+            Outcome::BadHex { at } => put_place(&mut line, b"gemline: 65 hex at ", *at as u64),
             Outcome::BadItem(fault) => {
                 put(&mut line, b"gemline: 65 item ");
                 put_fault(&mut line, *fault);
                 put(&mut line, b"\n");
             }
             Outcome::BadLine { number } => {
-                put_place(&mut line, b"gemline: 65 schedule line ", *number as usize);
+                put_place(&mut line, b"gemline: 65 schedule line ", u64::from(*number));
             }
             Outcome::Longer => put(&mut line, b"gemline: 65 input longer\n"),
             Outcome::FileLonger(_) => put(&mut line, b"gemline: 65 file "),
@@ -110,12 +116,16 @@ impl Outcome {
             Outcome::WriteFailed => put(&mut line, b"gemline: 73 write\n"),
             Outcome::TurnsSpent => put(&mut line, b"gemline: 75 turns\n"),
             Outcome::Slip => put(&mut line, b"gemline: 76 slip\n"),
+            Outcome::DiskFailed => put(&mut line, b"gemline: 74 disk\n"),
+            Outcome::NotSpool { at } => {
+                put_place(&mut line, b"gemline: 78 not a spool at ", *at);
+            }
             Outcome::PlanNotBuilt => put(&mut line, b"gemline: 79 not built in plan\n"),
             Outcome::LineNotBuilt { number } => {
                 put_place(
                     &mut line,
                     b"gemline: 79 not built at line ",
-                    *number as usize,
+                    u64::from(*number),
                 );
             }
         }
@@ -135,12 +145,12 @@ impl Outcome {
 }
 
 // Puts a few words and a place of the input, and ends the line.
-fn put_place(line: &mut Line, words: &[u8], at: usize)
+fn put_place(line: &mut Line, words: &[u8], at: u64)
     requires { array_vec_len line.old + length words.now ≤ 100 }
     ensures { line.new.items ≡ line.old.items ++ (words.now ++ decimal at ++ codes "\n") }
 {
     put(line, words);
-    put_number(line, at as u64);
+    put_number(line, at);
     put(line, b"\n");
 }
 

@@ -1,18 +1,24 @@
-ghost use Rattle.std.specs.Prelude.{◌≡◌, ◌++◌, map, string_bytes};
+ghost use Rattle.std.specs.Prelude.{◌≡◌, ◌++◌, ◌≤◌, map, string_bytes};
 ghost use Rattle.gemline_app.specs.Gemline.{ComesFrom, ComesOnInput, InputAnswers, IsRun, WasPrinted, WasShown};
 ghost use Rattle.gemline_app.specs.Gemline.{WasSpelled, WereSent};
 ghost use Rattle.gemline_app.specs.Outcome.{file_of, line_of, outcome_of_show, status_of};
 ghost use Rattle.gemline_app.specs.Replay.{ReplayComes};
+ghost use Rattle.gemline_app.specs.Spool.{EndedAs, outcome_of_spool};
 ghost use Rattle.gemline_app.specs.Words.{capture_limit, command_of, item_limit, name_in};
 ghost use Rattle.gemline_app.specs.declared.outcome.FileRole.TheVariants as roles;
 ghost use Rattle.gl_base.specs.Told.{files_told, sink_told, source_told};
+ghost use Rattle.spool_show.specs.Formatting.{FormatsSpool};
+ghost use Rattle.spool_show.specs.Showing.{ShowsSpool};
+ghost use Rattle.spool_show.specs.Told.{disk_told};
 
 use crate::outcome::{FileRole, Outcome};
 use crate::replay::replay;
 use crate::spelling::{spell, spell_hex};
-use crate::words::{Command, command_of, name_in};
+use crate::words::{Command, command_of, name_in, spool_name};
+use disk_base::Disk;
 use gl_base::{Files, Input, Row, Sink, SinkAnswer, Source, copy_out, read_all};
 use line_show::{Ending, Stop, show};
+use spool_show::{SpoolEnd, format_spool, show_spool};
 use std::alloc::Global;
 
 /// How long a capture may be, in bytes.
@@ -27,24 +33,27 @@ const ITEM_LIMIT: usize = 1024 * 1024;
 /// handshake, and tells what each block brings: its message, or why there is none. From an item's text on `input`,
 /// `spell` makes hex with as few length bytes as can be; `spell --hex` makes the text from hex on `input`. `replay`
 /// finds a plan and a schedule in `files`, lets both ends of a line run by them and tells what they do, as a trace.
-/// `err` gets one line where the status isn't 0.
-pub fn gemline<F: Files, R: Source, W: Sink, E: Sink>(
+/// `format` makes a spool file on `disk`, and `spool` writes the list of one. `err` gets one line where the status
+/// isn't 0.
+pub fn gemline<F: Files, R: Source, W: Sink, E: Sink, D: Disk>(
     alloc: Global,
     words: &[String],
     files: &mut F,
     input: &mut R,
     out: &mut W,
     err: &mut E,
+    disk: &mut D,
 ) -> u8
-    // the words, what input, files, output and errors told, and the status
+    // the words, what input, files, disk, output and errors told, and the status
     ensures run { IsRun (map string_bytes words.now)
         (source_told R.Source input.old input.new)
         (files_told F.Files files.old files.new)
+        (disk_told D.Disk disk.old disk.new)
         (sink_told W.Sink out.old out.new)
         (sink_told E.Sink err.old err.new)
         result }
 {
-    let outcome = run(alloc, words, files, input, out);
+    let outcome = run(alloc, words, files, input, out, disk);
     report(&outcome, words, err)
 }
 
@@ -104,16 +113,18 @@ fn file_of<'a>(words: &'a [String], outcome: &Outcome) -> &'a [u8]
 }
 
 // Does what the words ask for.
-fn run<F: Files, R: Source, W: Sink>(
+fn run<F: Files, R: Source, W: Sink, D: Disk>(
     alloc: Global,
     words: &[String],
     files: &mut F,
     input: &mut R,
     out: &mut W,
+    disk: &mut D,
 ) -> Outcome
     ensures { ComesFrom (command_of (map string_bytes words.now)) (map string_bytes words.now)
         (source_told R.Source input.old input.new)
         (files_told F.Files files.old files.new)
+        (disk_told D.Disk disk.old disk.new)
         (sink_told W.Sink out.old out.new)
         result }
 {
@@ -122,6 +133,8 @@ fn run<F: Files, R: Source, W: Sink>(
         Some(Command::Spell) => spell_input(alloc, input, out),
         Some(Command::SpellHex) => spell_hex_input(alloc, input, out),
         Some(Command::Replay) => replay_files(alloc, words, files, out),
+        Some(Command::Format(slots)) => make_spool(words, slots, out, disk),
+        Some(Command::Spool) => list_spool(words, out, disk),
         None => Outcome::Usage,
     }
 }
@@ -186,6 +199,38 @@ fn replay_files<F: Files, W: Sink>(
         files,
         out,
     )
+}
+
+// Makes the spool file that the words name.
+fn make_spool<W: Sink, D: Disk>(words: &[String], slots: u32, out: &mut W, disk: &mut D) -> Outcome
+    requires some { 1 ≤ slots }
+    requires most { slots ≤ 65535 }
+    ensures { EndedAs
+        (FormatsSpool slots (disk_told D.Disk disk.old disk.new) (sink_told W.Sink out.old out.new))
+        result }
+{
+    outcome_of_spool(format_spool(disk, spool_name(words), slots, out))
+}
+
+// Writes the list of the spool file that the words name.
+fn list_spool<W: Sink, D: Disk>(words: &[String], out: &mut W, disk: &mut D) -> Outcome
+    ensures { EndedAs
+        (ShowsSpool (disk_told D.Disk disk.old disk.new) (sink_told W.Sink out.old out.new))
+        result }
+{
+    outcome_of_spool(show_spool(disk, spool_name(words), out))
+}
+
+// What a word about a spool file came to.
+fn outcome_of_spool(ended: SpoolEnd) -> Outcome
+    ensures { result ≡ outcome_of_spool ended }
+{
+    match ended {
+        SpoolEnd::Done => Outcome::Done,
+        SpoolEnd::NotSpool(place) => Outcome::NotSpool { at: place.at },
+        SpoolEnd::DiskFailed => Outcome::DiskFailed,
+        SpoolEnd::WriteFailed => Outcome::WriteFailed,
+    }
 }
 
 // All bytes of the input, or why there are none.

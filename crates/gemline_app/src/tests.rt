@@ -3,6 +3,7 @@ ghost use Rattle.gl_base.specs.Files.{FileIsWithin};
 ghost use Rattle.gemline_app.specs.FirstExchange.{ShowsTheFirst};
 
 use super::*;
+use disk_base::{Disk, DiskAnswer, MemDisk, settle};
 use gl_base::{FileAnswer, Files, NoMemory, ReadAnswer, Row, Sink, Source, WriteAnswer};
 use std::alloc::Global;
 use std::test::Fail;
@@ -122,6 +123,53 @@ impl Sink for TestOutput {
             return WriteAnswer::Failed;
         }
         WriteAnswer::Took(n)
+    }
+}
+
+/// A disk of which each call fails.
+#[derive(Drop)]
+struct NoDisk;
+
+impl Disk for NoDisk {
+    ghost told = { λ _. None };
+
+    ghost calls = { λ _. None };
+
+    ghost size_is = { λ _. 0 };
+
+    ghost health = { λ _. record {
+      faults = 18446744073709551615;
+      calls = 0;
+      room = 0;
+      fail_in = 0;
+      stop_in = 0;
+      stopped = false;
+    } };
+
+    ghost name = { λ _. 0 };
+
+    ghost sized = { λ disk s is. absurd cc };
+
+    ghost calls_told = { λ disk s is. absurd cc };
+
+    fn attach(&mut self, file: &str, grow: u64) -> DiskAnswer {
+        DiskAnswer::Failed
+    }
+
+    fn size(&self) -> u64 {
+        0
+    }
+
+    fn read(&mut self, at: u64, into: &mut [u8]) -> DiskAnswer {
+        DiskAnswer::Failed
+    }
+
+    fn write(&mut self, at: u64, bytes: &[u8]) -> DiskAnswer {
+        DiskAnswer::Failed
+    }
+
+    fn sync(&mut self) -> DiskAnswer {
+        DiskAnswer::Failed
     }
 }
 
@@ -390,6 +438,17 @@ static OTHER_WORDS: [&'static [&'static str]; 9] = [
     &["replay", "plan", "schedule", "schedule"],
 ];
 
+/// The same of spool files.
+static SPOOL_WORDS: [&'static [&'static str]; 7] = [
+    &["spool"],
+    &["spool", "SPOOL", "SPOOL"],
+    &["format", "SPOOL"],
+    &["format", "SPOOL", "0"],
+    &["format", "SPOOL", "65536"],
+    &["format", "SPOOL", "00000000003"],
+    &["format", "SPOOL", "+3"],
+];
+
 const FIRST_MESSAGE: &str = "0 E start len=0 base=0\n0 H start\n\
     0 E sent S1F13 W 00000000 0102410747454D4C494E45410131\n0 E tx 05\n0 H tx 04\n\
     0 E tx 188000810D8001000000000102410747454D4C494E45410131044E\n\
@@ -420,7 +479,7 @@ fn pieces_of(alloc: Global, bytes: &Bytes) -> Result<Row<u8>, NoMemory> {
     Ok(row)
 }
 
-/// Whether these words over this input and these files end so, with what the output took.
+/// Whether these words over this input, these files and no disk end so, with what the output took.
 fn ends_so(
     alloc: Global,
     words: &[String],
@@ -430,7 +489,7 @@ fn ends_so(
     end: &End,
 ) -> bool {
     let mut err = output(alloc, 100, 0);
-    let status = gemline(alloc, words, files, input, out, &mut err);
+    let status = gemline(alloc, words, files, input, out, &mut err, &mut NoDisk);
     let (wanted, text, line) = *end;
     status == wanted
         && out.bytes.as_slice() == text.as_bytes()
@@ -619,6 +678,134 @@ fn faults_and_other_words_are_told(rt: HostRuntime) -> Result<(), Fail> {
     assert!(rt; are_failing(alloc, &FAILURES));
     assert!(rt; are_failing(alloc, &FILE_FAILURES));
     assert!(rt; are_refused(alloc, &OTHER_WORDS));
+    assert!(rt; are_refused(alloc, &SPOOL_WORDS));
+    Ok(())
+}
+
+/// Words, the first bytes of a file of 16,384 and of its slot 1, which call of the disk and of the output fails, and
+/// the end.
+type Spooling = (&'static [&'static str], [&'static [u8]; 2], u32, u32, End);
+
+/// The front of a file of three slots.
+const FRONT: &[u8] = b"GLSPOOL1\0\0\0\x03";
+
+/// An S6F11 of number 4, with an empty list.
+const FOURTH: &[u8] = b"\x5A\0\0\0\0\0\0\0\x04\x86\x0B\0\0\0\x02\x01\0";
+
+/// `format` and `spool`.
+static SPOOLS: [Spooling; 8] = [
+    (
+        &["format", "SPOOL", "0000000003"],
+        [b"", b""],
+        0,
+        0,
+        (0, "formatted slots=3 bytes=16384\n", ""),
+    ),
+    (
+        &["format", "SPOOL", "3"],
+        [FRONT, FOURTH],
+        1,
+        1,
+        (74, "", "gemline: 74 disk\n"),
+    ),
+    (
+        &["format", "SPOOL", "3"],
+        [FRONT, FOURTH],
+        0,
+        1,
+        (73, "", "gemline: 73 write\n"),
+    ),
+    (
+        &["spool", "SPOOL"],
+        [FRONT, b""],
+        0,
+        0,
+        (0, "spool slots=3 mark=0 len=0\n", ""),
+    ),
+    (
+        &["spool", "SPOOL"],
+        [FRONT, FOURTH],
+        0,
+        0,
+        (0, "spool slots=3 mark=0 len=1\n4 S6F11 W 0100\n", ""),
+    ),
+    (
+        &["spool", "SPOOL"],
+        [b"GLSPX", FOURTH],
+        0,
+        0,
+        (78, "", "gemline: 78 not a spool at 4\n"),
+    ),
+    (
+        &["spool", "SPOOL"],
+        [FRONT, FOURTH],
+        1,
+        1,
+        (74, "", "gemline: 74 disk\n"),
+    ),
+    (
+        &["spool", "SPOOL"],
+        [FRONT, FOURTH],
+        0,
+        1,
+        (73, "", "gemline: 73 write\n"),
+    ),
+];
+
+/// A disk with these bytes.
+fn disk_with(alloc: Global, bytes: &[&[u8]; 2]) -> Option<MemDisk> {
+    let [front, slot] = *bytes;
+    let Ok(mut disk) = MemDisk::new(alloc, 16384, 100, 16384) else {
+        return None;
+    };
+    if front.len() > 4096 || slot.len() > 4096 {
+        return None;
+    }
+    let _ = settle(&mut disk, 0, front);
+    let _ = settle(&mut disk, 8192, slot);
+    Some(disk)
+}
+
+/// Whether words over a disk end so.
+fn is_spooling(alloc: Global, case: &Spooling) -> bool {
+    let (words, bytes, call, write, (wanted, text, line)) = *case;
+    let (Ok(words), Some(mut disk)) = (words_of(alloc, words), disk_with(alloc, &bytes)) else {
+        return false;
+    };
+    disk.fail_at(call);
+    let mut out = output(alloc, 2000, write);
+    let mut err = output(alloc, 100, 0);
+    status_over(alloc, &words, &mut out, &mut err, &mut disk) == wanted
+        && out.bytes.as_slice() == text.as_bytes()
+        && err.bytes.as_slice() == line.as_bytes()
+}
+
+/// The status of words over a disk alone.
+fn status_over(
+    alloc: Global,
+    words: &[String],
+    out: &mut TestOutput,
+    err: &mut TestOutput,
+    disk: &mut MemDisk,
+) -> u8 {
+    let mut files = TestFiles {
+        plan: b"",
+        schedule: b"",
+        fails: 1,
+    };
+    let mut input = TestInput {
+        left: b"",
+        step: 1,
+        fails: 1,
+    };
+    gemline(alloc, words, &mut files, &mut input, out, err, disk)
+}
+
+#[test]
+fn spool_files_are_made_and_listed(rt: HostRuntime) -> Result<(), Fail> {
+    for case in &SPOOLS {
+        assert!(rt; is_spooling(rt.alloc(), case));
+    }
     Ok(())
 }
 
@@ -660,6 +847,7 @@ fn status_of_show(
         &mut input,
         out,
         &mut output(alloc, 0, 0),
+        &mut NoDisk,
     )
 }
 
