@@ -1,0 +1,69 @@
+//! Puts messages into a spool file, or recovers it again and again, so that a script of bench/ can time it.
+#![tactic(auto)]
+
+use disk_base::{Disk, DiskAnswer};
+use file_disk::FileDisk;
+use spool_slots::{Raw, Spool, Stored};
+use std::process::ExitCode;
+use std::{env, io};
+
+fn main(rt: HostRuntime) -> io::Result<ExitCode> {
+    let mut words = env::args(&rt)?.skip(1);
+    let (Some(work), Some(file)) = (words.next(), words.next()) else {
+        return Ok(ExitCode::from(64));
+    };
+    let turns = words
+        .next()
+        .and_then(|word| word.as_str().parse::<u32>().ok())
+        .unwrap_or(1);
+    let mut disk = FileDisk::new(&rt);
+    let messages = match work.as_str() {
+        "put" => put_again(&mut disk, file.as_str(), turns),
+        _ => recover_again(&mut disk, file.as_str(), turns),
+    };
+    match messages {
+        Some(count) => {
+            println!(rt; "{count}")?;
+            Ok(ExitCode::SUCCESS)
+        }
+        None => Ok(ExitCode::from(74)),
+    }
+}
+
+// Puts so many messages into the spool file of this name, and says how many it then has.
+fn put_again<D: Disk>(disk: &mut D, file: &str, turns: u32) -> Option<u32> {
+    let mut spool = recovered(disk, file)?;
+    for _ in 0..turns {
+        spool = with_message(spool)?;
+    }
+    Some(spool.len())
+}
+
+// With an S6F11 put at its end.
+fn with_message<D: Disk + Drop>(spool: Spool<D>) -> Option<Spool<D>> {
+    let message = Stored {
+        stream: 6,
+        function: 11,
+        body: &[1, 3, 0xB1, 4, 0, 0, 0, 0, 0xB1, 4, 0, 0, 0, 0, 1, 0],
+    };
+    match spool.stage(&message) {
+        Ok(staged) => staged.seal().ok(),
+        Err(_) => None,
+    }
+}
+
+// Recovers the spool file of this name so many times, and says how many messages it has.
+fn recover_again<D: Disk>(disk: &mut D, file: &str, turns: u32) -> Option<u32> {
+    let mut messages = 0;
+    for _ in 0..turns {
+        messages = recovered(disk, file)?.len();
+    }
+    Some(messages)
+}
+
+fn recovered<'a, D: Disk>(disk: &'a mut D, file: &str) -> Option<Spool<&'a mut D>> {
+    match disk.attach(file, 0) {
+        DiskAnswer::Done => Raw::new(disk).recover().ok(),
+        DiskAnswer::Failed => None,
+    }
+}
