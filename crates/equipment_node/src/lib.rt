@@ -1,0 +1,9 @@
+//! The equipment: a GEM tool at its end of the line.
+#![tactic(auto)]
+
+mod plan;
+#[cfg(test)]
+mod plan_tests;
+
+pub use line_end::HostPlan;
+pub use plan::{EquipmentPlan, Plans};
