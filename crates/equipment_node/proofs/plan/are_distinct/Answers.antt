@@ -1,4 +1,4 @@
-use Rattle.std.proofs.Common.{◌≡◌, sym, ◌∙◌, ap, ℕ, List, map, get_or, nat_eq, arith, subst, IsTrue, ◌↔◌, Bool}
+use Rattle.std.proofs.Common.{sym, ◌∙◌, ap, ℕ, List, map, get_or, nat_eq, arith, subst, IsTrue, ◌↔◌, Bool}
 use Rattle.std.proofs.lemmas.List.{map-id}
 use Rattle.std.specs.List.{IsDistinct, list_any}
 use Rattle.gl_base.proofs.Distinct.{all_distinct, fresh, not_distinct}
@@ -13,16 +13,14 @@ plainly answer ceids = subst (λ keys. IsTrue answer ↔ IsDistinct nat_eq keys)
 
 pub returns-then-is_one_of : goal.returns-then-is_one_of
 returns-then-is_one_of c =
-    let p = c.index-ceids-i.result in
-    let is = c.is_one_of.ensures ∙ ap (list_any (nat_eq (get_or c.args.ceids.now c.loop-i.i p))) c.split_at.ensures.back in
-    plainly _ c.args.ceids.now (not_distinct nat_eq itself c.args.ceids.now c.loop-i.i p c.is_one_of.result (omega arith) is
+    let is = c.is_one_of.ensures ∙ ap (list_any (nat_eq (get_or c.args.ceids.now c.loop-i.i 0))) c.split_at.ensures.back in
+    plainly _ c.args.ceids.now (not_distinct nat_eq itself c.args.ceids.now c.loop-i.i 0 c.is_one_of.result (omega arith) is
     c.if-is_one_of.true c.loop-i.invariant)
 
 pub loop-i-preserved : goal.loop-i-preserved
 loop-i-preserved c =
-    let p = c.index-ceids-i.result in
-    let is = c.is_one_of.ensures ∙ ap (list_any (nat_eq (get_or c.args.ceids.now c.loop-i.i p))) c.split_at.ensures.back in
-    fresh nat_eq itself c.args.ceids.now c.loop-i.i p _ (omega arith) (sym is ∙ c.if-is_one_of.false) c.loop-i.invariant
+    let is = c.is_one_of.ensures ∙ ap (list_any (nat_eq (get_or c.args.ceids.now c.loop-i.i 0))) c.split_at.ensures.back in
+    fresh nat_eq itself c.args.ceids.now c.loop-i.i 0 _ (omega arith) (sym is ∙ c.if-is_one_of.false) c.loop-i.invariant
 
 pub returns : goal.returns
 returns c =
