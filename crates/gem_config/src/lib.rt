@@ -1,0 +1,18 @@
+//! Plan files (this profile): what a TOML document says of the equipment, the host and the line between them.
+#![tactic(auto)]
+
+mod element;
+mod fault;
+mod found;
+mod part;
+mod plans;
+mod rows;
+mod sections;
+#[cfg(test)]
+mod tests;
+mod unknown;
+mod values;
+mod words;
+
+pub use fault::{ConfigFault, ConfigWhat};
+pub use plans::read_plans;
