@@ -1,1 +1,4 @@
+mod Fitting
+mod FittingPlans
+mod FittingRows
 mod ItemTexts

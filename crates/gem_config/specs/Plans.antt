@@ -60,12 +60,21 @@ abbrev pub unless_other : {A : Type 0} → Option (List ℕ) → A → Read A
 unless_other None x = Ok x
 unless_other (Some key) x = refused key Unknown
 
+abbrev pub line_in : Members → Read LinePlan
+line_in document = section (codes "line") document >>= line_of
+
+abbrev pub tool_in : Members → Read ToolSection
+tool_in document = section (codes "equipment") document >>= tool_of
+
+abbrev pub host_enable_in : Members → Read Bool
+host_enable_in document = section (codes "host") document >>= host_enable_of
+
 unfoldable pub plans_of : Members → Read Plans
 plans_of document = do
-  line ← section (codes "line") document >>= line_of
-  tool ← section (codes "equipment") document >>= tool_of
+  line ← line_in document
+  tool ← tool_in document
   tables ← tables_of document
-  enable ← section (codes "host") document >>= host_enable_of
+  enable ← host_enable_in document
   unless_other (least_of None (other_keys document)) (plans_from line tool tables enable)
 
 -- the bytes are UTF-8, and TOML of this document

@@ -11,7 +11,7 @@ ghost use Rattle.gem_config.specs.Words.{kind_named};
 ghost use Rattle.toml.specs.View.{table_view, view};
 
 use crate::fault::{ConfigFault, ConfigWhat};
-use crate::found::{Found, Section};
+use crate::found::{Found, Section, member};
 use crate::words::kind_named;
 use gem_alarms::AlarmPlan;
 use gem_remote::{CommandPlan, ParamPlan};
@@ -177,7 +177,7 @@ impl<'a> Found<'a> {
             alloc: self.alloc,
             section: self.section,
             key: self.key,
-            value: members.get(name),
+            value: member(members, name),
         }
     }
 

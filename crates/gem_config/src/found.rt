@@ -1,9 +1,11 @@
 //! A section of a plan file, and what stands at its keys.
 
-ghost use Rattle.std.specs.Prelude.{◌≡◌, ◌≢◌, ◌++◌, codes, IfOk};
+ghost use Rattle.std.specs.Prelude.{◌≡◌, ◌≢◌, IfOk, option_map};
 ghost use Rattle.gem_config.specs.declared.fault.ConfigFault.TheVariants as faults;
 ghost use Rattle.gem_config.specs.Found.{found_view, section_view};
 ghost use Rattle.gem_config.specs.Reading.{at, key_of};
+ghost use Rattle.toml.specs.Data.{get_member};
+ghost use Rattle.toml.specs.View.{table_view, view};
 
 use crate::fault::{ConfigFault, ConfigWhat};
 use gl_base::{NoMemory, Row};
@@ -35,7 +37,7 @@ impl<'a> Section<'a> {
             alloc: self.alloc,
             section: self.name,
             key,
-            value: self.members.get(key),
+            value: member(self.members, key),
         }
     }
 }
@@ -59,4 +61,11 @@ pub(crate) fn key_of(alloc: Global, section: &str, key: &str) -> Result<Row<u8>,
     row.extend(b".")?;
     row.extend(key.as_bytes())?;
     Ok(row)
+}
+
+/// The value at a key.
+pub(crate) fn member<'a>(members: &'a Table, key: &str) -> Option<&'a Value>
+    ensures { option_map (λ value. view value.now) result ≡ get_member key.now (table_view members.now) }
+{
+    members.get(key)
 }

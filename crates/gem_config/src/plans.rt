@@ -1,14 +1,10 @@
 //! A whole plan file.
 
-ghost use Rattle.std.specs.Prelude.{◌≡◌, ◌≢◌, None, Ok, Err, IfErr, IfOk, codes};
+ghost use Rattle.std.specs.Prelude.{◌≡◌, ◌≢◌, Ok, Err, IfErr, IfOk};
 ghost use Rattle.equipment_node.specs.declared.plan.Plans.{Plans};
 ghost use Rattle.gem_config.specs.declared.fault.ConfigFault.TheVariants as faults;
-ghost use Rattle.gem_config.specs.Others.{least_of, other_keys};
-ghost use Rattle.gem_config.specs.Plans.{Means, equipment_of, plans_from, plans_of, tables_of, unless_other};
-ghost use Rattle.gem_config.specs.Reading.{Gives, Read, ◌>>=◌};
-ghost use Rattle.gem_config.specs.Rows.{section};
-ghost use Rattle.gem_config.specs.Sections.{host_enable_of, line_of, tool_of};
-ghost use Rattle.toml.specs.Data.{no_members};
+ghost use Rattle.gem_config.specs.Plans.{Means, host_enable_in, line_in, plans_from, plans_of, tables_of, tool_in};
+ghost use Rattle.gem_config.specs.Reading.{Gives, Read};
 ghost use Rattle.toml.specs.View.{table_view};
 
 use crate::fault::{ConfigFault, ConfigWhat};
@@ -92,21 +88,21 @@ fn plans_of(alloc: Global, document: &Table) -> Result<Plans, ConfigFault>
 }
 
 fn line_in(alloc: Global, document: &Table) -> Result<LinePlan, ConfigFault>
-    ensures { Gives result (section (codes "line") (table_view document.now) >>= line_of) }
+    ensures { Gives result (line_in (table_view document.now)) }
 {
     let empty = Table::new(alloc);
     line_of(&section(alloc, document, "line", &empty)?)
 }
 
 fn tool_in(alloc: Global, document: &Table) -> Result<ToolSection, ConfigFault>
-    ensures { Gives result (section (codes "equipment") (table_view document.now) >>= tool_of) }
+    ensures { Gives result (tool_in (table_view document.now)) }
 {
     let empty = Table::new(alloc);
     tool_of(&section(alloc, document, "equipment", &empty)?)
 }
 
 fn host_enable_in(alloc: Global, document: &Table) -> Result<bool, ConfigFault>
-    ensures { Gives result (section (codes "host") (table_view document.now) >>= host_enable_of) }
+    ensures { Gives result (host_enable_in (table_view document.now)) }
 {
     let empty = Table::new(alloc);
     host_enable_of(&section(alloc, document, "host", &empty)?)

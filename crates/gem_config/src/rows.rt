@@ -13,7 +13,7 @@ ghost use Rattle.toml.specs.View.{items_view, table_view, view};
 
 use crate::element::{Element, command_of};
 use crate::fault::{ConfigFault, ConfigWhat};
-use crate::found::Section;
+use crate::found::{Section, member};
 use gem_remote::CommandPlan;
 use gl_base::{NoMemory, Row};
 use indexmap::IndexSet;
@@ -48,7 +48,7 @@ pub(crate) fn section<'a>(
     requires { table_view empty.now ≡ no_members }
     ensures { GivesBy section_view result (section name.now (table_view document.now)) }
 {
-    match document.get(name) {
+    match member(document, name) {
         Some(value) => section_of(alloc, name, value),
         None => Ok(Section {
             alloc,
@@ -67,7 +67,7 @@ fn elements<'a>(
 ) -> Result<&'a [Value], ConfigFault>
     ensures { GivesBy (λ values. items_view values.now) result (elements name.now most (table_view document.now)) }
 {
-    match document.get(name) {
+    match member(document, name) {
         Some(value) => elements_in(alloc, value, name, most),
         None => Ok(&[]),
     }

@@ -1,11 +1,14 @@
 //! The least key of a plan file that has no meaning.
 
 ghost use Rattle.std.specs.Prelude.{◌≡◌, None, Some, IfOk, option_map};
+ghost use Rattle.std.specs.Cmp.Lexicographic.{slice_cmp};
 ghost use Rattle.std.specs.Option.{option_and_then};
+ghost use Rattle.std.specs.Ordering.{is_lt, nat_cmp};
 ghost use Rattle.gem_config.specs.Others.{items_at, items_or_none, least_of, lesser, other_keys, others, others_in_each, others_in_params, others_of, params_of};
 ghost use Rattle.toml.specs.Data.{as_array, as_table, get_member};
 ghost use Rattle.toml.specs.View.{items_view, table_view, view};
 
+use crate::found::member;
 use crate::part::Part;
 use gl_base::{NoMemory, Row};
 use std::alloc::Global;
@@ -57,7 +60,7 @@ fn others_of(
     members: Option<&Table>,
     before: Option<Row<u8>>,
 ) -> Result<Option<Row<u8>>, NoMemory>
-    ensures { IfOk result (λ least. least ≡ least_of before (others_of part (option_map (λ t. table_view t.now) members))) }
+    ensures { IfOk result (λ least. least ≡ least_of before (others_of part (option_map (λ t. table_view t.now) members.entry))) }
 {
     match members {
         Some(members) => others(alloc, part, members, before),
@@ -107,7 +110,7 @@ fn params_of(command: &Value) -> &[Value]
 fn table_at<'a>(members: &'a Table, key: &str) -> Option<&'a Table>
     ensures { option_map (λ t. table_view t.now) result ≡ option_and_then as_table (get_member key.now (table_view members.now)) }
 {
-    match members.get(key) {
+    match member(members, key) {
         Some(value) => value.as_table(),
         None => None,
     }
@@ -117,7 +120,7 @@ fn table_at<'a>(members: &'a Table, key: &str) -> Option<&'a Table>
 fn items_at<'a>(members: &'a Table, key: &str) -> &'a [Value]
     ensures { items_view result.now ≡ items_at key.now (table_view members.now) }
 {
-    match members.get(key) {
+    match member(members, key) {
         Some(value) => items_of(value),
         None => &[],
     }
@@ -136,8 +139,18 @@ fn items_of(value: &Value) -> &[Value]
 fn lesser(least: Option<Row<u8>>, name: Row<u8>) -> Row<u8>
     ensures { Some result ≡ lesser least name }
 {
-    match least {
-        Some(least) if least.as_slice() <= name.as_slice() => least,
-        _ => name,
+    let Some(least) = least else {
+        return name;
+    };
+    if is_before(name.as_slice(), least.as_slice()) {
+        name
+    } else {
+        least
     }
+}
+
+fn is_before(name: &[u8], other: &[u8]) -> bool
+    ensures { result ≡ is_lt (slice_cmp nat_cmp name.now other.now) }
+{
+    name.cmp(other).is_lt()
 }
