@@ -26,7 +26,7 @@ pub opened : {A B : Type 0} (r : Read A) (f : A → Read B) (y : B) → (r >>= f
 opened (Ok x) f y e = (x, refl, e)
 opened (Err fault) f y e = absurd cc
 
-pub same_Ok : {A : Type 0} (x y : A) → Ok x ≡ Ok y → x ≡ y
+pub same_Ok : {A : Type 0} (x y : A) → ◌≡◌ {A = Read A} (Ok x) (Ok y) → x ≡ y
 same_Ok x y e = cc
 
 -- a test that was passed
@@ -53,7 +53,7 @@ in_range_within least most key (negsuc m) n e = absurd cc
 pub number_within : (least most : ℕ) (key : List ℕ) (d : Data) (n : ℕ) → number least most key d ≡ Ok n → is_within least most n ≡ true
 number_within least most key d n e =
     let o = opened (of_kind key (as_integer d)) (in_range least most key) n e in
-    in_range_within least most key o.0 n o.1.1
+    in_range_within least most key o.0 n o.2
 
 pub needed_within : (least most : ℕ) (key : List ℕ) (held : Option Data) (n : ℕ) → needed_in (number least most) key held ≡ Ok n
     → is_within least most n ≡ true
@@ -72,21 +72,21 @@ pub number_step : {B : Type 0} (default least most : ℕ) → is_within least mo
     → (n : ℕ) × (is_within least most n ≡ true) × (f n ≡ Ok y)
 number_step default least most by_default found f y e =
     let o = opened (optional default (number least most) found) f y e in
-    (o.0, optional_within default least most by_default found.key found.held o.0 o.1.0, o.1.1)
+    (o.0, optional_within default least most by_default found.key found.held o.0 o.1, o.2)
 
 -- a number that must be there, and what follows it
 pub needed_step : {B : Type 0} (least most : ℕ) (found : FoundView) (f : ℕ → Read B) (y : B)
     → (needed (number least most) found >>= f) ≡ Ok y → (n : ℕ) × (is_within least most n ≡ true) × (f n ≡ Ok y)
 needed_step least most found f y e =
     let o = opened (needed (number least most) found) f y e in
-    (o.0, needed_within least most found.key found.held o.0 o.1.0, o.1.1)
+    (o.0, needed_within least most found.key found.held o.0 o.1, o.2)
 
 -- ---- texts
 
 short_within : (longest : ℕ) (key : List ℕ) (d : Data) (s : List ℕ) → short_text longest key d ≡ Ok s → is_short longest s ≡ true
 short_within longest key d s e =
     let o = opened (text key d) _ s e in
-    let p = passed (is_short longest o.0) o.0 s key Range o.1.1 in
+    let p = passed (is_short longest o.0) o.0 s key Range o.2 in
     subst (λ x. is_short longest x ≡ true) p.1 p.0
 
 optional_short : (longest : ℕ) (default : List ℕ) → is_short longest default ≡ true → (key : List ℕ) (held : Option Data) (s : List ℕ)
@@ -101,7 +101,7 @@ pub short_step : {B : Type 0} (longest : ℕ) (default : List ℕ) → is_short 
     → (s : List ℕ) × (is_short longest s ≡ true) × (f s ≡ Ok y)
 short_step longest default by_default found f y e =
     let o = opened (optional default (short_text longest) found) f y e in
-    (o.0, optional_short longest default by_default found.key found.held o.0 o.1.0, o.1.1)
+    (o.0, optional_short longest default by_default found.key found.held o.0 o.1, o.2)
 
 -- a text that is short, in both its parts
 pub short_parts : (longest : ℕ) (s : List ℕ) → is_short longest s ≡ true → (length s ≤ longest) × All (λ c. c < 128) s
@@ -117,27 +117,27 @@ pub line_fits : (line : SectionView) (plan : LinePlan) → line_of line ≡ Ok p
 unfolding line_of
 line_fits line plan e =
     let device = number_step 0 0 32767 refl (at line (codes "device")) _ plan e in
-    let t1 = number_step 500 100 10000 refl (at line (codes "t1")) _ plan device.1.1 in
-    let t2 = number_step 10000 200 25000 refl (at line (codes "t2")) _ plan t1.1.1 in
-    let t3 = number_step 45000 1000 120000 refl (at line (codes "t3")) _ plan t2.1.1 in
-    let t4 = number_step 45000 1000 120000 refl (at line (codes "t4")) _ plan t3.1.1 in
-    let rty = number_step 3 0 31 refl (at line (codes "rty")) _ plan t4.1.1 in
-    let max_body = number_step 1048576 244 7995148 refl (at line (codes "max_body")) _ plan rty.1.1 in
-    let device_in = between 0 32767 device.0 device.1.0 in
-    let t1_in = between 100 10000 t1.0 t1.1.0 in
-    let t2_in = between 200 25000 t2.0 t2.1.0 in
-    let t3_in = between 1000 120000 t3.0 t3.1.0 in
-    let t4_in = between 1000 120000 t4.0 t4.1.0 in
-    let max_in = between 244 7995148 max_body.0 max_body.1.0 in
+    let t1 = number_step 500 100 10000 refl (at line (codes "t1")) _ plan device.2 in
+    let t2 = number_step 10000 200 25000 refl (at line (codes "t2")) _ plan t1.2 in
+    let t3 = number_step 45000 1000 120000 refl (at line (codes "t3")) _ plan t2.2 in
+    let t4 = number_step 45000 1000 120000 refl (at line (codes "t4")) _ plan t3.2 in
+    let rty = number_step 3 0 31 refl (at line (codes "rty")) _ plan t4.2 in
+    let max_body = number_step 1048576 244 7995148 refl (at line (codes "max_body")) _ plan rty.2 in
+    let device_in = between 0 32767 device.0 device.1 in
+    let t1_in = between 100 10000 t1.0 t1.1 in
+    let t2_in = between 200 25000 t2.0 t2.1 in
+    let t3_in = between 1000 120000 t3.0 t3.1 in
+    let t4_in = between 1000 120000 t4.0 t4.1 in
+    let max_in = between 244 7995148 max_body.0 max_body.1 in
     let times : TimesFit (record { t1 = t1.0; t2 = t2.0; rty = rty.0 }) =
     record {
       t1_at_least = t1_in.0;
       t1_at_most = t1_in.1;
       t2_at_least = t2_in.0;
       t2_at_most = t2_in.1;
-      rty_at_most = (between 0 31 rty.0 rty.1.0).1
+      rty_at_most = (between 0 31 rty.0 rty.1).1
     } in
-    subst LinePlanFits (same_Ok _ plan max_body.1.1)
+    subst LinePlanFits (same_Ok _ plan max_body.2)
     (record {
       device = omega (arith, device_in.1);
       times = times;

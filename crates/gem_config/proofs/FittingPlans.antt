@@ -29,7 +29,7 @@ use Rattle.gem_config.specs.declared.sections.ToolSection.{ToolSection}
 use Rattle.gem_config.specs.Others.{least_of, other_keys}
 use Rattle.gem_config.specs.Plans.{Means, host_enable_in, line_in, plans_from, plans_of, tables_of, tool_in, unless_other}
 use Rattle.gem_config.specs.Reading.{FoundView, Read, SectionView, at, key_of, refused, ◌>>=◌}
-use Rattle.gem_config.specs.Rows.{command_after, commands_from, commands_in, count_of, elements, section, section_of}
+use Rattle.gem_config.specs.Rows.{command_after, commands_from, commands_in, count_of, elements, rows_in, section, section_of}
 use Rattle.gem_config.specs.Sections.{alarm_of, command_of, constant_of, event_of, greatest, line_of, param, own_name, tool_of, variable_of, worth}
 use Rattle.gem_config.specs.Values.{each_from, flag, is_short, item_text, list, needed, needed_in, number, of_kind, optional, optional_in, short_text, text, value_text, word}
 use Rattle.gem_config.specs.Words.{all_spooled, control_named, spooled_named}
@@ -42,7 +42,7 @@ value_within : (key : List ℕ) (held : Option Data) (x : Item) → needed_in va
 value_within key None x e = absurd cc
 value_within key (Some d) x e =
     let o = opened (item_text key d) _ x e in
-    let p = passed (value_fits o.0) o.0 x key Range o.1.1 in
+    let p = passed (value_fits o.0) o.0 x key Range o.2 in
     subst (λ i. value_fits i ≡ true) p.1 p.0
 
 variable_fits : (vid : ℕ) (element : SectionView) (row : VariablePlan) → 0 ≤ vid → variable_of vid element ≡ Ok row
@@ -50,39 +50,39 @@ variable_fits : (vid : ℕ) (element : SectionView) (row : VariablePlan) → 0 �
 unfolding variable_of
 variable_fits vid element row low e =
     let name = opened (optional [] text (at element (codes "name"))) _ row e in
-    let units = opened (optional [] text (at element (codes "units"))) _ row name.1.1 in
-    let value = opened (needed value_text (at element (codes "value"))) _ row units.1.1 in
-    let fits = value_within (at element (codes "value")).key (at element (codes "value")).held value.0 value.1.0 in
-    subst (λ (r : VariablePlan). VariableFits r × (r.vid ≡ vid)) (same_Ok _ row value.1.1) (fits, refl)
+    let units = opened (optional [] text (at element (codes "units"))) _ row name.2 in
+    let value = opened (needed value_text (at element (codes "value"))) _ row units.2 in
+    let fits = value_within (at element (codes "value")).key (at element (codes "value")).held value.0 value.1 in
+    subst (λ (r : VariablePlan). VariableFits r × (r.vid ≡ vid)) (same_Ok _ row value.2) (fits, refl)
 
 constant_fits : (ecid : ℕ) (element : SectionView) (row : ConstantPlan) → 100 ≤ ecid → constant_of ecid element ≡ Ok row
     → ConstantFits row × (row.ecid ≡ ecid)
 unfolding constant_of
 constant_fits ecid element row low e =
     let name = opened (optional [] text (at element (codes "name"))) _ row e in
-    let units = opened (optional [] text (at element (codes "units"))) _ row name.1.1 in
-    let min = opened (optional 0 (number 0 greatest) (at element (codes "min"))) _ row units.1.1 in
-    let max = opened (optional greatest (number 0 greatest) (at element (codes "max"))) _ row min.1.1 in
-    let value = needed_step min.0 max.0 (at element (codes "value")) _ row max.1.1 in
-    subst (λ (r : ConstantPlan). ConstantFits r × (r.ecid ≡ ecid)) (same_Ok _ row value.1.1)
-    (record { own = low; range = value.1.0 }, refl)
+    let units = opened (optional [] text (at element (codes "units"))) _ row name.2 in
+    let min = opened (optional 0 (number 0 greatest) (at element (codes "min"))) _ row units.2 in
+    let max = opened (optional greatest (number 0 greatest) (at element (codes "max"))) _ row min.2 in
+    let value = needed_step min.0 max.0 (at element (codes "value")) _ row max.2 in
+    subst (λ (r : ConstantPlan). ConstantFits r × (r.ecid ≡ ecid)) (same_Ok _ row value.2)
+    (record { own = low; range = value.1 }, refl)
 
 alarm_fits : (alid : ℕ) (element : SectionView) (row : AlarmPlan) → 0 ≤ alid → alarm_of alid element ≡ Ok row
     → AlarmFits row × (row.alid ≡ alid)
 unfolding alarm_of
 alarm_fits alid element row low e =
     let category = number_step 0 0 127 refl (at element (codes "category")) _ row e in
-    let words = short_step 40 [] refl (at element (codes "text")) _ row category.1.1 in
-    let enabled = opened (optional true flag (at element (codes "enabled"))) _ row words.1.1 in
-    let category_in = between 0 127 category.0 category.1.0 in
-    let parts = short_parts 40 words.0 words.1.0 in
-    subst (λ (r : AlarmPlan). AlarmFits r × (r.alid ≡ alid)) (same_Ok _ row enabled.1.1)
+    let words = short_step 40 [] refl (at element (codes "text")) _ row category.2 in
+    let enabled = opened (optional true flag (at element (codes "enabled"))) _ row words.2 in
+    let category_in = between 0 127 category.0 category.1 in
+    let parts = short_parts 40 words.0 words.1 in
+    subst (λ (r : AlarmPlan). AlarmFits r × (r.alid ≡ alid)) (same_Ok _ row enabled.2)
     (record { category = omega (arith, category_in.1); text = parts.0; ascii = parts.1 }, refl)
 
 event_is : (ceid : ℕ) (element : SectionView) (row : ℕ) → 0 ≤ ceid → event_of ceid element ≡ Ok row → Unit {0} × (row ≡ ceid)
 unfolding event_of
 event_is ceid element row low e =
-    let name = opened (optional [] text (at element (codes "name"))) _ row e in (tt, sym (same_Ok ceid row name.1.1))
+    let name = opened (optional [] text (at element (codes "name"))) _ row e in (tt, sym (same_Ok ceid row name.2))
 
 -- ---- words
 
@@ -94,7 +94,7 @@ found_word (Some y) e x h = cc
 word_means : {A : Type 0} (meaning : List ℕ → Option A) (key : List ℕ) (d : Data) (x : A) → word meaning key d ≡ Ok x
     → (s : List ℕ) × (meaning s ≡ Some x)
 word_means meaning key d x e =
-    let o = opened (text key d) _ x e in (o.0, found_word (meaning o.0) _ x o.1.1)
+    let o = opened (text key d) _ x e in (o.0, found_word (meaning o.0) _ x o.2)
 
 control_apart : (b c d f : Bool) (state : ControlState)
     → cond b (Some EquipmentOffline) (cond c (Some HostOffline) (cond d (Some Local) (cond f (Some Remote) None))) ≡ Some state
@@ -125,7 +125,7 @@ each_fits P read fits before no_items out so_far e = subst (All P) (same_Ok befo
 each_fits P read fits before (item d ds) out so_far e =
     let o = opened (read d) _ out e in
     each_fits P read fits (before ++ o.0 ∷ []) ds out
-    (All-append P before (o.0 ∷ []) so_far (All-cons P o.0 [] (fits d o.0 o.1.0) (All-nil P))) o.1.1
+    (All-append P before (o.0 ∷ []) so_far (All-cons P o.0 [] (fits d o.0 o.1) (All-nil P))) o.2
 
 spooled_each : (key : List ℕ) (d : Data) (entry : RuleEntry) → word spooled_named key d ≡ Ok entry → CanBeSpooled entry
 spooled_each key d entry e = let w = word_means spooled_named key d entry e in spoolable _ _ _ entry w.1
@@ -134,11 +134,12 @@ spooled_fits : (key : List ℕ) (held : Option Data) (out : List RuleEntry)
     → optional_in all_spooled (list (word spooled_named)) key held ≡ Ok out → All CanBeSpooled out
 spooled_fits key None out e =
     subst (All CanBeSpooled) (same_Ok all_spooled out e)
-    (All-cons CanBeSpooled _ _ (inl refl)
-    (All-cons CanBeSpooled _ _ (inr (inl refl)) (All-cons CanBeSpooled _ _ (inr (inr refl)) (All-nil CanBeSpooled))))
+    (All-cons CanBeSpooled (function_of 5 1) (function_of 6 11 ∷ function_of 10 1 ∷ []) (inl refl)
+    (All-cons CanBeSpooled (function_of 6 11) (function_of 10 1 ∷ []) (inr (inl refl))
+    (All-cons CanBeSpooled (function_of 10 1) [] (inr (inr refl)) (All-nil CanBeSpooled))))
 spooled_fits key (Some d) out e =
     let o = opened (of_kind key (as_array d)) _ out e in
-    each_fits CanBeSpooled (word spooled_named key) (spooled_each key) [] o.0 out (All-nil CanBeSpooled) o.1.1
+    each_fits CanBeSpooled (word spooled_named key) (spooled_each key) [] o.0 out (All-nil CanBeSpooled) o.2
 
 -- ---- [equipment]
 
@@ -165,24 +166,24 @@ tool_fits : (tool : SectionView) (out : ToolSection) → tool_of tool ≡ Ok out
 unfolding tool_of
 tool_fits tool out e =
     let mdln = short_step 20 (codes "GEMLINE") refl (at tool (codes "mdln")) _ out e in
-    let softrev = short_step 20 (codes "1") refl (at tool (codes "softrev")) _ out mdln.1.1 in
-    let enable = opened (optional true flag (at tool (codes "enable"))) _ out softrev.1.1 in
-    let state = opened (optional Remote (word control_named) (at tool (codes "control"))) _ out enable.1.1 in
-    let slots = number_step 16 1 1024 refl (at tool (codes "slots")) _ out state.1.1 in
-    let spool = opened (optional true flag (at tool (codes "enable_spool"))) _ out slots.1.1 in
-    let over = opened (optional true flag (at tool (codes "overwrite"))) _ out spool.1.1 in
-    let most = number_step 0 0 greatest refl (at tool (codes "max_transmit")) _ out over.1.1 in
-    let delay = number_step 10 1 120 refl (at tool (codes "delay")) _ out most.1.1 in
-    let spooled = opened (optional all_spooled (list (word spooled_named)) (at tool (codes "spooled"))) _ out delay.1.1 in
-    let terminals = number_step 1 0 255 refl (at tool (codes "terminals")) _ out spooled.1.1 in
-    subst ToolFits (same_Ok _ out terminals.1.1)
+    let softrev = short_step 20 (codes "1") refl (at tool (codes "softrev")) _ out mdln.2 in
+    let enable = opened (optional true flag (at tool (codes "enable"))) _ out softrev.2 in
+    let state = opened (optional Remote (word control_named) (at tool (codes "control"))) _ out enable.2 in
+    let slots = number_step 16 1 1024 refl (at tool (codes "slots")) _ out state.2 in
+    let spool = opened (optional true flag (at tool (codes "enable_spool"))) _ out slots.2 in
+    let over = opened (optional true flag (at tool (codes "overwrite"))) _ out spool.2 in
+    let most = number_step 0 0 greatest refl (at tool (codes "max_transmit")) _ out over.2 in
+    let delay = number_step 10 1 120 refl (at tool (codes "delay")) _ out most.2 in
+    let spooled = opened (optional all_spooled (list (word spooled_named)) (at tool (codes "spooled"))) _ out delay.2 in
+    let terminals = number_step 1 0 255 refl (at tool (codes "terminals")) _ out spooled.2 in
+    subst ToolFits (same_Ok _ out terminals.2)
     (record {
-      mdln = short_fits mdln.0 mdln.1.0;
-      softrev = short_fits softrev.0 softrev.1.0;
-      control = control_fits (at tool (codes "control")).key (at tool (codes "control")).held state.0 state.1.0;
-      slots = between 1 1024 slots.0 slots.1.0;
-      built_in = built_in_fits delay.0 (worth spool.0) (worth over.0) most.0 delay.1.0 (worth_within spool.0) (worth_within over.0) most.1.0;
-      spooled = spooled_fits (at tool (codes "spooled")).key (at tool (codes "spooled")).held spooled.0 spooled.1.0
+      mdln = short_fits mdln.0 mdln.1;
+      softrev = short_fits softrev.0 softrev.1;
+      control = control_fits (at tool (codes "control")).key (at tool (codes "control")).held state.0 state.1;
+      slots = between 1 1024 slots.0 slots.1;
+      built_in = built_in_fits delay.0 (worth spool.0) (worth over.0) most.0 delay.1 (worth_within spool.0) (worth_within over.0) most.1;
+      spooled = spooled_fits (at tool (codes "spooled")).key (at tool (codes "spooled")).held spooled.0 spooled.1
     })
 
 -- ---- commands
@@ -200,18 +201,18 @@ new_name : (before : List CommandPlan) (element : SectionView) (c : CommandPlan)
 unfolding command_of
 new_name before element c e =
     let said = opened (needed text (at element (codes "name"))) _ c e in
-    let name = opened (own_name before (key_of element.name (codes "name")) said.0) _ c said.1.1 in
-    let later = opened (optional false flag (at element (codes "later"))) _ c name.1.1 in
-    let params = opened (optional [] (list param) (at element (codes "params"))) _ c later.1.1 in
-    let mine = owned_name _ said.0 name.0 _ name.1.0 in
+    let name = opened (own_name before (key_of element.name (codes "name")) said.0) _ c said.2 in
+    let later = opened (optional false flag (at element (codes "later"))) _ c name.2 in
+    let params = opened (optional [] (list param) (at element (codes "params"))) _ c later.2 in
+    let mine = owned_name _ said.0 name.0 _ name.1 in
     let fresh = subst (λ n. list_any (has_name n) before ≡ false) mine.1 mine.0 in
-    subst (λ (x : CommandPlan). list_any (bytes_eq x.name) (names_of before) ≡ false) (same_Ok _ c params.1.1)
+    subst (λ (x : CommandPlan). list_any (bytes_eq x.name) (names_of before) ≡ false) (same_Ok _ c params.2)
     (sym (any_name name.0 before) ∙ fresh)
 
 new_after : (name : List ℕ) (before : List CommandPlan) (d : Data) (c : CommandPlan) → command_after name before d ≡ Ok c
     → list_any (bytes_eq c.name) (names_of before) ≡ false
 unfolding command_after
-new_after name before d c e = let o = opened (section_of name d) _ c e in new_name before o.0 c o.1.1
+new_after name before d c e = let o = opened (section_of name d) _ c e in new_name before o.0 c o.2
 
 commands_apart : (name : List ℕ) (before : List CommandPlan) (ds : Items) (out : List CommandPlan) → IsDistinct bytes_eq (names_of before)
     → commands_from name before ds ≡ Ok out → IsDistinct bytes_eq (names_of out) × (length out ≡ length before + count_of ds)
@@ -221,7 +222,7 @@ commands_apart name before (item d ds) out apart e =
     let o = opened (command_after name before d) _ out e in
     let more = commands_apart name (before ++ o.0 ∷ []) ds out
         (subst (IsDistinct bytes_eq) (sym (map-append (λ (c : CommandPlan). c.name) before (o.0 ∷ [])))
-        (IsDistinct-push nat_list_eq_equiv (names_of before) o.0.name apart (new_after name before d o.0 o.1.0))) o.1.1 in
+        (IsDistinct-push nat_list_eq_equiv (names_of before) o.0.name apart (new_after name before d o.0 o.1))) o.2 in
     (more.0, omega (arith, more.1, length-append before (o.0 ∷ [])))
 
 commands_fit : (most : ℕ) (name : List ℕ) (document : Members) (out : List CommandPlan) → commands_in name most document ≡ Ok out
@@ -229,8 +230,8 @@ commands_fit : (most : ℕ) (name : List ℕ) (document : Members) (out : List C
 unfolding IsDistinct
 commands_fit most name document out e =
     let o = opened (elements name most document) _ out e in
-    let all = commands_apart name [] o.0 out tt o.1.1 in
-    (omega (arith, few_in name most (get_member name document) o.0 o.1.0, all.1), all.0)
+    let all = commands_apart name [] o.0 out tt o.2 in
+    (omega (arith, few_in name most (get_member name document) o.0 o.1, all.1), all.0)
 
 -- ---- all of it
 
@@ -246,21 +247,21 @@ tables_fit : (document : Members) (tables : Tables) → tables_of document ≡ O
 unfolding tables_of
 tables_fit document tables e =
     let variables = opened (rows_in variable_of (codes "variable") (codes "vid") 0 1024 document) _ tables e in
-    let constants = opened (rows_in constant_of (codes "constant") (codes "ecid") 100 256 document) _ tables variables.1.1 in
-    let events = opened (rows_in event_of (codes "event") (codes "ceid") 0 1024 document) _ tables constants.1.1 in
-    let alarms = opened (rows_in alarm_of (codes "alarm") (codes "alid") 0 1024 document) _ tables events.1.1 in
-    let commands = opened (commands_in (codes "command") 256 document) _ tables alarms.1.1 in
-    let of_variables = rows_fit variable_of (codes "variable") (codes "vid") 0 (λ (v : VariablePlan). v.vid) VariableFits variable_fits 1024 document variables.0 variables.1.0 in
-    let of_constants = rows_fit constant_of (codes "constant") (codes "ecid") 100 (λ (c : ConstantPlan). c.ecid) ConstantFits constant_fits 256 document constants.0 constants.1.0 in
-    let of_events = rows_fit event_of (codes "event") (codes "ceid") 0 (λ (c : ℕ). c) (λ _. Unit {0}) event_is 1024 document events.0 events.1.0 in
-    let of_alarms = rows_fit alarm_of (codes "alarm") (codes "alid") 0 (λ (a : AlarmPlan). a.alid) AlarmFits alarm_fits 1024 document alarms.0 alarms.1.0 in
-    let of_commands = commands_fit 256 (codes "command") document commands.0 commands.1.0 in
-    subst TablesFit (same_Ok _ tables commands.1.1)
+    let constants = opened (rows_in constant_of (codes "constant") (codes "ecid") 100 256 document) _ tables variables.2 in
+    let events = opened (rows_in event_of (codes "event") (codes "ceid") 0 1024 document) _ tables constants.2 in
+    let alarms = opened (rows_in alarm_of (codes "alarm") (codes "alid") 0 1024 document) _ tables events.2 in
+    let commands = opened (commands_in (codes "command") 256 document) _ tables alarms.2 in
+    let of_variables = rows_fit variable_of (codes "variable") (codes "vid") 0 (λ (v : VariablePlan). v.vid) VariableFits variable_fits 1024 document variables.0 variables.1 in
+    let of_constants = rows_fit constant_of (codes "constant") (codes "ecid") 100 (λ (c : ConstantPlan). c.ecid) ConstantFits constant_fits 256 document constants.0 constants.1 in
+    let of_events = rows_fit event_of (codes "event") (codes "ceid") 0 (λ (c : ℕ). c) (λ _. Unit {0}) event_is 1024 document events.0 events.1 in
+    let of_alarms = rows_fit alarm_of (codes "alarm") (codes "alid") 0 (λ (a : AlarmPlan). a.alid) AlarmFits alarm_fits 1024 document alarms.0 alarms.1 in
+    let of_commands = commands_fit 256 (codes "command") document commands.0 commands.1 in
+    subst TablesFit (same_Ok _ tables commands.2)
     (record {
-      variables = record { few = of_variables.0; each = of_variables.1.0; distinct = of_variables.1.1 };
-      constants = record { few = of_constants.0; each = of_constants.1.0; distinct = of_constants.1.1 };
-      events = record { few = of_events.0; distinct = subst (IsDistinct nat_eq) (map-id events.0) of_events.1.1 };
-      alarms = record { few = of_alarms.0; each = of_alarms.1.0; distinct = of_alarms.1.1 };
+      variables = record { few = of_variables.0; each = of_variables.1; distinct = of_variables.2 };
+      constants = record { few = of_constants.0; each = of_constants.1; distinct = of_constants.2 };
+      events = record { few = of_events.0; distinct = subst (IsDistinct nat_eq) (map-id events.0) of_events.2 };
+      alarms = record { few = of_alarms.0; each = of_alarms.1; distinct = of_alarms.2 };
       few = of_commands.0;
       distinct = of_commands.1
     })
@@ -273,15 +274,15 @@ pub plans_fit : (document : Members) (plans : Plans) → plans_of document ≡ O
 unfolding plans_of
 plans_fit document plans e =
     let line = opened (line_in document) _ plans e in
-    let tool = opened (tool_in document) _ plans line.1.1 in
-    let tables = opened (tables_of document) _ plans tool.1.1 in
-    let enable = opened (host_enable_in document) _ plans tables.1.1 in
-    let made = unless_other_is (least_of None (other_keys document)) (plans_from line.0 tool.0 tables.0 enable.0) plans enable.1.1 in
-    let of_line = opened (section (codes "line") document) line_of line.0 line.1.0 in
-    let line_is = line_fits of_line.0 line.0 of_line.1.1 in
-    let of_tool = opened (section (codes "equipment") document) tool_of tool.0 tool.1.0 in
-    let tool_is = tool_fits of_tool.0 tool.0 of_tool.1.1 in
-    let tables_are = tables_fit document tables.0 tables.1.0 in
+    let tool = opened (tool_in document) _ plans line.2 in
+    let tables = opened (tables_of document) _ plans tool.2 in
+    let enable = opened (host_enable_in document) _ plans tables.2 in
+    let made = unless_other_is (least_of None (other_keys document)) (plans_from line.0 tool.0 tables.0 enable.0) plans enable.2 in
+    let of_line = opened (section (codes "line") document) line_of line.0 line.1 in
+    let line_is = line_fits of_line.0 line.0 of_line.2 in
+    let of_tool = opened (section (codes "equipment") document) tool_of tool.0 tool.1 in
+    let tool_is = tool_fits of_tool.0 tool.0 of_tool.2 in
+    let tables_are = tables_fit document tables.0 tables.1 in
     let vars : VarsFit (plans_from line.0 tool.0 tables.0 enable.0).equipment.vars =
     record { variables = tables_are.variables; constants = tables_are.constants; built_in = tool_is.built_in } in
     let equipment : EquipmentPlanFits (plans_from line.0 tool.0 tables.0 enable.0).equipment =
@@ -306,5 +307,5 @@ plans_fit document plans e =
 
 -- what a file means fits
 pub meaning_fits : (text : List ℕ) (plans : Plans) → Means text (Ok plans) → PlansFit plans
-meaning_fits text plans (inl m) = plans_fit m.0 plans m.1.1
+meaning_fits text plans (inl m) = plans_fit m.0 plans m.2
 meaning_fits text plans (inr m) = let e = m.1 in absurd cc

@@ -26,11 +26,11 @@ counted name most ds true true es is few e =
     let fits : count_of ds ≤ most = grind (arith, nat_tests) in
     subst (λ x. count_of x ≤ most) (same_Ok ds es e) fits
 
-few_in : (name : List ℕ) (most : ℕ) (held : Option Data) (es : Items) → elements_in name most held ≡ Ok es → count_of es ≤ most
+pub few_in : (name : List ℕ) (most : ℕ) (held : Option Data) (es : Items) → elements_in name most held ≡ Ok es → count_of es ≤ most
 few_in name most None es e = subst (λ x. count_of x ≤ most) (same_Ok no_items es e) (omega arith)
 few_in name most (Some d) es e =
     let o = opened (of_kind name (as_array d)) (elements_of name most) es e in
-    counted name most o.0 (are_tables o.0) (nat_le (count_of o.0) most) es refl refl o.1.1
+    counted name most o.0 (are_tables o.0) (nat_le (count_of o.0) most) es refl refl o.2
 
 -- ---- each element
 
@@ -61,14 +61,14 @@ module _ {A : Type 0} (row_of : ℕ → SectionView → Read A) (name key : List
   unfolding row_after
   one_row taken rows d x are e =
       let element = opened (section_of name d) _ x e in
-      let said = needed_step least greatest (at element.0 key) _ x element.1.1 in
-      let id = opened (own taken (key_of name key) said.0) _ x said.1.1 in
-      let mine = owned taken (key_of name key) said.0 id.0 (list_any (nat_eq said.0) taken) refl id.1.0 in
-      let row = opened (row_of id.0 element.0) _ x id.1.1 in
-      let low = (between least greatest said.0 said.1.0).0 in
+      let said = needed_step least greatest (at element.0 key) _ x element.2 in
+      let id = opened (own taken (key_of name key) said.0) _ x said.2 in
+      let mine = owned taken (key_of name key) said.0 id.0 (list_any (nat_eq said.0) taken) refl id.1 in
+      let row = opened (row_of id.0 element.0) _ x id.2 in
+      let low = (between least greatest said.0 said.1).0 in
       let fresh = subst (λ i. list_any (nat_eq i) taken ≡ false) mine.1 mine.0 in
-      let fits = fits_row id.0 element.0 row.0 (subst (λ i. least ≤ i) mine.1 low) row.1.0 in
-      subst (λ y. AreRows y.0 (rows ++ y.1 ∷ [])) (same_Ok _ x row.1.1) (more_rows taken rows id.0 row.0 are fresh fits.0 fits.1)
+      let fits = fits_row id.0 element.0 row.0 (subst (λ i. least ≤ i) mine.1 low) row.1 in
+      subst (λ y. AreRows y.0 (rows ++ y.1 ∷ [])) (same_Ok _ x row.2) (more_rows taken rows id.0 row.0 are fresh fits.0 fits.1)
 
   -- all rows fit and are told apart, and there are as many more as elements
   pub all_rows : (taken : List ℕ) (rows : List A) (ds : Items) (out : List A) → AreRows taken rows
@@ -79,8 +79,8 @@ module _ {A : Type 0} (row_of : ℕ → SectionView → Read A) (name key : List
       (are.fit, subst (λ t. IsDistinct nat_eq t) are.theirs are.distinct, omega arith)
   all_rows taken rows (item d ds) out are e =
       let o = opened (row_after row_of name key least taken d) _ out e in
-      let more = all_rows o.0.0 (rows ++ o.0.1 ∷ []) ds out (one_row taken rows d o.0 are o.1.0) o.1.1 in
-      (more.0, more.1.0, omega (arith, more.1.1, length-append rows (o.0.1 ∷ [])))
+      let more = all_rows o.0.0 (rows ++ o.0.1 ∷ []) ds out (one_row taken rows d o.0 are o.1) o.2 in
+      (more.0, more.1, omega (arith, more.2, length-append rows (o.0.1 ∷ [])))
 
   pub rows_fit : (most : ℕ) (document : Members) (out : List A) → rows_in row_of name key least most document ≡ Ok out
       → (length out ≤ most) × All Fits out × IsDistinct nat_eq (map id_of out)
@@ -88,5 +88,5 @@ module _ {A : Type 0} (row_of : ℕ → SectionView → Read A) (name key : List
   rows_fit most document out e =
       let o = opened (elements name most document) _ out e in
       let none : AreRows [] [] = record { theirs = refl; distinct = tt; fit = All-nil Fits } in
-      let all = all_rows [] [] o.0 out none o.1.1 in
-      (omega (arith, few_in name most (get_member name document) o.0 o.1.0, all.1.1), all.0, all.1.0)
+      let all = all_rows [] [] o.0 out none o.2 in
+      (omega (arith, few_in name most (get_member name document) o.0 o.1, all.2), all.0, all.1)

@@ -4,6 +4,7 @@
 mod element;
 mod fault;
 mod found;
+mod laws;
 mod part;
 mod plans;
 mod rows;
@@ -14,5 +15,6 @@ mod unknown;
 mod values;
 mod words;
 
+pub use laws::what_is_read_fits;
 pub use fault::{ConfigFault, ConfigWhat};
 pub use plans::read_plans;
