@@ -1,3 +1,4 @@
+mod Counts
 mod Fitting
 mod FittingPlans
 mod FittingRows

@@ -73,6 +73,7 @@ fn elements<'a>(
     }
 }
 
+#[tactic(auto, using(crate::proofs::Counts::count_of_view))]
 fn elements_in<'a>(
     alloc: Global,
     value: &'a Value,

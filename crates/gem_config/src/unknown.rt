@@ -15,7 +15,7 @@ use std::alloc::Global;
 use toml::{Table, Value};
 
 /// The least of the keys that have no meaning, as a refusal names it. `None` where each key has one.
-#[tactic(auto, unfolding(crate::specs::Others::other_keys))]
+#[tactic(auto, using(crate::proofs::Counts::least_behind), unfolding(crate::specs::Others::other_keys))]
 pub(crate) fn least_other(alloc: Global, document: &Table) -> Result<Option<Row<u8>>, NoMemory>
     ensures { IfOk result (λ least. least ≡ least_of None (other_keys (table_view document.now))) }
 {
@@ -68,6 +68,7 @@ fn others_of(
     }
 }
 
+#[tactic(auto, using(crate::proofs::Counts::least_behind))]
 fn others_in_each(
     alloc: Global,
     part: Part,
@@ -83,6 +84,7 @@ fn others_in_each(
     Ok(least)
 }
 
+#[tactic(auto, using(crate::proofs::Counts::least_behind))]
 fn others_in_params(
     alloc: Global,
     commands: &[Value],

@@ -6,5 +6,5 @@ use Rattle.gem_config.proofs.rows.commands.Given as goal
 -- those so far, with those that are left, are all
 abbrev pub invariant-loop-value : goal.invariant-loop-value
 invariant-loop-value l =
-    commands_from l.name.now l.commands (items_view (drop l.value-index l.values))
-    ≡ commands_from l.name.now [] (items_view l.values)
+    commands_from l.name l.commands (items_view (drop l.value-index l.values))
+    ≡ commands_from l.name [] (items_view l.values)

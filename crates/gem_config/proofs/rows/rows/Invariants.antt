@@ -6,5 +6,5 @@ use Rattle.gem_config.proofs.rows.rows.Given as goal
 -- those so far, with those that are left, are all
 abbrev pub invariant-loop-value : goal.invariant-loop-value
 invariant-loop-value g l =
-    let from = rows_from g.T.Element.row_of l.name.now l.key.now l.least in
+    let from = rows_from g.T.Element.row_of l.name l.key l.least in
     from l.taken.keys l.rows (items_view (drop l.value-index l.values)) ≡ from [] [] (items_view l.values)

@@ -7,4 +7,4 @@ use Rattle.gem_config.proofs.unknown.others_in_each.Given as goal
 abbrev pub invariant-loop-value : goal.invariant-loop-value
 invariant-loop-value l =
     least_of l.least (others_in_each l.part (items_view (drop l.value-index l.values)))
-    ≡ least_of l.before (others_in_each l.part (items_view l.values))
+    ≡ least_of l.fn.before (others_in_each l.part (items_view l.values))

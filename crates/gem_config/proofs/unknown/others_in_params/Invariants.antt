@@ -7,4 +7,4 @@ use Rattle.gem_config.proofs.unknown.others_in_params.Given as goal
 abbrev pub invariant-loop-command : goal.invariant-loop-command
 invariant-loop-command l =
     least_of l.least (others_in_params (items_view (drop l.command-index l.commands)))
-    ≡ least_of l.before (others_in_params (items_view l.commands))
+    ≡ least_of l.fn.before (others_in_params (items_view l.commands))
