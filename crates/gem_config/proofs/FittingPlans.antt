@@ -25,12 +25,14 @@ use Rattle.toml.specs.Data.{Data, Items, no_items, item, Members, as_array, get_
 use Rattle.gem_config.specs.declared.fault.ConfigFault.{ConfigFault}
 use Rattle.gem_config.specs.declared.fault.ConfigWhat.TheVariants.{Kind, Range, Repeated}
 use Rattle.gem_config.specs.declared.plans.Tables.{Tables}
+use Rattle.gem_config.specs.declared.sections.Constants.{Constants}
+use Rattle.gem_config.specs.declared.sections.Identity.{Identity}
 use Rattle.gem_config.specs.declared.sections.ToolSection.{ToolSection}
 use Rattle.gem_config.specs.Others.{least_of, other_keys}
-use Rattle.gem_config.specs.Plans.{Means, host_enable_in, line_in, plans_from, plans_of, tables_of, tool_in, unless_other}
+use Rattle.gem_config.specs.Plans.{Means, built_in_of, host_enable_in, line_in, plans_from, plans_of, tables_of, tool_in, unless_other}
 use Rattle.gem_config.specs.Reading.{FoundView, Read, SectionView, at, key_of, refused, ◌>>=◌}
 use Rattle.gem_config.specs.Rows.{command_after, commands_from, commands_in, count_of, elements, rows_in, section, section_of}
-use Rattle.gem_config.specs.Sections.{alarm_of, command_of, constant_of, event_of, greatest, line_of, param, own_name, tool_of, variable_of, worth}
+use Rattle.gem_config.specs.Sections.{alarm_of, command_of, constant_of, constants_of, event_of, greatest, identity_of, line_of, param, own_name, tool_of, variable_of, worth}
 use Rattle.gem_config.specs.Values.{each_from, flag, is_short, item_text, list, needed, needed_in, number, of_kind, optional, optional_in, short_text, text, value_text, word}
 use Rattle.gem_config.specs.Words.{all_spooled, control_named, spooled_named}
 use Rattle.gem_config.proofs.Fitting.{between, line_fits, needed_step, number_step, opened, passed, same_Ok, short_parts, short_step}
@@ -143,12 +145,18 @@ spooled_fits key (Some d) out e =
 
 -- ---- [equipment]
 
+record IdentityFits (identity : Identity) : Type 0 where
+  pub mdln : IsShortText identity.mdln
+  pub softrev : IsShortText identity.softrev
+  pub control : identity.control ≢ Attempt
+
+record ConstantsAreIn (constants : Constants) : Type 0 where
+  pub slots : (1 ≤ constants.slots) × (constants.slots ≤ 1024)
+  pub built_in : IsTrue (list_all is_in_range (built_in_constants (built_in_of constants)))
+
 record ToolFits (tool : ToolSection) : Type 0 where
-  pub mdln : IsShortText tool.mdln
-  pub softrev : IsShortText tool.softrev
-  pub control : tool.control ≢ Attempt
-  pub slots : (1 ≤ tool.slots) × (tool.slots ≤ 1024)
-  pub built_in : IsTrue (list_all is_in_range (built_in_constants tool.built_in))
+  pub identity : IdentityFits tool.identity
+  pub constants : ConstantsAreIn tool.constants
   pub spooled : All CanBeSpooled tool.spooled
 
 worth_within : (b : Bool) → is_within 0 1 (worth b) ≡ true
@@ -162,27 +170,45 @@ built_in_fits a b c d ha hb hc hd = rw (ha, hb, hc, hd) refl
 short_fits : (s : List ℕ) → is_short 20 s ≡ true → IsShortText s
 short_fits s h = let parts = short_parts 20 s h in record { short = parts.0; ascii = parts.1 }
 
-tool_fits : (tool : SectionView) (out : ToolSection) → tool_of tool ≡ Ok out → ToolFits out
-unfolding tool_of
-tool_fits tool out e =
+identity_fits : (tool : SectionView) (out : Identity) → identity_of tool ≡ Ok out → IdentityFits out
+unfolding identity_of
+identity_fits tool out e =
     let mdln = short_step 20 (codes "GEMLINE") refl (at tool (codes "mdln")) _ out e in
     let softrev = short_step 20 (codes "1") refl (at tool (codes "softrev")) _ out mdln.2 in
     let enable = opened (optional true flag (at tool (codes "enable"))) _ out softrev.2 in
     let state = opened (optional Remote (word control_named) (at tool (codes "control"))) _ out enable.2 in
-    let slots = number_step 16 1 1024 refl (at tool (codes "slots")) _ out state.2 in
+    subst IdentityFits (same_Ok _ out state.2)
+    (record {
+      mdln = short_fits mdln.0 mdln.1;
+      softrev = short_fits softrev.0 softrev.1;
+      control = control_fits (at tool (codes "control")).key (at tool (codes "control")).held state.0 state.1
+    })
+
+constants_are_in : (tool : SectionView) (out : Constants) → constants_of tool ≡ Ok out → ConstantsAreIn out
+unfolding constants_of
+constants_are_in tool out e =
+    let slots = number_step 16 1 1024 refl (at tool (codes "slots")) _ out e in
     let spool = opened (optional true flag (at tool (codes "enable_spool"))) _ out slots.2 in
     let over = opened (optional true flag (at tool (codes "overwrite"))) _ out spool.2 in
     let most = number_step 0 0 greatest refl (at tool (codes "max_transmit")) _ out over.2 in
     let delay = number_step 10 1 120 refl (at tool (codes "delay")) _ out most.2 in
-    let spooled = opened (optional all_spooled (list (word spooled_named)) (at tool (codes "spooled"))) _ out delay.2 in
+    subst ConstantsAreIn (same_Ok _ out delay.2)
+    (record {
+      slots = between 1 1024 slots.0 slots.1;
+      built_in = built_in_fits delay.0 (worth spool.0) (worth over.0) most.0 delay.1 (worth_within spool.0) (worth_within over.0) most.1
+    })
+
+tool_fits : (tool : SectionView) (out : ToolSection) → tool_of tool ≡ Ok out → ToolFits out
+unfolding tool_of
+tool_fits tool out e =
+    let identity = opened (identity_of tool) _ out e in
+    let constants = opened (constants_of tool) _ out identity.2 in
+    let spooled = opened (optional all_spooled (list (word spooled_named)) (at tool (codes "spooled"))) _ out constants.2 in
     let terminals = number_step 1 0 255 refl (at tool (codes "terminals")) _ out spooled.2 in
     subst ToolFits (same_Ok _ out terminals.2)
     (record {
-      mdln = short_fits mdln.0 mdln.1;
-      softrev = short_fits softrev.0 softrev.1;
-      control = control_fits (at tool (codes "control")).key (at tool (codes "control")).held state.0 state.1;
-      slots = between 1 1024 slots.0 slots.1;
-      built_in = built_in_fits delay.0 (worth spool.0) (worth over.0) most.0 delay.1 (worth_within spool.0) (worth_within over.0) most.1;
+      identity = identity_fits tool identity.0 identity.1;
+      constants = constants_are_in tool constants.0 constants.1;
       spooled = spooled_fits (at tool (codes "spooled")).key (at tool (codes "spooled")).held spooled.0 spooled.1
     })
 
@@ -284,13 +310,13 @@ plans_fit document plans e =
     let tool_is = tool_fits of_tool.0 tool.0 of_tool.2 in
     let tables_are = tables_fit document tables.0 tables.1 in
     let vars : VarsFit (plans_from line.0 tool.0 tables.0 enable.0).equipment.vars =
-    record { variables = tables_are.variables; constants = tables_are.constants; built_in = tool_is.built_in } in
+    record { variables = tables_are.variables; constants = tables_are.constants; built_in = tool_is.constants.built_in } in
     let equipment : EquipmentPlanFits (plans_from line.0 tool.0 tables.0 enable.0).equipment =
     record {
       line = line_is;
-      mdln = tool_is.mdln;
-      softrev = tool_is.softrev;
-      control = tool_is.control;
+      mdln = tool_is.identity.mdln;
+      softrev = tool_is.identity.softrev;
+      control = tool_is.identity.control;
       spooled = tool_is.spooled;
       vars = vars;
       events = tables_are.events;
@@ -301,8 +327,8 @@ plans_fit document plans e =
     (record {
       equipment = equipment;
       host = record { line = line_is };
-      slots_at_least = tool_is.slots.0;
-      slots_at_most = tool_is.slots.1
+      slots_at_least = tool_is.constants.slots.0;
+      slots_at_most = tool_is.constants.slots.1
     })
 
 -- what a file means fits

@@ -3,3 +3,4 @@ mod Fitting
 mod FittingPlans
 mod FittingRows
 mod ItemTexts
+mod Meaning

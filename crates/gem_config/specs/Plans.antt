@@ -1,7 +1,8 @@
 -- What a plan file means: the plans of both ends, or the first refusal (this profile).
-use Rattle.std.specs.Prelude.{◌≡◌, ◌⊎◌, ℕ, Bool, List, [], codes, IsUtf8, Option, Some, None, Ok}
+use Rattle.std.specs.Prelude.{◌≡◌, ◌⊎◌, ℕ, Bool, List, [], ◌∷◌, codes, IsUtf8, IfErr, IfOk, ◌≢◌, Option, Some, None, Result, Ok, Err}
 use Rattle.equipment_node.specs.declared.plan.EquipmentPlan.{EquipmentPlan}
 use Rattle.equipment_node.specs.declared.plan.Plans.{Plans}
+use Rattle.equipment_node.specs.Plan.{PlansFit}
 use Rattle.gem_alarms.specs.declared.plan.AlarmPlan.{AlarmPlan}
 use Rattle.gem_remote.specs.declared.plan.CommandPlan.{CommandPlan}
 use Rattle.gem_remote.specs.declared.plan.RemotePlan.{RemotePlan}
@@ -12,13 +13,16 @@ use Rattle.line_end.specs.declared.plan.HostPlan.{HostPlan}
 use Rattle.line_end.specs.declared.plan.LinePlan.{LinePlan}
 use Rattle.toml.specs.Data.{Members}
 use Rattle.toml.specs.Parse.{parse_document}
+use Rattle.gem_config.specs.declared.fault.ConfigFault.{ConfigFault}
+use Rattle.gem_config.specs.declared.fault.ConfigFault.TheVariants as fault
 use Rattle.gem_config.specs.declared.fault.ConfigWhat.TheVariants.{Syntax, Unknown}
 use Rattle.gem_config.specs.declared.plans.Tables.{Tables}
+use Rattle.gem_config.specs.declared.sections.Constants.{Constants}
 use Rattle.gem_config.specs.declared.sections.ToolSection.{ToolSection}
 use Rattle.gem_config.specs.Others.{least_of, other_keys}
-use Rattle.gem_config.specs.Reading.{Read, refused, ◌>>=◌}
+use Rattle.gem_config.specs.Reading.{Gives, Read, refused, ◌>>=◌}
 use Rattle.gem_config.specs.Rows.{commands_in, rows_in, section}
-use Rattle.gem_config.specs.Sections.{alarm_of, constant_of, event_of, host_enable_of, line_of, tool_of, variable_of}
+use Rattle.gem_config.specs.Sections.{alarm_of, constant_of, event_of, host_enable_of, line_of, tool_of, variable_of, worth}
 
 -- each section that is an array, with how many elements it may have
 unfoldable pub tables_of : Members → Read Tables
@@ -30,20 +34,29 @@ tables_of document = do
   commands ← commands_in (codes "command") 256 document
   Ok (record { variables = variables; constants = constants; events = events; alarms = alarms; commands = commands })
 
+-- the constants that every equipment has, by their ECIDs from 1
+abbrev pub built_in_of : Constants → List ℕ
+built_in_of constants =
+    constants.delay ∷ worth constants.enable_spool ∷ worth constants.overwrite ∷ constants.max_transmit ∷ []
+
 -- the equipment, on its line
 abbrev pub equipment_of : LinePlan → ToolSection → Tables → EquipmentPlan
 equipment_of line tool tables =
     record {
       line = line;
-      mdln = tool.mdln;
-      softrev = tool.softrev;
-      enable = tool.enable;
-      control = tool.control;
+      mdln = tool.identity.mdln;
+      softrev = tool.identity.softrev;
+      enable = tool.identity.enable;
+      control = tool.identity.control;
       spooled = tool.spooled;
-      vars = record { variables = tables.variables; constants = tables.constants; built_in = tool.built_in };
+      vars = record {
+        variables = tables.variables;
+        constants = tables.constants;
+        built_in = built_in_of tool.constants
+      };
       events = tables.events;
       alarms = tables.alarms;
-      remote = record { commands = tables.commands; terminals = tool.terminals };
+      remote = record { commands = tables.commands; terminals = tool.terminals }
     }
 
 -- one line for both ends
@@ -52,7 +65,7 @@ plans_from line tool tables enable =
     record {
       equipment = equipment_of line tool tables;
       host = record { line = line; enable = enable };
-      slots = tool.slots;
+      slots = tool.constants.slots;
     }
 
 -- a key that has no meaning is refused last
@@ -87,3 +100,10 @@ abbrev pub Means : List ℕ → Read Plans → Type 0
 Means text read =
     ((document : Members) × IsDocument text document × (plans_of document ≡ read))
     ⊎ (((document : Members) → IsDocument text document → ⊥) × (refused [] Syntax ≡ read))
+
+-- What was returned is what the file means, and it fits; a refusal is the file's first, unless memory ran out.
+pub record IsReadAs (text : List ℕ) (result : Result Plans ConfigFault) : Type 0 where
+  pub found : IfOk result (λ plans. Means text (Ok plans))
+  pub fits : IfOk result PlansFit
+  pub refuses : IfErr result (λ e. e ≢ fault.NoMemory → Means text (Err e))
+  pub only : (read : Read Plans) → Means text read → Gives result read

@@ -12,6 +12,8 @@ use Rattle.line_end.specs.declared.plan.LinePlan.{LinePlan}
 use Rattle.line_end.specs.declared.plan.Times.{Times}
 use Rattle.toml.specs.Data.{Data, as_table}
 use Rattle.gem_config.specs.declared.fault.ConfigWhat.TheVariants.{Repeated}
+use Rattle.gem_config.specs.declared.sections.Constants.{Constants}
+use Rattle.gem_config.specs.declared.sections.Identity.{Identity}
 use Rattle.gem_config.specs.declared.sections.ToolSection.{ToolSection}
 use Rattle.gem_config.specs.Reading.{FoundView, Read, SectionView, at, key_of, refused, section_named, within, ◌>>=◌}
 use Rattle.gem_config.specs.Values.{Rule, flag, item_text, list, needed, number, of_kind, optional, short_text, text, value_text, word}
@@ -40,31 +42,38 @@ abbrev pub worth : Bool → ℕ
 worth true = 1
 worth false = 0
 
-unfoldable pub tool_of : SectionView → Read ToolSection
-tool_of tool = do
+unfoldable pub identity_of : SectionView → Read Identity
+identity_of tool = do
   mdln ← optional (codes "GEMLINE") (short_text 20) (at tool (codes "mdln"))
   softrev ← optional (codes "1") (short_text 20) (at tool (codes "softrev"))
   enable ← optional true flag (at tool (codes "enable"))
   control ← optional control.Remote (word control_named) (at tool (codes "control"))
+  Ok (record { mdln = mdln; softrev = softrev; enable = enable; control = control })
+
+unfoldable pub constants_of : SectionView → Read Constants
+constants_of tool = do
   slots ← optional 16 (number 1 1024) (at tool (codes "slots"))
   enable_spool ← optional true flag (at tool (codes "enable_spool"))
   overwrite ← optional true flag (at tool (codes "overwrite"))
   max_transmit ← optional 0 (number 0 greatest) (at tool (codes "max_transmit"))
   delay ← optional 10 (number 1 120) (at tool (codes "delay"))
+  Ok
+    (record {
+      slots = slots;
+      delay = delay;
+      enable_spool = enable_spool;
+      overwrite = overwrite;
+      max_transmit = max_transmit
+    })
+
+-- the keys of the section in their order
+unfoldable pub tool_of : SectionView → Read ToolSection
+tool_of tool = do
+  identity ← identity_of tool
+  constants ← constants_of tool
   spooled ← optional all_spooled (list (word spooled_named)) (at tool (codes "spooled"))
   terminals ← optional 1 (number 0 255) (at tool (codes "terminals"))
-  let built_in : List ℕ = delay ∷ worth enable_spool ∷ worth overwrite ∷ max_transmit ∷ []
-  Ok
-      (record {
-        mdln = mdln;
-        softrev = softrev;
-        enable = enable;
-        control = control;
-        slots = slots;
-        built_in = built_in;
-        spooled = spooled;
-        terminals = terminals;
-      })
+  Ok (record { identity = identity; constants = constants; spooled = spooled; terminals = terminals })
 
 abbrev pub host_enable_of : SectionView → Read Bool
 host_enable_of host = optional true flag (at host (codes "enable"))

@@ -1,15 +1,15 @@
 //! A whole plan file.
 
-ghost use Rattle.std.specs.Prelude.{◌≡◌, ◌≢◌, Ok, Err, IfErr, IfOk};
-ghost use Rattle.equipment_node.specs.declared.plan.Plans.{Plans};
+ghost use Rattle.std.specs.Prelude.{◌≡◌, ◌≢◌, [], false};
 ghost use Rattle.gem_config.specs.declared.fault.ConfigFault.TheVariants as faults;
-ghost use Rattle.gem_config.specs.Plans.{Means, host_enable_in, line_in, plans_from, plans_of, tables_of, tool_in};
-ghost use Rattle.gem_config.specs.Reading.{Gives, Read};
+ghost use Rattle.gem_config.specs.declared.fault.ConfigWhat.TheVariants as syntax;
+ghost use Rattle.gem_config.specs.Plans.{IsReadAs, built_in_of, host_enable_in, line_in, plans_from, plans_of, tables_of, tool_in};
+ghost use Rattle.gem_config.specs.Reading.{Gives};
 ghost use Rattle.toml.specs.View.{table_view};
 
 use crate::fault::{ConfigFault, ConfigWhat};
 use crate::rows::{commands, refusal, rows, section};
-use crate::sections::{ToolSection, host_enable_of, line_of, tool_of};
+use crate::sections::{Constants, ToolSection, host_enable_of, line_of, tool_of, worth};
 use crate::unknown::least_other;
 use equipment_node::{EquipmentPlan, HostPlan, Plans};
 use gem_alarms::AlarmPlan;
@@ -47,12 +47,7 @@ pub(crate) struct Tables {
 /// The plans of both ends that a plan file means. A refusal is the first in the order of the key table; where memory
 /// runs out nothing is said of the file.
 pub fn read_plans(alloc: Global, text: &[u8]) -> Result<Plans, ConfigFault>
-    // What is returned is what the file means.
-    ensures found { IfOk result (λ plans. Means text.now (Ok plans)) }
-    // What is refused has this first refusal, unless memory ran out.
-    ensures refused { IfErr result (λ e. e ≢ faults.NoMemory → Means text.now (Err e)) }
-    // What the file means is returned or refused, unless memory runs out.
-    ensures only { (read : Read Plans) → Means text.now read → Gives result read }
+    ensures { IsReadAs text.now result }
 {
     let Ok(text) = std::str::from_utf8(text) else {
         return Err(refusal(alloc, "", ConfigWhat::Syntax));
@@ -63,7 +58,10 @@ pub fn read_plans(alloc: Global, text: &[u8]) -> Result<Plans, ConfigFault>
     }
 }
 
-fn not_toml(alloc: Global, is_memory: bool) -> ConfigFault {
+/// The refusal of a text that is no TOML, unless memory ran out.
+fn not_toml(alloc: Global, is_memory: bool) -> ConfigFault
+    ensures { result ≢ faults.NoMemory → (is_memory ≡ false) × (result ≡ faults.Key [] syntax.Syntax) }
+{
     if is_memory {
         return ConfigFault::NoMemory;
     }
@@ -136,15 +134,16 @@ fn tables_of(alloc: Global, document: &Table) -> Result<Tables, ConfigFault>
 fn plans_from(line: LinePlan, tool: ToolSection, tables: Tables, enable: bool) -> Plans
     ensures { result ≡ plans_from line tool tables enable }
 {
-    let built_in = tool.built_in;
+    let slots = tool.constants.slots;
+    let built_in = built_in_of(tool.constants);
     Plans {
-        slots: tool.slots,
+        slots,
         equipment: EquipmentPlan {
             line,
-            mdln: tool.mdln,
-            softrev: tool.softrev,
-            enable: tool.enable,
-            control: tool.control,
+            mdln: tool.identity.mdln,
+            softrev: tool.identity.softrev,
+            enable: tool.identity.enable,
+            control: tool.identity.control,
             spooled: tool.spooled,
             vars: VarsPlan {
                 variables: tables.variables,
@@ -160,4 +159,13 @@ fn plans_from(line: LinePlan, tool: ToolSection, tables: Tables, enable: bool) -
         },
         host: HostPlan { line, enable },
     }
+}
+
+/// The values of the constants that every equipment has, by their ECIDs from 1.
+fn built_in_of(constants: Constants) -> [u32; 4]
+    ensures { result ≡ built_in_of constants }
+{
+    let enable_spool = worth(constants.enable_spool);
+    let overwrite = worth(constants.overwrite);
+    [constants.delay, enable_spool, overwrite, constants.max_transmit]
 }

@@ -3,7 +3,7 @@
 ghost use Rattle.std.specs.Prelude.{◌≡◌};
 ghost use Rattle.gem_config.specs.Found.{section_view};
 ghost use Rattle.gem_config.specs.Reading.{Gives};
-ghost use Rattle.gem_config.specs.Sections.{host_enable_of, line_of, tool_of, worth};
+ghost use Rattle.gem_config.specs.Sections.{constants_of, host_enable_of, identity_of, line_of, tool_of, worth};
 
 use crate::fault::ConfigFault;
 use crate::found::Section;
@@ -15,15 +15,29 @@ use line_end::{LinePlan, Times};
 /// What the section of the equipment says.
 #[derive(Drop)]
 pub(crate) struct ToolSection {
+    pub(crate) identity: Identity,
+    pub(crate) constants: Constants,
+    pub(crate) spooled: Row<RuleEntry>,
+    pub(crate) terminals: u8,
+}
+
+/// What the tool is, and how it begins.
+#[derive(Drop)]
+pub(crate) struct Identity {
     pub(crate) mdln: Row<u8>,
     pub(crate) softrev: Row<u8>,
     pub(crate) enable: bool,
     pub(crate) control: ControlState,
+}
+
+/// The room of the spool, and the values of the constants that every equipment has, by their ECIDs from 1.
+#[derive(Clone, Copy)]
+pub(crate) struct Constants {
     pub(crate) slots: u32,
-    /// The values of the constants that every equipment has, by their ECIDs from 1.
-    pub(crate) built_in: [u32; 4],
-    pub(crate) spooled: Row<RuleEntry>,
-    pub(crate) terminals: u8,
+    pub(crate) delay: u32,
+    pub(crate) enable_spool: bool,
+    pub(crate) overwrite: bool,
+    pub(crate) max_transmit: u32,
 }
 
 #[tactic(auto, unfolding(crate::specs::Sections::line_of))]
@@ -50,26 +64,49 @@ pub(crate) fn line_of(line: &Section<'_>) -> Result<LinePlan, ConfigFault>
 pub(crate) fn tool_of(tool: &Section<'_>) -> Result<ToolSection, ConfigFault>
     ensures { Gives result (tool_of (section_view tool.now)) }
 {
+    let identity = identity_of(tool)?;
+    let constants = constants_of(tool)?;
+    let spooled = tool.at("spooled").spooled_or_all()?;
+    let terminals = tool.at("terminals").number_or(0, 255, 1)? as u8;
+    Ok(ToolSection {
+        identity,
+        constants,
+        spooled,
+        terminals,
+    })
+}
+
+#[tactic(auto, unfolding(crate::specs::Sections::identity_of))]
+fn identity_of(tool: &Section<'_>) -> Result<Identity, ConfigFault>
+    ensures { Gives result (identity_of (section_view tool.now)) }
+{
     let mdln = tool.at("mdln").short_text_or(20, "GEMLINE")?;
     let softrev = tool.at("softrev").short_text_or(20, "1")?;
     let enable = tool.at("enable").flag_or(true)?;
     let control = tool.at("control").control_or_remote()?;
+    Ok(Identity {
+        mdln: Row::of(tool.alloc, mdln.as_bytes())?,
+        softrev: Row::of(tool.alloc, softrev.as_bytes())?,
+        enable,
+        control,
+    })
+}
+
+#[tactic(auto, unfolding(crate::specs::Sections::constants_of))]
+fn constants_of(tool: &Section<'_>) -> Result<Constants, ConfigFault>
+    ensures { Gives result (constants_of (section_view tool.now)) }
+{
     let slots = tool.at("slots").number_or(1, 1_024, 16)?;
     let enable_spool = tool.at("enable_spool").flag_or(true)?;
     let overwrite = tool.at("overwrite").flag_or(true)?;
     let max_transmit = tool.at("max_transmit").number_or(0, u32::MAX, 0)?;
     let delay = tool.at("delay").number_or(1, 120, 10)?;
-    let spooled = tool.at("spooled").spooled_or_all()?;
-    let terminals = tool.at("terminals").number_or(0, 255, 1)? as u8;
-    Ok(ToolSection {
-        mdln: Row::of(tool.alloc, mdln.as_bytes())?,
-        softrev: Row::of(tool.alloc, softrev.as_bytes())?,
-        enable,
-        control,
+    Ok(Constants {
         slots,
-        built_in: [delay, worth(enable_spool), worth(overwrite), max_transmit],
-        spooled,
-        terminals,
+        delay,
+        enable_spool,
+        overwrite,
+        max_transmit,
     })
 }
 
@@ -79,7 +116,8 @@ pub(crate) fn host_enable_of(host: &Section<'_>) -> Result<bool, ConfigFault>
     host.at("enable").flag_or(true)
 }
 
-fn worth(flag: bool) -> u32
+/// 1 for true, as a constant has it.
+pub(crate) fn worth(flag: bool) -> u32
     ensures { result ≡ worth flag }
 {
     if flag { 1 } else { 0 }
