@@ -33,17 +33,3 @@ by_document text document is (Err e) gives = record {
     refuses = λ real. inl (document, is, gives real);
     only = λ read m real. only_by text document is read m ∙ gives real
   }
-
-only_refused : (text : List ℕ) → ((document : Members) → IsDocument text document → ⊥) → (read : Read Plans) → Means text read
-    → read ≡ refused [] Syntax
-only_refused text none read (inl m) = absurd (none m.0 m.1)
-only_refused text none read (inr m) = sym m.1
-
-pub by_none : (text : List ℕ) → ((document : Members) → IsDocument text document → ⊥) → (e : ConfigFault)
-    → (e ≢ fault.NoMemory → e ≡ fault.Key [] Syntax) → IsReadAs text (Err e)
-by_none text none e is = record {
-    found = tt;
-    fits = tt;
-    refuses = λ real. inr (none, ap Err (sym (is real)));
-    only = λ read m real. only_refused text none read m ∙ ap Err (sym (is real))
-  }

@@ -134,17 +134,23 @@ fn tables_of(alloc: Global, document: &Table) -> Result<Tables, ConfigFault>
 fn plans_from(line: LinePlan, tool: ToolSection, tables: Tables, enable: bool) -> Plans
     ensures { result ≡ plans_from line tool tables enable }
 {
-    let slots = tool.constants.slots;
-    let built_in = built_in_of(tool.constants);
+    let ToolSection {
+        identity,
+        constants,
+        spooled,
+        terminals,
+    } = tool;
+    let slots = constants.slots;
+    let built_in = built_in_of(constants);
     Plans {
         slots,
         equipment: EquipmentPlan {
             line,
-            mdln: tool.identity.mdln,
-            softrev: tool.identity.softrev,
-            enable: tool.identity.enable,
-            control: tool.identity.control,
-            spooled: tool.spooled,
+            mdln: identity.mdln,
+            softrev: identity.softrev,
+            enable: identity.enable,
+            control: identity.control,
+            spooled,
             vars: VarsPlan {
                 variables: tables.variables,
                 constants: tables.constants,
@@ -154,7 +160,7 @@ fn plans_from(line: LinePlan, tool: ToolSection, tables: Tables, enable: bool) -
             alarms: tables.alarms,
             remote: RemotePlan {
                 commands: tables.commands,
-                terminals: tool.terminals,
+                terminals,
             },
         },
         host: HostPlan { line, enable },
