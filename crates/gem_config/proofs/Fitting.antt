@@ -135,7 +135,7 @@ line_fits line plan e =
       t1_at_most = t1_in.1;
       t2_at_least = t2_in.0;
       t2_at_most = t2_in.1;
-      rty_at_most = (between 0 31 rty.0 rty.1).1
+      rty_at_most = (between 0 31 rty.0 rty.1).1;
     } in
     subst LinePlanFits (same_Ok _ plan max_body.2)
     (record {
@@ -146,5 +146,5 @@ line_fits line plan e =
       t4_at_least = t4_in.0;
       t4_at_most = t4_in.1;
       max_body_at_least = max_in.0;
-      max_body_at_most = max_in.1
+      max_body_at_most = max_in.1;
     })

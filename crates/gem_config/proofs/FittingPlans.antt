@@ -181,7 +181,7 @@ identity_fits tool out e =
     (record {
       mdln = short_fits mdln.0 mdln.1;
       softrev = short_fits softrev.0 softrev.1;
-      control = control_fits (at tool (codes "control")).key (at tool (codes "control")).held state.0 state.1
+      control = control_fits (at tool (codes "control")).key (at tool (codes "control")).held state.0 state.1;
     })
 
 constants_are_in : (tool : SectionView) (out : Constants) → constants_of tool ≡ Ok out → ConstantsAreIn out
@@ -195,7 +195,7 @@ constants_are_in tool out e =
     subst ConstantsAreIn (same_Ok _ out delay.2)
     (record {
       slots = between 1 1024 slots.0 slots.1;
-      built_in = built_in_fits delay.0 (worth spool.0) (worth over.0) most.0 delay.1 (worth_within spool.0) (worth_within over.0) most.1
+      built_in = built_in_fits delay.0 (worth spool.0) (worth over.0) most.0 delay.1 (worth_within spool.0) (worth_within over.0) most.1;
     })
 
 tool_fits : (tool : SectionView) (out : ToolSection) → tool_of tool ≡ Ok out → ToolFits out
@@ -209,7 +209,7 @@ tool_fits tool out e =
     (record {
       identity = identity_fits tool identity.0 identity.1;
       constants = constants_are_in tool constants.0 constants.1;
-      spooled = spooled_fits (at tool (codes "spooled")).key (at tool (codes "spooled")).held spooled.0 spooled.1
+      spooled = spooled_fits (at tool (codes "spooled")).key (at tool (codes "spooled")).held spooled.0 spooled.1;
     })
 
 -- ---- commands
@@ -247,8 +247,8 @@ commands_apart name before no_items out apart e =
 commands_apart name before (item d ds) out apart e =
     let o = opened (command_after name before d) _ out e in
     let more = commands_apart name (before ++ o.0 ∷ []) ds out
-        (subst (IsDistinct bytes_eq) (sym (map-append (λ (c : CommandPlan). c.name) before (o.0 ∷ [])))
-        (IsDistinct-push nat_list_eq_equiv (names_of before) o.0.name apart (new_after name before d o.0 o.1))) o.2 in
+    (subst (IsDistinct bytes_eq) (sym (map-append (λ (c : CommandPlan). c.name) before (o.0 ∷ [])))
+    (IsDistinct-push nat_list_eq_equiv (names_of before) o.0.name apart (new_after name before d o.0 o.1))) o.2 in
     (more.0, omega (arith, more.1, length-append before (o.0 ∷ [])))
 
 commands_fit : (most : ℕ) (name : List ℕ) (document : Members) (out : List CommandPlan) → commands_in name most document ≡ Ok out
@@ -289,7 +289,7 @@ tables_fit document tables e =
       events = record { few = of_events.0; distinct = subst (IsDistinct nat_eq) (map-id events.0) of_events.2 };
       alarms = record { few = of_alarms.0; each = of_alarms.1; distinct = of_alarms.2 };
       few = of_commands.0;
-      distinct = of_commands.1
+      distinct = of_commands.1;
     })
 
 unless_other_is : {A : Type 0} (o : Option (List ℕ)) (x y : A) → unless_other o x ≡ Ok y → x ≡ y
@@ -321,14 +321,14 @@ plans_fit document plans e =
       vars = vars;
       events = tables_are.events;
       alarms = tables_are.alarms;
-      remote = record { few = tables_are.few; distinct = tables_are.distinct }
+      remote = record { few = tables_are.few; distinct = tables_are.distinct };
     } in
     subst PlansFit made
     (record {
       equipment = equipment;
       host = record { line = line_is };
       slots_at_least = tool_is.constants.slots.0;
-      slots_at_most = tool_is.constants.slots.1
+      slots_at_most = tool_is.constants.slots.1;
     })
 
 -- what a file means fits

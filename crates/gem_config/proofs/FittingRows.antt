@@ -36,7 +36,6 @@ few_in name most (Some d) es e =
 
 module _ {A : Type 0} (row_of : ℕ → SectionView → Read A) (name key : List ℕ) (least : ℕ) (id_of : A → ℕ)
     (Fits : A → Type 0) (fits_row : (id : ℕ) (element : SectionView) (row : A) → least ≤ id → row_of id element ≡ Ok row → Fits row × (id_of row ≡ id)) where
-
   -- the rows so far fit, and those taken are theirs, each once
   pub record AreRows (taken : List ℕ) (rows : List A) : Type 0 where
     pub theirs : taken ≡ map id_of rows
@@ -51,10 +50,10 @@ module _ {A : Type 0} (row_of : ℕ → SectionView → Read A) (name key : List
   more_rows : (taken : List ℕ) (rows : List A) (id : ℕ) (row : A) → AreRows taken rows → list_any (nat_eq id) taken ≡ false
       → Fits row → id_of row ≡ id → AreRows (taken ++ id ∷ []) (rows ++ row ∷ [])
   more_rows taken rows id row are fresh fits same = record {
-      theirs = ap (λ t. t ++ id ∷ []) are.theirs ∙ ap (λ i. map id_of rows ++ i ∷ []) (sym same) ∙ sym (map-append id_of rows (row ∷ []));
-      distinct = IsDistinct-push nat_eq_equiv taken id are.distinct fresh;
-      fit = All-append Fits rows (row ∷ []) are.fit (All-cons Fits row [] fits (All-nil Fits))
-    }
+    theirs = ap (λ t. t ++ id ∷ []) are.theirs ∙ ap (λ i. map id_of rows ++ i ∷ []) (sym same) ∙ sym (map-append id_of rows (row ∷ []));
+    distinct = IsDistinct-push nat_eq_equiv taken id are.distinct fresh;
+    fit = All-append Fits rows (row ∷ []) are.fit (All-cons Fits row [] fits (All-nil Fits));
+  }
 
   one_row : (taken : List ℕ) (rows : List A) (d : Data) (x : List ℕ × A) → AreRows taken rows
       → row_after row_of name key least taken d ≡ Ok x → AreRows x.0 (rows ++ x.1 ∷ [])

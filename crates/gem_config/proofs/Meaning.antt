@@ -22,14 +22,14 @@ only_by text document is read (inr m) = absurd (m.0 document is)
 pub by_document : (text : List ℕ) (document : Members) → IsDocument text document → (result : Result Plans ConfigFault)
     → Gives result (plans_of document) → IsReadAs text result
 by_document text document is (Ok plans) gives = record {
-    found = inl (document, is, gives);
-    fits = plans_fit document plans gives;
-    refuses = tt;
-    only = λ read m. only_by text document is read m ∙ gives
-  }
+  found = inl (document, is, gives);
+  fits = plans_fit document plans gives;
+  refuses = tt;
+  only = λ read m. only_by text document is read m ∙ gives;
+}
 by_document text document is (Err e) gives = record {
-    found = tt;
-    fits = tt;
-    refuses = λ real. inl (document, is, gives real);
-    only = λ read m real. only_by text document is read m ∙ gives real
-  }
+  found = tt;
+  fits = tt;
+  refuses = λ real. inl (document, is, gives real);
+  only = λ read m real. only_by text document is read m ∙ gives real;
+}

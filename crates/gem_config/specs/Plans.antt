@@ -52,11 +52,11 @@ equipment_of line tool tables =
       vars = record {
         variables = tables.variables;
         constants = tables.constants;
-        built_in = built_in_of tool.constants
+        built_in = built_in_of tool.constants;
       };
       events = tables.events;
       alarms = tables.alarms;
-      remote = record { commands = tables.commands; terminals = tool.terminals }
+      remote = record { commands = tables.commands; terminals = tool.terminals };
     }
 
 -- one line for both ends

@@ -58,13 +58,13 @@ constants_of tool = do
   max_transmit ← optional 0 (number 0 greatest) (at tool (codes "max_transmit"))
   delay ← optional 10 (number 1 120) (at tool (codes "delay"))
   Ok
-    (record {
-      slots = slots;
-      delay = delay;
-      enable_spool = enable_spool;
-      overwrite = overwrite;
-      max_transmit = max_transmit
-    })
+      (record {
+        slots = slots;
+        delay = delay;
+        enable_spool = enable_spool;
+        overwrite = overwrite;
+        max_transmit = max_transmit;
+      })
 
 -- the keys of the section in their order
 unfoldable pub tool_of : SectionView → Read ToolSection

@@ -15,6 +15,6 @@ mod unknown;
 mod values;
 mod words;
 
-pub use laws::what_is_read_fits;
 pub use fault::{ConfigFault, ConfigWhat};
+pub use laws::what_is_read_fits;
 pub use plans::read_plans;

@@ -173,5 +173,10 @@ fn built_in_of(constants: Constants) -> [u32; 4]
 {
     let enable_spool = worth(constants.enable_spool);
     let overwrite = worth(constants.overwrite);
-    [constants.delay, enable_spool, overwrite, constants.max_transmit]
+    [
+        constants.delay,
+        enable_spool,
+        overwrite,
+        constants.max_transmit,
+    ]
 }

@@ -8,4 +8,4 @@ abbrev pub invariant-members : goal.invariant-members
 invariant-members l =
     (goal.iterator-members).can_next l.key-iterator × (goal.iterator-members).is_finite l.key-iterator
     × (least_of l.least (others l.part (members_view l.key-iterator))
-      ≡ least_of l.fn.before (others l.part (members_view l.members.entries)))
+    ≡ least_of l.fn.before (others l.part (members_view l.members.entries)))
