@@ -22,7 +22,8 @@ use Rattle.gem_config.specs.Sections.{line_of}
 use Rattle.gem_config.specs.Values.{in_range, is_ascii, is_short, needed, needed_in, number, of_kind, optional, optional_in, short_text, text}
 
 -- what two steps give, each gives
-pub opened : {A B : Type 0} (r : Read A) (f : A → Read B) (y : B) → (r >>= f) ≡ Ok y → (x : A) × (r ≡ Ok x) × (f x ≡ Ok y)
+pub opened : {A B : Type 0} (r : Read A) (f : A → Read B) (y : B) → (r >>= f) ≡ Ok y
+    → (x : A) × (r ≡ Ok x) × (f x ≡ Ok y)
 opened (Ok x) f y e = (x, refl, e)
 opened (Err fault) f y e = absurd cc
 
@@ -44,24 +45,27 @@ between least most n h =
 
 -- ---- numbers
 
-in_range_within : (least most : ℕ) (key : List ℕ) (z : ℤ) (n : ℕ) → in_range least most key z ≡ Ok n → is_within least most n ≡ true
+in_range_within : (least most : ℕ) (key : List ℕ) (z : ℤ) (n : ℕ) → in_range least most key z ≡ Ok n
+    → is_within least most n ≡ true
 in_range_within least most key (pos m) n e =
     let p = passed (is_within least most m) m n key Range e in
     subst (λ x. is_within least most x ≡ true) p.1 p.0
 in_range_within least most key (negsuc m) n e = absurd cc
 
-pub number_within : (least most : ℕ) (key : List ℕ) (d : Data) (n : ℕ) → number least most key d ≡ Ok n → is_within least most n ≡ true
+pub number_within : (least most : ℕ) (key : List ℕ) (d : Data) (n : ℕ) → number least most key d ≡ Ok n
+    → is_within least most n ≡ true
 number_within least most key d n e =
     let o = opened (of_kind key (as_integer d)) (in_range least most key) n e in
     in_range_within least most key o.0 n o.2
 
-pub needed_within : (least most : ℕ) (key : List ℕ) (held : Option Data) (n : ℕ) → needed_in (number least most) key held ≡ Ok n
-    → is_within least most n ≡ true
+pub needed_within : (least most : ℕ) (key : List ℕ) (held : Option Data) (n : ℕ)
+    → needed_in (number least most) key held ≡ Ok n → is_within least most n ≡ true
 needed_within least most key None n e = absurd cc
 needed_within least most key (Some d) n e = number_within least most key d n e
 
-optional_within : (default least most : ℕ) → is_within least most default ≡ true → (key : List ℕ) (held : Option Data) (n : ℕ)
-    → optional_in default (number least most) key held ≡ Ok n → is_within least most n ≡ true
+optional_within : (default least most : ℕ) → is_within least most default ≡ true
+    → (key : List ℕ) (held : Option Data) (n : ℕ) → optional_in default (number least most) key held ≡ Ok n
+    → is_within least most n ≡ true
 optional_within default least most by_default key None n e =
     subst (λ x. is_within least most x ≡ true) (same_Ok default n e) by_default
 optional_within default least most by_default key (Some d) n e = number_within least most key d n e
@@ -83,14 +87,16 @@ needed_step least most found f y e =
 
 -- ---- texts
 
-short_within : (longest : ℕ) (key : List ℕ) (d : Data) (s : List ℕ) → short_text longest key d ≡ Ok s → is_short longest s ≡ true
+short_within : (longest : ℕ) (key : List ℕ) (d : Data) (s : List ℕ) → short_text longest key d ≡ Ok s
+    → is_short longest s ≡ true
 short_within longest key d s e =
     let o = opened (text key d) _ s e in
     let p = passed (is_short longest o.0) o.0 s key Range o.2 in
     subst (λ x. is_short longest x ≡ true) p.1 p.0
 
-optional_short : (longest : ℕ) (default : List ℕ) → is_short longest default ≡ true → (key : List ℕ) (held : Option Data) (s : List ℕ)
-    → optional_in default (short_text longest) key held ≡ Ok s → is_short longest s ≡ true
+optional_short : (longest : ℕ) (default : List ℕ) → is_short longest default ≡ true
+    → (key : List ℕ) (held : Option Data) (s : List ℕ) → optional_in default (short_text longest) key held ≡ Ok s
+    → is_short longest s ≡ true
 optional_short longest default by_default key None s e =
     subst (λ x. is_short longest x ≡ true) (same_Ok default s e) by_default
 optional_short longest default by_default key (Some d) s e = short_within longest key d s e

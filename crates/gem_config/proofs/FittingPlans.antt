@@ -40,7 +40,8 @@ use Rattle.gem_config.proofs.FittingRows.{few_in, rows_fit}
 
 -- ---- variables, constants, alarms
 
-value_within : (key : List ℕ) (held : Option Data) (x : Item) → needed_in value_text key held ≡ Ok x → value_fits x ≡ true
+value_within : (key : List ℕ) (held : Option Data) (x : Item) → needed_in value_text key held ≡ Ok x
+    → value_fits x ≡ true
 value_within key None x e = absurd cc
 value_within key (Some d) x e =
     let o = opened (item_text key d) _ x e in
@@ -81,7 +82,8 @@ alarm_fits alid element row low e =
     subst (λ (r : AlarmPlan). AlarmFits r × (r.alid ≡ alid)) (same_Ok _ row enabled.2)
     (record { category = omega (arith, category_in.1); text = parts.0; ascii = parts.1 }, refl)
 
-event_is : (ceid : ℕ) (element : SectionView) (row : ℕ) → 0 ≤ ceid → event_of ceid element ≡ Ok row → Unit {0} × (row ≡ ceid)
+event_is : (ceid : ℕ) (element : SectionView) (row : ℕ) → 0 ≤ ceid → event_of ceid element ≡ Ok row
+    → Unit {0} × (row ≡ ceid)
 unfolding event_of
 event_is ceid element row low e =
     let name = opened (optional [] text (at element (codes "name"))) _ row e in (tt, sym (same_Ok ceid row name.2))
@@ -99,23 +101,23 @@ word_means meaning key d x e =
     let o = opened (text key d) _ x e in (o.0, found_word (meaning o.0) _ x o.2)
 
 control_apart : (b c d f : Bool) (state : ControlState)
-    → cond b (Some EquipmentOffline) (cond c (Some HostOffline) (cond d (Some Local) (cond f (Some Remote) None))) ≡ Some state
-    → state ≢ Attempt
+    → cond b (Some EquipmentOffline) (cond c (Some HostOffline) (cond d (Some Local) (cond f (Some Remote) None)))
+    ≡ Some state → state ≢ Attempt
 control_apart true c d f state e = λ h. absurd cc
 control_apart false true d f state e = λ h. absurd cc
 control_apart false false true f state e = λ h. absurd cc
 control_apart false false false true state e = λ h. absurd cc
 control_apart false false false false state e = absurd cc
 
-control_fits : (key : List ℕ) (held : Option Data) (state : ControlState) → optional_in Remote (word control_named) key held ≡ Ok state
-    → state ≢ Attempt
+control_fits : (key : List ℕ) (held : Option Data) (state : ControlState)
+    → optional_in Remote (word control_named) key held ≡ Ok state → state ≢ Attempt
 control_fits key None state e = λ h. absurd cc
 control_fits key (Some d) state e =
     let w = word_means control_named key d state e in control_apart _ _ _ _ state w.1
 
 spoolable : (b c d : Bool) (entry : RuleEntry)
-    → cond b (Some (function_of 5 1)) (cond c (Some (function_of 6 11)) (cond d (Some (function_of 10 1)) None)) ≡ Some entry
-    → CanBeSpooled entry
+    → cond b (Some (function_of 5 1)) (cond c (Some (function_of 6 11)) (cond d (Some (function_of 10 1)) None))
+    ≡ Some entry → CanBeSpooled entry
 spoolable true c d entry e = let same : function_of 5 1 ≡ entry = cc in inl (sym same)
 spoolable false true d entry e = let same : function_of 6 11 ≡ entry = cc in inr (inl (sym same))
 spoolable false false true entry e = let same : function_of 10 1 ≡ entry = cc in inr (inr (sym same))
@@ -192,10 +194,12 @@ constants_are_in tool out e =
     let over = opened (optional true flag (at tool (codes "overwrite"))) _ out spool.2 in
     let most = number_step 0 0 greatest refl (at tool (codes "max_transmit")) _ out over.2 in
     let delay = number_step 10 1 120 refl (at tool (codes "delay")) _ out most.2 in
+    let spool_in = worth_within spool.0 in
+    let over_in = worth_within over.0 in
     subst ConstantsAreIn (same_Ok _ out delay.2)
     (record {
       slots = between 1 1024 slots.0 slots.1;
-      built_in = built_in_fits delay.0 (worth spool.0) (worth over.0) most.0 delay.1 (worth_within spool.0) (worth_within over.0) most.1;
+      built_in = built_in_fits delay.0 (worth spool.0) (worth over.0) most.0 delay.1 spool_in over_in most.1;
     })
 
 tool_fits : (tool : SectionView) (out : ToolSection) → tool_of tool ≡ Ok out → ToolFits out
@@ -203,22 +207,25 @@ unfolding tool_of
 tool_fits tool out e =
     let identity = opened (identity_of tool) _ out e in
     let constants = opened (constants_of tool) _ out identity.2 in
-    let spooled = opened (optional all_spooled (list (word spooled_named)) (at tool (codes "spooled"))) _ out constants.2 in
+    let at_spooled = at tool (codes "spooled") in
+    let spooled = opened (optional all_spooled (list (word spooled_named)) at_spooled) _ out constants.2 in
     let terminals = number_step 1 0 255 refl (at tool (codes "terminals")) _ out spooled.2 in
     subst ToolFits (same_Ok _ out terminals.2)
     (record {
       identity = identity_fits tool identity.0 identity.1;
       constants = constants_are_in tool constants.0 constants.1;
-      spooled = spooled_fits (at tool (codes "spooled")).key (at tool (codes "spooled")).held spooled.0 spooled.1;
+      spooled = spooled_fits at_spooled.key at_spooled.held spooled.0 spooled.1;
     })
 
 -- ---- commands
 
-any_name : (name : List ℕ) (commands : List CommandPlan) → list_any (has_name name) commands ≡ list_any (bytes_eq name) (names_of commands)
+any_name : (name : List ℕ) (commands : List CommandPlan)
+    → list_any (has_name name) commands ≡ list_any (bytes_eq name) (names_of commands)
 any_name name [] = refl
 any_name name (c ∷ commands) = ap (λ b. bytes_eq name c.name || b) (any_name name commands)
 
-owned_name : (key : List ℕ) (said name : List ℕ) (b : Bool) → cond b (refused key Repeated) (Ok said) ≡ Ok name → (b ≡ false) × (said ≡ name)
+owned_name : (key : List ℕ) (said name : List ℕ) (b : Bool) → cond b (refused key Repeated) (Ok said) ≡ Ok name
+    → (b ≡ false) × (said ≡ name)
 owned_name key said name true e = absurd cc
 owned_name key said name false e = (refl, cc)
 
@@ -235,15 +242,17 @@ new_name before element c e =
     subst (λ (x : CommandPlan). list_any (bytes_eq x.name) (names_of before) ≡ false) (same_Ok _ c params.2)
     (sym (any_name name.0 before) ∙ fresh)
 
-new_after : (name : List ℕ) (before : List CommandPlan) (d : Data) (c : CommandPlan) → command_after name before d ≡ Ok c
-    → list_any (bytes_eq c.name) (names_of before) ≡ false
+new_after : (name : List ℕ) (before : List CommandPlan) (d : Data) (c : CommandPlan)
+    → command_after name before d ≡ Ok c → list_any (bytes_eq c.name) (names_of before) ≡ false
 unfolding command_after
 new_after name before d c e = let o = opened (section_of name d) _ c e in new_name before o.0 c o.2
 
-commands_apart : (name : List ℕ) (before : List CommandPlan) (ds : Items) (out : List CommandPlan) → IsDistinct bytes_eq (names_of before)
-    → commands_from name before ds ≡ Ok out → IsDistinct bytes_eq (names_of out) × (length out ≡ length before + count_of ds)
+commands_apart : (name : List ℕ) (before : List CommandPlan) (ds : Items) (out : List CommandPlan)
+    → IsDistinct bytes_eq (names_of before) → commands_from name before ds ≡ Ok out
+    → IsDistinct bytes_eq (names_of out) × (length out ≡ length before + count_of ds)
 commands_apart name before no_items out apart e =
-    subst (λ o. IsDistinct bytes_eq (names_of o) × (length o ≡ length before + 0)) (same_Ok before out e) (apart, omega arith)
+    subst (λ o. IsDistinct bytes_eq (names_of o) × (length o ≡ length before + 0)) (same_Ok before out e)
+    (apart, omega arith)
 commands_apart name before (item d ds) out apart e =
     let o = opened (command_after name before d) _ out e in
     let more = commands_apart name (before ++ o.0 ∷ []) ds out
@@ -251,8 +260,8 @@ commands_apart name before (item d ds) out apart e =
     (IsDistinct-push nat_list_eq_equiv (names_of before) o.0.name apart (new_after name before d o.0 o.1))) o.2 in
     (more.0, omega (arith, more.1, length-append before (o.0 ∷ [])))
 
-commands_fit : (most : ℕ) (name : List ℕ) (document : Members) (out : List CommandPlan) → commands_in name most document ≡ Ok out
-    → (length out ≤ most) × IsDistinct bytes_eq (names_of out)
+commands_fit : (most : ℕ) (name : List ℕ) (document : Members) (out : List CommandPlan)
+    → commands_in name most document ≡ Ok out → (length out ≤ most) × IsDistinct bytes_eq (names_of out)
 unfolding IsDistinct
 commands_fit most name document out e =
     let o = opened (elements name most document) _ out e in
@@ -273,14 +282,23 @@ tables_fit : (document : Members) (tables : Tables) → tables_of document ≡ O
 unfolding tables_of
 tables_fit document tables e =
     let variables = opened (rows_in variable_of (codes "variable") (codes "vid") 0 1024 document) _ tables e in
-    let constants = opened (rows_in constant_of (codes "constant") (codes "ecid") 100 256 document) _ tables variables.2 in
+    let constants =
+    opened (rows_in constant_of (codes "constant") (codes "ecid") 100 256 document) _ tables variables.2 in
     let events = opened (rows_in event_of (codes "event") (codes "ceid") 0 1024 document) _ tables constants.2 in
     let alarms = opened (rows_in alarm_of (codes "alarm") (codes "alid") 0 1024 document) _ tables events.2 in
     let commands = opened (commands_in (codes "command") 256 document) _ tables alarms.2 in
-    let of_variables = rows_fit variable_of (codes "variable") (codes "vid") 0 (λ (v : VariablePlan). v.vid) VariableFits variable_fits 1024 document variables.0 variables.1 in
-    let of_constants = rows_fit constant_of (codes "constant") (codes "ecid") 100 (λ (c : ConstantPlan). c.ecid) ConstantFits constant_fits 256 document constants.0 constants.1 in
-    let of_events = rows_fit event_of (codes "event") (codes "ceid") 0 (λ (c : ℕ). c) (λ _. Unit {0}) event_is 1024 document events.0 events.1 in
-    let of_alarms = rows_fit alarm_of (codes "alarm") (codes "alid") 0 (λ (a : AlarmPlan). a.alid) AlarmFits alarm_fits 1024 document alarms.0 alarms.1 in
+    let of_variables =
+    rows_fit variable_of (codes "variable") (codes "vid") 0 (λ (v : VariablePlan). v.vid) VariableFits variable_fits
+    1024 document variables.0 variables.1 in
+    let of_constants =
+    rows_fit constant_of (codes "constant") (codes "ecid") 100 (λ (c : ConstantPlan). c.ecid) ConstantFits
+    constant_fits 256 document constants.0 constants.1 in
+    let of_events =
+    rows_fit event_of (codes "event") (codes "ceid") 0 (λ (c : ℕ). c) (λ _. Unit {0}) event_is 1024 document
+    events.0 events.1 in
+    let of_alarms =
+    rows_fit alarm_of (codes "alarm") (codes "alid") 0 (λ (a : AlarmPlan). a.alid) AlarmFits alarm_fits 1024 document
+    alarms.0 alarms.1 in
     let of_commands = commands_fit 256 (codes "command") document commands.0 commands.1 in
     subst TablesFit (same_Ok _ tables commands.2)
     (record {
@@ -303,15 +321,20 @@ plans_fit document plans e =
     let tool = opened (tool_in document) _ plans line.2 in
     let tables = opened (tables_of document) _ plans tool.2 in
     let enable = opened (host_enable_in document) _ plans tables.2 in
-    let made = unless_other_is (least_of None (other_keys document)) (plans_from line.0 tool.0 tables.0 enable.0) plans enable.2 in
+    let found = plans_from line.0 tool.0 tables.0 enable.0 in
+    let made = unless_other_is (least_of None (other_keys document)) found plans enable.2 in
     let of_line = opened (section (codes "line") document) line_of line.0 line.1 in
     let line_is = line_fits of_line.0 line.0 of_line.2 in
     let of_tool = opened (section (codes "equipment") document) tool_of tool.0 tool.1 in
     let tool_is = tool_fits of_tool.0 tool.0 of_tool.2 in
     let tables_are = tables_fit document tables.0 tables.1 in
-    let vars : VarsFit (plans_from line.0 tool.0 tables.0 enable.0).equipment.vars =
-    record { variables = tables_are.variables; constants = tables_are.constants; built_in = tool_is.constants.built_in } in
-    let equipment : EquipmentPlanFits (plans_from line.0 tool.0 tables.0 enable.0).equipment =
+    let vars : VarsFit found.equipment.vars =
+    record {
+      variables = tables_are.variables;
+      constants = tables_are.constants;
+      built_in = tool_is.constants.built_in;
+    } in
+    let equipment : EquipmentPlanFits found.equipment =
     record {
       line = line_is;
       mdln = tool_is.identity.mdln;

@@ -18,7 +18,8 @@ use Rattle.gem_config.proofs.Fitting.{between, needed_step, opened, passed, same
 
 -- ---- how many elements
 
-counted : (name : List ℕ) (most : ℕ) (ds : Items) (b c : Bool) (es : Items) → are_tables ds ≡ b → nat_le (count_of ds) most ≡ c
+counted : (name : List ℕ) (most : ℕ) (ds : Items) (b c : Bool) (es : Items) → are_tables ds ≡ b
+    → nat_le (count_of ds) most ≡ c
     → cond (not b) (refused name Kind) (cond c (Ok ds) (refused name Range)) ≡ Ok es → count_of es ≤ most
 counted name most ds false c es is few e = absurd cc
 counted name most ds true false es is few e = absurd cc
@@ -26,7 +27,8 @@ counted name most ds true true es is few e =
     let fits : count_of ds ≤ most = grind (arith, nat_tests) in
     subst (λ x. count_of x ≤ most) (same_Ok ds es e) fits
 
-pub few_in : (name : List ℕ) (most : ℕ) (held : Option Data) (es : Items) → elements_in name most held ≡ Ok es → count_of es ≤ most
+pub few_in : (name : List ℕ) (most : ℕ) (held : Option Data) (es : Items) → elements_in name most held ≡ Ok es
+    → count_of es ≤ most
 few_in name most None es e = subst (λ x. count_of x ≤ most) (same_Ok no_items es e) (omega arith)
 few_in name most (Some d) es e =
     let o = opened (of_kind name (as_array d)) (elements_of name most) es e in
@@ -35,7 +37,9 @@ few_in name most (Some d) es e =
 -- ---- each element
 
 module _ {A : Type 0} (row_of : ℕ → SectionView → Read A) (name key : List ℕ) (least : ℕ) (id_of : A → ℕ)
-    (Fits : A → Type 0) (fits_row : (id : ℕ) (element : SectionView) (row : A) → least ≤ id → row_of id element ≡ Ok row → Fits row × (id_of row ≡ id)) where
+    (Fits : A → Type 0)
+    (fits_row : (id : ℕ) (element : SectionView) (row : A) → least ≤ id → row_of id element ≡ Ok row
+    → Fits row × (id_of row ≡ id)) where
   -- the rows so far fit, and those taken are theirs, each once
   pub record AreRows (taken : List ℕ) (rows : List A) : Type 0 where
     pub theirs : taken ≡ map id_of rows
@@ -47,10 +51,11 @@ module _ {A : Type 0} (row_of : ℕ → SectionView → Read A) (name key : List
   owned taken k id said true is e = absurd cc
   owned taken k id said false is e = (refl, cc)
 
-  more_rows : (taken : List ℕ) (rows : List A) (id : ℕ) (row : A) → AreRows taken rows → list_any (nat_eq id) taken ≡ false
-      → Fits row → id_of row ≡ id → AreRows (taken ++ id ∷ []) (rows ++ row ∷ [])
+  more_rows : (taken : List ℕ) (rows : List A) (id : ℕ) (row : A) → AreRows taken rows
+      → list_any (nat_eq id) taken ≡ false → Fits row → id_of row ≡ id → AreRows (taken ++ id ∷ []) (rows ++ row ∷ [])
   more_rows taken rows id row are fresh fits same = record {
-    theirs = ap (λ t. t ++ id ∷ []) are.theirs ∙ ap (λ i. map id_of rows ++ i ∷ []) (sym same) ∙ sym (map-append id_of rows (row ∷ []));
+    theirs = ap (λ t. t ++ id ∷ []) are.theirs ∙ ap (λ i. map id_of rows ++ i ∷ []) (sym same)
+        ∙ sym (map-append id_of rows (row ∷ []));
     distinct = IsDistinct-push nat_eq_equiv taken id are.distinct fresh;
     fit = All-append Fits rows (row ∷ []) are.fit (All-cons Fits row [] fits (All-nil Fits));
   }
@@ -67,7 +72,8 @@ module _ {A : Type 0} (row_of : ℕ → SectionView → Read A) (name key : List
       let low = (between least greatest said.0 said.1).0 in
       let fresh = subst (λ i. list_any (nat_eq i) taken ≡ false) mine.1 mine.0 in
       let fits = fits_row id.0 element.0 row.0 (subst (λ i. least ≤ i) mine.1 low) row.1 in
-      subst (λ y. AreRows y.0 (rows ++ y.1 ∷ [])) (same_Ok _ x row.2) (more_rows taken rows id.0 row.0 are fresh fits.0 fits.1)
+      subst (λ y. AreRows y.0 (rows ++ y.1 ∷ [])) (same_Ok _ x row.2)
+      (more_rows taken rows id.0 row.0 are fresh fits.0 fits.1)
 
   -- all rows fit and are told apart, and there are as many more as elements
   pub all_rows : (taken : List ℕ) (rows : List A) (ds : Items) (out : List A) → AreRows taken rows

@@ -135,7 +135,8 @@ fn row_after<T: Element>(
     least: u32,
     taken: &mut IndexSet<u32>,
 ) -> Result<T, ConfigFault>
-    ensures { GivesBy (λ row. (taken.new.keys, row)) result (row_after T.row_of name.now key.now least taken.old.keys (view value.now)) }
+    ensures { GivesBy (λ row. (taken.new.keys, row)) result
+        (row_after T.row_of name.now key.now least taken.old.keys (view value.now)) }
 {
     let element = section_of(alloc, name, value)?;
     let at_key = element.at(key);

@@ -60,7 +60,8 @@ fn others_of(
     members: Option<&Table>,
     before: Option<Row<u8>>,
 ) -> Result<Option<Row<u8>>, NoMemory>
-    ensures { IfOk result (λ least. least ≡ least_of before (others_of part (option_map (λ t. table_view t.now) members.entry))) }
+    ensures { IfOk result (λ least. least
+        ≡ least_of before (others_of part (option_map (λ t. table_view t.now) members.entry))) }
 {
     match members {
         Some(members) => others(alloc, part, members, before),
@@ -110,7 +111,8 @@ fn params_of(command: &Value) -> &[Value]
 }
 
 fn table_at<'a>(members: &'a Table, key: &str) -> Option<&'a Table>
-    ensures { option_map (λ t. table_view t.now) result ≡ option_and_then as_table (get_member key.now (table_view members.now)) }
+    ensures { option_map (λ t. table_view t.now) result
+        ≡ option_and_then as_table (get_member key.now (table_view members.now)) }
 {
     match member(members, key) {
         Some(value) => value.as_table(),

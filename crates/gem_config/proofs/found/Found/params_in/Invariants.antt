@@ -9,4 +9,5 @@ use Rattle.gem_config.proofs.found.Found.params_in.Given as goal
 abbrev pub invariant-loop-value : goal.invariant-loop-value
 invariant-loop-value l =
     let read = param (found_view l.self).key in
-    each_from read l.params (items_view (drop l.value-index l.value-items)) ≡ each_from read [] (items_view l.value-items)
+    each_from read l.params (items_view (drop l.value-index l.value-items))
+    ≡ each_from read [] (items_view l.value-items)
