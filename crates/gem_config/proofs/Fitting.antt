@@ -1,20 +1,14 @@
 -- What a plan file means fits.
-use Rattle.std.proofs.Common.{◌≡◌, ◌≢◌, refl, sym, ap, subst, ◌∙◌, ℕ, ◌+◌, ℤ, pos, negsuc, ◌≤◌, ◌<◌, Bool, true, false, cond, ◌&&◌, List, [], ◌∷◌, ◌++◌, length, map, Option, Some, None, Result, Ok, Err, nat_eq, nat_le, nat_lt, not, arith, codes, suc}
-use Rattle.std.specs.Prelude.{All, IsTrue, bytes_eq}
-use Rattle.std.specs.List.{IsDistinct, list_all, list_any}
-use Rattle.std.specs.Option.{ok_or}
+use Rattle.std.proofs.Common.{◌≡◌, refl, subst, ℕ, ℤ, pos, negsuc, ◌≤◌, ◌<◌, Bool, true, false, cond, List, length, Option, Some, None, Ok, Err, nat_le, arith, codes}
+use Rattle.std.specs.Prelude.{All}
+use Rattle.std.specs.List.{list_all}
 use Rattle.std.proofs.lemmas.Bool.{and_parts}
 use Rattle.std.proofs.lemmas.Bool.Decides.{nat_tests}
-use Rattle.std.proofs.lemmas.Cmp.{nat_eq_equiv, nat_list_eq_equiv}
-use Rattle.std.proofs.lemmas.List.{length-append, map-append}
-use Rattle.std.proofs.lemmas.List.Elements.{All-append, All-cons, All-nil}
 use Rattle.std.proofs.lemmas.List.Sums.{AllPass-from_list_all}
-use Rattle.std.proofs.lemmas.Map.Keys.{IsDistinct-push}
 use Rattle.gem_vars.specs.Settings.{is_within}
 use Rattle.line_end.specs.declared.plan.LinePlan.{LinePlan}
 use Rattle.line_end.specs.Plan.{LinePlanFits, TimesFit}
-use Rattle.toml.specs.Data.{Data, Items, no_items, item, as_integer}
-use Rattle.gem_config.specs.declared.fault.ConfigFault.{ConfigFault}
+use Rattle.toml.specs.Data.{Data, as_integer}
 use Rattle.gem_config.specs.declared.fault.ConfigWhat.{ConfigWhat}
 use Rattle.gem_config.specs.declared.fault.ConfigWhat.TheVariants.{Range}
 use Rattle.gem_config.specs.Reading.{FoundView, Read, SectionView, at, refused, ◌>>=◌}

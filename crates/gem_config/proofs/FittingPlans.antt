@@ -1,5 +1,5 @@
 -- The plans of a file fit.
-use Rattle.std.proofs.Common.{◌≡◌, ◌≢◌, refl, sym, ap, subst, ◌∙◌, ℕ, ◌+◌, ◌≤◌, ◌<◌, ◌⊎◌, inl, inr, Bool, true, false, cond, ◌||◌, List, [], ◌∷◌, ◌++◌, length, map, Option, Some, None, Result, Ok, Err, nat_eq, arith, codes}
+use Rattle.std.proofs.Common.{◌≡◌, ◌≢◌, refl, sym, ap, subst, ◌∙◌, ℕ, ◌+◌, ◌≤◌, inl, inr, Bool, true, false, cond, ◌||◌, List, [], ◌∷◌, ◌++◌, length, Option, Some, None, Ok, nat_eq, arith, codes}
 use Rattle.std.specs.Prelude.{All, IsTrue, bytes_eq}
 use Rattle.std.specs.List.{IsDistinct, list_all, list_any}
 use Rattle.std.specs.Option.{ok_or}
@@ -12,7 +12,7 @@ use Rattle.equipment_node.specs.Plan.{CanBeSpooled, EquipmentPlanFits, EventsFit
 use Rattle.gem_alarms.specs.declared.plan.AlarmPlan.{AlarmPlan}
 use Rattle.gem_alarms.specs.Plan.{AlarmFits, AlarmsFit}
 use Rattle.gem_remote.specs.declared.plan.CommandPlan.{CommandPlan}
-use Rattle.gem_remote.specs.Plan.{RemoteFits, has_name, names_of}
+use Rattle.gem_remote.specs.Plan.{has_name, names_of}
 use Rattle.gem_shapes.specs.declared.entries.RuleEntry.{RuleEntry}
 use Rattle.gem_states.specs.declared.control.ControlState.{ControlState}
 use Rattle.gem_states.specs.declared.control.ControlState.TheVariants.{Attempt, EquipmentOffline, HostOffline, Local, Remote}
@@ -23,17 +23,17 @@ use Rattle.gem_vars.specs.Settings.{is_within, value_fits}
 use Rattle.secs_items.specs.declared.item.Item.{Item}
 use Rattle.toml.specs.Data.{Data, Items, no_items, item, Members, as_array, get_member}
 use Rattle.gem_config.specs.declared.fault.ConfigFault.{ConfigFault}
-use Rattle.gem_config.specs.declared.fault.ConfigWhat.TheVariants.{Kind, Range, Repeated}
+use Rattle.gem_config.specs.declared.fault.ConfigWhat.TheVariants.{Range, Repeated}
 use Rattle.gem_config.specs.declared.plans.Tables.{Tables}
 use Rattle.gem_config.specs.declared.sections.Constants.{Constants}
 use Rattle.gem_config.specs.declared.sections.Identity.{Identity}
 use Rattle.gem_config.specs.declared.sections.ToolSection.{ToolSection}
 use Rattle.gem_config.specs.Others.{least_of, other_keys}
 use Rattle.gem_config.specs.Plans.{Means, built_in_of, host_enable_in, line_in, plans_from, plans_of, tables_of, tool_in, unless_other}
-use Rattle.gem_config.specs.Reading.{FoundView, Read, SectionView, at, key_of, refused, ◌>>=◌}
+use Rattle.gem_config.specs.Reading.{Read, SectionView, at, key_of, refused}
 use Rattle.gem_config.specs.Rows.{command_after, commands_from, commands_in, count_of, elements, rows_in, section, section_of}
 use Rattle.gem_config.specs.Sections.{alarm_of, command_of, constant_of, constants_of, event_of, greatest, identity_of, line_of, param, own_name, tool_of, variable_of, worth}
-use Rattle.gem_config.specs.Values.{each_from, flag, is_short, item_text, list, needed, needed_in, number, of_kind, optional, optional_in, short_text, text, value_text, word}
+use Rattle.gem_config.specs.Values.{each_from, flag, is_short, item_text, list, needed, needed_in, number, of_kind, optional, optional_in, text, value_text, word}
 use Rattle.gem_config.specs.Words.{all_spooled, control_named, spooled_named}
 use Rattle.gem_config.proofs.Fitting.{between, line_fits, needed_step, number_step, opened, passed, same_Ok, short_parts, short_step}
 use Rattle.gem_config.proofs.FittingRows.{few_in, rows_fit}

@@ -1,5 +1,5 @@
 -- The elements of a plan file's arrays fit, and are told apart.
-use Rattle.std.proofs.Common.{◌≡◌, refl, sym, ap, subst, ◌∙◌, ℕ, suc, ◌+◌, ◌≤◌, Bool, true, false, cond, not, List, [], ◌∷◌, ◌++◌, length, map, Option, Some, None, Result, Ok, Err, nat_eq, nat_le, arith}
+use Rattle.std.proofs.Common.{◌≡◌, refl, sym, ap, subst, ◌∙◌, ℕ, ◌+◌, ◌≤◌, Bool, true, false, cond, not, List, [], ◌∷◌, ◌++◌, length, map, Option, Some, None, Ok, nat_eq, nat_le, arith}
 use Rattle.std.specs.Prelude.{All}
 use Rattle.std.specs.List.{IsDistinct, list_any}
 use Rattle.std.proofs.lemmas.Bool.Decides.{nat_tests}
@@ -10,11 +10,11 @@ use Rattle.std.proofs.lemmas.Map.Keys.{IsDistinct-push}
 use Rattle.toml.specs.Data.{Data, Items, no_items, item, Members, as_array, get_member}
 use Rattle.toml.specs.Text.{are_tables}
 use Rattle.gem_config.specs.declared.fault.ConfigWhat.TheVariants.{Kind, Range, Repeated}
-use Rattle.gem_config.specs.Reading.{Read, SectionView, at, key_of, refused, ◌>>=◌}
+use Rattle.gem_config.specs.Reading.{Read, SectionView, at, key_of, refused}
 use Rattle.gem_config.specs.Rows.{count_of, elements, elements_in, elements_of, own, row_after, rows_from, rows_in, section_of}
 use Rattle.gem_config.specs.Sections.{greatest}
-use Rattle.gem_config.specs.Values.{needed, needed_in, number, of_kind}
-use Rattle.gem_config.proofs.Fitting.{between, needed_step, opened, passed, same_Ok}
+use Rattle.gem_config.specs.Values.{of_kind}
+use Rattle.gem_config.proofs.Fitting.{between, needed_step, opened, same_Ok}
 
 -- ---- how many elements
 

@@ -1,13 +1,11 @@
 -- What a plan file means, by its document or by having none.
-use Rattle.std.proofs.Common.{◌≡◌, ◌≢◌, refl, sym, ap, ◌∙◌, ℕ, inl, inr, List, [], Option, Some, Result, Ok, Err}
+use Rattle.std.proofs.Common.{◌≡◌, sym, ap, ◌∙◌, ℕ, inl, inr, List, Some, Result, Ok, Err}
 use Rattle.equipment_node.specs.declared.plan.Plans.{Plans}
 use Rattle.toml.specs.Data.{Members}
-use Rattle.toml.specs.Parse.{parse_document}
 use Rattle.gem_config.specs.declared.fault.ConfigFault.{ConfigFault}
 use Rattle.gem_config.specs.declared.fault.ConfigFault.TheVariants as fault
-use Rattle.gem_config.specs.declared.fault.ConfigWhat.TheVariants.{Syntax}
 use Rattle.gem_config.specs.Plans.{IsDocument, IsReadAs, Means, plans_of}
-use Rattle.gem_config.specs.Reading.{Gives, Read, refused}
+use Rattle.gem_config.specs.Reading.{Gives, Read}
 use Rattle.gem_config.proofs.FittingPlans.{plans_fit}
 
 one_document : (text : List ℕ) (d e : Members) → IsDocument text d → IsDocument text e → d ≡ e

@@ -4,7 +4,7 @@ use Rattle.std.specs.List.{list_any}
 use Rattle.std.specs.Option.{option_and_then}
 use Rattle.std.specs.Cmp.Lexicographic.{slice_cmp}
 use Rattle.std.specs.Ordering.{is_lt, nat_cmp}
-use Rattle.toml.specs.Data.{Data, Items, no_items, item, Members, no_members, member, as_array, as_table, get_member}
+use Rattle.toml.specs.Data.{Items, no_items, item, Members, no_members, member, as_array, as_table, get_member}
 use Rattle.gem_config.specs.declared.part.Part.{Part}
 use Rattle.gem_config.specs.declared.part.Part.TheVariants as part
 use Rattle.gem_config.specs.Reading.{key_of}

@@ -3,13 +3,6 @@ use Rattle.std.specs.Prelude.{◌≡◌, ◌⊎◌, ℕ, Bool, List, [], ◌∷�
 use Rattle.equipment_node.specs.declared.plan.EquipmentPlan.{EquipmentPlan}
 use Rattle.equipment_node.specs.declared.plan.Plans.{Plans}
 use Rattle.equipment_node.specs.Plan.{PlansFit}
-use Rattle.gem_alarms.specs.declared.plan.AlarmPlan.{AlarmPlan}
-use Rattle.gem_remote.specs.declared.plan.CommandPlan.{CommandPlan}
-use Rattle.gem_remote.specs.declared.plan.RemotePlan.{RemotePlan}
-use Rattle.gem_vars.specs.declared.plan.ConstantPlan.{ConstantPlan}
-use Rattle.gem_vars.specs.declared.plan.VariablePlan.{VariablePlan}
-use Rattle.gem_vars.specs.declared.plan.VarsPlan.{VarsPlan}
-use Rattle.line_end.specs.declared.plan.HostPlan.{HostPlan}
 use Rattle.line_end.specs.declared.plan.LinePlan.{LinePlan}
 use Rattle.toml.specs.Data.{Members}
 use Rattle.toml.specs.Parse.{parse_document}

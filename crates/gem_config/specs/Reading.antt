@@ -1,5 +1,5 @@
 -- What reading a plan file gives, and where a value stands in it (this profile).
-use Rattle.std.specs.Prelude.{◌≡◌, ◌≢◌, ℕ, List, ◌++◌, codes, Option, Result, Ok, Err, option_map}
+use Rattle.std.specs.Prelude.{◌≡◌, ◌≢◌, ℕ, List, ◌++◌, codes, Option, Result, Ok, Err}
 use Rattle.gem_config.specs.declared.fault.ConfigFault.{ConfigFault}
 use Rattle.gem_config.specs.declared.fault.ConfigFault.TheVariants as fault
 use Rattle.gem_config.specs.declared.fault.ConfigWhat.{ConfigWhat}

@@ -1,5 +1,5 @@
 -- Sections that are arrays of tables: their form, and their elements one after another (this profile).
-use Rattle.std.specs.Prelude.{ℕ, zero, suc, nat_le, nat_eq, not, List, [], ◌∷◌, ◌++◌, Option, Some, None, Ok, if◌then◌else◌}
+use Rattle.std.specs.Prelude.{ℕ, suc, nat_le, nat_eq, not, List, [], ◌∷◌, ◌++◌, Option, Some, None, Ok, if◌then◌else◌}
 use Rattle.std.specs.List.{list_any}
 use Rattle.gem_remote.specs.declared.plan.CommandPlan.{CommandPlan}
 use Rattle.toml.specs.Data.{Data, Items, no_items, item, Members, no_members, as_array, as_table, get_member}

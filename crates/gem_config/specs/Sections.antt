@@ -1,5 +1,5 @@
 -- The sections of a plan file that are tables, and the elements of those that are arrays, key by key (this profile).
-use Rattle.std.specs.Prelude.{◌-◌, ◌^◌, ℕ, Bool, true, false, List, [], ◌∷◌, ◌++◌, codes, Ok, if◌then◌else◌}
+use Rattle.std.specs.Prelude.{◌-◌, ◌^◌, ℕ, Bool, true, false, List, [], codes, Ok, if◌then◌else◌}
 use Rattle.std.specs.List.{list_any}
 use Rattle.gem_alarms.specs.declared.plan.AlarmPlan.{AlarmPlan}
 use Rattle.gem_remote.specs.declared.plan.CommandPlan.{CommandPlan}
@@ -10,12 +10,12 @@ use Rattle.gem_vars.specs.declared.plan.ConstantPlan.{ConstantPlan}
 use Rattle.gem_vars.specs.declared.plan.VariablePlan.{VariablePlan}
 use Rattle.line_end.specs.declared.plan.LinePlan.{LinePlan}
 use Rattle.line_end.specs.declared.plan.Times.{Times}
-use Rattle.toml.specs.Data.{Data, as_table}
+use Rattle.toml.specs.Data.{as_table}
 use Rattle.gem_config.specs.declared.fault.ConfigWhat.TheVariants.{Repeated}
 use Rattle.gem_config.specs.declared.sections.Constants.{Constants}
 use Rattle.gem_config.specs.declared.sections.Identity.{Identity}
 use Rattle.gem_config.specs.declared.sections.ToolSection.{ToolSection}
-use Rattle.gem_config.specs.Reading.{FoundView, Read, SectionView, at, key_of, refused, section_named, within, ◌>>=◌}
+use Rattle.gem_config.specs.Reading.{Read, SectionView, at, key_of, refused, within, ◌>>=◌}
 use Rattle.gem_config.specs.Values.{Rule, flag, item_text, list, needed, number, of_kind, optional, short_text, text, value_text, word}
 use Rattle.gem_config.specs.Words.{all_spooled, control_named, kind_named, spooled_named}
 

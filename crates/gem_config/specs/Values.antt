@@ -7,7 +7,6 @@ use Rattle.secs_text.specs.declared.text_fault.TextFault.{TextFault}
 use Rattle.secs_text.specs.Reading.{read_text}
 use Rattle.gem_vars.specs.Settings.{is_within, value_fits}
 use Rattle.toml.specs.Data.{Data, Items, no_items, item, as_array, as_bool, as_integer, as_str}
-use Rattle.gem_config.specs.declared.fault.ConfigFault.{ConfigFault}
 use Rattle.gem_config.specs.declared.fault.ConfigFault.TheVariants as fault
 use Rattle.gem_config.specs.declared.fault.ConfigWhat.TheVariants.{Kind, Missing, Range}
 use Rattle.gem_config.specs.Reading.{FoundView, Read, refused, ◌>>=◌}

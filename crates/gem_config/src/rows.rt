@@ -1,6 +1,6 @@
 //! Sections that are arrays of tables: their form, and their elements one after another.
 
-ghost use Rattle.std.specs.Prelude.{◌≡◌, ◌≢◌, ℕ, Some, IfOk, not, nat_eq};
+ghost use Rattle.std.specs.Prelude.{◌≡◌, ◌≢◌, Some, IfOk, not, nat_eq};
 ghost use Rattle.std.specs.List.{list_any};
 ghost use Rattle.gem_config.specs.declared.fault.ConfigFault.TheVariants as faults;
 ghost use Rattle.gem_config.specs.Found.{section_view};
