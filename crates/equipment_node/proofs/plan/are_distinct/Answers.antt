@@ -13,13 +13,16 @@ plainly answer ceids = subst (λ keys. IsTrue answer ↔ IsDistinct nat_eq keys)
 
 pub returns-then-is_one_of : goal.returns-then-is_one_of
 returns-then-is_one_of c =
-    let is = c.is_one_of.ensures ∙ ap (list_any (nat_eq (get_or c.args.ceids.now c.loop-i.i 0))) c.split_at.ensures.back in
-    plainly _ c.args.ceids.now (not_distinct nat_eq itself c.args.ceids.now c.loop-i.i 0 c.is_one_of.result (omega arith) is
-    c.if-is_one_of.true c.loop-i.invariant)
+    let ceid = get_or c.args.ceids.now c.loop-i.i 0 in
+    let is = c.is_one_of.ensures ∙ ap (list_any (nat_eq ceid)) c.split_at.ensures.back in
+    plainly _ c.args.ceids.now
+    (not_distinct nat_eq itself c.args.ceids.now c.loop-i.i 0 c.is_one_of.result (omega arith) is c.if-is_one_of.true
+    c.loop-i.invariant)
 
 pub loop-i-preserved : goal.loop-i-preserved
 loop-i-preserved c =
-    let is = c.is_one_of.ensures ∙ ap (list_any (nat_eq (get_or c.args.ceids.now c.loop-i.i 0))) c.split_at.ensures.back in
+    let ceid = get_or c.args.ceids.now c.loop-i.i 0 in
+    let is = c.is_one_of.ensures ∙ ap (list_any (nat_eq ceid)) c.split_at.ensures.back in
     fresh nat_eq itself c.args.ceids.now c.loop-i.i 0 _ (omega arith) (sym is ∙ c.if-is_one_of.false) c.loop-i.invariant
 
 pub returns : goal.returns
