@@ -2,8 +2,6 @@
 #![tactic(auto)]
 
 mod plan;
-#[cfg(test)]
-mod plan_tests;
 
 pub use line_end::HostPlan;
 pub use plan::{EquipmentPlan, Plans};
