@@ -1,6 +1,7 @@
 use super::{ConfigFault, ConfigWhat, read_plans};
 use equipment_node::Plans;
 use gem_states::ControlState;
+use gl_base::{NoMemory, Row};
 use std::alloc::Global;
 use std::test::Fail;
 
@@ -202,12 +203,108 @@ static COMMANDS: [Refusal; 8] = [
     ("zz = 1\n[line]\nx = 1\n[a]", "a", ConfigWhat::Unknown),
 ];
 
-static FITTING: [&str; 8] = [
+// One past an end of a range that the tables before do not pass.
+static PAST_LINE: [Refusal; 8] = [
+    ("[line]\ndevice = -1", "line.device", ConfigWhat::Range),
+    ("[line]\nt1 = 10001", "line.t1", ConfigWhat::Range),
+    ("[line]\nt2 = 199", "line.t2", ConfigWhat::Range),
+    ("[line]\nt3 = 999", "line.t3", ConfigWhat::Range),
+    ("[line]\nt3 = 120001", "line.t3", ConfigWhat::Range),
+    ("[line]\nt4 = 999", "line.t4", ConfigWhat::Range),
+    ("[line]\nrty = -1", "line.rty", ConfigWhat::Range),
+    (
+        "[line]\nmax_body = 7995149",
+        "line.max_body",
+        ConfigWhat::Range,
+    ),
+];
+
+static PAST_EQUIPMENT: [Refusal; 7] = [
+    (
+        "[equipment]\nsoftrev = \"123456789012345678901\"",
+        "equipment.softrev",
+        ConfigWhat::Range,
+    ),
+    (
+        "[equipment]\nslots = 1025",
+        "equipment.slots",
+        ConfigWhat::Range,
+    ),
+    (
+        "[equipment]\nmax_transmit = -1",
+        "equipment.max_transmit",
+        ConfigWhat::Range,
+    ),
+    (
+        "[equipment]\nmax_transmit = 4294967296",
+        "equipment.max_transmit",
+        ConfigWhat::Range,
+    ),
+    (
+        "[equipment]\ndelay = 0",
+        "equipment.delay",
+        ConfigWhat::Range,
+    ),
+    (
+        "[equipment]\ndelay = 121",
+        "equipment.delay",
+        ConfigWhat::Range,
+    ),
+    (
+        "[equipment]\nterminals = 256",
+        "equipment.terminals",
+        ConfigWhat::Range,
+    ),
+];
+
+static PAST_ELEMENTS: [Refusal; 10] = [
+    ("[[variable]]\nvid = -1", "variable.vid", ConfigWhat::Range),
+    (
+        "[[constant]]\necid = 4294967296",
+        "constant.ecid",
+        ConfigWhat::Range,
+    ),
+    (
+        "[[constant]]\necid = 100\nmax = 4294967296",
+        "constant.max",
+        ConfigWhat::Range,
+    ),
+    (
+        "[[constant]]\necid = 100\nmin = 2\nvalue = 1",
+        "constant.value",
+        ConfigWhat::Range,
+    ),
+    ("[[event]]\nceid = -1", "event.ceid", ConfigWhat::Range),
+    (
+        "[[event]]\nceid = 4294967296",
+        "event.ceid",
+        ConfigWhat::Range,
+    ),
+    ("[[alarm]]\nalid = -1", "alarm.alid", ConfigWhat::Range),
+    (
+        "[[alarm]]\nalid = 4294967296",
+        "alarm.alid",
+        ConfigWhat::Range,
+    ),
+    (
+        "[[alarm]]\nalid = 1\ncategory = -1",
+        "alarm.category",
+        ConfigWhat::Range,
+    ),
+    (
+        "[[alarm]]\nalid = 1\ntext = \"12345678901234567890123456789012345678901\"",
+        "alarm.text",
+        ConfigWhat::Range,
+    ),
+];
+
+static FITTING: [&str; 9] = [
     "",
     "[line]\ndevice = 0\nt1 = 100\nt2 = 200\nt3 = 1000\nt4 = 1000\nrty = 0\nmax_body = 244",
     "[line]\ndevice = 32767\nt1 = 10000\nt2 = 25000\nt3 = 120000\nt4 = 120000\nrty = 31\nmax_body = 7995148",
     "[equipment]\nmdln = \"\"\nslots = 1\nmax_transmit = 0\ndelay = 1\nspooled = []\nterminals = 0",
-    "[equipment]\nmdln = \"12345678901234567890\"\nslots = 1024\nmax_transmit = 4294967295\ndelay = 120\nterminals = 255",
+    "[equipment]\nmdln = \"12345678901234567890\"\nslots = 1024\ndelay = 120\nterminals = 255",
+    "[equipment]\nsoftrev = \"\"\nmax_transmit = 4294967295\n[host]\nenable = false",
     "[[constant]]\necid = 100\nmin = 0\nmax = 0\nvalue = 0\n[[constant]]\necid = 4294967295\nvalue = 4294967295",
     "[[alarm]]\nalid = 0\ncategory = 0\n[[alarm]]\nalid = 4294967295\ncategory = 127\ntext = \"door\"",
     "[[command]]\nname = \"GO\"\nlater = true\nparams = [{ name = \"P\", kind = \"U1\", values = [\"<U1 1>\"] }]",
@@ -231,6 +328,54 @@ fn elements_are_refused(rt: HostRuntime) -> Result<(), Fail> {
 #[test]
 fn ranges_have_both_ends(rt: HostRuntime) -> Result<(), Fail> {
     assert!(rt; are_read(rt.alloc(), &FITTING));
+    assert!(rt; are_refused(rt.alloc(), &PAST_LINE));
+    assert!(rt; are_refused(rt.alloc(), &PAST_EQUIPMENT));
+    assert!(rt; are_refused(rt.alloc(), &PAST_ELEMENTS));
+    Ok(())
+}
+
+fn digit(number: u32) -> u8 {
+    b'0'.wrapping_add((number % 10) as u8)
+}
+
+// Variables with each VID of four digits that is below `end`.
+fn variables_below(alloc: Global, end: u32) -> Result<Row<u8>, NoMemory> {
+    let mut text = Row::new(alloc);
+    for vid in 1_000..end {
+        text.extend(b"[[variable]]\nvalue = \"<U1 1>\"\nvid = ")?;
+        text.extend(&[
+            digit(vid / 1_000),
+            digit(vid / 100),
+            digit(vid / 10),
+            digit(vid),
+            b'\n',
+        ])?;
+    }
+    Ok(text)
+}
+
+fn reads_variables_below(alloc: Global, end: u32) -> Result<bool, NoMemory> {
+    let text = variables_below(alloc, end)?;
+    Ok(are_all_read(alloc, text.as_slice(), end))
+}
+
+// Whether each variable below `end` is read.
+fn are_all_read(alloc: Global, text: &[u8], end: u32) -> bool {
+    match read_plans(alloc, text) {
+        Ok(plans) => plans.equipment.vars.variables.len() as u32 == end.wrapping_sub(1_000),
+        Err(_) => false,
+    }
+}
+
+fn refuses_variables_below(alloc: Global, end: u32) -> Result<bool, NoMemory> {
+    let text = variables_below(alloc, end)?;
+    Ok(is_refused(alloc, text.as_slice(), "variable", ConfigWhat::Range))
+}
+
+#[test]
+fn variables_are_counted(rt: HostRuntime) -> Result<(), Fail> {
+    assert!(rt; matches!(reads_variables_below(rt.alloc(), 2_024), Ok(true)));
+    assert!(rt; matches!(refuses_variables_below(rt.alloc(), 2_025), Ok(true)));
     Ok(())
 }
 
