@@ -5,6 +5,7 @@ mod Keeps
 pub mod Lawful
 pub mod Lines
 mod Lists
+pub mod Lower
 mod Open
 pub mod Reading
 pub mod Steps
