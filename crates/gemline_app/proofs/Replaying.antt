@@ -10,7 +10,7 @@ use Rattle.line_end.specs.declared.plan.LinePlan.{LinePlan}
 use Rattle.gl_base.specs.Told.{SinkTold}
 use Rattle.end_pair.specs.Run.{Runs}
 use Rattle.end_pair.specs.declared.answers.RunEnd.{RunEnd}
-use Rattle.line_world.specs.Run.{ComesInOrder, log_of, trace_text, went_of}
+use Rattle.line_world.specs.Run.{ComesInOrder, log_of, plans_of, trace_text, went_of}
 use Rattle.message_end.specs.Moves.{LinePlans}
 use Rattle.trace_log.specs.Delivered.{Delivered}
 use Rattle.gemline_app.specs.Replay.{ComesOnly, ScheduleRefuses, TextRuns, WasReplayed, empty_plan, empty_plans, outcome_of_end, schedule_refusal}
@@ -68,5 +68,5 @@ replayed_over plans schedule out ended outcome same is wrote delivered in_order 
   in_order = subst (λ (p : LinePlans). ComesInOrder p (log_of p schedule)) same in_order;
 }
 
-pub both_empty : (plan : LinePlan) → plan ≡ empty_plan → record { equipment = plan; host = plan } ≡ empty_plans
-both_empty plan is = ap (λ (p : LinePlan). record { equipment = p; host = p }) is
+pub both_empty : (plan : LinePlan) → plan ≡ empty_plan → plans_of plan plan ≡ empty_plans
+both_empty plan is = ap (λ (p : LinePlan). plans_of p p) is

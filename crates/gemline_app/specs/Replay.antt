@@ -13,7 +13,7 @@ use Rattle.gl_base.specs.Told.{FilesTold, SinkTold}
 use Rattle.end_pair.specs.Run.{Runs}
 use Rattle.end_pair.specs.declared.answers.RunEnd.{RunEnd}
 use Rattle.end_pair.specs.declared.answers.RunEnd.TheVariants as end
-use Rattle.line_world.specs.Run.{ComesInOrder, log_of, trace_text, went_of}
+use Rattle.line_world.specs.Run.{ComesInOrder, log_of, plans_of, trace_text, went_of}
 use Rattle.message_end.specs.Moves.{LinePlans}
 use Rattle.trace_log.specs.Delivered.{Delivered}
 use Rattle.gemline_app.specs.Words.{file_limit}
@@ -35,7 +35,7 @@ empty_plan = record {
 
 -- which both ends have
 abbrev pub empty_plans : LinePlans
-empty_plans = record { equipment = empty_plan; host = empty_plan }
+empty_plans = plans_of empty_plan empty_plan
 
 -- reading a file within its limit came to this
 pub record WasFile (which : FileRole) (name : List ℕ) (files : FilesTold) (answer : FileAnswer) : Type 0 where

@@ -21,7 +21,6 @@ delivered-behind (Ended moment ∷ last) log none is = (tt, delivered-behind las
 module _ (plans : LinePlans) (equipment : LinePlanFits plans.equipment) (host : LinePlanFits plans.host)
     (deliver : EndsDeliver) (log : List Entry)
     (moved : IsOfMoves (Did (equipment_plan plans.equipment)) (Did (host_plan plans.host)) plans log) where
-
   pub is-delivered : Delivered log
   is-delivered =
       let is = deliver plans moved.moves equipment.times host.times moved.no_slip moved.keep in

@@ -6,6 +6,7 @@ use Rattle.end_pair.specs.Laws.{IsOfMoves}
 use Rattle.end_pair.specs.Run as pair
 use Rattle.end_pair.specs.World.{Piece, World}
 use Rattle.end_pair.specs.declared.answers.WorldStep.{WorldStep}
+use Rattle.line_end.specs.declared.plan.LinePlan.{LinePlan}
 use Rattle.line_schedule.specs.declared.schedule.Schedule.{Schedule}
 use Rattle.message_end.specs.Moves.{LinePlans}
 use Rattle.talker.specs.Talker.{Did, TalkerView, equipment_machine, equipment_plan, host_machine, host_plan, start}
@@ -13,6 +14,10 @@ use Rattle.talker.specs.declared.equipment.EquipmentTalker.{EquipmentTalker}
 use Rattle.talker.specs.declared.host.HostTalker.{HostTalker}
 use Rattle.trace_log.specs.Log.{Entry}
 use Rattle.trace_log.specs.Text.{text_of}
+
+-- the plans of the two ends of one line
+abbrev pub plans_of : LinePlan → LinePlan → LinePlans
+plans_of equipment host = record { equipment = equipment; host = host }
 
 -- all of the run: as far as the schedule goes, or to the step that has ended it
 abbrev pub piece_of : LinePlans → Schedule → Piece TalkerView TalkerView

@@ -3,7 +3,7 @@ ghost use Rattle.line_end.specs.Plan.{LinePlanFits};
 ghost use Rattle.line_schedule.specs.Schedule.{AreCarriedOut, Fits};
 ghost use Rattle.end_pair.specs.Run.{HandsBack, Runs};
 ghost use Rattle.trace_log.specs.Delivered.{Delivered};
-ghost use Rattle.line_world.specs.Run.{ComesInOrder, log_of, piece_of, seen, trace_text, went_of};
+ghost use Rattle.line_world.specs.Run.{ComesInOrder, log_of, piece_of, plans_of, seen, trace_text, went_of};
 
 use delivery::ends_deliver;
 use end_pair::{RunEnd, World, runs_are_moves};
@@ -29,13 +29,20 @@ pub fn run<W: Sink>(
     requires host { LinePlanFits host.now }
     requires schedule { Fits schedule.now }
     requires carried { AreCarriedOut schedule.now }
-    ensures text { let plans = record { equipment = equipment.now; host = host.now } in
-        Runs (sink_told W.Sink out.old out.new) (trace_text plans schedule.now) (went_of plans schedule.now) result.0 }
-    ensures world { let plans = record { equipment = equipment.now; host = host.now } in
-        HandsBack seen (piece_of plans schedule.now).world result.0 result.1 }
-    ensures delivered { Delivered (log_of (record { equipment = equipment.now; host = host.now }) schedule.now) }
-    ensures in_order { let plans = record { equipment = equipment.now; host = host.now } in
-        ComesInOrder plans (log_of plans schedule.now) }
+    ensures text { Runs
+        (sink_told W.Sink out.old out.new)
+        (trace_text (plans_of equipment.now host.now) schedule.now)
+        (went_of (plans_of equipment.now host.now) schedule.now)
+        result.0 }
+    ensures world { HandsBack
+        seen
+        (piece_of (plans_of equipment.now host.now) schedule.now).world
+        result.0
+        result.1 }
+    ensures delivered { Delivered (log_of (plans_of equipment.now host.now) schedule.now) }
+    ensures in_order { ComesInOrder
+        (plans_of equipment.now host.now)
+        (log_of (plans_of equipment.now host.now) schedule.now) }
 {
     ends_deliver();
     runs_are_moves::<EquipmentTalker, HostTalker>();

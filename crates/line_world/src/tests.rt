@@ -146,7 +146,15 @@ static FOREIGN: Case = (
 #[test]
 fn ends_of_two_plans(rt: HostRuntime) {
     let equipment = plan(0, 10_000, 3);
-    assert!(rt; goes(rt.alloc(), &equipment, &plan(1, 10_000, 3), 10_000, &FOREIGN));
+    assert!(rt;
+        goes(
+            rt.alloc(),
+            &equipment,
+            &plan(1, 10_000, 3),
+            10_000,
+            &FOREIGN
+        )
+    );
 }
 
 /// Nothing has gone out where there is no room.
