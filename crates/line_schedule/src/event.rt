@@ -56,7 +56,9 @@ impl Event {
     {
         !matches!(
             self,
-            Event::Tool(_) | Event::Host(HostCommand::Enable | HostCommand::Disable) | Event::Cut(_, _)
+            Event::Tool(_)
+                | Event::Host(HostCommand::Enable | HostCommand::Disable)
+                | Event::Cut(_, _)
         )
     }
 }

@@ -7,8 +7,8 @@ returns-in-Ok g c =
     let reads = c.in-Ok.ensures in
     runs_schedule _ _ c.in-Ok.schedule _
     (record { only = reads.only; line = reads.line; not_built = reads.not_built; outside = reads.outside; later = reads.later }) reads.found
-    (replayed_over _ c.in-Ok.schedule _ c.run.result.0 _ (both_empty c.empty_plan.result c.empty_plan.ensures) c.outcome_of_end.ensures
-    c.run.ensures.text c.run.ensures.delivered c.run.ensures.in_order)
+    (replayed_over _ c.in-Ok.schedule _ c.run-end.result.0 _ (both_empty c.empty_plan-plan.result c.empty_plan-plan.ensures) c.outcome_of_end.ensures
+    c.run-end.ensures.text c.run-end.ensures.delivered c.run-end.ensures.in_order)
 
 pub returns-in-Err : goal.returns-in-Err
 returns-in-Err g c =
