@@ -238,9 +238,9 @@ comes_due (Some SpellHex) words source files disk out outcome due (files_unread,
 comes_due (Some Replay) words source files disk out outcome due (unread, unused, comes) (bytes, told, is_due) =
     replay_due source files disk out (name_in words role.Plan) (name_in words role.Schedule) bytes outcome due told comes is_due
 comes_due (Some (Format slots)) words source files disk out outcome due (unread, files_unread, was) is_due =
-    formatted_due source files disk out slots outcome due was is_due
+    formatted_due source files disk out _ slots outcome due was is_due
 comes_due (Some Spool) words source files disk out outcome due (unread, files_unread, was) is_due =
-    listed_due source files disk out outcome due was is_due
+    listed_due source files disk out _ outcome due was is_due
 
 pub due_outcome : (words : List (List ℕ)) (source : SourceTold) (files : FilesTold) (disk : DiskTold) (out err : SinkTold) (status : ℕ) (due : Outcome)
     → (run : IsRun words source files disk out err status) → IsDue (command_of words) words source files disk due

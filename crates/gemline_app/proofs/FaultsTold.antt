@@ -16,8 +16,8 @@ use Rattle.end_pair.specs.declared.answers.RunEnd.{RunEnd}
 use Rattle.end_pair.specs.declared.answers.RunEnd.TheVariants as end
 use Rattle.end_pair.specs.declared.answers.WorldStep.{WorldStep}
 use Rattle.spool_show.specs.Told.{DiskTold}
-use Rattle.spool_show.specs.Formatting.{FormatsSpool}
-use Rattle.spool_show.specs.Showing.{ShowsSpool}
+use Rattle.spool_show.specs.Formatting.{FormatsFile, FormatsSpool}
+use Rattle.spool_show.specs.Showing.{ShowsFile, ShowsSpool}
 use Rattle.spool_show.specs.declared.spool_end.SpoolEnd.{SpoolEnd}
 use Rattle.spool_show.specs.declared.spool_end.SpoolEnd.TheVariants as spool
 use Rattle.gemline_app.specs.Spool.{EndedAs, IsUnused, outcome_of_spool}
@@ -26,7 +26,7 @@ use Rattle.gemline_app.specs.Gemline.{AreUnread, ComesFrom, ComesOnInput, HexRef
 use Rattle.gemline_app.specs.Laws.{CountsFaults, IsCounted, is_disk_fault, is_file_fault, is_read_fault, is_write_fault}
 use Rattle.gemline_app.specs.Outcome.{outcome_of_show}
 use Rattle.gemline_app.specs.Replay.{FileRefuses, ReplayComes, ScheduleComes, ScheduleRefuses, TextRuns, files_since, outcome_of_end, schedule_refusal}
-use Rattle.gemline_app.specs.Words.{capture_limit, command_of, item_limit, name_in}
+use Rattle.gemline_app.specs.Words.{capture_limit, command_of, item_limit, name_in, spool_name}
 use Rattle.gemline_app.specs.Written.{IsUntouched}
 use Rattle.gemline_app.specs.declared.outcome.FileRole.{FileRole}
 use Rattle.gemline_app.specs.declared.outcome.FileRole.TheVariants as role
@@ -310,7 +310,7 @@ record CountsDisk (disk : DiskTold) (out : SinkTold) (outcome : Outcome) : Type 
   on_disk : IsCounted (is_disk_fault outcome) disk.faults disk.faults_after
   write : IsCounted (is_write_fault outcome) out.health.faults out.health_after.faults
 
-by_making : (slots : ℕ) (disk : DiskTold) (out : SinkTold) (ended : SpoolEnd) → FormatsSpool slots disk out ended
+by_making : (slots : ℕ) (disk : DiskTold) (out : SinkTold) (ended : SpoolEnd) → FormatsFile slots disk out ended
     → CountsDisk disk out (outcome_of_spool ended)
 by_making slots disk out spool.Done was =
     record { read = refl; file = refl; on_disk = was.count; write = was.made.1.health.same }
@@ -320,7 +320,7 @@ by_making slots disk out spool.DiskFailed was =
 by_making slots disk out spool.WriteFailed was =
     record { read = refl; file = refl; on_disk = was.count; write = was.made.1.fault.rose }
 
-by_listing : (disk : DiskTold) (out : SinkTold) (ended : SpoolEnd) → ShowsSpool disk out ended
+by_listing : (disk : DiskTold) (out : SinkTold) (ended : SpoolEnd) → ShowsFile disk out ended
     → CountsDisk disk out (outcome_of_spool ended)
 by_listing disk out spool.Done was =
     record { read = refl; file = refl; on_disk = was.count; write = was.written.1.1.health.same }
@@ -375,11 +375,11 @@ comes_counts (Some Replay) words source files disk out outcome (unread, unused, 
       write = counts.write;
     }
 comes_counts (Some (Format slots)) words source files disk out outcome (unread, files_unread, was) =
-    spool_counts source files disk out outcome (FormatsSpool slots disk out) unread files_unread
-    (λ ended formats. by_making slots disk out ended formats) was
+    spool_counts source files disk out outcome (FormatsSpool (spool_name words) slots disk out) unread files_unread
+    (λ ended formats. by_making slots disk out ended formats.formatted) was
 comes_counts (Some Spool) words source files disk out outcome (unread, files_unread, was) =
-    spool_counts source files disk out outcome (ShowsSpool disk out) unread files_unread
-    (λ ended shows. by_listing disk out ended shows) was
+    spool_counts source files disk out outcome (ShowsSpool (spool_name words) disk out) unread files_unread
+    (λ ended shows. by_listing disk out ended shows.shown) was
 
 pub faults_told : (words : List (List ℕ)) (source : SourceTold) (files : FilesTold) (disk : DiskTold) (out err : SinkTold) (status : ℕ)
     → (run : IsRun words source files disk out err status) → CountsFaults source files disk out run.outcome

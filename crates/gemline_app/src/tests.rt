@@ -148,6 +148,8 @@ impl Disk for NoDisk {
 
     ghost name = { λ _. 0 };
 
+    ghost file_is = { λ _. None };
+
     ghost sized = { λ disk s is. absurd cc };
 
     ghost calls_told = { λ disk s is. absurd cc };
