@@ -76,7 +76,11 @@ fn started<E: End>(alloc: Global, plan: &E::Plan, note: &[u8]) -> Option<E>
 {
     let mut out = nothing_yet(alloc);
     let end = E::start(alloc, plan, &mut out).ok()?;
-    if is_out(&out, &[], &[note]) { Some(end) } else { None }
+    if is_out(&out, &[], &[note]) {
+        Some(end)
+    } else {
+        None
+    }
 }
 
 // Whether an end makes this of what it is given.
@@ -111,7 +115,10 @@ fn equipment_takes(
     let mut out = nothing_yet(alloc);
     for &character in characters {
         out = nothing_yet(alloc);
-        if end.step(alloc, NodeInput::Char(character), now, &mut out).is_err() {
+        if end
+            .step(alloc, NodeInput::Char(character), now, &mut out)
+            .is_err()
+        {
             return false;
         }
     }
@@ -132,7 +139,10 @@ fn host_takes(
     let mut out = nothing_yet(alloc);
     for &character in characters {
         out = nothing_yet(alloc);
-        if end.step(alloc, NodeInput::Char(character), now, &mut out).is_err() {
+        if end
+            .step(alloc, NodeInput::Char(character), now, &mut out)
+            .is_err()
+        {
             return false;
         }
     }
@@ -176,11 +186,24 @@ fn host_waits(alloc: Global) -> bool {
         body,
     };
     let sent: &[u8] = b"sent S1F3 W 00000000 0100";
-    gives(alloc, &mut end, NodeInput::Command(&send), 0, &[ENQ], &[sent])
-        && host_takes(alloc, &mut end, &[EOT], 0, &ASKED, &[])
+    gives(
+        alloc,
+        &mut end,
+        NodeInput::Command(&send),
+        0,
+        &[ENQ],
+        &[sent],
+    ) && host_takes(alloc, &mut end, &[EOT], 0, &ASKED, &[])
         && host_takes(alloc, &mut end, &[ACK], 0, &[], &[])
         && gives(alloc, &mut end, NodeInput::Time, 44_999, &[], &[])
-        && gives(alloc, &mut end, NodeInput::Time, 45_000, &[], &[b"t3 S1F3 W 00000000"])
+        && gives(
+            alloc,
+            &mut end,
+            NodeInput::Time,
+            45_000,
+            &[],
+            &[b"t3 S1F3 W 00000000"],
+        )
         && host_takes(alloc, &mut end, &[ENQ], 45_000, &[EOT], &[])
         && host_takes(
             alloc,
