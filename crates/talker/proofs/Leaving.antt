@@ -1,5 +1,5 @@
 -- What a step leaves: the reading of its duties in lines, as that in happenings.
-use Rattle.std.proofs.Common.{◌≡◌, refl, sym, ap, ◌∙◌, ℕ, false, Some, List, [], ◌∷◌, ◌++◌}
+use Rattle.std.proofs.Common.{◌≡◌, refl, sym, ap, ◌∙◌, ℕ, false, Some, List, []}
 use Rattle.message_flow.specs.declared.step.Note.{Note}
 use Rattle.message_flow.specs.declared.step.StepOut.{StepOut}
 use Rattle.trace_log.specs.Log.{Happening}
@@ -10,7 +10,7 @@ use Rattle.message_end.specs.declared.end.Stop.TheVariants as stop
 use Rattle.message_end.specs.Calls.{Does, in_step}
 use Rattle.message_end.specs.Core.{Command, EndView, Step, Went, at_first}
 use Rattle.message_end.specs.Core.Went.{Goes, Spent}
-use Rattle.message_end.specs.Duties.{Duty, all_done}
+use Rattle.message_end.specs.Duties.{all_done}
 use Rattle.message_end.specs.Ends.{HasGone, HasSpent, Input, IsEmpty, Leaves}
 use Rattle.message_end.specs.Laws.{read_as, went_as}
 use Rattle.message_end.proofs.Duties.{read-done}

@@ -1,6 +1,6 @@
 -- Parts of a step, as its code makes them.
-use Rattle.std.proofs.Common.{◌≡◌, refl, sym, ap, ◌∙◌, subst, ℕ, Bool, true, false, ◌==◌, ◌%◌, List, [], ◌∷◌, ◌++◌, replicate, if◌then◌else◌}
-use Rattle.std.specs.Prelude.{Result, Ok, Err}
+use Rattle.std.proofs.Common.{◌≡◌, sym, ap, ◌∙◌, subst, Bool, true, false, List, [], ◌∷◌, ◌++◌, if◌then◌else◌}
+use Rattle.std.specs.Prelude.{Result, Err}
 use Rattle.block_codec.specs.declared.header.Header.{Header}
 use Rattle.message_flow.specs.declared.step.Note.{Note}
 use Rattle.message_flow.specs.declared.step.StepOut.{StepOut}
@@ -12,9 +12,9 @@ use Rattle.message_end.specs.declared.end.Stop.TheVariants as stop
 use Rattle.message_end.specs.Calls.{Does, in_step}
 use Rattle.message_end.specs.Core.{Command, EndView, Step, Went, and_then, carried, carry}
 use Rattle.message_end.specs.Core.Command.{End, Recall}
-use Rattle.message_end.specs.Core.Went.{Goes, Spent}
+use Rattle.message_end.specs.Core.Went.{Goes}
 use Rattle.message_end.specs.Duties.{Duty, all_done}
-use Rattle.talker.specs.Talker.{Kind, ends_failed, notes_failed}
+use Rattle.talker.specs.Talker.{Kind, notes_failed}
 use Rattle.talker.proofs.Due.{done_both}
 
 -- a command that went on, and the others
@@ -71,9 +71,9 @@ pub fails_odd :
     ≡ Goes (in_step e2 (record { line = out.line; notes = notes }))
 fails_odd header true is old e1 e2 out notes first second are =
     ap
-        (λ (w : Went (EndView Kind) Note).
-        and_then w (carried printed_note (End header.system ∷ notes_failed header)))
-        first
+    (λ (w : Went (EndView Kind) Note).
+    and_then w (carried printed_note (End header.system ∷ notes_failed header)))
+    first
     ∙ ap (λ (w : Went (EndView Kind) Note). and_then w (carried printed_note (notes_failed header))) second
     ∙ notes_one header e2 out notes are
 fails_odd header false is old e1 e2 out notes first second are = absurd (cc)

@@ -1,7 +1,6 @@
 -- That a talker keeps the law of an end: the proof, which stands here since an impl cites it.
-use Rattle.std.proofs.Common.{rules, ◌≡◌, ◌≢◌, ◌^◌, refl, sym, ap, subst, ◌∙◌, arith, Bool, true, false, ℕ, ◌<◌, ◌≤◌, ◌%◌, ◌==◌, List, [], ◌∷◌, ◌++◌, length, replicate, Option, Some, None, if◌then◌else◌, nat_le, zero, suc}
+use Rattle.std.proofs.Common.{rules, ◌≡◌, ◌≢◌, ◌^◌, refl, sym, ap, subst, ◌∙◌, arith, Bool, true, false, ℕ, ◌%◌, ◌==◌, List, [], ◌∷◌, ◌++◌, length, replicate, Option, Some, None, if◌then◌else◌, nat_le, zero, suc}
 use Rattle.std.proofs.lemmas.List.{append_assoc, append-nil}
-use Rattle.std.proofs.lemmas.List.Elements.{All-nil}
 use Rattle.std.proofs.lemmas.Bool.Decides.{nat_tests}
 use Rattle.block_codec.specs.Block.{BlockView}
 use Rattle.block_codec.specs.Protocol.{longest_text}
@@ -18,7 +17,6 @@ use Rattle.message_flow.specs.declared.flow.Flow.TheVariants.{Part, Whole, Dupli
 use Rattle.message_flow.specs.declared.message.Message.{Message}
 use Rattle.trace_log.specs.Commands.{HostCommandFits}
 use Rattle.trace_log.specs.Log.{Happening}
-use Rattle.trace_log.specs.Names.{header_title}
 use Rattle.message_end.specs.Calls.{dropped_now, failed_as, failed_at, took_by}
 use Rattle.trace_log.specs.declared.commands.HostCommand.{HostCommand}
 use Rattle.trace_log.specs.declared.commands.HostCommand.TheVariants as host

@@ -1,6 +1,6 @@
 -- A talker: an end that answers each primary that asks for it with the primary's own text, and sends what it is told to
 -- (this profile).
-use Rattle.std.specs.Prelude.{◌≡◌, ◌<◌, ℕ, Bool, true, false, ◌==◌, ◌%◌, ◌^◌, nat_le, List, [], ◌∷◌, ◌++◌, All, length, replicate, Option, Some, None, if◌then◌else◌}
+use Rattle.std.specs.Prelude.{◌≡◌, ℕ, Bool, true, false, ◌==◌, ◌%◌, ◌^◌, nat_le, List, [], ◌∷◌, ◌++◌, length, replicate, Option, Some, None, if◌then◌else◌}
 use Rattle.block_codec.specs.Protocol.{longest_text}
 use Rattle.block_codec.specs.declared.header.Header.{Header}
 use Rattle.gl_base.specs.Side.{is_same_side}

@@ -77,12 +77,7 @@ fn go_on<C: Orders>(
 }
 
 // Does what is due.
-fn do_due(
-    alloc: Global,
-    core: &mut MessageEnd<()>,
-    now: u64,
-    out: &mut StepOut,
-) -> Result<(), Stop>
+fn do_due(alloc: Global, core: &mut MessageEnd<()>, now: u64, out: &mut StepOut) -> Result<(), Stop>
     requires now { now < 2 ^ 62 }
     requires room { array_vec_len out.old.line + 257 ≤ 1024 }
     ensures does { DoesAll (due now) core.old out.old core.new out.new result }

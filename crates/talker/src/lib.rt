@@ -7,7 +7,6 @@ mod equipment;
 mod host;
 mod orders;
 mod talker;
-
 #[cfg(test)]
 mod tests;
 

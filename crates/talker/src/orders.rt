@@ -19,12 +19,7 @@ pub(crate) trait Orders {
     ghost asks: { Self → List (Command Kind) };
 
     /// Does what it is told.
-    fn obey(
-        &self,
-        alloc: Global,
-        core: &mut MessageEnd<()>,
-        out: &mut StepOut,
-    ) -> Result<(), Stop>
+    fn obey(&self, alloc: Global, core: &mut MessageEnd<()>, out: &mut StepOut) -> Result<(), Stop>
         requires { takes self.now }
         ensures carries { Carries (asks self.now) core.old out.old core.new out.new result }
         ensures line { out.new.line ≡ out.old.line };

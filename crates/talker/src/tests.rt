@@ -76,7 +76,11 @@ fn started<E: End>(alloc: Global, plan: &E::Plan, note: &[u8]) -> Option<E>
 {
     let mut out = nothing_yet(alloc);
     let end = E::start(alloc, plan, &mut out).ok()?;
-    if is_out(&out, &[], &[note]) { Some(end) } else { None }
+    if is_out(&out, &[], &[note]) {
+        Some(end)
+    } else {
+        None
+    }
 }
 
 // Whether an end makes this of what it is given.
@@ -97,29 +101,52 @@ fn gives<E: End>(
     end.step(alloc, input, now, &mut out).is_ok() && is_out(&out, line, notes)
 }
 
-// Whether an end takes these characters, and makes this of the last one.
-fn takes<E: End>(
+// Whether the equipment takes these characters, and makes this of the last one.
+fn equipment_takes(
     alloc: Global,
-    end: &mut E,
+    end: &mut EquipmentTalker,
     characters: &[u8],
     now: u64,
     line: &[u8],
     notes: &[&[u8]],
 ) -> bool
-    requires now { now < 2 ^ 62 }
-    requires sound { E.sound end.old }
-    ensures { E.sound end.new }
+    requires { now < 2 ^ 62 }
 {
-    let Some((last, first)) = characters.split_last() else {
-        return false;
-    };
-    for &character in first {
-        let mut out = nothing_yet(alloc);
-        if end.step(alloc, NodeInput::Char(character), now, &mut out).is_err() {
+    let mut out = nothing_yet(alloc);
+    for &character in characters {
+        out = nothing_yet(alloc);
+        if end
+            .step(alloc, NodeInput::Char(character), now, &mut out)
+            .is_err()
+        {
             return false;
         }
     }
-    gives(alloc, end, NodeInput::Char(*last), now, line, notes)
+    is_out(&out, line, notes)
+}
+
+// Whether the host takes these characters, and makes this of the last one.
+fn host_takes(
+    alloc: Global,
+    end: &mut HostTalker,
+    characters: &[u8],
+    now: u64,
+    line: &[u8],
+    notes: &[&[u8]],
+) -> bool
+    requires { now < 2 ^ 62 }
+{
+    let mut out = nothing_yet(alloc);
+    for &character in characters {
+        out = nothing_yet(alloc);
+        if end
+            .step(alloc, NodeInput::Char(character), now, &mut out)
+            .is_err()
+        {
+            return false;
+        }
+    }
+    is_out(&out, line, notes)
 }
 
 // The equipment opens the talk, and answers what it is asked.
@@ -130,11 +157,11 @@ fn equipment_talks(alloc: Global) -> bool {
     let sent: &[u8] = b"sent S1F13 W 00000000 0102410747454D4C494E45410131";
     let received: &[u8] = b"rx S1F14 00000000 0102410747454D4C494E45410131";
     gives(alloc, &mut end, NodeInput::Time, 0, &[ENQ], &[sent])
-        && takes(alloc, &mut end, &[EOT], 0, &GREETING, &[])
-        && takes(alloc, &mut end, &[ACK, ENQ], 0, &[EOT], &[])
-        && takes(alloc, &mut end, &GREETED, 0, &[ACK], &[received])
-        && takes(alloc, &mut end, &[ENQ], 0, &[EOT], &[])
-        && takes(
+        && equipment_takes(alloc, &mut end, &[EOT], 0, &GREETING, &[])
+        && equipment_takes(alloc, &mut end, &[ACK, ENQ], 0, &[EOT], &[])
+        && equipment_takes(alloc, &mut end, &GREETED, 0, &[ACK], &[received])
+        && equipment_takes(alloc, &mut end, &[ENQ], 0, &[EOT], &[])
+        && equipment_takes(
             alloc,
             &mut end,
             &ASKED,
@@ -159,13 +186,26 @@ fn host_waits(alloc: Global) -> bool {
         body,
     };
     let sent: &[u8] = b"sent S1F3 W 00000000 0100";
-    gives(alloc, &mut end, NodeInput::Command(&send), 0, &[ENQ], &[sent])
-        && takes(alloc, &mut end, &[EOT], 0, &ASKED, &[])
-        && takes(alloc, &mut end, &[ACK], 0, &[], &[])
+    gives(
+        alloc,
+        &mut end,
+        NodeInput::Command(&send),
+        0,
+        &[ENQ],
+        &[sent],
+    ) && host_takes(alloc, &mut end, &[EOT], 0, &ASKED, &[])
+        && host_takes(alloc, &mut end, &[ACK], 0, &[], &[])
         && gives(alloc, &mut end, NodeInput::Time, 44_999, &[], &[])
-        && gives(alloc, &mut end, NodeInput::Time, 45_000, &[], &[b"t3 S1F3 W 00000000"])
-        && takes(alloc, &mut end, &[ENQ], 45_000, &[EOT], &[])
-        && takes(
+        && gives(
+            alloc,
+            &mut end,
+            NodeInput::Time,
+            45_000,
+            &[],
+            &[b"t3 S1F3 W 00000000"],
+        )
+        && host_takes(alloc, &mut end, &[ENQ], 45_000, &[EOT], &[])
+        && host_takes(
             alloc,
             &mut end,
             &REPLIED,

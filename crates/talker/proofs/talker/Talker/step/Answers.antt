@@ -13,10 +13,10 @@ returns-in-Ok g c =
     } in
     let next : TalkerView = record { plan = s.plan; core = c.act.new.core; opens = false } in
     subst
-        (λ (t : TalkerView). HasGone (acts g.C.Orders.asks t (input_of c.args.input) c.args.now) next c.act.new.out)
-        c.self.view_is
-        (leaves_gone g.C.Orders.asks s (input_of c.args.input) c.args.now c.args.out.now c.requires.out c.act.new.core
-        c.act.new.out c.in-Ok.ensures)
+    (λ (t : TalkerView). HasGone (acts g.C.Orders.asks t (input_of c.args.input) c.args.now) next c.act.new.out)
+    c.self.view_is
+    (leaves_gone g.C.Orders.asks s (input_of c.args.input) c.args.now c.args.out.now c.requires.out c.act.new.core
+    c.act.new.out c.in-Ok.ensures)
 
 pub returns-in-Err : goal.returns-in-Err
 returns-in-Err g c =
@@ -27,10 +27,10 @@ returns-in-Err g c =
     } in
     let next : TalkerView = record { plan = s.plan; core = c.act.new.core; opens = s.opens } in
     subst
-        (λ (t : TalkerView).
-        Leaves (acts g.C.Orders.asks t (input_of c.args.input) c.args.now) next
-        (record { line = c.clear.new.self; notes = c.act.new.out.notes }) (Err c.in-Err.stop))
-        c.self.view_is
-        (leaves_stopped g.C.Orders.asks s (input_of c.args.input) c.args.now c.args.out.now c.requires.out
-        c.act.new.core c.act.new.out (record { line = c.clear.new.self; notes = c.act.new.out.notes }) c.in-Err.stop
-        c.in-Err.ensures refl c.clear.ensures next)
+    (λ (t : TalkerView).
+    Leaves (acts g.C.Orders.asks t (input_of c.args.input) c.args.now) next
+    (record { line = c.clear.new.self; notes = c.act.new.out.notes }) (Err c.in-Err.stop))
+    c.self.view_is
+    (leaves_stopped g.C.Orders.asks s (input_of c.args.input) c.args.now c.args.out.now c.requires.out
+    c.act.new.core c.act.new.out (record { line = c.clear.new.self; notes = c.act.new.out.notes }) c.in-Err.stop
+    c.in-Err.ensures refl c.clear.ensures next)
