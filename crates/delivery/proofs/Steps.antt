@@ -26,6 +26,7 @@ use Rattle.message_flow.specs.History.{flow_after, met_of}
 use Rattle.message_flow.specs.Laws.{BlocksMakeMessages}
 use Rattle.message_flow.specs.Message.{is_primary}
 use Rattle.delivery.proofs.Ends.{AreEnds, HasArrived, History, LineSide, arrived-more, newest-arrived}
+use Rattle.delivery.proofs.Facts.Fact.{HereSends, ThereSends}
 use Rattle.delivery.proofs.Fitting.{Fits, fits-drew, fits-dropped, fits-gave, fits-heard, fits-received, fits-sent, fits-started, fits-wrote, found-sent, given_place, giving_of, may-send, newly, placed-now, sent_place, some-made}
 use Rattle.delivery.proofs.Lists.{LooksUp, first-of-pairs, found-at, placed-above}
 use Rattle.delivery.proofs.Sound.{delivered, sound-done, sound-restarted}
@@ -398,7 +399,7 @@ module _ (plan other : EndPlan) (part beside : LineSide) (history theirs : Histo
       found =
           ap (given_at frame.place) is.there_is.tied.given_are
           ∙ found-at given_at given-looks given_place (view_of is.there.plan) 0 is.there.given at.block frame.place
-          is.there_is.tied.placed (is.sound.there_sends.frames_are at.block at.has).is_given (omega (arith, at.at))
+          is.there_is.tied.placed ((is.sound ThereSends).frames_are at.block at.has).is_given (omega (arith, at.at))
 
       is_view : block ≡ view_of is.there.plan at.block
       is_view =
@@ -525,7 +526,7 @@ module _ (plan other : EndPlan) (part beside : LineSide) (history theirs : Histo
       plan_is = is.here_is.plan_is;
       fits =
           fits-started history.base history.sent_before history.given_before history.places history.own is.here next
-          higher above (λ b has. (is.sound.here_sends.given_are b has).sent) is.here_is.fits;
+          higher above (λ b has. ((is.sound HereSends).given_are b has).sent) is.here_is.fits;
       tied =
           tied-started is.here.plan part.given part.frames part.written part.written is.here.sent is.here.given []
           part.held
