@@ -10,7 +10,7 @@ use Rattle.message_flow.specs.History.{flow_after, met_of}
 use Rattle.message_flow.specs.Laws.{BlocksMakeMessages}
 use Rattle.message_flow.specs.Message.{is_primary}
 use Rattle.delivery.proofs.Answering.{answering-asked, answering-heard, answering-none, answering-received, answering-restarted, answering-sent, answering-told, answering-unheard, answering-wrote, sent-new}
-use Rattle.delivery.proofs.Facts.{AreApart, Fact, HoldsOnWay, IsDelivered, IsFrameOf, IsLive, IsSound, WayFact}
+use Rattle.delivery.proofs.Facts.{AreApart, HoldsOnWay, IsDelivered, IsFrameOf, IsLive, IsSound, WayFact}
 use Rattle.delivery.proofs.Facts.Fact.{Back, HereSends, Out, Sides, ThereSends}
 use Rattle.delivery.proofs.Facts.IsLive.{past, present}
 use Rattle.delivery.proofs.Facts.WayFact.{Answering, Apart, Hearing, Receiving}
