@@ -358,8 +358,7 @@ module _ {S T : Type 0}
   start-holds : Holds (at_start first_e first_h).world started
   start-holds = record {
     made =
-        made-more started started [] first_e.next first_h.next (sym (append-nil started)) no_moves
-        (
+        made-more started started [] first_e.next first_h.next (sym (append-nil started)) no_moves (
           record { least = omega arith; above = λ drawn has. absurd has },
           (record { least = omega arith; above = λ drawn has. absurd has }, tt),
         ) (refl, (refl, tt)) (record { is = law_e.starts.is; state = refl })

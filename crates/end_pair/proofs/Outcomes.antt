@@ -7,8 +7,7 @@ use Rattle.gl_base.specs.declared.side.Side.TheVariants.{Equipment, Host}
 use Rattle.line_schedule.specs.declared.event.Event.{Event}
 use Rattle.line_schedule.specs.declared.event.Event.TheVariants as event
 use Rattle.line_way.specs.Ways.{characters_of, is_under_way, next_byte}
-use Rattle.message_end.specs.Core.{Step, Went}
-use Rattle.message_end.specs.Core.Went.{Goes, Spent}
+use Rattle.message_end.specs.Core.{Step}
 use Rattle.message_end.specs.Doings.{Doing}
 use Rattle.message_end.specs.Ends.{Input, KeepsLaw, Machine}
 use Rattle.message_end.specs.Ends.Input.{Char, Command, Time}
@@ -24,7 +23,7 @@ use Rattle.end_pair.specs.Kept.{MayHappen}
 use Rattle.end_pair.specs.Laws.{HasBytes, IsOfMoves, RunsAreBounded}
 use Rattle.end_pair.specs.Run.{closing, piece_of, whole_log}
 use Rattle.end_pair.specs.Run as run
-use Rattle.end_pair.specs.Steps.{made, slipped, slips, stepped}
+use Rattle.end_pair.specs.Steps.{stepped}
 use Rattle.end_pair.specs.World.{Piece, World, after_event, after_events, and_more, and_on, at_start, begun, both_stepped, equipment_stepped, given, given_next, given_times, host_stepped, later, most_steps, settled, settled_times, still, turned_out, way_to, with_equipment, with_host}
 use Rattle.end_pair.proofs.Causes.{by-cause}
 use Rattle.end_pair.proofs.Holding.{Good, run-is, same_moves}
