@@ -266,8 +266,8 @@ answering-wrote x y block is may = record {
         let header = header_of y.plan.side 0 h.block.of.message 1 in
         let by = old.secondaries h.block.of ((is ThereSends).given_are h.block heard.is_given).sent reply.secondary in
         let same : by.asker ≡ block.of =
-        (is HereSends).fresh by.asker block.of by.sent ((is HereSends).ever_sent block.of may.of_sent) by.primary primary
-        (sym by.system ∙ reply.system) in
+        (is HereSends).fresh by.asker block.of by.sent ((is HereSends).ever_sent block.of may.of_sent) by.primary
+        primary (sym by.system ∙ reply.system) in
         let here : IsReplyTo x.plan.side by.asker.message header =
         subst (λ (s : Side). IsReplyTo s by.asker.message header) (sym (is Sides)) by.reply in
         subst (λ (v : BlockView). IsReplyTo x.plan.side block.of.message v.header) (sym heard.is)

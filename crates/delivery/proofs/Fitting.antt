@@ -420,8 +420,8 @@ module _ (base : ℕ) (sent_before : List Message) (given_before : List Giving) 
           in
           omega (arith, at, long)
 
-      go : Fits next (sent_in own ++ sent_before) (map (behind (length sent_before)) (given_in own) ++ given_before) [] []
-          (restarted x)
+      go : Fits next (sent_in own ++ sent_before) (map (behind (length sent_before)) (given_in own) ++ given_before)
+          [] [] (restarted x)
       go SentFit = record {
         old = x.ever;
         ever_is = refl;

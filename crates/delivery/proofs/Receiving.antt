@@ -100,8 +100,8 @@ last-of make x y block view flow w is arrives flow_is e = record {
   message = makes.0;
   last = ap (λ (v : BlockView). v.header.number) (sym arrives.is ∙ makes.1);
   new = newer y.plan y.given x.heard block view (is ThereSends).same frame.is_given
-      (λ h has. ((is (Back Hearing)).heard_are h has).is_given) (λ h has. ((is (Back Hearing)).heard_are h has).is) arrives.is
-      (is (Back Hearing)).rise arrives.order
+      (λ h has. ((is (Back Hearing)).heard_are h has).is_given)
+      (λ h has. ((is (Back Hearing)).heard_are h has).is) arrives.is (is (Back Hearing)).rise arrives.order
       (sym (ap (λ (o : Option Header). is_given o view.header) (is (Back Hearing)).last) ∙ makes.2);
 }
   where

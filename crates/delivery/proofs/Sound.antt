@@ -43,8 +43,8 @@ sound-new here there sides ThereSends = sending-none
 sound-new here there sides (Out fact) = way-none fact here there
 sound-new here there sides (Back fact) = way-none fact there here
 
--- ---- each doing: the facts that it changes, and the others as they were (a case of `Out` or `Back` among these, where none is
--- among those, for the last line to be taken apart)
+-- ---- each doing: the facts that it changes, and the others as they were. The last line of each is taken apart only
+-- where `Out` and `Back` are: so where none of theirs changes, one that stays is named
 
 sound-sent :
     (x y : TaggedEnd) (message : TaggedMessage) → MaySendOne x.plan.side x.ever x.asked message → IsSound x y

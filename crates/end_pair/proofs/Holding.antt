@@ -38,7 +38,8 @@ use Rattle.end_pair.proofs.Moved.{HasStepped, IsAt, has-stepped, moves-split, mo
 
 module _ {S T : Type 0}
     (did_e : ℕ → List Doing → S → Type 0) (did_h : ℕ → List Doing → T → Type 0)
-    (tool : ToolCommand → Type 0) (user : HostCommand → Type 0) (first_e : Step S Happening) (first_h : Step T Happening)
+    (tool : ToolCommand → Type 0) (user : HostCommand → Type 0)
+    (first_e : Step S Happening) (first_h : Step T Happening)
     (e : Machine S ToolCommand) (h : Machine T HostCommand) (plans : LinePlans)
     (law_e : KeepsLaw (plan_at Equipment plans) did_e tool first_e e)
     (law_h : KeepsLaw (plan_at Host plans) did_h user first_h h) where
@@ -81,8 +82,8 @@ module _ {S T : Type 0}
 
   -- a log of moves, with these entries behind it
   abbrev with_last :
-      (moves : List Move) (s : S) (t : T) (last log : List Entry) → AreMade moves s t → length last ≤ 1 → AreNoNotes last
-      → log ≡ last ++ log_of moves → IsOfMoves did_e did_h plans log
+      (moves : List Move) (s : S) (t : T) (last log : List Entry) → AreMade moves s t → length last ≤ 1
+      → AreNoNotes last → log ≡ last ++ log_of moves → IsOfMoves did_e did_h plans log
   with_last moves s t last log made few no_notes is = record {
     moves = moves;
     keep = made.keep;
@@ -136,8 +137,10 @@ module _ {S T : Type 0}
       go answer.NumbersSpent is = good
       go answer.NoMemory is = good
 
-  keeps-then : (first rest : World S T → Piece S T) → Keeps first → Keeps rest → Keeps (λ world. and_more (first world) rest)
-  keeps-then first rest one two world moves holds = good-then (first world) (log_of moves) rest (one world moves holds) two
+  keeps-then :
+      (first rest : World S T → Piece S T) → Keeps first → Keeps rest → Keeps (λ world. and_more (first world) rest)
+  keeps-then first rest one two world moves holds =
+      good-then (first world) (log_of moves) rest (one world moves holds) two
 
   -- no step is left
   goes-out : (world : World S T) (moves : List Move) → Holds world moves → Good (turned_out world) (log_of moves)
@@ -150,8 +153,8 @@ module _ {S T : Type 0}
 
   -- a step of either end, where one is left
   step-keeps :
-      {X : Type 0} (did : ℕ → List Doing → X → Type 0) (side : Side) (step : Stepped X) (world : World S T) (moves : List Move)
-      (s : S) (t : T)
+      {X : Type 0} (did : ℕ → List Doing → X → Type 0) (side : Side) (step : Stepped X) (world : World S T)
+      (moves : List Move) (s : S) (t : T)
       → Holds world moves → (is : HasStepped did side plans world.moment moves step)
       → IsAt did_e Equipment plans (moves_with side world.moment is.done moves) s
       → IsAt did_h Host plans (moves_with side world.moment is.done moves) t
@@ -171,8 +174,8 @@ module _ {S T : Type 0}
 
       made : AreMade later s t
       made =
-          made-more later (moves_with side world.moment is.done []) moves s t (moves-split side world.moment is.done moves)
-          holds.made.steps is.are.keep is.are.no_slip equipment host
+          made-more later (moves_with side world.moment is.done []) moves s t
+          (moves-split side world.moment is.done moves) holds.made.steps is.are.keep is.are.no_slip equipment host
 
       log : step.entries ++ log_of moves ≡ is.last ++ log_of later
       log =
@@ -205,8 +208,8 @@ module _ {S T : Type 0}
       has-stepped did_e tool first_e e Equipment plans law_e world.moment moves world.equipment input world.ways may
       holds.made.keep holds.made.clean holds.made.equipment next holds.stands holds.bytes
       in
-      step-keeps did_e Equipment (stepped e Equipment world.moment input world.equipment world.ways) world moves _ world.host
-      holds is is.are.at (other-is did_h Equipment plans world.moment is.done moves world.host holds.made.host)
+      step-keeps did_e Equipment (stepped e Equipment world.moment input world.equipment world.ways) world moves _
+      world.host holds is is.are.at (other-is did_h Equipment plans world.moment is.done moves world.host holds.made.host)
 
   host-keeps :
       (input : Input HostCommand) → MayTake user input → (world : World S T) (moves : List Move) → Holds world moves
@@ -231,7 +234,8 @@ module _ {S T : Type 0}
   given-keeps side world moves holds = go side (direction_to side world.ways).under_way refl
     where
       small :
-          (side : Side) (c : Character) (cs : List Character) → (direction_to side world.ways).under_way ≡ c ∷ cs → c.byte < 256
+          (side : Side) (c : Character) (cs : List Character) → (direction_to side world.ways).under_way ≡ c ∷ cs
+          → c.byte < 256
       small side c cs is = (subst AreByteCharacters is (bytes-to side world.ways holds.bytes)).0
 
       next :
@@ -250,7 +254,8 @@ module _ {S T : Type 0}
 
   times-keeps : (n : ℕ) (side : Side) → Keeps (given_times e h n side)
   times-keeps zero side = goes-still
-  times-keeps (suc n) side = keeps-then (given e h side) (given_times e h n side) (given-keeps side) (times-keeps n side)
+  times-keeps (suc n) side =
+      keeps-then (given e h side) (given_times e h n side) (given-keeps side) (times-keeps n side)
 
   settled-keeps : Keeps (settled e h)
   settled-keeps world moves holds = go (is_under_way (characters_of (way_to Equipment world).under_way))
@@ -267,7 +272,8 @@ module _ {S T : Type 0}
   both-keeps : Keeps (both_stepped e h)
   both-keeps =
       keeps-then (equipment_stepped e h Time) (host_stepped e h Time)
-      (λ world moves holds. equipment-keeps Time tt world moves holds tt) (λ world moves holds. host-keeps Time tt world moves holds tt)
+      (λ world moves holds. equipment-keeps Time tt world moves holds tt)
+      (λ world moves holds. host-keeps Time tt world moves holds tt)
 
   -- ---- what becomes of characters
 
@@ -299,29 +305,33 @@ module _ {S T : Type 0}
 
   losses-keep : (n : ℕ) (side : Side) → Keeps (λ world. still (lost_from n side world))
   losses-keep zero side world moves holds =
-      subst (λ (w : World S T). Good (still w) (log_of moves)) (sym (lost-none side world)) (goes-still world moves holds)
+      subst (λ (w : World S T). Good (still w) (log_of moves)) (sym (lost-none side world))
+      (goes-still world moves holds)
   losses-keep (suc n) side world moves holds =
       subst (λ (w : World S T). Good (still w) (log_of moves)) (sym (lost-more n side world))
       (losses-keep n side (lost_from 1 side world) _ (lost-once side world moves holds))
 
   change-keeps : (side : Side) (place byte : ℕ) → byte < 256 → Keeps (λ world. still (changed_at side place byte world))
   change-keeps side place byte small world moves holds =
-      goes-still (changed_at side place byte world) (record { side = side; moment = world.moment; kind = Changed place byte } ∷ moves) (record {
+      goes-still (changed_at side place byte world)
+      (record { side = side; moment = world.moment; kind = Changed place byte } ∷ moves) (record {
         made = fate-made side (Changed place byte) world.moment moves world.equipment world.host tt holds.made;
         stands = change-stands side place byte world.ways (line_of_moves plans moves) holds.stands;
         bytes =
             bytes-with side (with_change place byte (way_to side world)) world.ways
-            (with-byte place byte (way_to side world).under_way small (bytes-to side world.ways holds.bytes)) holds.bytes;
+            (with-byte place byte (way_to side world).under_way small (bytes-to side world.ways holds.bytes))
+            holds.bytes;
       })
 
   add-keeps : (side : Side) (byte : ℕ) → byte < 256 → Keeps (λ world. still (added_to side byte world))
   add-keeps side byte small world moves holds =
-      goes-still (added_to side byte world) (record { side = side; moment = world.moment; kind = Added byte } ∷ moves) (record {
+      goes-still (added_to side byte world)
+      (record { side = side; moment = world.moment; kind = Added byte } ∷ moves) (record {
         made = fate-made side (Added byte) world.moment moves world.equipment world.host tt holds.made;
         stands = add-stands side byte world.ways (line_of_moves plans moves) holds.stands;
         bytes =
-            bytes-with side (with_noise byte (way_to side world)) world.ways (small, bytes-to side world.ways holds.bytes)
-            holds.bytes;
+            bytes-with side (with_noise byte (way_to side world)) world.ways
+            (small, bytes-to side world.ways holds.bytes) holds.bytes;
       })
 
   later-keeps : (ms : ℕ) (more : World S T → Piece S T) → Keeps more → Keeps (λ world. more (later ms world))
@@ -337,16 +347,20 @@ module _ {S T : Type 0}
   event-keeps (event.Add side byte) may bytes = add-keeps side byte bytes
   event-keeps event.Settle may bytes = settles-keeps 65536
   event-keeps (event.Wait ms) may bytes = later-keeps ms (both_stepped e h) both-keeps
-  event-keeps (event.Tool command) may bytes = λ world moves holds. equipment-keeps (Command command) may world moves holds tt
-  event-keeps (event.Host command) may bytes = λ world moves holds. host-keeps (Command command) may world moves holds tt
+  event-keeps (event.Tool command) may bytes =
+      λ world moves holds. equipment-keeps (Command command) may world moves holds tt
+  event-keeps (event.Host command) may bytes =
+      λ world moves holds. host-keeps (Command command) may world moves holds tt
   event-keeps (event.Cut call choice) may bytes = goes-still
 
-  events-keep : (events : List Event) → All (MayHappen tool user) events → All HasBytes events → Keeps (after_events e h events)
+  events-keep :
+      (events : List Event) → All (MayHappen tool user) events → All HasBytes events → Keeps (after_events e h events)
   events-keep [] may bytes = goes-still
   events-keep (event ∷ events) may bytes =
       keeps-then (after_event e h event) (after_events e h events)
       (event-keeps event (may 0 event (omega arith)) (bytes 0 event (omega arith)))
-      (events-keep events (λ k d within. may (suc k) d (omega (arith, within))) (λ k d within. bytes (suc k) d (omega (arith, within))))
+      (events-keep events (λ k d within. may (suc k) d (omega (arith, within)))
+      (λ k d within. bytes (suc k) d (omega (arith, within))))
 
   -- ---- the start
 
@@ -370,7 +384,10 @@ module _ {S T : Type 0}
   start-log : (at_start first_e first_h).entries ≡ log_of started
   start-log =
       ap (λ (ns : List Happening). log_with 0 Host ns (log_with 0 Equipment first_e.notes [])) law_h.starts.notes
-      ∙ ap (λ (ns : List Happening). log_with 0 Host (start_of Host law_h.starts.found law_h.starts.base ∷ []) (log_with 0 Equipment ns [])) law_e.starts.notes
+      ∙ ap
+      (λ (ns : List Happening).
+      log_with 0 Host (start_of Host law_h.starts.found law_h.starts.base ∷ []) (log_with 0 Equipment ns []))
+      law_e.starts.notes
 
   pub run-is : (events : List Event) → All (MayHappen tool user) events → All HasBytes events
       → Good (piece_of e h first_e first_h events) []
@@ -378,8 +395,8 @@ module _ {S T : Type 0}
       good-then (begun e h first_e first_h) [] (after_events e h events)
       (good-then (at_start first_e first_h) [] (both_stepped e h) (record {
         of =
-            with_last started first_e.next first_h.next [] ((at_start first_e first_h).entries ++ []) start-holds.made (omega arith)
-            tt (append-nil (at_start first_e first_h).entries ∙ start-log);
+            with_last started first_e.next first_h.next [] ((at_start first_e first_h).entries ++ [])
+            start-holds.made (omega arith) tt (append-nil (at_start first_e first_h).entries ∙ start-log);
         on = λ on. (refl, start-holds);
       }) both-keeps)
       (events-keep events may bytes)

@@ -188,13 +188,15 @@ noted-behind (Says what ∷ before) doings =
 -- ---- the end, and the other one
 
 -- its doings have made the end what it is, and its line
-pub record HasBecome {S : Type 0} (did : ℕ → List Doing → S → Type 0) (plan : EndPlan) (run : Run) (line : LineState) (s : S) : Type 0 where
+pub record HasBecome {S : Type 0}
+    (did : ℕ → List Doing → S → Type 0) (plan : EndPlan) (run : Run) (line : LineState) (s : S) : Type 0 where
   pub is : did run.base run.doings s
   pub state : line ≡ line_of plan run.doings
 
 -- these moves have
 abbrev pub IsAt : {S : Type 0} → (ℕ → List Doing → S → Type 0) → Side → LinePlans → List Move → S → Type 0
-IsAt did side plans moves s = HasBecome did (plan_at side plans) (run_at side plans moves) (seen_at side plans moves).here.state s
+IsAt did side plans moves s =
+    HasBecome did (plan_at side plans) (run_at side plans moves) (seen_at side plans moves).here.state s
 
 there-state : (call : LineCall) (view : View) → (act_here (act_of_call call) view).there.state ≡ view.there.state
 there-state (Send block now) view = refl
@@ -223,13 +225,14 @@ other-run side plans now [] moves = refl
 other-run Equipment plans now (doing ∷ before) moves = other-run Equipment plans now before moves
 other-run Host plans now (doing ∷ before) moves = other-run Host plans now before moves
 
-here-there : (side : Side) (line : Line) → (seen_from (other_side side) line).here.state ≡ (seen_from side line).there.state
+here-there : (side : Side) (line : Line)
+    → (seen_from (other_side side) line).here.state ≡ (seen_from side line).there.state
 here-there Equipment line = refl
 here-there Host line = refl
 
 pub other-is :
-    {S : Type 0} (did : ℕ → List Doing → S → Type 0) (side : Side) (plans : LinePlans) (now : ℕ) (done : List Doing) (moves : List Move)
-    (s : S)
+    {S : Type 0} (did : ℕ → List Doing → S → Type 0) (side : Side) (plans : LinePlans) (now : ℕ)
+    (done : List Doing) (moves : List Move) (s : S)
     → IsAt did (other_side side) plans moves s → IsAt did (other_side side) plans (moves_with side now done moves) s
 other-is did side plans now done moves s at = record {
   is = subst (λ (r : Run). did r.base r.doings s) (sym run) at.is;
@@ -472,9 +475,10 @@ module _ {S C : Type 0} (did : ℕ → List Doing → S → Type 0) (takes : C �
   pub has-stepped :
       (now : ℕ) (moves : List Move) (s : S) (input : Input C) (ways : Ways) → MayTake takes input → KeepLaws plans moves
       → HasNoSlip (new_line plans.equipment.times plans.host.times) (deeds_of moves) → IsAt did side plans moves s
-      → IsNext (seen_at side plans moves).there.under_way input → StandsFor ways (line_of_moves plans moves) → AreByteWays ways
-      → HasStepped did side plans now moves (stepped machine side now input s ways)
-  has-stepped now moves s input ways may keep clean at next stands bytes = by_slip (slips machine side now input s ways) refl
+      → IsNext (seen_at side plans moves).there.under_way input → StandsFor ways (line_of_moves plans moves)
+      → AreByteWays ways → HasStepped did side plans now moves (stepped machine side now input s ways)
+  has-stepped now moves s input ways may keep clean at next stands bytes =
+      by_slip (slips machine side now input s ways) refl
     where
       run : Run
       run = run_at side plans moves

@@ -54,7 +54,8 @@ log-is {S} {T} did_e did_h tool user first_e first_h e h plans law_e law_h event
 
     some : piece.entries ≡ whole_log piece → IsOfMoves did_e did_h plans (whole_log piece)
     some is =
-        same_moves did_e did_h tool user first_e first_h e h plans law_e law_h piece.entries (whole_log piece) (sym is) of
+        same_moves did_e did_h tool user first_e first_h e h plans law_e law_h piece.entries (whole_log piece)
+        (sym is) of
 
     same : (how : WorldStep) → piece.went ≡ how → closing how piece.world.moment ≡ [] → piece.entries ≡ whole_log piece
     same how is none =

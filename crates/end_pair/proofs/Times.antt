@@ -56,7 +56,8 @@ module _ {S T : Type 0} {once : World S T → Piece S T} {times : ℕ → World 
       (subst (λ (p : Piece S T). Leads p between whole old) (is.more n m world is_n) leads)
 
   pub times_stop :
-      (n m : ℕ) (world after : World S T) (between lines : List ℕ) (answer : WorldStep) (whole : Piece S T) (old : List ℕ)
+      (n m : ℕ) (world after : World S T) (between lines : List ℕ) (answer : WorldStep)
+      (whole : Piece S T) (old : List ℕ)
       → n ≡ m + 1 → answer ≢ Went → Comes (once world) after between lines answer
       → Leads (times n world) between whole old → Comes whole after old lines answer
   times_stop n m world after between lines answer whole old is_n stops comes leads =
@@ -74,11 +75,13 @@ module _ {S T : Type 0} (e : Machine S ToolCommand) (h : Machine T HostCommand) 
       → given_times e h n side world ≡ and_more (given e h side world) (given_times e h m side)
   times-more n m side world is_n = ap (λ (k : ℕ). given_times e h k side world) (is_n ∙ add-one m)
 
-  times-none : (n : ℕ) (side : Side) (world : World S T) → IsEmptyTo side world → given_times e h n side world ≡ still world
+  times-none : (n : ℕ) (side : Side) (world : World S T) → IsEmptyTo side world
+      → given_times e h n side world ≡ still world
   times-none zero side world none = refl
   times-none (suc n) side world none =
       ap (λ (first : Piece S T). and_more first (given_times e h n side)) (given-none side world none)
-      ∙ ap (λ (next : Piece S T). record { world = next.world; entries = next.entries ++ []; went = next.went }) (times-none n side world none)
+      ∙ ap (λ (next : Piece S T). record { world = next.world; entries = next.entries ++ []; went = next.went })
+      (times-none n side world none)
 
   pub gives_times : (side : Side) → Repeats (given e h side) (λ n. given_times e h n side) (IsEmptyTo side)
   gives_times side = record {
@@ -89,21 +92,25 @@ module _ {S T : Type 0} (e : Machine S ToolCommand) (h : Machine T HostCommand) 
 
   -- ---- to both ends
 
-  settled-none : (world : World S T) → IsEmptyTo Equipment world → IsEmptyTo Host world → settled e h world ≡ still world
+  settled-none : (world : World S T) → IsEmptyTo Equipment world → IsEmptyTo Host world
+      → settled e h world ≡ still world
   settled-none world none empty =
-      ap (λ (b : Bool). if b then given e h Equipment world else given e h Host world) none ∙ given-none Host world empty
+      ap (λ (b : Bool). if b then given e h Equipment world else given e h Host world) none
+      ∙ given-none Host world empty
 
   settles-more : (n m : ℕ) (world : World S T) → n ≡ m + 1
       → settled_times e h n world ≡ and_more (settled e h world) (settled_times e h m)
   unfolding settled_times
   settles-more n m world is_n = ap (λ (k : ℕ). settled_times e h k world) (is_n ∙ add-one m)
 
-  settles-none : (n : ℕ) (world : World S T) → IsEmptyTo Equipment world → IsEmptyTo Host world → settled_times e h n world ≡ still world
+  settles-none : (n : ℕ) (world : World S T) → IsEmptyTo Equipment world → IsEmptyTo Host world
+      → settled_times e h n world ≡ still world
   unfolding settled_times
   settles-none zero world none empty = refl
   settles-none (suc n) world none empty =
       ap (λ (first : Piece S T). and_more first (settled_times e h n)) (settled-none world none empty)
-      ∙ ap (λ (next : Piece S T). record { world = next.world; entries = next.entries ++ []; went = next.went }) (settles-none n world none empty)
+      ∙ ap (λ (next : Piece S T). record { world = next.world; entries = next.entries ++ []; went = next.went })
+      (settles-none n world none empty)
 
   settles-zero : (world : World S T) → settled_times e h 0 world ≡ still world
   unfolding settled_times
