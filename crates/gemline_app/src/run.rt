@@ -207,8 +207,8 @@ fn make_spool<W: Sink, D: Disk>(words: &[String], slots: u32, out: &mut W, disk:
     requires most { slots ≤ 65535 }
     ensures { EndedAs
         (FormatsSpool (spool_name (map string_bytes words.now)) slots
-            (disk_told D.Disk disk.old disk.new)
-            (sink_told W.Sink out.old out.new))
+        (disk_told D.Disk disk.old disk.new)
+        (sink_told W.Sink out.old out.new))
         result }
 {
     outcome_of_spool(format_spool(disk, spool_name(words), slots, out))
@@ -218,8 +218,8 @@ fn make_spool<W: Sink, D: Disk>(words: &[String], slots: u32, out: &mut W, disk:
 fn list_spool<W: Sink, D: Disk>(words: &[String], out: &mut W, disk: &mut D) -> Outcome
     ensures { EndedAs
         (ShowsSpool (spool_name (map string_bytes words.now))
-            (disk_told D.Disk disk.old disk.new)
-            (sink_told W.Sink out.old out.new))
+        (disk_told D.Disk disk.old disk.new)
+        (sink_told W.Sink out.old out.new))
         result }
 {
     outcome_of_spool(show_spool(disk, spool_name(words), out))
