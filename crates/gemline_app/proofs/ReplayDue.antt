@@ -84,13 +84,21 @@ failed source files disk out outcome found is rose = subst (Hinders source files
 
 -- ---- a schedule that was carried out
 
-ended_due : (source : SourceTold) (files : FilesTold) (disk : DiskTold) (out : SinkTold) (text : List ℕ) (went : WorldStep) (ended : RunEnd) (outcome due : Outcome) →
-    outcome ≡ outcome_of_end ended → Runs out text went ended → due ≡ outcome_of_run went → Comes source files disk out outcome due
-ended_due source files disk out text went end.Whole outcome due is (at, wrote) is_due = inl (is ∙ sym (is_due ∙ ap outcome_of_run at))
-ended_due source files disk out text went end.Slip outcome due is (at, wrote) is_due = inl (is ∙ sym (is_due ∙ ap outcome_of_run at))
-ended_due source files disk out text went end.Turns outcome due is (at, wrote) is_due = inl (is ∙ sym (is_due ∙ ap outcome_of_run at))
-ended_due source files disk out text went end.NumbersSpent outcome due is (at, wrote) is_due = inl (is ∙ sym (is_due ∙ ap outcome_of_run at))
-ended_due source files disk out text went end.NoMemory outcome due is part is_due = inr (hindered source files disk out outcome is)
+ended_due :
+    (source : SourceTold) (files : FilesTold) (disk : DiskTold) (out : SinkTold) (text : List ℕ) (went : WorldStep)
+    (ended : RunEnd) (outcome due : Outcome)
+    → outcome ≡ outcome_of_end ended → Runs out text went ended → due ≡ outcome_of_run went
+    → Comes source files disk out outcome due
+ended_due source files disk out text went end.Whole outcome due is (at, wrote) is_due =
+    inl (is ∙ sym (is_due ∙ ap outcome_of_run at))
+ended_due source files disk out text went end.Slip outcome due is (at, wrote) is_due =
+    inl (is ∙ sym (is_due ∙ ap outcome_of_run at))
+ended_due source files disk out text went end.Turns outcome due is (at, wrote) is_due =
+    inl (is ∙ sym (is_due ∙ ap outcome_of_run at))
+ended_due source files disk out text went end.NumbersSpent outcome due is (at, wrote) is_due =
+    inl (is ∙ sym (is_due ∙ ap outcome_of_run at))
+ended_due source files disk out text went end.NoMemory outcome due is part is_due =
+    inr (hindered source files disk out outcome is)
 ended_due source files disk out text went end.WriteFailed outcome due is short is_due =
     inr (subst (Hinders source files disk out) (sym is) short.fault.rose)
 

@@ -57,9 +57,11 @@ refuses_text text out fault outcome reads untouched is =
     })
 
 -- what was carried out over the parameters of an empty plan
-pub replayed_over : (plans : LinePlans) (schedule : Schedule) (out : SinkTold) (ended : RunEnd) (outcome : Outcome) → plans ≡ empty_plans →
-    outcome ≡ outcome_of_end ended → Runs out (trace_text plans schedule) (went_of plans schedule) ended → Delivered (log_of plans schedule) →
-    ComesInOrder plans (log_of plans schedule) → WasReplayed schedule out outcome
+pub replayed_over :
+    (plans : LinePlans) (schedule : Schedule) (out : SinkTold) (ended : RunEnd) (outcome : Outcome)
+    → plans ≡ empty_plans → outcome ≡ outcome_of_end ended
+    → Runs out (trace_text plans schedule) (went_of plans schedule) ended → Delivered (log_of plans schedule)
+    → ComesInOrder plans (log_of plans schedule) → WasReplayed schedule out outcome
 replayed_over plans schedule out ended outcome same is wrote delivered in_order = record {
   ended = ended;
   outcome_is = is;

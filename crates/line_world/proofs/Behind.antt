@@ -1,6 +1,6 @@
 -- A run over two talkers is one of moves that deliver.
 use Rattle.std.proofs.Common.{List, [], ◌∷◌, ◌++◌, sym, subst}
-use Rattle.delivery.specs.Laws.{EndsDeliver}
+use Rattle.delivery.specs.Laws.{Deliver, EndsDeliver}
 use Rattle.end_pair.specs.Laws.{AreNoNotes, IsOfMoves}
 use Rattle.line_end.specs.Plan.{LinePlanFits}
 use Rattle.message_end.specs.Log as moves
@@ -21,13 +21,13 @@ delivered-behind (Ended moment ∷ last) log none is = (tt, delivered-behind las
 module _ (plans : LinePlans) (equipment : LinePlanFits plans.equipment) (host : LinePlanFits plans.host)
     (deliver : EndsDeliver) (log : List Entry)
     (moved : IsOfMoves (Did (equipment_plan plans.equipment)) (Did (host_plan plans.host)) plans log) where
+  delivers : Deliver plans moved.moves
+  delivers = deliver plans moved.moves equipment.times host.times moved.no_slip moved.keep
+
   pub is-delivered : Delivered log
   is-delivered =
-      let is = deliver plans moved.moves equipment.times host.times moved.no_slip moved.keep in
-      subst Delivered (sym moved.is) (delivered-behind moved.last (moves.log_of moved.moves) moved.no_notes is.delivered)
+      let behind = delivered-behind moved.last (moves.log_of moved.moves) moved.no_notes delivers.delivered in
+      subst Delivered (sym moved.is) behind
 
   pub in-order : ComesInOrder plans log
-  in-order = record {
-    moved = moved;
-    in_order = (deliver plans moved.moves equipment.times host.times moved.no_slip moved.keep).in_order;
-  }
+  in-order = record { moved = moved; in_order = delivers.in_order }

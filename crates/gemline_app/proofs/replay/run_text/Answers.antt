@@ -5,10 +5,11 @@ use Rattle.gemline_app.proofs.replay.run_text.Goals as goal
 pub returns-in-Ok : goal.returns-in-Ok
 returns-in-Ok g c =
     let reads = c.in-Ok.ensures in
+    let run = c.run-end.ensures in
+    let empty = both_empty c.empty_plan-plan.result c.empty_plan-plan.ensures in
     runs_schedule _ _ c.in-Ok.schedule _
     (record { only = reads.only; line = reads.line; not_built = reads.not_built; outside = reads.outside; later = reads.later }) reads.found
-    (replayed_over _ c.in-Ok.schedule _ c.run-end.result.0 _ (both_empty c.empty_plan-plan.result c.empty_plan-plan.ensures) c.outcome_of_end.ensures
-    c.run-end.ensures.text c.run-end.ensures.delivered c.run-end.ensures.in_order)
+    (replayed_over _ c.in-Ok.schedule _ c.run-end.result.0 _ empty c.outcome_of_end.ensures run.text run.delivered run.in_order)
 
 pub returns-in-Err : goal.returns-in-Err
 returns-in-Err g c =
