@@ -5,7 +5,9 @@ mod Keeps
 pub mod Lawful
 pub mod Lines
 mod Lists
+pub mod Lower
 mod Open
+pub mod Parts
 pub mod Reading
 pub mod Steps
 pub mod Such
