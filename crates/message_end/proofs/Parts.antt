@@ -1,20 +1,27 @@
 -- The law over the parts of a step.
-use Rattle.std.proofs.Common.{rules, ◌≡◌, ◌≢◌, ◌^◌, refl, sym, ap, subst, ◌∙◌, arith, ◌<◌, ◌≤◌, ℕ, List, [], ◌∷◌, ◌++◌}
+use Rattle.std.proofs.Common.{rules, ◌≡◌, ◌≢◌, ◌^◌, refl, sym, ap, subst, ◌∙◌, arith, ◌<◌, ℕ, List, [], ◌∷◌, ◌++◌, Option, Some, None}
 use Rattle.std.proofs.lemmas.List.{append-nil, append_assoc}
 use Rattle.line_end.specs.Plan.{LinePlanFits}
-use Rattle.line_end.specs.Step.{LineCall}
+use Rattle.block_codec.specs.declared.header.Header.{Header}
+use Rattle.line_end.specs.declared.event.LineEvent.{LineEvent}
+use Rattle.line_end.specs.declared.event.LineEvent.TheVariants.{Arrived, Failed, Nothing, Refused, Sent}
+use Rattle.line_end.specs.Step.{LineCall, line_step}
+use Rattle.message_flow.specs.declared.flow.Flow.{Flow}
+use Rattle.message_flow.specs.declared.flow.Flow.TheVariants.{Part as PartOf, Whole, Duplicate, Foreign, Unexpected, TooLong, Crowded}
+use Rattle.message_flow.specs.Assembly.{flow_to, with_block}
+use Rattle.transact.specs.Transactions.{is_answered_by, with_deadline}
 use Rattle.trace_log.specs.Log.{Happening}
-use Rattle.transact.specs.Numbers.{IsNumbers, NumbersView, numbers_from}
-use Rattle.message_end.specs.Core.{Command, EndView, MayCarryAll, Step, Went, and_then, at_first, calls, carried, carry, offers, takes}
+use Rattle.transact.specs.Numbers.{IsNumbers, numbers_from}
+use Rattle.message_end.specs.Core.{Command, EndView, MayCarryAll, Step, Went, acknowledges, and_then, asked_by, at_first, calls, carried, carry, held_header, judges, offers, takes, takes_back, tells, with_asked, with_assembly, with_end, with_transactions}
 use Rattle.message_end.specs.Core.Went.{Goes, Spent}
 use Rattle.message_end.specs.Doings.{Doing, IsPlain, own_of}
 use Rattle.message_end.specs.Doings.Doing.{Says}
 use Rattle.message_end.specs.Duties.{Duty, all_done}
 use Rattle.message_end.specs.Ends.{AreBegunOf, AreDecidedAt, AreOfStep, DoesMore, DoesStep, HasRestarted, HasStarted, Input, IsOfWorld, KeepsLaw, MayTake, OnRestart, taking_calls}
 use Rattle.message_end.specs.Ends.Input.{Char, Command as Told, Time}
-use Rattle.message_end.specs.History.{Folds, IsCore, IsHistoryOf, folds_of, noted_in, written_in}
+use Rattle.message_end.specs.History.{Folds, IsCore, folds_of, noted_in, written_in}
 use Rattle.message_end.specs.LineCalls.{calls_in}
-use Rattle.message_end.specs.Parts.{Design, Did, Node, Part, Turn, after_parts, after_turn, core_step, machine_of, started, went_with, with_own}
+use Rattle.message_end.specs.Parts.{Design, Did, Node, Part, Turn, after_parts, after_turn, core_after, core_step, leads, led_turn, machine_of, next_of, started, went_with, with_own}
 use Rattle.message_end.specs.Plan.{EndPlan}
 use Rattle.message_end.proofs.Courses.{in-turn}
 use Rattle.message_end.proofs.Lawful as core
@@ -92,6 +99,87 @@ module _ {S K : Type 0} (plan : EndPlan) (base : ℕ) (Sound : S → Type 0) whe
     pub later_is : AreQuietParts later
     pub offer_is : IsLedPart (Command.Offer now) offer
 
+-- a part that is led by a command
+pub led-turn :
+    {S K : Type 0} (plan : EndPlan) (base : ℕ) (Sound : S → Type 0) (lead : Command K) (turn : Turn S K)
+    → IsQuietTurn plan base Sound turn → IsLedTurn plan base Sound lead (led_turn lead turn)
+led-turn plan base Sound lead turn is = record {
+  first = λ e. lead ∷ [];
+  others = turn.duties;
+  are = refl;
+  led = λ e core. record { rest = []; is = refl; quiet = record { calls = tt; may = tt } };
+  quiet = is.quiet;
+  sound = is.sound;
+}
+
+-- ---- what code shows of its turns
+
+-- the core after a command is the same however notes are read, and whatever was noted and written before
+pub after-tick :
+    {K N : Type 0} (say : Happening → Option N) (now : ℕ) (step next : Step (EndView K) N)
+    → carry say (Command.Tick now) step ≡ Goes next → core_after (Command.Tick now) step.next ≡ next.next
+after-tick say now step next goes = ap next_of goes
+
+judged :
+    {K N : Type 0} (say : Happening → Option N) (header : Header) (flow : Flow) (step : Step (EndView K) N)
+    (other : Step (EndView K) Happening)
+    → other.next ≡ step.next → (judges Some header flow other).next ≡ (judges say header flow step).next
+judged {K} say header PartOf step other same =
+    ap (λ (e : EndView K). with_transactions (with_deadline (is_answered_by header) None e.transactions) e) same
+judged {K} say header (Whole message) step other same = ap (λ (e : EndView K). with_asked (asked_by message) e) same
+judged say header Duplicate step other same = same
+judged say header (Foreign address) step other same = same
+judged say header Unexpected step other same = same
+judged say header TooLong step other same = same
+judged say header Crowded step other same = same
+
+told :
+    {K N : Type 0} (say : Happening → Option N) (held : Option Header) (event : LineEvent) (now : ℕ)
+    (step : Step (EndView K) N) (other : Step (EndView K) Happening)
+    → other.next ≡ step.next → (tells Some held event now other).next ≡ (tells say held event now step).next
+told {K} say held (Arrived block) now step other same =
+    ap (λ (e : EndView K). (judges Some block.header (flow_to e.assembly block)
+    (with_end (takes_back block.header now (with_assembly (with_block e.assembly block now) e)) other)).next) same
+    ∙ judged say block.header (flow_to step.next.assembly block)
+    (with_end (takes_back block.header now (with_assembly (with_block step.next.assembly block now) step.next)) step)
+    (with_end (takes_back block.header now (with_assembly (with_block step.next.assembly block now) step.next)) other)
+    refl
+told {K} say held Sent now step other same =
+    ap (λ (e : EndView K). with_transactions (acknowledges held now e.transactions) e) same
+told say held Nothing now step other same = same
+told say held Failed now step other same = same
+told say held (Refused cause) now step other same = same
+
+pub after-take :
+    {K N : Type 0} (say : Happening → Option N) (byte now : ℕ) (step next : Step (EndView K) N)
+    → carry say (Command.Take byte now) step ≡ Goes next → core_after (Command.Take byte now) step.next ≡ next.next
+after-take say byte now step next goes =
+    told say (held_header step.next.line.held) (line_step step.next.line (LineCall.Take byte now)).event now
+    (calls (LineCall.Take byte now) step) (calls (LineCall.Take byte now) (at_first step.next)) refl
+    ∙ ap next_of goes
+
+-- a turn behind a command
+pub turn-behind :
+    {S K N : Type 0} (say : Happening → Option N) (lead : Command K) (turn : Turn S K) (step : Step (Node S K) N)
+    (next : Step (EndView K) N)
+    → carry say lead (core_step step) ≡ Goes next
+    → after_turn say (led_turn lead turn) step ≡ after_turn say turn (with_own step.next.own next)
+turn-behind {S} {K} {N} say lead turn step next goes =
+    ap
+    (λ (went : Went (EndView K) N).
+    went_with turn.own (and_then (and_then went (carried say [])) (all_done say turn.duties)))
+    goes
+
+-- and one that is decided by what the core is behind it
+pub leads-behind :
+    {S K N : Type 0} (say : Happening → Option N) (lead : Command K) (turn : EndView K → Turn S K)
+    (step : Step (Node S K) N) (next : Step (EndView K) N)
+    → carry say lead (core_step step) ≡ Goes next → core_after lead step.next.core ≡ next.next
+    → after_turn say (leads lead turn step.next.core) step ≡ after_turn say (turn next.next) (with_own step.next.own next)
+leads-behind {S} {K} {N} say lead turn step next goes same =
+    turn-behind say lead (turn (core_after lead step.next.core)) step next goes
+    ∙ ap (λ (e : EndView K). after_turn say (turn e) (with_own step.next.own next)) same
+
 -- ---- what goes on, and what has spent the numbers
 
 abbrev pub OnEither : {S N : Type 0} → (Goes_so Spent_so : Step S N → Type 0) → Went S N → Type 0
@@ -114,6 +202,49 @@ either-less P Q R T (Spent step) is goes spent = spent step is
 of-either : {S N : Type 0} (P : Step S N → Type 0) (went : Went S N) → OnWent P went → OnEither P P went
 of-either P (Goes step) is = is
 of-either P (Spent step) is = is
+
+-- ---- the calls of a step so far
+
+-- none, and the timer's
+abbrev IsNone : List LineCall → Type 0
+IsNone made = made ≡ []
+
+abbrev IsTicked : ℕ → List LineCall → Type 0
+IsTicked now made = made ≡ LineCall.Tick now ∷ []
+
+module _ {C : Type 0} (input : Input C) (now : ℕ) where
+  begun-none : (made : List LineCall) → IsNone made → AreBegunOf input now made
+  begun-none made none = record {
+    later = taking_calls input now;
+    whole = record {
+      decided = [];
+      are = ap (λ (cs : List LineCall). taking_calls input now ++ cs) none ∙ append-nil (taking_calls input now);
+      decisions = tt;
+    };
+  }
+
+  begun-ticked : (made : List LineCall) → IsTicked now made → AreBegunOf input now made
+  begun-ticked made ticked = go input
+    where
+      go : (given : Input C) → AreBegunOf given now made
+      go (Char byte) = record {
+        later = LineCall.Take byte now ∷ [];
+        whole = record {
+          decided = [];
+          are = ap (λ (cs : List LineCall). LineCall.Take byte now ∷ cs) ticked;
+          decisions = tt;
+        };
+      }
+      go Time = record { later = []; whole = record { decided = []; are = ticked; decisions = tt } }
+      go (Told command) = record { later = []; whole = record { decided = []; are = ticked; decisions = tt } }
+
+  begun-stepped : (made : List LineCall) → AreOfStep input now made → AreBegunOf input now made
+  begun-stepped made of_step = record { later = []; whole = of_step }
+
+  stepped-quiet :
+      (made : List LineCall) → taking_calls input now ≡ LineCall.Tick now ∷ [] → IsTicked now made
+      → AreOfStep input now made
+  stepped-quiet made none ticked = record { decided = []; are = ticked ∙ sym none; decisions = tt }
 
 -- ---- the parts of a step
 
@@ -192,17 +323,17 @@ module _
   -- ---- turns
 
   at-turn :
-      {Called : List LineCall → Type 0} (own : S) (went : Went (EndView K) Happening) → Sound own
+      (Called : List LineCall → Type 0) (own : S) (went : Went (EndView K) Happening) → Sound own
       → OnEither (CoreAt Called) (CoreAt Called) went → OnEither (NodeAt Called) (NodeAt Called) (went_with own went)
-  at-turn own (Goes step) sound is = record { core = is; sound = sound }
-  at-turn own (Spent step) sound is = record { core = is; sound = sound }
+  at-turn Called own (Goes step) sound is = record { core = is; sound = sound }
+  at-turn Called own (Spent step) sound is = record { core = is; sound = sound }
 
   at-quiet-turn :
       (Called : List LineCall → Type 0) (turn : Turn S K) (step : Step (Node S K) Happening)
       → IsQuietTurn plan base Sound turn → NodeAt Called step
       → OnEither (NodeAt Called) (NodeAt Called) (after_turn Some turn step)
   at-quiet-turn Called turn step quiet is =
-      at-turn {Called = Called} turn.own (all_done Some turn.duties (core_step step)) quiet.sound
+      at-turn Called turn.own (all_done Some turn.duties (core_step step)) quiet.sound
       (at-quiet-duties Called turn.duties (core_step step) quiet.quiet is.core)
 
   -- parts that don't call the line, and others behind them
@@ -231,40 +362,6 @@ module _
     abbrev Stepped : Step (Node S K) Happening → Type 0
     Stepped step = NodeAt (AreOfStep input now) step
 
-    abbrev IsTicked : List LineCall → Type 0
-    IsTicked made = made ≡ LineCall.Tick now ∷ []
-
-    abbrev IsNone : List LineCall → Type 0
-    IsNone made = made ≡ []
-
-    begun-none : (made : List LineCall) → IsNone made → AreBegunOf input now made
-    begun-none made none = record {
-      later = taking_calls input now;
-      whole = record {
-        decided = [];
-        are = ap (λ (cs : List LineCall). taking_calls input now ++ cs) none ∙ append-nil (taking_calls input now);
-        decisions = tt;
-      };
-    }
-
-    begun-ticked : (made : List LineCall) → IsTicked made → AreBegunOf input now made
-    begun-ticked made ticked = go input
-      where
-        go : (given : Input C) → AreBegunOf given now made
-        go (Char byte) = record {
-          later = LineCall.Take byte now ∷ [];
-          whole = record {
-            decided = [];
-            are = ap (λ (cs : List LineCall). LineCall.Take byte now ∷ cs) ticked;
-            decisions = tt;
-          };
-        }
-        go Time = record { later = []; whole = record { decided = []; are = ticked; decisions = tt } }
-        go (Told command) = record { later = []; whole = record { decided = []; are = ticked; decisions = tt } }
-
-    begun-stepped : (made : List LineCall) → AreOfStep input now made → AreBegunOf input now made
-    begun-stepped made of_step = record { later = []; whole = of_step }
-
     node-less :
         {Called Other : List LineCall → Type 0} (step : Step (Node S K) Happening)
         → ((made : List LineCall) → Called made → Other made) → NodeAt Called step → NodeAt Other step
@@ -276,9 +373,9 @@ module _
     at-offer offer step led is =
         either-then Stepped Begun Stepped (after_turn Some turn step) (after_parts Some [])
         (either-less Stepped Stepped Stepped Begun (after_turn Some turn step)
-        (at-turn {Called = AreOfStep input now} turn.own (all_done Some turn.duties (core_step step)) so.sound
+        (at-turn (AreOfStep input now) turn.own (all_done Some turn.duties (core_step step)) so.sound
         (at-led (Command.Offer now) turn (core_step step) next so is.core refl offered))
-        (λ last at. at) (λ last at. node-less last begun-stepped at))
+        (λ last at. at) (λ last at. node-less last (begun-stepped input now) at))
         (λ last at. at)
       where
         turn : Turn S K
@@ -307,38 +404,32 @@ module _
         → OnEither Stepped Begun (after_parts Some (later ++ offer ∷ []) step)
     at-later later offer step quiet led is =
         at-quiet-parts (AreOfStep input now) Stepped Begun later (offer ∷ []) step quiet is
-        (λ last at. node-less last begun-stepped at) (λ last at. at-offer offer last led at)
-
-    -- the character, or what the input is else
-    stepped-quiet :
-        (made : List LineCall) → taking_calls input now ≡ LineCall.Tick now ∷ [] → IsTicked made
-        → AreOfStep input now made
-    stepped-quiet made none ticked = record { decided = []; are = ticked ∙ sym none; decisions = tt }
+        (λ last at. node-less last (begun-stepped input now) at) (λ last at. at-offer offer last led at)
 
     at-quiet-input :
         (given : Part S K) (step : Step (Node S K) Happening) → taking_calls input now ≡ LineCall.Tick now ∷ []
-        → IsQuietPart plan base Sound given → NodeAt IsTicked step
+        → IsQuietPart plan base Sound given → NodeAt (IsTicked now) step
         → OnEither Stepped Begun (after_turn Some (given step.next.own step.next.core) step)
     at-quiet-input given step none quiet is =
         either-less Stepped Stepped Stepped Begun (after_turn Some turn step)
         (at-quiet-turn (AreOfStep input now) turn step
         (quiet step.next.own step.next.core is.sound (core-of (core_step step) is.core))
-        (node-less step (λ made ticked. stepped-quiet made none ticked) is))
-        (λ last at. at) (λ last at. node-less last begun-stepped at)
+        (node-less step (λ made ticked. stepped-quiet input now made none ticked) is))
+        (λ last at. at) (λ last at. node-less last (begun-stepped input now) at)
       where
         turn : Turn S K
         turn = given step.next.own step.next.core
 
     at-char :
         (byte : ℕ) (given : Part S K) (step : Step (Node S K) Happening) → input ≡ Char byte → byte < 256
-        → IsLedPart plan base Sound (Command.Take byte now) given → NodeAt IsTicked step
+        → IsLedPart plan base Sound (Command.Take byte now) given → NodeAt (IsTicked now) step
         → OnEither Stepped Begun (after_turn Some (given step.next.own step.next.core) step)
     at-char byte given step char below led is =
         either-less Stepped Stepped Stepped Begun (after_turn Some turn step)
-        (at-turn {Called = AreOfStep input now} turn.own (all_done Some turn.duties (core_step step)) so.sound
+        (at-turn (AreOfStep input now) turn.own (all_done Some turn.duties (core_step step)) so.sound
         (at-led (Command.Take byte now) turn (core_step step) (takes Some byte now (core_step step)) so is.core refl
         taken))
-        (λ last at. at) (λ last at. node-less last begun-stepped at)
+        (λ last at. at) (λ last at. node-less last (begun-stepped input now) at)
       where
         turn : Turn S K
         turn = given step.next.own step.next.core
@@ -358,7 +449,7 @@ module _
 
     at-input :
         (given : Part S K) (step : Step (Node S K) Happening) (i : Input C) → input ≡ i
-        → IsInputPart plan base Sound i now given → NodeAt IsTicked step
+        → IsInputPart plan base Sound i now given → NodeAt (IsTicked now) step
         → OnEither Stepped Begun (after_turn Some (given step.next.own step.next.core) step)
     at-input given step (Char byte) is so at = at-char byte given step is so.0 so.1 at
     at-input given step Time is so at =
@@ -369,7 +460,7 @@ module _
     at-given :
         (given offer : Part S K) (later : List (Part S K)) (step : Step (Node S K) Happening)
         → IsInputPart plan base Sound input now given → AreQuietParts plan base Sound later
-        → IsLedPart plan base Sound (Command.Offer now) offer → NodeAt IsTicked step
+        → IsLedPart plan base Sound (Command.Offer now) offer → NodeAt (IsTicked now) step
         → OnEither Stepped Begun (after_parts Some (given ∷ (later ++ offer ∷ [])) step)
     at-given given offer later step so quiet led is =
         either-then Stepped Begun Stepped (after_turn Some (given step.next.own step.next.core) step)
@@ -379,15 +470,15 @@ module _
     at-tick-part :
         (tick : Part S K) (rest : List (Part S K)) (step : Step (Node S K) Happening)
         → IsLedPart plan base Sound (Command.Tick now) tick → NodeAt IsNone step
-        → ((last : Step (Node S K) Happening) → NodeAt IsTicked last → OnEither Stepped Begun (after_parts Some rest last))
+        → ((last : Step (Node S K) Happening) → NodeAt (IsTicked now) last → OnEither Stepped Begun (after_parts Some rest last))
         → OnEither Stepped Begun (after_parts Some (tick ∷ rest) step)
     at-tick-part tick rest step led is more =
-        either-then (NodeAt IsTicked) Begun Stepped (after_turn Some turn step) (after_parts Some rest)
-        (either-less (NodeAt IsTicked) (NodeAt IsTicked) (NodeAt IsTicked) Begun (after_turn Some turn step)
-        (at-turn {Called = IsTicked} turn.own (all_done Some turn.duties (core_step step)) so.sound
+        either-then (NodeAt (IsTicked now)) Begun Stepped (after_turn Some turn step) (after_parts Some rest)
+        (either-less (NodeAt (IsTicked now)) (NodeAt (IsTicked now)) (NodeAt (IsTicked now)) Begun (after_turn Some turn step)
+        (at-turn (IsTicked now) turn.own (all_done Some turn.duties (core_step step)) so.sound
         (at-led (Command.Tick now) turn (core_step step) (calls (LineCall.Tick now) (core_step step)) so is.core refl
         ticked))
-        (λ last at. at) (λ last at. node-less last begun-ticked at))
+        (λ last at. at) (λ last at. node-less last (begun-ticked input now) at))
         more
       where
         turn : Turn S K
@@ -396,9 +487,9 @@ module _
         so : IsLedTurn plan base Sound (Command.Tick now) turn
         so = led step.next.own step.next.core is.sound (core-of (core_step step) is.core)
 
-        ticked : CoreAt IsTicked (calls (LineCall.Tick now) (core_step step))
+        ticked : CoreAt (IsTicked now) (calls (LineCall.Tick now) (core_step step))
         ticked =
-            at-tick laws plan base fits doings IsTicked now (core_step step) is.core
+            at-tick laws plan base fits doings (IsTicked now) now (core_step step) is.core
             (ap (λ (cs : List LineCall). LineCall.Tick now ∷ cs) is.core.called)
 
     at-step :
@@ -408,13 +499,13 @@ module _
     at-step parts step so is =
         subst (λ (all : List (Part S K)). OnEither Stepped Begun (after_parts Some all step)) (sym so.are)
         (at-quiet-parts IsNone Stepped Begun so.first (so.tick ∷ (so.due ++ so.given ∷ (so.later ++ so.offer ∷ []))) step
-        so.first_is is (λ last at. node-less last begun-none at)
+        so.first_is is (λ last at. node-less last (begun-none input now) at)
         (λ last at.
-          at-tick-part so.tick (so.due ++ so.given ∷ (so.later ++ so.offer ∷ [])) last so.tick_is at
-          (λ next ticked.
-            at-quiet-parts IsTicked Stepped Begun so.due (so.given ∷ (so.later ++ so.offer ∷ [])) next so.due_is ticked
-            (λ end ended. node-less end begun-ticked ended)
-            (λ end ended. at-given so.given so.offer so.later end so.given_is so.later_is so.offer_is ended))))
+        at-tick-part so.tick (so.due ++ so.given ∷ (so.later ++ so.offer ∷ [])) last so.tick_is at
+        (λ next ticked.
+        at-quiet-parts (IsTicked now) Stepped Begun so.due (so.given ∷ (so.later ++ so.offer ∷ [])) next so.due_is ticked
+        (λ end ended. node-less end (begun-ticked input now) ended)
+        (λ end ended. at-given so.given so.offer so.later end so.given_is so.later_is so.offer_is ended))))
 
 -- ---- the law of a node
 
@@ -517,7 +608,7 @@ module _
     started =
         subst
         (λ (p : EndPlan).
-          HasStarted plan (Did Sound plan) s.core.numbers.next (started {K = K} p (design.again s.own) s.core.numbers))
+        HasStarted plan (Did Sound plan) s.core.numbers.next (started {K = K} p (design.again s.own) s.core.numbers))
         (sym (same s.own did.sound))
         (record {
           base = s.core.numbers.next;

@@ -6,7 +6,7 @@ use Rattle.trace_log.specs.Log.{Happening}
 use Rattle.trace_log.specs.Text.{printed_note}
 use Rattle.message_end.specs.declared.end.Stop.{Stop}
 use Rattle.message_end.specs.declared.end.Stop.TheVariants.{NoMemory, NumbersSpent}
-use Rattle.message_end.specs.Core.{Command, EndView, Step, Went, and_then, at_first}
+use Rattle.message_end.specs.Core.{Command, EndView, Step, Went, and_then, at_first, carried, carry}
 use Rattle.message_end.specs.Core.Went.{Goes, Spent}
 use Rattle.message_end.specs.Doings.{Doing}
 use Rattle.message_end.specs.Duties.{Duty, all_done}
@@ -34,6 +34,22 @@ Part S K = S → EndView K → Turn S K
 -- the core does what is fixed already
 abbrev pub fixed_turn : {S K : Type 0} → S → List (Command K) → Turn S K
 fixed_turn own commands = record { own = own; duties = (λ e. commands) ∷ [] }
+
+-- the core after it has carried out a command
+abbrev pub next_of : {S N : Type 0} → Went S N → S
+next_of (Goes step) = step.next
+next_of (Spent step) = step.next
+
+abbrev pub core_after : {K : Type 0} → Command K → EndView K → EndView K
+core_after {K} command e = next_of {N = Happening} (carry Some command (at_first e))
+
+-- the core carries out a command, and the turn is taken behind it
+abbrev pub led_turn : {S K : Type 0} → Command K → Turn S K → Turn S K
+led_turn command turn = record { own = turn.own; duties = (λ e. command ∷ []) ∷ turn.duties }
+
+-- a turn that is decided by what the core is behind the command
+abbrev pub leads : {S K : Type 0} → Command K → (EndView K → Turn S K) → EndView K → Turn S K
+leads command turn e = led_turn command (turn (core_after command e))
 
 -- a step of an end as one of its core, and one of its core as one of the end
 abbrev pub core_step : {S K N : Type 0} → Step (Node S K) N → Step (EndView K) N
@@ -105,6 +121,17 @@ abbrev pub ComesTo : {A S : Type 0} → Went S Note → S → StepOut → Result
 ComesTo went new out (Ok done) = went ≡ Goes (on_the_way new out)
 ComesTo went new out (Err NumbersSpent) = went ≡ Spent (on_the_way new out)
 ComesTo went new out (Err NoMemory) = Unit {0}
+
+-- the commands are carried out, and the duties are done
+abbrev pub CarriesAll :
+    {A K : Type 0} → List (Command K) → EndView K → StepOut → EndView K → StepOut → Result A Stop → Type 0
+CarriesAll commands old out_old new out_new result =
+    ComesTo (carried printed_note commands (on_the_way old out_old)) new out_new result
+
+abbrev pub DoesAll :
+    {A K : Type 0} → List (Duty K) → EndView K → StepOut → EndView K → StepOut → Result A Stop → Type 0
+DoesAll duties old out_old new out_new result =
+    ComesTo (all_done printed_note duties (on_the_way old out_old)) new out_new result
 
 -- the turn is taken
 abbrev pub Takes :

@@ -7,6 +7,7 @@ ghost use Rattle.block_codec.specs.Protocol.{longest_text};
 ghost use Rattle.line_end.specs.Plan.{LinePlanFits};
 ghost use Rattle.message_end.specs.Calls.{Becomes, Begins, Carries, FitsLine, IsCame, IsCarried, IsGood, IsNew, answered_by, deadline_of_end, dropped_now, due_now, failed_as, failed_at, is_sent, is_waiting_for, least, took_at};
 ghost use Rattle.message_end.specs.Core.{Command, acknowledges, asked_by, hears, held_header, is_crowded_out, is_held_answered, judges, queues, replies_to, reply_text, sends, takes_back, unsent_name, with_transactions};
+ghost use Rattle.message_end.specs.Endings.{is_of_open};
 ghost use Rattle.message_end.specs.Laws.{new_end};
 ghost use Rattle.message_flow.specs.Assembly.{WholeFits};
 ghost use Rattle.message_flow.specs.Message.{MessageFits};
@@ -461,6 +462,13 @@ impl<K: Copy> MessageEnd<K> {
         ensures { result ≡ option_map primary_of (slice_get self.now.transactions.begun 0) }
     {
         self.parts.transactions.first()
+    }
+
+    /// Whether the message of the block with this header is a primary whose transaction is open.
+    pub fn is_of_open(&self, header: &Header) -> bool
+        ensures { result ≡ is_of_open self.now header.now }
+    {
+        header.function % 2 == 1 && self.parts.transactions.is_open(header.system)
     }
 
     /// How many transactions are open.
