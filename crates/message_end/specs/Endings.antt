@@ -1,5 +1,5 @@
 -- How all open messages of an end fail together.
-use Rattle.std.specs.Prelude.{ℕ, Bool, ◌%◌, ◌==◌, ◌&&◌, true, List, [], ◌∷◌, ◌++◌, flat_map, Option, Some, None, if◌then◌else◌}
+use Rattle.std.specs.Prelude.{Bool, ◌%◌, ◌==◌, ◌&&◌, true, false, List, [], ◌∷◌, flat_map, Option, Some, None, if◌then◌else◌}
 use Rattle.std.specs.List.{list_any}
 use Rattle.block_codec.specs.declared.header.Header.{Header}
 use Rattle.message_flow.specs.declared.waiting.Waiting.{Waiting}
