@@ -20,8 +20,9 @@ use Rattle.gemline_app.specs.declared.words.Command.TheVariants.{Spell, SpellHex
 use Rattle.gemline_app.specs.declared.outcome.Outcome.{Outcome}
 use Rattle.gemline_app.specs.declared.outcome.Outcome.TheVariants.{Done, Usage, BadFrame, BadText, BadHex, BadItem, BadLine, Longer, FileLonger, FileFailed, ReadFailed, NoMemory, WriteFailed, TurnsSpent, Slip, DiskFailed, NotSpool, PlanNotBuilt, LineNotBuilt}
 use Rattle.gemline_app.proofs.Due.{due_outcome, one_bytes, read_of}
-use Rattle.gemline_app.proofs.SpelledBytes.{hex_means, spelled_bytes}
-use Rattle.gemline_app.proofs.TextItems.{text_encodes, text_in_range}
+use Rattle.gemline_app.proofs.HexMeaning.{hex_means}
+use Rattle.line_schedule.proofs.SpelledBytes.{spelled_bytes}
+use Rattle.line_schedule.proofs.TextItems.{text_encodes, text_in_range}
 
 pub one_hex_item : HexSpellsOne
 one_hex_item digits first second (bytes, means, spells) (bytes', means', spells') =

@@ -1,5 +1,5 @@
 pub mod Carrying
-mod Courses
+pub mod Courses
 pub mod Duties
 mod Keeps
 pub mod Lawful

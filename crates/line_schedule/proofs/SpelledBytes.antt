@@ -1,10 +1,8 @@
--- What spells an item are bytes, and the hex text of bytes means them.
-use Rattle.std.proofs.Common.{ℕ, ℤ, zero, suc, ◌+◌, ◌*◌, ◌/◌, ◌%◌, ◌^◌, ◌<◌, ◌≤◌, List, [], ◌∷◌, ◌++◌, length, slice_index, refl, sym, subst, arith}
+-- What spells an item are bytes.
+use Rattle.std.proofs.Common.{ℕ, ℤ, zero, suc, ◌+◌, ◌*◌, ◌/◌, ◌%◌, ◌^◌, ◌<◌, ◌≤◌, List, [], ◌∷◌, ◌++◌, length, sym, subst, arith}
 use Rattle.std.specs.Prelude.{FitsSigned}
 use Rattle.std.specs.Int.{Width, w8, w16, w32, w64, byte_at, byte_len, bytes_high_first, cast_unsigned, to_be_bytes}
 use Rattle.std.specs.List.{flat_map, AllByRecursion}
-use Rattle.hex.specs.Hex.{encode_upper, encode_with, upper_digits}
-use Rattle.hex.proofs.HexLemmas.{IsDigits-upper_digits}
 use Rattle.secs_items.specs.declared.kind.Kind.{Kind}
 use Rattle.secs_items.specs.declared.kind.Kind.TheVariants as kind
 use Rattle.secs_items.specs.declared.item.Item.{Item, out-Item}
@@ -13,8 +11,6 @@ use Rattle.secs_items.specs.Elements.{AreBytes, AreElements, IsByte, IsRaw, sign
 use Rattle.secs_items.specs.Kinds.{code_of}
 use Rattle.secs_items.specs.Layers.{kind_of, length_of}
 use Rattle.secs_items.specs.Spelling.{HasContent, HoldsLength, IsHead, IsSpelled, Spells, SpellsEach, SpellsWithin}
-use Rattle.secs_text.specs.Grammar.{IsHexByte}
-use Rattle.gemline_app.specs.HexInput.{HexMeans}
 
 abbrev Bytes : List ℕ → Type 0
 Bytes = AllByRecursion IsByte
@@ -133,15 +129,3 @@ within_fit (suc depth) item bytes s =
 pub spelled_bytes : (item : Item) (bytes : List ℕ) → Spells item bytes → AllByRecursion IsByte bytes
 unfolding Spells
 spelled_bytes item bytes s = within_fit 64 item bytes s
-
--- ---- hex
-
-pair_is : (b : ℕ) → IsByte b → IsHexByte b (slice_index upper_digits (b / 16) ∷ slice_index upper_digits (b % 16) ∷ [])
-pair_is b small = (b / 16, b % 16, IsDigits-upper_digits (b / 16) (omega arith), IsDigits-upper_digits (b % 16) (omega arith), omega arith)
-
-pub hex_means : (bytes : List ℕ) → AllByRecursion IsByte bytes → HexMeans bytes (encode_upper bytes ++ 10 ∷ [])
-unfolding encode_with
-hex_means [] fit = (refl, tt)
-hex_means (b ∷ bytes) fit =
-    let pair = slice_index upper_digits (b / 16) ∷ slice_index upper_digits (b % 16) ∷ [] in
-    ([], pair, encode_upper bytes ++ 10 ∷ [], refl, tt, pair_is b fit.0, hex_means bytes fit.1)
