@@ -1,0 +1,3 @@
+mod Ended
+mod Overdue
+mod Spelled
