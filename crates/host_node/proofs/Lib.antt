@@ -1,3 +1,2 @@
 mod Ended
 mod Overdue
-mod Spelled

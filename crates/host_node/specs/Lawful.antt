@@ -1,8 +1,9 @@
 -- That the host keeps the law of an end: the proof, which stands here since an impl cites it.
-use Rattle.std.proofs.Common.{rules, ◌≡◌, ◌^◌, refl, sym, ap, subst, ◌∙◌, arith, Bool, true, false, not, ℕ, ◌<◌, ◌≤◌, ◌%◌, ◌==◌, ◌&&◌, List, [], ◌∷◌, ◌++◌, length, replicate, Option, Some, None, if◌then◌else◌, nat_le, zero, suc}
+use Rattle.std.proofs.Common.{rules, ◌≡◌, ◌≢◌, ◌^◌, refl, sym, ap, subst, ◌∙◌, arith, Bool, true, false, not, ℕ, ◌<◌, ◌≤◌, ◌%◌, ◌==◌, ◌&&◌, List, [], ◌∷◌, ◌++◌, length, replicate, Option, Some, None, if◌then◌else◌, nat_le, zero, suc}
 use Rattle.std.proofs.lemmas.Bool.Decides.{nat_tests}
 use Rattle.std.specs.Prelude.{flat_map}
 use Rattle.std.specs.Option.{option_map}
+use Rattle.gem_shapes.specs.Answers.{code_item, pair_item}
 use Rattle.block_codec.specs.Protocol.{longest_text}
 use Rattle.block_codec.specs.declared.header.Header.{Header}
 use Rattle.line_end.specs.Plan.{HostPlanFits}
@@ -25,20 +26,21 @@ use Rattle.transact.specs.Numbers.{numbers_from}
 use Rattle.message_end.specs.declared.end.Took.{Took}
 use Rattle.message_end.specs.declared.end.Took.TheVariants as took
 use Rattle.message_end.specs.Calls.{dropped_now, failed_at, took_at}
-use Rattle.message_end.specs.Core.{Command, EndView, IsText}
+use Rattle.message_end.specs.Core.{Command, EndView, IsText, Step}
+use Rattle.message_end.specs.Core.Went.{Spent}
 use Rattle.message_end.specs.Core.Command.{Answer, DropDue, Expire, GiveUp, Note, Offer, Primary, Take, Tick}
 use Rattle.message_end.specs.Duties.{Duty}
 use Rattle.message_end.specs.Endings.{ends_begun, ends_failed, ends_front, ends_one, ends_waiting, is_of_open}
 use Rattle.message_end.specs.Ends.{Input, KeepsLaw, MayTake}
 use Rattle.message_end.specs.Ends.Input.{Char, Command as Told, Time}
-use Rattle.message_end.specs.Parts.{Did, core_after, fixed_turn, started}
+use Rattle.message_end.specs.Parts.{Did, Node, core_after, fixed_turn, started}
 use Rattle.message_end.proofs.Lower.{lower}
 use Rattle.message_end.proofs.Parts.{AreQuietDuties, IsCoreOf, IsInputPart, IsQuiet, IsQuietDuty, IsQuietTurn, IsStepOf, led-turn, node-lawful}
 use Rattle.host_node.specs.declared.comms.HostComms.{HostComms}
 use Rattle.host_node.specs.declared.comms.HostComms.TheVariants as comms
-use Rattle.host_node.specs.Host.{HasPlan, HostOwn, HostTurn, Kind, breaks, brings, drops, ends_all, ends_in, ends_late, end_plan, enters, establishes, expires, failed_comms, first_own, follows, given, gives_up, heeds, heeds_primary, heeds_secondary, host_design, host_machine, is_accepted, is_disabled, is_full, judges, late_duties, name_of, notes_comms, obeys, offers, parts, replies, replies_with, sends, sends_reply, takes, ticks, unsent_of}
-use Rattle.host_node.specs.Replies.{is_acknowledged, reply_item}
-use Rattle.host_node.proofs.Spelled.{spelled_code, spelled_established, spelled_nothing}
+use Rattle.host_node.specs.Host.{HasPlan, HostOwn, HostTurn, Kind, breaks, brings, drops, ends_all, ends_in, ends_late, enabled_comms, end_plan, enters, establishes, expires, failed_comms, first_own, follows, function_with, given, gives_up, heeds, heeds_primary, heeds_secondary, host_design, host_machine, is_accepted, is_disabled, is_full, judges, late_duties, name_of, notes_comms, obeys, offers, parts, replies, replies_with, sends, sends_reply, takes, ticks, unsent_of}
+use Rattle.host_node.specs.Replies.{is_acknowledged, no_identity, reply_item}
+use Rattle.host_node.specs.Spelled.{spelled_code, spelled_established, spelled_nothing}
 
 -- ---- commands that call no line
 
@@ -78,17 +80,17 @@ drops-quiet now None = record { calls = (tt, tt); may = (tt, tt) }
 drops-quiet now (Some header) = record { calls = (tt, (tt, tt)); may = (tt, (tt, tt)) }
 
 -- the replies are short, and of bytes
-text-code : IsText (shortest_spelling (Rattle.gem_shapes.specs.Answers.code_item 0))
+text-code : IsText (shortest_spelling (code_item 0))
 text-code = subst IsText (sym spelled_code) (record { short = omega arith; bytes = search rules })
 
-text-nothing : IsText (shortest_spelling Rattle.host_node.specs.Replies.no_identity)
+text-nothing : IsText (shortest_spelling no_identity)
 text-nothing = subst IsText (sym spelled_nothing) (record { short = omega arith; bytes = search rules })
 
 text-established :
     IsText
     (shortest_spelling
-    (Rattle.gem_shapes.specs.Answers.pair_item (Rattle.gem_shapes.specs.Answers.code_item 0)
-    Rattle.host_node.specs.Replies.no_identity))
+    (pair_item (code_item 0)
+    no_identity))
 text-established = subst IsText (sym spelled_established) (record { short = omega arith; bytes = search rules })
 
 reply-quiet : (stream function : ℕ) → IsQuiet (sends_reply (option_map shortest_spelling (reply_item stream function)))
@@ -97,11 +99,11 @@ reply-quiet stream function =
   where
     go : (asks establishing acknowledged : Bool)
         → IsQuiet (sends_reply (option_map shortest_spelling
-        (if asks then Some Rattle.host_node.specs.Replies.no_identity
+        (if asks then Some no_identity
         else if establishing then
-        Some (Rattle.gem_shapes.specs.Answers.pair_item (Rattle.gem_shapes.specs.Answers.code_item 0)
-        Rattle.host_node.specs.Replies.no_identity)
-        else if acknowledged then Some (Rattle.gem_shapes.specs.Answers.code_item 0) else None)))
+        Some (pair_item (code_item 0)
+        no_identity)
+        else if acknowledged then Some (code_item 0) else None)))
     go true establishing acknowledged = record { calls = (tt, tt); may = (text-nothing, tt) }
     go false true acknowledged = record { calls = (tt, tt); may = (text-established, tt) }
     go false false true = record { calls = (tt, tt); may = (text-code, tt) }
@@ -113,7 +115,7 @@ replies-quiet message e =
     (reply-quiet message.stream message.function)
   where
     go : (wait full : Bool) (text : Option (List ℕ)) → IsQuiet (sends_reply text)
-        → IsQuiet (if wait then (if full then Note (Happening.Full (record { stream = message.stream; function = Rattle.host_node.specs.Host.function_with message text; wait = false })) ∷ [] else sends_reply text) else [])
+        → IsQuiet (if wait then (if full then Note (Happening.Full (record { stream = message.stream; function = function_with message text; wait = false })) ∷ [] else sends_reply text) else [])
     go true true text is = record { calls = (tt, tt); may = (tt, tt) }
     go true false text is = is
     go false full text is = none-quiet
@@ -139,11 +141,11 @@ module _ (plan : HostPlan) (base : ℕ) where
   many-quiet (suc n) duty one = ((λ e core. one e), many-quiet n duty one)
 
   all-quiet : (e : EndView Kind) (failed : Option Header) → AreQuiet (ends_all e failed)
-  all-quiet e None = ((λ e core. ones-quiet e.transactions.begun), ((λ e core. fronts-quiet e.outgoing.waiting), tt))
+  all-quiet e None = ((λ f core. ones-quiet f.transactions.begun), ((λ f core. fronts-quiet f.outgoing.waiting), tt))
   all-quiet e (Some header) =
-      ((λ e core. ones-quiet e.transactions.begun),
-      ((λ e core. failed-quiet (is_of_open e header) header e),
-      ((λ e core. fronts-quiet e.outgoing.waiting), tt)))
+      ((λ f core. ones-quiet f.transactions.begun),
+      ((λ f core. failed-quiet (is_of_open e header) header f),
+      ((λ f core. fronts-quiet f.outgoing.waiting), tt)))
 
   enters-quiet :
       (own : HostOwn) (next : HostComms) (later : List (Duty Kind)) → HasPlan plan own → AreQuiet later
@@ -264,7 +266,7 @@ module _ (plan : HostPlan) (base : ℕ) where
       fixed-quiet own (sends own e (name_of stream function wait) body) sound
       (sends-quiet own e stream function wait body fits sound may)
   obeys-quiet told.Enable own e fits sound may =
-      enters-quiet own (Rattle.host_node.specs.Host.enabled_comms own.comms) [] sound tt
+      enters-quiet own (enabled_comms own.comms) [] sound tt
   obeys-quiet told.Disable own e fits sound may =
       ends-quiet own comms.Disabled (ends_all e None) sound (all-quiet e None)
 
@@ -304,6 +306,13 @@ module _ (plan : HostPlan) (base : ℕ) where
       led-turn (end_plan plan) base (HasPlan plan) (Offer now) (fixed_turn own []) (fixed-quiet own [] sound none-quiet);
   }
 
+-- nothing is to be drawn in the first step
+begins :
+    (plan : HostPlan) (step : Step (Node HostOwn Kind) Happening)
+    → host_machine.act (started (end_plan plan) (first_own plan) (numbers_from 0 (2 ^ 32))).next Time 0 ≢ Spent step
+unfolding late_duties
+begins plan step same = absurd (cc)
+
 pub host_lawful :
     (plan : HostPlan) → HostPlanFits plan
     → KeepsLaw (end_plan plan) (Did (HasPlan plan) (end_plan plan)) HostCommandFits
@@ -311,4 +320,4 @@ pub host_lawful :
 host_lawful plan fits =
     node-lawful lower (end_plan plan) fits.line (HasPlan plan) host_design HostCommandFits (first_own plan) refl
     (λ own sound. sound) (λ own sound. ap end_plan sound) (λ base input now may. step-is plan base input now fits may)
-    (λ step same. ?)
+    (λ step. begins plan step)

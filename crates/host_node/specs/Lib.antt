@@ -2,3 +2,4 @@ pub mod Calls
 pub mod Host
 pub mod Lawful
 pub mod Replies
+pub mod Spelled
