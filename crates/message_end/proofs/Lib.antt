@@ -3,6 +3,7 @@ pub mod Courses
 pub mod Duties
 mod Keeps
 pub mod Lawful
+pub mod Leaving
 pub mod Lines
 mod Lists
 pub mod Lower

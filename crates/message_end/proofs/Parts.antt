@@ -175,7 +175,8 @@ pub leads-behind :
     {S K N : Type 0} (say : Happening → Option N) (lead : Command K) (turn : EndView K → Turn S K)
     (step : Step (Node S K) N) (next : Step (EndView K) N)
     → carry say lead (core_step step) ≡ Goes next → core_after lead step.next.core ≡ next.next
-    → after_turn say (leads lead turn step.next.core) step ≡ after_turn say (turn next.next) (with_own step.next.own next)
+    → after_turn say (leads lead turn step.next.core) step
+    ≡ after_turn say (turn next.next) (with_own step.next.own next)
 leads-behind {S} {K} {N} say lead turn step next goes same =
     turn-behind say lead (turn (core_after lead step.next.core)) step next goes
     ∙ ap (λ (e : EndView K). after_turn say (turn e) (with_own step.next.own next)) same
@@ -317,7 +318,8 @@ module _
           subst (λ (commands : List (Command K)). OnEither (CoreAt Other) (CoreAt Other) (carried Some commands step))
           (sym one.is)
           (subst
-          (λ (went : Went (EndView K) Happening). OnEither (CoreAt Other) (CoreAt Other) (and_then went (carried Some one.rest)))
+          (λ (went : Went (EndView K) Happening). OnEither (CoreAt Other) (CoreAt Other)
+          (and_then went (carried Some one.rest)))
           (sym goes) rest)
 
   -- ---- turns
@@ -470,11 +472,13 @@ module _
     at-tick-part :
         (tick : Part S K) (rest : List (Part S K)) (step : Step (Node S K) Happening)
         → IsLedPart plan base Sound (Command.Tick now) tick → NodeAt IsNone step
-        → ((last : Step (Node S K) Happening) → NodeAt (IsTicked now) last → OnEither Stepped Begun (after_parts Some rest last))
+        → ((last : Step (Node S K) Happening) → NodeAt (IsTicked now) last
+        → OnEither Stepped Begun (after_parts Some rest last))
         → OnEither Stepped Begun (after_parts Some (tick ∷ rest) step)
     at-tick-part tick rest step led is more =
         either-then (NodeAt (IsTicked now)) Begun Stepped (after_turn Some turn step) (after_parts Some rest)
-        (either-less (NodeAt (IsTicked now)) (NodeAt (IsTicked now)) (NodeAt (IsTicked now)) Begun (after_turn Some turn step)
+        (either-less (NodeAt (IsTicked now)) (NodeAt (IsTicked now))
+        (NodeAt (IsTicked now)) Begun (after_turn Some turn step)
         (at-turn (IsTicked now) turn.own (all_done Some turn.duties (core_step step)) so.sound
         (at-led (Command.Tick now) turn (core_step step) (calls (LineCall.Tick now) (core_step step)) so is.core refl
         ticked))
@@ -498,12 +502,14 @@ module _
         → OnEither Stepped Begun (after_parts Some parts step)
     at-step parts step so is =
         subst (λ (all : List (Part S K)). OnEither Stepped Begun (after_parts Some all step)) (sym so.are)
-        (at-quiet-parts IsNone Stepped Begun so.first (so.tick ∷ (so.due ++ so.given ∷ (so.later ++ so.offer ∷ []))) step
+        (at-quiet-parts IsNone Stepped Begun so.first
+        (so.tick ∷ (so.due ++ so.given ∷ (so.later ++ so.offer ∷ []))) step
         so.first_is is (λ last at. node-less last (begun-none input now) at)
         (λ last at.
         at-tick-part so.tick (so.due ++ so.given ∷ (so.later ++ so.offer ∷ [])) last so.tick_is at
         (λ next ticked.
-        at-quiet-parts (IsTicked now) Stepped Begun so.due (so.given ∷ (so.later ++ so.offer ∷ [])) next so.due_is ticked
+        at-quiet-parts (IsTicked now) Stepped Begun so.due
+        (so.given ∷ (so.later ++ so.offer ∷ [])) next so.due_is ticked
         (λ end ended. node-less end (begun-ticked input now) ended)
         (λ end ended. at-given so.given so.offer so.later end so.given_is so.later_is so.offer_is ended))))
 
@@ -591,7 +597,8 @@ module _
 
       go :
           (went : Went (Node S K) Happening)
-          → OnEither (Stepped laws plan base fits Sound doings input now) (Begun laws plan base fits Sound doings input now) went
+          → OnEither (Stepped laws plan base fits Sound doings input now)
+          (Begun laws plan base fits Sound doings input now) went
           → DoesStep plan (Did Sound plan) base doings input now went
       go (Goes step) at = more (AreOfStep input now) step at
       go (Spent step) at = more (AreBegunOf input now) step at
