@@ -1,9 +1,16 @@
 -- Duties that come many times in a step.
-use Rattle.std.proofs.Common.{◌≡◌, refl, ap, ◌∙◌, ℕ, Bool, zero, suc, List, [], ◌∷◌, ◌++◌, replicate, Option, Some, None}
+use Rattle.std.proofs.Common.{◌≡◌, refl, sym, ap, subst, ◌∙◌, ℕ, Bool, zero, suc, List, [], ◌∷◌, ◌++◌, replicate, Option, Some, None}
+use Rattle.std.specs.Prelude.{Result, Ok, Err}
 use Rattle.std.specs.List.{find}
 use Rattle.std.specs.Option.{option_map}
 use Rattle.block_codec.specs.declared.header.Header.{Header}
+use Rattle.message_flow.specs.declared.step.Note.{Note}
+use Rattle.message_flow.specs.declared.step.StepOut.{StepOut}
 use Rattle.trace_log.specs.Log.{Happening}
+use Rattle.trace_log.specs.Text.{printed_note}
+use Rattle.message_end.specs.declared.end.Stop.{Stop}
+use Rattle.message_end.specs.declared.end.Stop.TheVariants as stop
+use Rattle.message_end.specs.Parts.{ComesTo, on_the_way}
 use Rattle.transact.specs.declared.begun.Begun.{Begun}
 use Rattle.transact.specs.Transactions as transactions
 use Rattle.transact.specs.Transactions.{primary_of}
@@ -57,3 +64,27 @@ module _ {N : Type 0} (say : Happening → Option N) where
           → and_then (Goes (times_out say (transactions.is_due now) o step)) (carried say []) ≡ Goes step
       go None e = refl
       go (Some begun) e = absurd (cc)
+
+-- duties that went on, and the others
+pub both_ok :
+    {A : Type 0} (first second : List (Duty Kind)) (step : Step (EndView Kind) Note) (middle new : EndView Kind)
+    (out_middle out_new : StepOut) (result : Result A Stop)
+    → all_done printed_note first step ≡ Goes (on_the_way middle out_middle)
+    → ComesTo (all_done printed_note second (on_the_way middle out_middle)) new out_new result
+    → ComesTo (all_done printed_note (first ++ second) step) new out_new result
+both_ok first second step middle new out_middle out_new result first_is second_is =
+    subst (λ (w : Went (EndView Kind) Note). ComesTo w new out_new result)
+    (sym (done_both printed_note first second step
+    ∙ ap (λ (w : Went (EndView Kind) Note). and_then w (all_done printed_note second)) first_is))
+    second_is
+
+-- duties that end the step
+pub both_err :
+    (first second : List (Duty Kind)) (step : Step (EndView Kind) Note) (new : EndView Kind) (out : StepOut)
+    (end : Stop)
+    → ComesTo {A = Unit {0}} (all_done printed_note first step) new out (Err end)
+    → ComesTo {A = Unit {0}} (all_done printed_note (first ++ second) step) new out (Err end)
+both_err first second step new out stop.NumbersSpent is =
+    done_both printed_note first second step
+    ∙ ap (λ (w : Went (EndView Kind) Note). and_then w (all_done printed_note second)) is
+both_err first second step new out stop.NoMemory is = tt

@@ -30,7 +30,7 @@ use Rattle.message_end.specs.Parts.{Design, Node, Part, Turn, fixed_turn, leads,
 use Rattle.message_end.specs.Plan.{EndPlan}
 use Rattle.host_node.specs.declared.comms.HostComms.{HostComms}
 use Rattle.host_node.specs.declared.comms.HostComms.TheVariants as comms
-use Rattle.host_node.specs.Replies.{is_established_by, reply_item}
+use Rattle.host_node.specs.Replies.{is_established_by, is_establishing, reply_item}
 
 -- its transactions are of one kind
 abbrev pub Kind : Type 0
@@ -148,12 +148,9 @@ replies message e =
     else []
 
 -- S1F13 establishes communication, before it is replied to (SEMI E30, establishing communications)
-abbrev pub establishes : Message → Bool
-establishes message = (message.stream == 1) && (message.function == 13)
-
 abbrev pub heeds_primary : HostOwn → Message → HostTurn
 heeds_primary own message =
-    if establishes message then enters own comms.Communicating (replies message ∷ [])
+    if is_establishing message.stream message.function then enters own comms.Communicating (replies message ∷ [])
     else record { own = own; duties = replies message ∷ [] }
 
 -- S1F14 establishes it where it accepts, and answers what was asked (SEMI E30, establishing communications)

@@ -38,8 +38,8 @@ use Rattle.message_end.proofs.Lower.{lower}
 use Rattle.message_end.proofs.Parts.{AreQuietDuties, IsCoreOf, IsInputPart, IsQuiet, IsQuietDuty, IsQuietTurn, IsStepOf, led-turn, node-lawful}
 use Rattle.host_node.specs.declared.comms.HostComms.{HostComms}
 use Rattle.host_node.specs.declared.comms.HostComms.TheVariants as comms
-use Rattle.host_node.specs.Host.{HasPlan, HostOwn, HostTurn, Kind, breaks, brings, drops, ends_all, ends_in, ends_late, enabled_comms, end_plan, enters, establishes, expires, failed_comms, first_own, follows, function_with, given, gives_up, heeds, heeds_primary, heeds_secondary, host_design, host_machine, is_accepted, is_disabled, is_full, judges, late_duties, name_of, notes_comms, obeys, offers, parts, replies, replies_with, sends, sends_reply, takes, ticks, unsent_of}
-use Rattle.host_node.specs.Replies.{is_acknowledged, no_identity, reply_item}
+use Rattle.host_node.specs.Host.{HasPlan, HostOwn, HostTurn, Kind, breaks, brings, drops, ends_all, ends_in, ends_late, enabled_comms, end_plan, enters, expires, failed_comms, first_own, follows, function_with, given, gives_up, heeds, heeds_primary, heeds_secondary, host_design, host_machine, is_accepted, is_disabled, is_full, judges, late_duties, name_of, notes_comms, obeys, offers, parts, replies, replies_with, sends, sends_reply, takes, ticks, unsent_of}
+use Rattle.host_node.specs.Replies.{is_acknowledged, is_establishing, is_question, no_identity, reply_item}
 use Rattle.host_node.specs.Spelled.{spelled_code, spelled_established, spelled_nothing}
 
 -- ---- commands that call no line
@@ -95,7 +95,7 @@ text-established = subst IsText (sym spelled_established) (record { short = omeg
 
 reply-quiet : (stream function : ℕ) → IsQuiet (sends_reply (option_map shortest_spelling (reply_item stream function)))
 reply-quiet stream function =
-    go ((stream == 1) && (function == 1)) ((stream == 1) && (function == 13)) (is_acknowledged stream function)
+    go (is_question stream function) (is_establishing stream function) (is_acknowledged stream function)
   where
     go : (asks establishing acknowledged : Bool)
         → IsQuiet (sends_reply (option_map shortest_spelling
@@ -176,7 +176,7 @@ module _ (plan : HostPlan) (base : ℕ) where
   -- ---- what came
 
   primary-quiet : (own : HostOwn) (message : Message) → HasPlan plan own → Quiet (heeds_primary own message)
-  primary-quiet own message sound = go (establishes message)
+  primary-quiet own message sound = go (is_establishing message.stream message.function)
     where
       go : (b : Bool) → Quiet (if b then enters own comms.Communicating (replies message ∷ []) else record { own = own; duties = replies message ∷ [] })
       go true = enters-quiet own comms.Communicating (replies message ∷ []) sound ((λ e core. replies-quiet message e), tt)

@@ -11,7 +11,7 @@ ghost use Rattle.host_node.specs.Host.{breaks, ends_late, enters, follows, given
 use crate::comms::{HostComms, note_comms};
 use crate::endings::end_all;
 use crate::late;
-use crate::replies::{is_acceptance, is_full, reply};
+use crate::replies::{is_acceptance, is_establishing, is_full, reply};
 use block_codec::Header;
 use gl_base::{NoMemory, Row, Side};
 use line_end::{HostPlan, Phase};
@@ -233,10 +233,11 @@ impl Host {
         ensures takes { Takes (takes byte now self.old.own self.old.core) self.old out.old self.new out.new result }
         ensures at_most { array_vec_len out.new.line ≤ array_vec_len out.old.line + 257 }
     {
-        match self.core.take(alloc, byte, now, out)? {
-            Took::Nothing => Ok(()),
-            Took::Failed(header) => self.break_off(alloc, &header, out),
-            Took::Came(header, flow) => self.judge(alloc, &header, &flow, out),
+        match self.core.take(alloc, byte, now, out) {
+            Ok(Took::Nothing) => Ok(()),
+            Ok(Took::Failed(header)) => self.break_off(alloc, &header, out),
+            Ok(Took::Came(header, flow)) => self.judge(alloc, &header, &flow, out),
+            Err(stop) => Err(stop),
         }
     }
 
@@ -256,8 +257,10 @@ impl Host {
         match flow {
             Flow::Whole(message) => self.heed(alloc, header, message, out),
             Flow::Unexpected | Flow::TooLong | Flow::Crowded => {
-                self.core.give_up(alloc, header, out)?;
-                Ok(())
+                match self.core.give_up(alloc, header, out) {
+                    Ok(_) => Ok(()),
+                    Err(stop) => Err(stop),
+                }
             }
             Flow::Part | Flow::Duplicate | Flow::Foreign(_) => Ok(()),
         }
@@ -296,7 +299,7 @@ impl Host {
         ensures takes { Takes (heeds_primary self.old.own message.now) self.old out.old self.new out.new result }
         ensures line { out.new.line ≡ out.old.line }
     {
-        if message.stream == 1 && message.function == 13 {
+        if is_establishing(message.stream, message.function) {
             self.enter(alloc, HostComms::Communicating, out)?;
             return reply(alloc, &mut self.core, message, out);
         }
@@ -316,9 +319,10 @@ impl Host {
             self.old out.old self.new out.new result }
         ensures line { out.new.line ≡ out.old.line }
     {
-        match self.core.answer(alloc, header, out)? {
-            Match::Stranger => Ok(()),
-            Match::Reply(_) | Match::Abort(_) => self.follow(alloc, message, out),
+        match self.core.answer(alloc, header, out) {
+            Ok(Match::Stranger) => Ok(()),
+            Ok(Match::Reply(_) | Match::Abort(_)) => self.follow(alloc, message, out),
+            Err(stop) => Err(stop),
         }
     }
 
@@ -400,8 +404,10 @@ impl Host {
             kind: if name.wait { Some(()) } else { None },
             body: Row::of(alloc, body)?,
         };
-        self.core.primary(alloc, unsent, out)?;
-        Ok(())
+        match self.core.primary(alloc, unsent, out) {
+            Ok(_) => Ok(()),
+            Err(stop) => Err(stop),
+        }
     }
 
     // Gives the line its turn.

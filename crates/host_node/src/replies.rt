@@ -6,12 +6,12 @@ ghost use Rattle.block_codec.specs.Protocol.{longest_text};
 ghost use Rattle.secs_items.specs.Spelling.{shortest_spelling};
 ghost use Rattle.message_end.specs.Parts.{CarriesAll};
 ghost use Rattle.host_node.specs.Host.{is_acceptance, is_full, replies, replies_with};
-ghost use Rattle.host_node.specs.Replies.{establishes_item, is_acknowledged, is_commack_zero, is_established_by, reply_item};
+ghost use Rattle.host_node.specs.Replies.{establishes_item, is_acknowledged, is_commack_zero, is_established_by, is_establishing, is_question, reply_item};
 
 use gl_base::{NoMemory, Row};
 use message_end::{MessageEnd, Stop};
 use message_flow::{Message, StepOut};
-use secs_items::{Item, ItemFault, decode};
+use secs_items::{Item, check};
 use std::alloc::Global;
 use trace_log::{Name, full_note};
 
@@ -49,16 +49,30 @@ fn reply_text(alloc: Global, stream: u8, function: u8) -> Result<Option<Row<u8>>
     ensures text { IfOk result (λ text. text ≡ option_map shortest_spelling (reply_item stream function)) }
     ensures short { IfOk result (λ text. IfSome text (λ bytes. length bytes ≤ longest_text)) }
 {
-    if stream == 1 && function == 1 {
+    if is_question(stream, function) {
         return Ok(Some(Row::of(alloc, &NO_IDENTITY)?));
     }
-    if stream == 1 && function == 13 {
+    if is_establishing(stream, function) {
         return Ok(Some(Row::of(alloc, &ESTABLISHED)?));
     }
     if is_acknowledged(stream, function) {
         return Ok(Some(Row::of(alloc, &ACCEPTED)?));
     }
     Ok(None)
+}
+
+// Whether it is S1F1.
+fn is_question(stream: u8, function: u8) -> bool
+    ensures { result ≡ is_question stream function }
+{
+    stream == 1 && function == 1
+}
+
+/// Whether it is S1F13.
+pub(crate) fn is_establishing(stream: u8, function: u8) -> bool
+    ensures { result ≡ is_establishing stream function }
+{
+    stream == 1 && function == 13
 }
 
 // Whether it is S5F1, S6F5, S6F11 or S10F1.
@@ -119,9 +133,8 @@ pub(crate) fn is_acceptance(alloc: Global, message: &Message) -> Result<bool, No
 fn is_established_by(alloc: Global, body: &[u8]) -> Result<bool, NoMemory>
     ensures { IfOk result (λ is. is ≡ is_established_by body.now) }
 {
-    match decode(alloc, body) {
-        Ok(item) => Ok(establishes(&item)),
-        Err(ItemFault::NoMemory) => Err(NoMemory),
+    match check(body) {
+        Ok(view) => Ok(establishes(&view.item(alloc)?)),
         Err(_) => Ok(false),
     }
 }
