@@ -111,13 +111,7 @@ impl End for Host {
         requires out { IsEmpty out.old }
         ensures step { Leaves (host_machine.act self.old (input_of input.entry) now) self.new out.new result }
     {
-        match self.act(alloc, input, now, out) {
-            Ok(()) => Ok(()),
-            Err(stop) => {
-                out.line.clear();
-                Err(stop)
-            }
-        }
+        self.step_on(alloc, input, now, out)
     }
 
     fn phase(&self) -> Phase {
@@ -138,6 +132,28 @@ impl Host {
         ensures { result ≡ deadline_of_end self.now.core }
     {
         self.core.deadline()
+    }
+
+    // One step. Where it stops nothing is sent.
+    fn step_on(
+        &mut self,
+        alloc: Global,
+        input: NodeInput<'_, HostCommand>,
+        now: u64,
+        out: &mut StepOut,
+    ) -> Result<(), Stop>
+        requires now { now < 2 ^ 62 }
+        requires input { MayTake HostCommandFits (input_of input) }
+        requires out { IsEmpty out.old }
+        ensures { Leaves (host_machine.act self.old (input_of input.entry) now) self.new out.new result }
+    {
+        match self.act(alloc, input, now, out) {
+            Ok(()) => Ok(()),
+            Err(stop) => {
+                out.line.clear();
+                Err(stop)
+            }
+        }
     }
 
     // All parts of a step.
