@@ -103,7 +103,7 @@ pub failed_one :
 failed_one false header old new out notes is recalled noted =
     ap
     (λ (w : Went (EndView Kind) Note).
-      and_then w (carried printed_note (NoteThis (Happening.Failed (header_title header)) ∷ [])))
+    and_then w (carried printed_note (NoteThis (Happening.Failed (header_title header)) ∷ [])))
     recalled
     ∙ ap (λ (ns : List Note). Goes (on_the_way new (noted_out out ns))) (sym noted)
 failed_one true header old new out notes is recalled noted = absurd (cc)

@@ -142,10 +142,13 @@ module _ (plan : HostPlan) (base : ℕ) where
 
   all-quiet : (e : EndView Kind) (failed : Option Header) → AreQuiet (ends_all e failed)
   all-quiet e None = ((λ f core. ones-quiet f.transactions.begun), ((λ f core. fronts-quiet f.outgoing.waiting), tt))
-  all-quiet e (Some header) =
-      ((λ f core. ones-quiet f.transactions.begun),
-      ((λ f core. failed-quiet (is_of_open e header) header f),
-      ((λ f core. fronts-quiet f.outgoing.waiting), tt)))
+  all-quiet e (Some header) = (
+    (λ f core. ones-quiet f.transactions.begun),
+    (
+      (λ f core. failed-quiet (is_of_open e header) header f),
+      ((λ f core. fronts-quiet f.outgoing.waiting), tt),
+    ),
+  )
 
   enters-quiet :
       (own : HostOwn) (next : HostComms) (later : List (Duty Kind)) → HasPlan plan own → AreQuiet later
@@ -275,12 +278,13 @@ module _ (plan : HostPlan) (base : ℕ) where
   input-is :
       (input : Input HostCommand) (now : ℕ) → HostPlanFits plan → MayTake HostCommandFits input
       → IsInputPart {S = HostOwn} {K = Kind} (end_plan plan) base (HasPlan plan) input now (given input now)
-  input-is (Char byte) now fits may =
-      (may,
-      λ own e sound core.
+  input-is (Char byte) now fits may = (
+    may,
+    λ own e sound core.
         led-turn (end_plan plan) base (HasPlan plan) (Take byte now)
         (brings own (core_after (Take byte now) e) (took_at e byte now))
-        (brings-quiet own (core_after (Take byte now) e) (took_at e byte now) sound))
+        (brings-quiet own (core_after (Take byte now) e) (took_at e byte now) sound),
+  )
   input-is Time now fits may = λ own e sound core. fixed-quiet own [] sound none-quiet
   input-is (Told command) now fits may = λ own e sound core. obeys-quiet command own e fits sound may
 
@@ -297,13 +301,13 @@ module _ (plan : HostPlan) (base : ℕ) where
     are = refl;
     first_is = tt;
     tick_is = λ own e sound core.
-      led-turn (end_plan plan) base (HasPlan plan) (Tick now) (breaks own (core_after (Tick now) e) (failed_at e now))
-      (breaks-quiet own (core_after (Tick now) e) (failed_at e now) sound);
+        led-turn (end_plan plan) base (HasPlan plan) (Tick now) (breaks own (core_after (Tick now) e) (failed_at e now))
+        (breaks-quiet own (core_after (Tick now) e) (failed_at e now) sound);
     due_is = ((λ own e sound core. record { quiet = late-quiet now; sound = sound }), tt);
     given_is = input-is input now fits may;
     later_is = tt;
     offer_is = λ own e sound core.
-      led-turn (end_plan plan) base (HasPlan plan) (Offer now) (fixed_turn own []) (fixed-quiet own [] sound none-quiet);
+        led-turn (end_plan plan) base (HasPlan plan) (Offer now) (fixed_turn own []) (fixed-quiet own [] sound none-quiet);
   }
 
 -- nothing is to be drawn in the first step

@@ -19,9 +19,7 @@ use message_end::{End, MessageEnd, Stop, Took, Unsent};
 use message_flow::{Flow, Message, NodeInput, StepOut};
 use std::alloc::Global;
 use std::marker::Model;
-use trace_log::{
-    HostCommand, Name, dropped_note, full_note, host_started_note, too_long_note,
-};
+use trace_log::{HostCommand, Name, dropped_note, full_note, host_started_note, too_long_note};
 use transact::Match;
 
 /// The host's end.
@@ -77,7 +75,6 @@ impl End for Host {
     ghost machine = { host_machine };
 
     ghost did = { λ plan. Did (HasPlan plan) (end_plan plan) };
-
 
     ghost lawful = { host_lawful };
 

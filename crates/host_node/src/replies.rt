@@ -97,7 +97,11 @@ fn reply_with(
     ensures line { out.new.line ≡ out.old.line }
 {
     if is_full(core) {
-        let function = if text.is_some() { message.function.wrapping_add(1) } else { 0 };
+        let function = if text.is_some() {
+            message.function.wrapping_add(1)
+        } else {
+            0
+        };
         let name = Name {
             stream: message.stream,
             function,

@@ -15,8 +15,8 @@ returns-in-Ok-Failed-clause-takes c =
     let core = c.self.inside.core in
     subst
     (λ (s : HostNode).
-      Takes (takes c.args.byte c.args.now s.own s.core) s c.args.out.now c.break_off.new.self c.break_off.new.out
-      c.break_off.result)
+    Takes (takes c.args.byte c.args.now s.own s.core) s c.args.out.now c.break_off.new.self c.break_off.new.out
+    c.break_off.result)
     c.self.view_is
     (leads_so own (Take c.args.byte c.args.now) (λ behind. brings own behind (took_at core c.args.byte c.args.now)) core
     c.take.new.self c.args.out.now c.take.new.out c.break_off.new.self c.break_off.new.out c.break_off.result
@@ -25,8 +25,8 @@ returns-in-Ok-Failed-clause-takes c =
     (on_the_way c.take.new.self c.take.new.out) c.in-Ok-Failed.ensures.carries)
     (subst
     (λ (brought : Took).
-      Takes (brings own c.take.new.self brought) (node own c.take.new.self) c.take.new.out c.break_off.new.self
-      c.break_off.new.out c.break_off.result)
+    Takes (brings own c.take.new.self brought) (node own c.take.new.self) c.take.new.out c.break_off.new.self
+    c.break_off.new.out c.break_off.result)
     (sym c.in-Ok-Failed.field-0-is ∙ c.in-Ok-Failed.ensures.took) c.break_off.ensures.takes))
 
 pub returns-in-Ok-Came-clause-takes : goal.returns-in-Ok-Came-clause-takes
@@ -35,8 +35,8 @@ returns-in-Ok-Came-clause-takes c =
     let core = c.self.inside.core in
     subst
     (λ (s : HostNode).
-      Takes (takes c.args.byte c.args.now s.own s.core) s c.args.out.now c.judge.new.self c.judge.new.out
-      c.judge.result)
+    Takes (takes c.args.byte c.args.now s.own s.core) s c.args.out.now c.judge.new.self c.judge.new.out
+    c.judge.result)
     c.self.view_is
     (leads_so own (Take c.args.byte c.args.now) (λ behind. brings own behind (took_at core c.args.byte c.args.now)) core
     c.take.new.self c.args.out.now c.take.new.out c.judge.new.self c.judge.new.out c.judge.result
@@ -45,6 +45,6 @@ returns-in-Ok-Came-clause-takes c =
     (on_the_way c.take.new.self c.take.new.out) c.in-Ok-Came.ensures.carries)
     (subst
     (λ (brought : Took).
-      Takes (brings own c.take.new.self brought) (node own c.take.new.self) c.take.new.out c.judge.new.self
-      c.judge.new.out c.judge.result)
+    Takes (brings own c.take.new.self brought) (node own c.take.new.self) c.take.new.out c.judge.new.self
+    c.judge.new.out c.judge.result)
     (sym c.in-Ok-Came.field-0-is ∙ c.in-Ok-Came.ensures.took) c.judge.ensures.takes))

@@ -15,8 +15,8 @@ returns-in-Some-clause-takes c =
     let core = c.self.inside.core in
     subst
     (λ (s : HostNode).
-      Takes (ticks c.args.now s.own s.core) s c.args.out.now c.break_off.new.self c.break_off.new.out
-      c.break_off.result)
+    Takes (ticks c.args.now s.own s.core) s c.args.out.now c.break_off.new.self c.break_off.new.out
+    c.break_off.result)
     c.self.view_is
     (leads_so own (Tick c.args.now) (λ behind. breaks own behind (failed_at core c.args.now)) core c.tick.new.self
     c.args.out.now c.tick.new.out c.break_off.new.self c.break_off.new.out c.break_off.result c.tick.ensures.carries
@@ -24,6 +24,6 @@ returns-in-Some-clause-takes c =
     c.tick.ensures.carries)
     (subst
     (λ (failed : Option Header).
-      Takes (breaks own c.tick.new.self failed) (node own c.tick.new.self) c.tick.new.out c.break_off.new.self
-      c.break_off.new.out c.break_off.result)
+    Takes (breaks own c.tick.new.self failed) (node own c.tick.new.self) c.tick.new.out c.break_off.new.self
+    c.break_off.new.out c.break_off.result)
     (sym c.in-Some.is ∙ c.tick.ensures.failed) c.break_off.ensures.takes))
