@@ -30,7 +30,8 @@ remove-first :
     → remove (begun ∷ rest) (position_or_len (has_system (system_of begun)) (begun ∷ rest)) ≡ rest
 remove-first begun rest = rw (eq-eqb begun.header.system begun.header.system refl) refl
 
-pub record IsEnded (commands later : List (Command Kind)) (old new : EndView Kind) (out out_new : StepOut) (was is : ℕ)
+pub record IsEnded (commands later : List (Command Kind)) (old new : EndView Kind) (out out_new : StepOut)
+    (was is : ℕ)
     : Type 0 where
   pub same :
       carried printed_note later (on_the_way new out_new) ≡ carried printed_note commands (on_the_way old out)
@@ -66,7 +67,8 @@ one_begun header kind old e1 e2 out notes first ended removed noted =
             sym (ap (λ (w : Went (EndView Kind) Note). (next_of w).transactions.begun) removed)
             ∙ sym (ap (λ (w : Went (EndView Kind) Note). (next_of w).transactions.begun) ended)
             ∙ ap (λ (all : List (Begun Kind)). remove all (position_or_len (has_system header.system) all)) is
-            ∙ ap (λ (h : Header). remove (begun ∷ rest) (position_or_len (has_system h.system) (begun ∷ rest))) (sym header_is)
+            ∙ ap (λ (h : Header). remove (begun ∷ rest) (position_or_len (has_system h.system) (begun ∷ rest)))
+            (sym header_is)
             ∙ remove-first begun rest
 
         same : carried printed_note (F e2.transactions.begun) (on_the_way e2 (noted_out out notes))
@@ -74,9 +76,15 @@ one_begun header kind old e1 e2 out notes first ended removed noted =
         same =
             ap (λ (all : List (Begun Kind)). carried printed_note (F all) (on_the_way e2 (noted_out out notes))) left
             ∙ ap (λ (ns : List Note). carried printed_note (F rest) (on_the_way e2 (noted_out out ns))) noted
-            ∙ ap (λ (w : Went (EndView Kind) Note). and_then w (carried printed_note (NoteThis (Happening.Failed (header_title header)) ∷ F rest))) (sym removed)
-            ∙ ap (λ (w : Went (EndView Kind) Note). and_then w (carried printed_note (Remove true header.system ∷ NoteThis (Happening.Failed (header_title header)) ∷ F rest))) (sym ended)
-            ∙ ap (λ (h : Header). carried printed_note (End h.system ∷ Remove true h.system ∷ NoteThis (Happening.Failed (header_title h)) ∷ F rest) (on_the_way old out)) (sym header_is)
+            ∙ ap (λ (w : Went (EndView Kind) Note). and_then w
+            (carried printed_note (NoteThis (Happening.Failed (header_title header)) ∷ F rest))) (sym removed)
+            ∙ ap (λ (w : Went (EndView Kind) Note). and_then w
+            (carried printed_note
+            (Remove true header.system ∷ NoteThis (Happening.Failed (header_title header)) ∷ F rest)))
+            (sym ended)
+            ∙ ap (λ (h : Header). carried printed_note
+            (End h.system ∷ Remove true h.system ∷ NoteThis (Happening.Failed (header_title h)) ∷ F rest)
+            (on_the_way old out)) (sym header_is)
 
         fewer : length e2.transactions.begun < length (begun ∷ rest)
         fewer = let same_length = ap (λ (all : List (Begun Kind)). length all) left in omega arith
@@ -95,7 +103,8 @@ no_begun old out none = go old.transactions.begun none
 
 -- the message whose block failed
 pub failed_one :
-    (was_open : Bool) (header : Header) (old new : EndView Kind) (out : StepOut) (notes : List Note) → was_open ≡ false
+    (was_open : Bool) (header : Header) (old new : EndView Kind) (out : StepOut) (notes : List Note) → was_open
+    ≡ false
     → carry printed_note (Recall header) (on_the_way old out) ≡ Goes (on_the_way new out)
     → notes ≡ out.notes ++ note_of (Happening.Failed (header_title header)) ∷ []
     → carried printed_note (ends_failed was_open header old) (on_the_way old out)
@@ -141,8 +150,11 @@ one_waiting header old new out notes first dropped noted = go old.outgoing.waiti
         same =
             ap (λ (all : List Waiting). carried printed_note (F all) (on_the_way new (noted_out out notes))) left
             ∙ ap (λ (ns : List Note). carried printed_note (F rest) (on_the_way new (noted_out out ns))) noted
-            ∙ ap (λ (w : Went (EndView Kind) Note). and_then w (carried printed_note (NoteThis (Happening.Failed (header_title header)) ∷ F rest))) (sym dropped)
-            ∙ ap (λ (h : Header). carried printed_note (DropFront ∷ NoteThis (Happening.Failed (header_title h)) ∷ F rest) (on_the_way old out)) (sym header_is)
+            ∙ ap (λ (w : Went (EndView Kind) Note). and_then w
+            (carried printed_note (NoteThis (Happening.Failed (header_title header)) ∷ F rest))) (sym dropped)
+            ∙ ap (λ (h : Header). carried printed_note
+            (DropFront ∷ NoteThis (Happening.Failed (header_title h)) ∷ F rest) (on_the_way old out))
+            (sym header_is)
 
         fewer : length new.outgoing.waiting < length (waiting ∷ rest)
         fewer = let same_length = ap (λ (all : List Waiting). length all) left in omega arith
@@ -158,6 +170,7 @@ no_waiting old new out none dropped = go old.outgoing.waiting refl none
         → option_map (last_header old.outgoing) (slice_get waiting 0) ≡ None
         → carried printed_note (flat_map ends_front waiting) (on_the_way old out) ≡ Goes (on_the_way new out)
     go [] is nothing =
-        ap (λ (ws : List Waiting). Goes (on_the_way (record old { outgoing = with_waiting old.outgoing ws }) out)) (is ∙ ap (λ (ws : List Waiting). drop 1 ws) (sym is))
+        ap (λ (ws : List Waiting). Goes (on_the_way (record old { outgoing = with_waiting old.outgoing ws }) out))
+        (is ∙ ap (λ (ws : List Waiting). drop 1 ws) (sym is))
         ∙ dropped
     go (waiting ∷ rest) is nothing = absurd (cc)

@@ -15,7 +15,8 @@ module _ (stream function : ℕ) where
       else if acknowledged then Some (code_item 0) else None)
 
   pub to_question :
-      is_question stream function ≡ true → Some (1 ∷ 0 ∷ []) ≡ option_map shortest_spelling (reply_item stream function)
+      is_question stream function ≡ true → Some (1 ∷ 0 ∷ []) ≡ option_map shortest_spelling
+      (reply_item stream function)
   unfolding text-by
   to_question is =
       ap Some (sym spelled_nothing)

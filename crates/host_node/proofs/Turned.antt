@@ -36,7 +36,8 @@ pub leads_so :
     → Takes (leads lead turn old) (node own old) out new out_new result
 leads_so own lead turn old middle out out_middle new out_new result goes same is =
     subst (λ (w : Went HostNode Note). ComesTo w new out_new result)
-    (sym (leads-behind printed_note lead turn (on_the_way (node own old) out) (on_the_way middle out_middle) goes same))
+    (sym (leads-behind printed_note lead turn (on_the_way (node own old) out) (on_the_way middle out_middle) goes
+    same))
     is
 
 -- the state is entered behind what is done

@@ -138,7 +138,8 @@ sends_reply None = Abort ∷ []
 abbrev pub replies_with : Message → Option (List ℕ) → Duty Kind
 replies_with message text e =
     if is_full e then
-    Note (Happening.Full (record { stream = message.stream; function = function_with message text; wait = false })) ∷ []
+    Note (Happening.Full (record { stream = message.stream; function = function_with message text; wait = false }))
+    ∷ []
     else sends_reply text
 
 abbrev pub replies : Message → Duty Kind

@@ -93,7 +93,8 @@ text-established :
     no_identity))
 text-established = subst IsText (sym spelled_established) (record { short = omega arith; bytes = search rules })
 
-reply-quiet : (stream function : ℕ) → IsQuiet (sends_reply (option_map shortest_spelling (reply_item stream function)))
+reply-quiet : (stream function : ℕ) → IsQuiet
+    (sends_reply (option_map shortest_spelling (reply_item stream function)))
 reply-quiet stream function =
     go (is_question stream function) (is_establishing stream function) (is_acknowledged stream function)
   where
@@ -115,7 +116,12 @@ replies-quiet message e =
     (reply-quiet message.stream message.function)
   where
     go : (wait full : Bool) (text : Option (List ℕ)) → IsQuiet (sends_reply text)
-        → IsQuiet (if wait then (if full then Note (Happening.Full (record { stream = message.stream; function = function_with message text; wait = false })) ∷ [] else sends_reply text) else [])
+        → IsQuiet (if wait then (if full then Note
+        (Happening.Full (record {
+          stream = message.stream;
+          function = function_with message text;
+          wait = false;
+        })) ∷ [] else sends_reply text) else [])
     go true true text is = record { calls = (tt, tt); may = (tt, tt) }
     go true false text is = is
     go false full text is = none-quiet
@@ -129,7 +135,8 @@ module _ (plan : HostPlan) (base : ℕ) where
   abbrev AreQuiet : List (Duty Kind) → Type 0
   AreQuiet duties = AreQuietDuties {S = HostOwn} (end_plan plan) base (HasPlan plan) duties
 
-  fixed-quiet : (own : HostOwn) (commands : List (Command Kind)) → HasPlan plan own → IsQuiet commands → Quiet (fixed_turn own commands)
+  fixed-quiet : (own : HostOwn) (commands : List (Command Kind)) → HasPlan plan own → IsQuiet commands → Quiet
+      (fixed_turn own commands)
   fixed-quiet own commands sound is = record { quiet = ((λ e core. is), tt); sound = sound }
 
   both-quiet : (first second : List (Duty Kind)) → AreQuiet first → AreQuiet second → AreQuiet (first ++ second)
@@ -164,7 +171,8 @@ module _ (plan : HostPlan) (base : ℕ) where
     sound = sound;
   }
 
-  breaks-quiet : (own : HostOwn) (e : EndView Kind) (failed : Option Header) → HasPlan plan own → Quiet (breaks own e failed)
+  breaks-quiet : (own : HostOwn) (e : EndView Kind) (failed : Option Header) → HasPlan plan own → Quiet
+      (breaks own e failed)
   breaks-quiet own e None sound = fixed-quiet own [] sound none-quiet
   breaks-quiet own e (Some header) sound =
       ends-quiet own (failed_comms own.comms) (ends_all e (Some header)) sound (all-quiet e (Some header))
@@ -181,8 +189,11 @@ module _ (plan : HostPlan) (base : ℕ) where
   primary-quiet : (own : HostOwn) (message : Message) → HasPlan plan own → Quiet (heeds_primary own message)
   primary-quiet own message sound = go (is_establishing message.stream message.function)
     where
-      go : (b : Bool) → Quiet (if b then enters own comms.Communicating (replies message ∷ []) else record { own = own; duties = replies message ∷ [] })
-      go true = enters-quiet own comms.Communicating (replies message ∷ []) sound ((λ e core. replies-quiet message e), tt)
+      go : (b : Bool) → Quiet
+          (if b then enters own comms.Communicating (replies message ∷ [])
+          else record { own = own; duties = replies message ∷ [] })
+      go true = enters-quiet own comms.Communicating (replies message ∷ []) sound
+          ((λ e core. replies-quiet message e), tt)
       go false = record { quiet = ((λ e core. replies-quiet message e), tt); sound = sound }
 
   follows-quiet : (own : HostOwn) (accepted : Bool) → HasPlan plan own → Quiet (follows own accepted)
@@ -204,7 +215,8 @@ module _ (plan : HostPlan) (base : ℕ) where
       go : (disabled odd : Bool)
           → Quiet (if disabled then fixed_turn own (Note (Happening.Dropped (message_name message)) ∷ [])
           else if odd then heeds_primary own message else heeds_secondary own e header message)
-      go true odd = fixed-quiet own (Note (Happening.Dropped (message_name message)) ∷ []) sound (record { calls = (tt, tt); may = (tt, tt) })
+      go true odd = fixed-quiet own (Note (Happening.Dropped (message_name message)) ∷ []) sound
+          (record { calls = (tt, tt); may = (tt, tt) })
       go false true = primary-quiet own message sound
       go false false = secondary-quiet own e header message sound
 
@@ -212,9 +224,12 @@ module _ (plan : HostPlan) (base : ℕ) where
       (own : HostOwn) (e : EndView Kind) (header : Header) (came : Flow) → HasPlan plan own
       → Quiet (judges own e header came)
   judges-quiet own e header (flow.Whole message) sound = heeds-quiet own e header message sound
-  judges-quiet own e header flow.Unexpected sound = fixed-quiet own (GiveUp header ∷ []) sound (record { calls = (tt, tt); may = (tt, tt) })
-  judges-quiet own e header flow.TooLong sound = fixed-quiet own (GiveUp header ∷ []) sound (record { calls = (tt, tt); may = (tt, tt) })
-  judges-quiet own e header flow.Crowded sound = fixed-quiet own (GiveUp header ∷ []) sound (record { calls = (tt, tt); may = (tt, tt) })
+  judges-quiet own e header flow.Unexpected sound = fixed-quiet own (GiveUp header ∷ []) sound
+      (record { calls = (tt, tt); may = (tt, tt) })
+  judges-quiet own e header flow.TooLong sound = fixed-quiet own (GiveUp header ∷ []) sound
+      (record { calls = (tt, tt); may = (tt, tt) })
+  judges-quiet own e header flow.Crowded sound = fixed-quiet own (GiveUp header ∷ []) sound
+      (record { calls = (tt, tt); may = (tt, tt) })
   judges-quiet own e header flow.Part sound = fixed-quiet own [] sound none-quiet
   judges-quiet own e header flow.Duplicate sound = fixed-quiet own [] sound none-quiet
   judges-quiet own e header (flow.Foreign address) sound = fixed-quiet own [] sound none-quiet
@@ -301,13 +316,15 @@ module _ (plan : HostPlan) (base : ℕ) where
     are = refl;
     first_is = tt;
     tick_is = λ own e sound core.
-        led-turn (end_plan plan) base (HasPlan plan) (Tick now) (breaks own (core_after (Tick now) e) (failed_at e now))
+        led-turn (end_plan plan) base (HasPlan plan) (Tick now)
+        (breaks own (core_after (Tick now) e) (failed_at e now))
         (breaks-quiet own (core_after (Tick now) e) (failed_at e now) sound);
     due_is = ((λ own e sound core. record { quiet = late-quiet now; sound = sound }), tt);
     given_is = input-is input now fits may;
     later_is = tt;
     offer_is = λ own e sound core.
-        led-turn (end_plan plan) base (HasPlan plan) (Offer now) (fixed_turn own []) (fixed-quiet own [] sound none-quiet);
+        led-turn (end_plan plan) base (HasPlan plan) (Offer now) (fixed_turn own [])
+        (fixed-quiet own [] sound none-quiet);
   }
 
 -- nothing is to be drawn in the first step

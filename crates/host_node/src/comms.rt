@@ -81,7 +81,8 @@ pub(crate) fn note_comms(
     after: HostComms,
     out: &mut StepOut,
 ) -> Result<(), NoMemory>
-    ensures notes { IfOk result (λ done. (e : EndView Kind) → AreCarried (notes_comms before after e) e out.old e out.new) }
+    ensures notes { IfOk result
+        (λ done. (e : EndView Kind) → AreCarried (notes_comms before after e) e out.old e out.new) }
     ensures line { out.new.line ≡ out.old.line }
 {
     match (before, after) {

@@ -35,7 +35,8 @@ pub(crate) fn end_all(
 
 // Ends the messages whose transactions are open, in the order in which these began.
 fn end_begun(alloc: Global, core: &mut MessageEnd<()>, out: &mut StepOut) -> Result<(), NoMemory>
-    ensures does { IfOk result (λ done. AreCarried (ends_begun (λ kind. []) core.old) core.old out.old core.new out.new) }
+    ensures does { IfOk result
+        (λ done. AreCarried (ends_begun (λ kind. []) core.old) core.old out.old core.new out.new) }
     ensures line { out.new.line ≡ out.old.line }
 {
     'transactions: while let Some((header, _)) = core.first() {
@@ -55,7 +56,8 @@ fn end_failed(
     header: &Header,
     out: &mut StepOut,
 ) -> Result<(), NoMemory>
-    ensures does { IfOk result (λ done. AreCarried (ends_failed was_open header.now core.old) core.old out.old core.new out.new) }
+    ensures does { IfOk result
+        (λ done. AreCarried (ends_failed was_open header.now core.old) core.old out.old core.new out.new) }
     ensures line { out.new.line ≡ out.old.line }
 {
     if was_open {

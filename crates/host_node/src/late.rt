@@ -59,7 +59,8 @@ fn drop_one(
     out: &mut StepOut,
 ) -> Result<bool, Stop>
     ensures carries { CarriesAll (drops now core.old) core.old out.old core.new out.new result }
-    ensures none { IfOk result (λ some. some ≡ false → AreCarried (drops now core.old) core.old out.old core.old out.old) }
+    ensures none { IfOk result
+        (λ some. some ≡ false → AreCarried (drops now core.old) core.old out.old core.old out.old) }
     ensures line { out.new.line ≡ out.old.line }
 {
     let Some(header) = core.drop_due(alloc, now, out)? else {
@@ -98,7 +99,8 @@ fn expire_one(
     out: &mut StepOut,
 ) -> Result<bool, Stop>
     ensures carries { CarriesAll (expires now core.old) core.old out.old core.new out.new result }
-    ensures none { IfOk result (λ some. some ≡ false → AreCarried (expires now core.old) core.old out.old core.old out.old) }
+    ensures none { IfOk result
+        (λ some. some ≡ false → AreCarried (expires now core.old) core.old out.old core.old out.old) }
     ensures line { out.new.line ≡ out.old.line }
 {
     match core.expire(alloc, now, out)? {

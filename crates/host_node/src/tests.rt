@@ -1,5 +1,6 @@
-ghost use Rattle.std.specs.Prelude.{◌<◌, ◌^◌, IfSome};
-ghost use Rattle.message_end.specs.Ends.{IsEmpty};
+ghost use Rattle.std.specs.Prelude.{◌<◌, ◌^◌};
+ghost use Rattle.message_end.specs.Ends.{IsEmpty, MayTake, input_of};
+ghost use Rattle.trace_log.specs.Commands.{HostCommandFits};
 
 use super::*;
 use arrayvec::ArrayVec;
@@ -424,18 +425,20 @@ fn makes(
     now: u64,
     case: &Case,
 ) -> bool
-    requires { now < 2 ^ 62 }
+    requires now { now < 2 ^ 62 }
+    requires input { MayTake HostCommandFits (input_of input) }
 {
     let mut out = nothing_yet(alloc);
     host.step(alloc, input, now, &mut out).is_ok() && is_out(&out, case.line, case.notes)
 }
 
-// Whether the host takes all but the last of these characters.
-fn takes_all_but_one(alloc: Global, host: &mut Host, characters: &[u8], now: u64) -> bool
+// Whether the host takes these characters, and makes this of the last one.
+fn takes(alloc: Global, host: &mut Host, characters: &[u8], now: u64, case: &Case) -> bool
     requires { now < 2 ^ 62 }
 {
+    let mut out = nothing_yet(alloc);
     for &character in characters {
-        let mut out = nothing_yet(alloc);
+        out = nothing_yet(alloc);
         if host
             .step(alloc, NodeInput::Char(character), now, &mut out)
             .is_err()
@@ -443,20 +446,14 @@ fn takes_all_but_one(alloc: Global, host: &mut Host, characters: &[u8], now: u64
             return false;
         }
     }
-    true
+    is_out(&out, case.line, case.notes)
 }
 
 fn runs_one(alloc: Global, host: &mut Host, case: &Case) -> bool {
     let now = case.now.min(1_000_000);
     match &case.given {
         Given::Time => makes(alloc, host, NodeInput::Time, now, case),
-        Given::Chars(characters) => match characters.split_last() {
-            Some((&last, before)) => {
-                takes_all_but_one(alloc, host, before, now)
-                    && makes(alloc, host, NodeInput::Char(last), now, case)
-            }
-            None => false,
-        },
+        Given::Chars(characters) => takes(alloc, host, characters, now, case),
         Given::Send(stream, function, wait, body) => {
             let Ok(body) = Row::of(alloc, body) else {
                 return false;

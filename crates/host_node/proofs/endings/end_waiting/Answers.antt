@@ -19,5 +19,6 @@ messages-preserved c =
 pub returns-clause-does : goal.returns-clause-does
 returns-clause-does c =
     sym c.messages.invariant.done
-    ∙ no_waiting c.messages.core c.drop_front.new.self c.messages.out (sym c.drop_front.ensures.header ∙ c.in_default.is)
+    ∙ no_waiting c.messages.core c.drop_front.new.self c.messages.out
+    (sym c.drop_front.ensures.header ∙ c.in_default.is)
     (c.drop_front.ensures.carries c.messages.out)

@@ -6,7 +6,8 @@ use Rattle.host_node.proofs.host.Host.step_on.Goals as goal
 
 pub returns-in-Ok : goal.returns-in-Ok
 returns-in-Ok c =
-    leaves-gone (parts (input_of c.args.input) c.args.now) c.args.self.now c.args.out.now c.requires.out c.act.new.self
+    leaves-gone (parts (input_of c.args.input) c.args.now) c.args.self.now c.args.out.now c.requires.out
+    c.act.new.self
     c.act.new.out c.in-Ok.ensures
 
 pub returns-in-Err : goal.returns-in-Err

@@ -18,7 +18,8 @@ returns-in-Ok-Failed-clause-takes c =
     Takes (takes c.args.byte c.args.now s.own s.core) s c.args.out.now c.break_off.new.self c.break_off.new.out
     c.break_off.result)
     c.self.view_is
-    (leads_so own (Take c.args.byte c.args.now) (λ behind. brings own behind (took_at core c.args.byte c.args.now)) core
+    (leads_so own (Take c.args.byte c.args.now) (λ behind. brings own behind (took_at core c.args.byte c.args.now))
+    core
     c.take.new.self c.args.out.now c.take.new.out c.break_off.new.self c.break_off.new.out c.break_off.result
     c.in-Ok-Failed.ensures.carries
     (after-take printed_note c.args.byte c.args.now (on_the_way core c.args.out.now)
@@ -38,7 +39,8 @@ returns-in-Ok-Came-clause-takes c =
     Takes (takes c.args.byte c.args.now s.own s.core) s c.args.out.now c.judge.new.self c.judge.new.out
     c.judge.result)
     c.self.view_is
-    (leads_so own (Take c.args.byte c.args.now) (λ behind. brings own behind (took_at core c.args.byte c.args.now)) core
+    (leads_so own (Take c.args.byte c.args.now) (λ behind. brings own behind (took_at core c.args.byte c.args.now))
+    core
     c.take.new.self c.args.out.now c.take.new.out c.judge.new.self c.judge.new.out c.judge.result
     c.in-Ok-Came.ensures.carries
     (after-take printed_note c.args.byte c.args.now (on_the_way core c.args.out.now)
