@@ -8,13 +8,13 @@ use Rattle.block_codec.specs.declared.header.Header.{Header}
 use Rattle.message_flow.specs.declared.step.Note.{Note}
 use Rattle.message_flow.specs.declared.step.StepOut.{StepOut}
 use Rattle.message_flow.specs.declared.waiting.Waiting.{Waiting}
-use Rattle.message_flow.specs.Outgoing.{OutgoingView, last_header, with_waiting}
+use Rattle.message_flow.specs.Outgoing.{last_header, with_waiting}
 use Rattle.trace_log.specs.Log.{Happening}
 use Rattle.trace_log.specs.Names.{header_title}
 use Rattle.trace_log.specs.Text.{note_of, printed_note}
 use Rattle.transact.specs.declared.begun.Begun.{Begun}
 use Rattle.transact.specs.Transactions.{has_system, primary_of, system_of}
-use Rattle.message_end.specs.Core.{Command, EndView, Step, Went, and_then, carried, carry}
+use Rattle.message_end.specs.Core.{Command, EndView, Went, and_then, carried, carry}
 use Rattle.message_end.specs.Core.Command.{DropFront, End, Note as NoteThis, Recall, Remove}
 use Rattle.message_end.specs.Core.Went.{Goes}
 use Rattle.message_end.specs.Endings.{ends_begun, ends_failed, ends_front, ends_one, ends_waiting}

@@ -1,5 +1,5 @@
 -- The item that a body spells, as the host reads it.
-use Rattle.std.proofs.Common.{◌≡◌, refl, sym, ap, ◌∙◌, false, ℕ, List, [], ◌∷◌, length, Some, None, Option}
+use Rattle.std.proofs.Common.{◌≡◌, refl, sym, ap, false, ℕ, List, [], ◌∷◌, length, Some}
 use Rattle.std.specs.Prelude.{Result, Ok, Err}
 use Rattle.std.specs.Option.{option_map_or}
 use Rattle.secs_items.specs.declared.item.Item.{Item}
@@ -9,7 +9,7 @@ use Rattle.secs_items.specs.Reading.{first_fault, item_at}
 use Rattle.secs_items.specs.Spelling.{Spells}
 use Rattle.secs_items.proofs.Faults.{read_none}
 use Rattle.secs_items.proofs.SpellLaws.{spells_read}
-use Rattle.host_node.specs.Replies.{establishes_item, is_established_by, item_of, whole_item}
+use Rattle.host_node.specs.Replies.{establishes_item, is_established_by, whole_item}
 
 pub established : (item : Item) (body : List ℕ) → Spells item body → establishes_item item ≡ is_established_by body
 established item body spelled =

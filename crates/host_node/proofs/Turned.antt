@@ -1,22 +1,17 @@
 -- The turns of the host, as its code takes them.
-use Rattle.std.proofs.Common.{◌≡◌, refl, sym, ap, subst, ◌∙◌, ℕ, Bool, true, false, List, [], ◌∷◌, ◌++◌, Option, Some, None}
-use Rattle.std.specs.Prelude.{Result, Ok, Err}
-use Rattle.block_codec.specs.declared.header.Header.{Header}
-use Rattle.message_flow.specs.declared.message.Message.{Message}
+use Rattle.std.proofs.Common.{◌≡◌, sym, ap, subst, ◌∙◌, List, [], ◌∷◌}
+use Rattle.std.specs.Prelude.{Result}
 use Rattle.message_flow.specs.declared.step.Note.{Note}
 use Rattle.message_flow.specs.declared.step.StepOut.{StepOut}
 use Rattle.trace_log.specs.Text.{printed_note}
-use Rattle.transact.specs.declared.begun.Begun.{Begun}
 use Rattle.message_end.specs.declared.end.Stop.{Stop}
-use Rattle.message_end.specs.declared.end.Stop.TheVariants as stop
-use Rattle.message_end.specs.Calls.{Carries, answered_by}
-use Rattle.message_end.specs.Core.{Command, EndView, Step, Went, and_then, carried, carry}
-use Rattle.message_end.specs.Core.Went.{Goes, Spent}
+use Rattle.message_end.specs.Core.{Command, EndView, Went, and_then, carry}
+use Rattle.message_end.specs.Core.Went.{Goes}
 use Rattle.message_end.specs.Duties.{Duty, all_done}
-use Rattle.message_end.specs.Parts.{CarriesAll, ComesTo, DoesAll, Node, Takes, Turn, after_turn, core_after, core_step, fixed_turn, leads, led_turn, on_the_way, went_with, with_own}
-use Rattle.message_end.proofs.Parts.{leads-behind, turn-behind}
+use Rattle.message_end.specs.Parts.{ComesTo, Node, Takes, core_after, leads, on_the_way, went_with}
+use Rattle.message_end.proofs.Parts.{leads-behind}
 use Rattle.host_node.specs.declared.comms.HostComms.{HostComms}
-use Rattle.host_node.specs.Calls.{AreCarried, AreDone}
+use Rattle.host_node.specs.Calls.{AreDone}
 use Rattle.host_node.specs.Host.{HostOwn, HostTurn, Kind, ends_in, enters, notes_comms}
 use Rattle.host_node.proofs.Overdue.{done_both}
 

@@ -1,5 +1,5 @@
 -- That the host keeps the law of an end: the proof, which stands here since an impl cites it.
-use Rattle.std.proofs.Common.{rules, ◌≡◌, ◌≢◌, ◌^◌, refl, sym, ap, subst, ◌∙◌, arith, Bool, true, false, not, ℕ, ◌<◌, ◌≤◌, ◌%◌, ◌==◌, ◌&&◌, List, [], ◌∷◌, ◌++◌, length, replicate, Option, Some, None, if◌then◌else◌, nat_le, zero, suc}
+use Rattle.std.proofs.Common.{rules, ◌≡◌, ◌≢◌, ◌^◌, refl, sym, ap, subst, arith, Bool, true, false, not, ℕ, ◌≤◌, ◌&&◌, List, [], ◌∷◌, ◌++◌, length, replicate, Option, Some, None, if◌then◌else◌, nat_le, zero, suc}
 use Rattle.std.proofs.lemmas.Bool.Decides.{nat_tests}
 use Rattle.std.specs.Prelude.{flat_map}
 use Rattle.std.specs.Option.{option_map}
@@ -13,7 +13,6 @@ use Rattle.message_flow.specs.declared.flow.Flow.TheVariants as flow
 use Rattle.message_flow.specs.declared.message.Message.{Message}
 use Rattle.message_flow.specs.declared.waiting.Waiting.{Waiting}
 use Rattle.message_flow.specs.Message.{is_primary}
-use Rattle.secs_items.specs.declared.item.Item.{Item}
 use Rattle.secs_items.specs.Spelling.{shortest_spelling}
 use Rattle.trace_log.specs.Commands.{HostCommandFits, MayBeSent}
 use Rattle.trace_log.specs.Log.{Happening}
@@ -28,17 +27,17 @@ use Rattle.message_end.specs.declared.end.Took.TheVariants as took
 use Rattle.message_end.specs.Calls.{dropped_now, failed_at, took_at}
 use Rattle.message_end.specs.Core.{Command, EndView, IsText, Step}
 use Rattle.message_end.specs.Core.Went.{Spent}
-use Rattle.message_end.specs.Core.Command.{Answer, DropDue, Expire, GiveUp, Note, Offer, Primary, Take, Tick}
+use Rattle.message_end.specs.Core.Command.{DropDue, GiveUp, Note, Offer, Primary, Take, Tick}
 use Rattle.message_end.specs.Duties.{Duty}
-use Rattle.message_end.specs.Endings.{ends_begun, ends_failed, ends_front, ends_one, ends_waiting, is_of_open}
+use Rattle.message_end.specs.Endings.{ends_failed, ends_front, ends_one, is_of_open}
 use Rattle.message_end.specs.Ends.{Input, KeepsLaw, MayTake}
 use Rattle.message_end.specs.Ends.Input.{Char, Command as Told, Time}
 use Rattle.message_end.specs.Parts.{Did, Node, core_after, fixed_turn, started}
 use Rattle.message_end.proofs.Lower.{lower}
-use Rattle.message_end.proofs.Parts.{AreQuietDuties, IsCoreOf, IsInputPart, IsQuiet, IsQuietDuty, IsQuietTurn, IsStepOf, led-turn, node-lawful}
+use Rattle.message_end.proofs.Parts.{AreQuietDuties, IsInputPart, IsQuiet, IsQuietTurn, IsStepOf, led-turn, node-lawful}
 use Rattle.host_node.specs.declared.comms.HostComms.{HostComms}
 use Rattle.host_node.specs.declared.comms.HostComms.TheVariants as comms
-use Rattle.host_node.specs.Host.{HasPlan, HostOwn, HostTurn, Kind, breaks, brings, drops, ends_all, ends_in, ends_late, enabled_comms, end_plan, enters, expires, failed_comms, first_own, follows, function_with, given, gives_up, heeds, heeds_primary, heeds_secondary, host_design, host_machine, is_accepted, is_disabled, is_full, judges, late_duties, name_of, notes_comms, obeys, offers, parts, replies, replies_with, sends, sends_reply, takes, ticks, unsent_of}
+use Rattle.host_node.specs.Host.{HasPlan, HostOwn, HostTurn, Kind, breaks, brings, drops, ends_all, ends_in, ends_late, enabled_comms, end_plan, enters, expires, failed_comms, first_own, follows, function_with, given, gives_up, heeds, heeds_primary, heeds_secondary, host_design, host_machine, is_accepted, is_disabled, is_full, judges, late_duties, name_of, notes_comms, obeys, offers, parts, replies, sends, sends_reply, ticks, unsent_of}
 use Rattle.host_node.specs.Replies.{is_acknowledged, is_establishing, is_question, no_identity, reply_item}
 use Rattle.host_node.specs.Spelled.{spelled_code, spelled_established, spelled_nothing}
 

@@ -1,8 +1,7 @@
 -- The bytes of the host's replies.
-use Rattle.std.proofs.Common.{◌≡◌, refl, sym, ap, ◌∙◌, ℕ, List, [], ◌∷◌}
+use Rattle.std.proofs.Common.{◌≡◌, sym, ap, ◌∙◌, ℕ, List, [], ◌∷◌}
 use Rattle.secs_items.specs.declared.item.Item.TheOpen.{Item-F}
 use Rattle.secs_items.specs.declared.item.Item.TheFolds.{fold-roll-Item}
-use Rattle.secs_items.specs.declared.item.Item.TheVariants as item
 use Rattle.secs_items.specs.declared.item.Item.TheVariants.{rolls-B, rolls-L}
 use Rattle.secs_items.specs.Spelling.{shortest_layer, shortest_spelling}
 use Rattle.gem_shapes.specs.Answers.{code_item, pair_item}
