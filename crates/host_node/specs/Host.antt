@@ -197,8 +197,7 @@ takes byte now own e = leads (Take byte now) (λ behind. brings own behind (took
 
 -- ---- what it is told by its own side
 
--- a primary goes out, unless it isn't let out, is too long, or has no room; a core knows how many transactions it may
--- open
+-- with W it begins a transaction
 abbrev pub unsent_of : Name → List ℕ → Unsent Kind
 unsent_of sent body = record {
   stream = sent.stream;
@@ -207,6 +206,8 @@ unsent_of sent body = record {
   body = body;
 }
 
+-- a primary goes out, unless it isn't let out, is too long, or has no room; a core knows how many transactions it may
+-- open
 abbrev pub sends : HostOwn → EndView Kind → Name → List ℕ → List (Command Kind)
 sends own e sent body =
     if is_disabled own.comms then Note (Happening.Dropped sent) ∷ []
