@@ -13,6 +13,8 @@ use Rattle.message_flow.specs.Blocks.{header_of}
 use Rattle.message_flow.specs.Message.{is_primary}
 use Rattle.delivery.proofs.Facts.{IsAnswering, IsAsked, IsFree, IsLive, IsOfSecondary, IsPending, IsReplied, IsSound}
 use Rattle.delivery.proofs.Facts.IsLive.{past, present}
+use Rattle.delivery.proofs.Facts.Fact.{Back, HereSends, Out, Sides, ThereSends}
+use Rattle.delivery.proofs.Facts.WayFact.{Answering, Hearing, Receiving}
 use Rattle.delivery.proofs.Receiving.{made-given, received-once, whole-block}
 use Rattle.delivery.proofs.Tags.{AnswersAsked, MaySendOne, MayWriteOne, TaggedBlock, TaggedEnd, TaggedHearing, TaggedMessage, TaggedWhole, with_block}
 
@@ -56,13 +58,13 @@ reply-for :
     (x y : TaggedEnd) (message : TaggedMessage) → IsSound x y → AnswersAsked x.plan.side x.asked message
     → IsReplyFor x.plan.side x.received x.asked y.ever message
 reply-for x y message is answers =
-    let pending = is.out.answering.pending answers.whole answers.is in
-    let made = is.back.receiving.received_are answers.whole pending.has in
+    let pending = (is (Out Answering)).pending answers.whole answers.is in
+    let made = (is (Back Receiving)).received_are answers.whole pending.has in
     record {
       whole = answers.whole;
       is = answers.is;
       has = pending.has;
-      sent = (is.there_sends.given_are answers.whole.block (made-given x y answers.whole is made)).sent;
+      sent = ((is ThereSends).given_are answers.whole.block (made-given x y answers.whole is made)).sent;
       primary = subst (λ (m : Message). is_primary m ≡ true) made.message answers.primary;
       system =
           reply-system (other_side x.plan.side) answers.whole.message
@@ -87,22 +89,22 @@ sent-new x y message is may m live system parity = go (is_primary message.messag
     new_reply : is_primary message.message ≡ false → (n : TaggedMessage) → Has x.sent n → n ≡ m → ⊥
     new_reply secondary n has same =
         let by = answered secondary in
-        (is.out.answering.pending by.whole by.is).none by.primary n has
+        ((is (Out Answering)).pending by.whole by.is).none by.primary n has
         (ap (λ (t : TaggedMessage). is_primary t.message) same ∙ parity ∙ secondary)
         (ap (λ (t : TaggedMessage). t.message.system) same ∙ system ∙ by.system)
 
     go : (t : Bool) → is_primary message.message ≡ t → IsLive x.sent y.heard m → ⊥
-    go true primary (present has) = may.new primary m (is.here_sends.ever_sent m has) (parity ∙ primary) system
+    go true primary (present has) = may.new primary m ((is HereSends).ever_sent m has) (parity ∙ primary) system
     go true primary (past h has of) =
-        let given = (is.out.hearing.heard_are h has).is_given in
+        let given = ((is (Out Hearing)).heard_are h has).is_given in
         may.new primary m
-        (subst (λ (t : TaggedMessage). Has x.ever t) of (is.here_sends.given_are h.block given).sent)
+        (subst (λ (t : TaggedMessage). Has x.ever t) of ((is HereSends).given_are h.block given).sent)
         (parity ∙ primary) system
     go false secondary (present has) = new_reply secondary m has refl
     go false secondary (past h has of) =
         let by = answered secondary in
         new_reply secondary h.block.of
-        (is.out.answering.free_asked by.whole by.is by.primary h has (record {
+        ((is (Out Answering)).free_asked by.whole by.is by.primary h has (record {
           secondary = ap (λ (t : TaggedMessage). is_primary t.message) of ∙ parity ∙ secondary;
           system = ap (λ (t : TaggedMessage). t.message.system) of ∙ system ∙ by.system;
         })) of
@@ -128,7 +130,7 @@ answering-sent x y message is may = record {
 }
   where
     old : IsAnswering x.plan.side x.sent x.ever x.received x.whole x.asked y.ever y.heard y.frames
-    old = is.out.answering
+    old = is (Out Answering)
 
     answered : (m : TaggedMessage) → m ≡ message → is_primary m.message ≡ false
         → IsReplyFor x.plan.side x.received x.asked y.ever m
@@ -197,13 +199,13 @@ answering-asked x y message is may = record {
 }
   where
     old : IsAnswering y.plan.side y.sent y.ever y.received y.whole y.asked x.ever x.heard x.frames
-    old = is.back.answering
+    old = is (Back Answering)
 
     after : (u : TaggedMessage) → Has (message ∷ x.ever) u → is_primary u.message ≡ true → (h : TaggedHearing)
         → Has x.heard h → IsOfSecondary u h → u.place < h.after
     after u (inl e) primary h has reply =
-        let given = (is.back.hearing.heard_are h has).is_given in
-        let by = old.secondaries h.block.of (is.there_sends.given_are h.block given).sent reply.secondary in
+        let given = ((is (Back Hearing)).heard_are h has).is_given in
+        let by = old.secondaries h.block.of ((is ThereSends).given_are h.block given).sent reply.secondary in
         absurd (may.new (sym (ap (λ (t : TaggedMessage). is_primary t.message) e) ∙ primary) by.asker by.sent by.primary
         (sym by.system ∙ reply.system ∙ ap (λ (t : TaggedMessage). t.message.system) e))
     after u (inr sent) primary h has reply = old.after u sent primary h has reply
@@ -228,7 +230,7 @@ answering-received x y w is whole = record {
 }
   where
     old : IsAnswering x.plan.side x.sent x.ever x.received x.whole x.asked y.ever y.heard y.frames
-    old = is.out.answering
+    old = is (Out Answering)
 
     unanswered : IsPending x.sent (w ∷ x.received) w
     unanswered = record {
@@ -254,26 +256,26 @@ answering-wrote x y block is may = record {
 }
   where
     old : IsAnswering y.plan.side y.sent y.ever y.received y.whole y.asked x.ever x.heard x.frames
-    old = is.back.answering
+    old = is (Back Answering)
 
     -- what is heard of a secondary with its system bytes is of a reply to it
     matching : is_primary block.of.message ≡ true → (h : TaggedHearing) → Has x.heard h → IsOfSecondary block.of h
         → IsReplyTo x.plan.side block.of.message h.view.header
     matching primary h has reply =
-        let heard = is.back.hearing.heard_are h has in
+        let heard = (is (Back Hearing)).heard_are h has in
         let header = header_of y.plan.side 0 h.block.of.message 1 in
-        let by = old.secondaries h.block.of (is.there_sends.given_are h.block heard.is_given).sent reply.secondary in
+        let by = old.secondaries h.block.of ((is ThereSends).given_are h.block heard.is_given).sent reply.secondary in
         let same : by.asker ≡ block.of =
-        is.here_sends.fresh by.asker block.of by.sent (is.here_sends.ever_sent block.of may.of_sent) by.primary primary
-        (sym by.system ∙ reply.system) in
+        (is HereSends).fresh by.asker block.of by.sent ((is HereSends).ever_sent block.of may.of_sent) by.primary
+        primary (sym by.system ∙ reply.system) in
         let here : IsReplyTo x.plan.side by.asker.message header =
-        subst (λ (s : Side). IsReplyTo s by.asker.message header) (sym is.sides) by.reply in
+        subst (λ (s : Side). IsReplyTo s by.asker.message header) (sym (is Sides)) by.reply in
         subst (λ (v : BlockView). IsReplyTo x.plan.side block.of.message v.header) (sym heard.is)
         (subst (λ (t : TaggedMessage). IsReplyTo x.plan.side t.message header) same here)
 
     free : IsFree y.sent x.heard block
     free = λ primary h has reply.
-        let above = old.after block.of (is.here_sends.ever_sent block.of may.of_sent) primary h has reply in
+        let above = old.after block.of ((is HereSends).ever_sent block.of may.of_sent) primary h has reply in
         let below = may.unanswered primary h has (matching primary h has reply) in
         absurd (omega arith)
 
@@ -301,7 +303,7 @@ answering-heard x y block flow is written = record {
 }
   where
     old : IsAnswering x.plan.side x.sent x.ever x.received x.whole x.asked y.ever y.heard y.frames
-    old = is.out.answering
+    old = is (Out Answering)
 
 -- the other end's block is of a message of its present start, and all primaries of this end were sent before
 pub answering-told :
@@ -319,7 +321,7 @@ answering-told x y block view is of_sent = record {
 }
   where
     old : IsAnswering y.plan.side y.sent y.ever y.received y.whole y.asked x.ever x.heard x.frames
-    old = is.back.answering
+    old = is (Back Answering)
 
     new : TaggedHearing
     new = record { block = block; view = view; after = length x.ever }
@@ -330,7 +332,7 @@ answering-told x y block view is of_sent = record {
 
     after : (u : TaggedMessage) → Has x.ever u → is_primary u.message ≡ true → (h : TaggedHearing)
         → Has (new ∷ x.heard) h → IsOfSecondary u h → u.place < h.after
-    after u sent primary h (inl e) reply = rw e (is.here_sends.placed u sent)
+    after u sent primary h (inl e) reply = rw e ((is HereSends).placed u sent)
     after u sent primary h (inr has) reply = old.after u sent primary h has reply
 
 -- ---- losses
@@ -339,22 +341,22 @@ answering-told x y block view is of_sent = record {
 pub answering-restarted :
     (x y : TaggedEnd) → IsSound x y → IsAnswering x.plan.side [] x.ever [] None None y.ever y.heard []
 answering-restarted x y is = record {
-  secondaries = is.out.answering.secondaries;
+  secondaries = (is (Out Answering)).secondaries;
   replied = λ m has secondary. absurd has;
   pending = λ w e. absurd (cc);
   free_asked = λ w e. absurd (cc);
   free_whole = λ w e. absurd (cc);
   free_frames = λ b has. absurd has;
-  after = is.out.answering.after;
+  after = (is (Out Answering)).after;
 }
 
 -- the other one does, and has heard nothing
 pub answering-unheard :
     (x y : TaggedEnd) → IsSound x y → IsAnswering y.plan.side y.sent y.ever y.received y.whole y.asked x.ever [] []
 answering-unheard x y is = record {
-  secondaries = is.back.answering.secondaries;
-  replied = is.back.answering.replied;
-  pending = is.back.answering.pending;
+  secondaries = (is (Back Answering)).secondaries;
+  replied = (is (Back Answering)).replied;
+  pending = (is (Back Answering)).pending;
   free_asked = λ w e primary h has reply. absurd has;
   free_whole = λ w e primary h has reply. absurd has;
   free_frames = λ b written. absurd written;

@@ -157,31 +157,47 @@ pub record IsAnswering
 -- ---- one direction, and both
 
 -- what goes from one end to the other
-pub record IsWay (x y : TaggedEnd) : Type 0 where
-  pub hearing : IsHearing x.plan x.given (receiver_of y.plan) y.heard y.entries
-  pub apart : AreApart x.sent y.heard
-  pub receiving : IsReceiving y.heard y.received y.whole
-  pub answering : IsAnswering x.plan.side x.sent x.ever x.received x.whole x.asked y.ever y.heard y.frames
+pub data WayFact : Type 0 where
+  Hearing : WayFact
+  Apart : WayFact
+  Receiving : WayFact
+  Answering : WayFact
 
-pub record IsSound (x y : TaggedEnd) : Type 0 where
-  pub sides : x.plan.side ≡ other_side y.plan.side
-  pub here_sends : IsSending x.sent x.ever x.given x.frames
-  pub there_sends : IsSending y.sent y.ever y.given y.frames
-  pub out : IsWay x y
-  pub back : IsWay y x
+abbrev pub HoldsOnWay : WayFact → TaggedEnd → TaggedEnd → Type 0
+HoldsOnWay Hearing x y = IsHearing x.plan x.given (receiver_of y.plan) y.heard y.entries
+HoldsOnWay Apart x y = AreApart x.sent y.heard
+HoldsOnWay Receiving x y = IsReceiving y.heard y.received y.whole
+HoldsOnWay Answering x y =
+    IsAnswering x.plan.side x.sent x.ever x.received x.whole x.asked y.ever y.heard y.frames
+
+pub data Fact : Type 0 where
+  Sides : Fact
+  HereSends : Fact
+  ThereSends : Fact
+  Out : (fact : WayFact) → Fact
+  Back : (fact : WayFact) → Fact
+
+abbrev pub HoldsOf : Fact → TaggedEnd → TaggedEnd → Type 0
+HoldsOf Sides x y = x.plan.side ≡ other_side y.plan.side
+HoldsOf HereSends x y = IsSending x.sent x.ever x.given x.frames
+HoldsOf ThereSends x y = IsSending y.sent y.ever y.given y.frames
+HoldsOf (Out fact) x y = HoldsOnWay fact x y
+HoldsOf (Back fact) x y = HoldsOnWay fact y x
+
+-- each of them by itself, so that what a doing leaves as it was is passed on in one line
+abbrev pub IsSound : TaggedEnd → TaggedEnd → Type 0
+IsSound x y = (fact : Fact) → HoldsOf fact x y
 
 other-twice : (side : Side) → other_side (other_side side) ≡ side
 other-twice Equipment = refl
 other-twice Host = refl
 
 pub turned : (x y : TaggedEnd) → IsSound x y → IsSound y x
-turned x y is = record {
-  sides = sym (other-twice y.plan.side) ∙ ap other_side (sym is.sides);
-  here_sends = is.there_sends;
-  there_sends = is.here_sends;
-  out = is.back;
-  back = is.out;
-}
+turned x y is Sides = sym (other-twice y.plan.side) ∙ ap other_side (sym (is Sides))
+turned x y is HereSends = is ThereSends
+turned x y is ThereSends = is HereSends
+turned x y is (Out fact) = is (Back fact)
+turned x y is (Back fact) = is (Out fact)
 
 -- ---- what follows for a message that an end is about to receive
 

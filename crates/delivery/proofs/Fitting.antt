@@ -71,18 +71,33 @@ pub record IsHeardIn (count : ℕ) (all : List Heard) (h : TaggedHearing) : Type
   pub header : heard.header ≡ h.view.header
   pub after : h.after ≡ count + heard.after
 
-pub record Fits
-    (base : ℕ) (sent_before : List Message) (given_before : List Giving) (places : List ℕ) (own : List Own)
-    (x : TaggedEnd)
-    : Type 0 where
-  pub sent_fits : FitsSent base sent_before (sent_in own) (drawn_in own) x.sent x.ever
-  pub given_fits : FitsGiven (length sent_before) given_before (given_in own) x.given
-  pub heard_fits : (h : TaggedHearing) → Has x.heard h → IsHeardIn (length sent_before) (heard_in own) h
-  pub whole : message_in x.whole ≡ whole_in own
-  pub asked : message_in x.asked ≡ asked_in own
-  pub entries : x.entries ≡ entries_in own
-  pub received : map made_of x.received ≡ received_in own
-  pub places_are : map made_place x.received ≡ places
+pub data FitFact : Type 0 where
+  SentFit : FitFact
+  GivenFit : FitFact
+  HeardFit : FitFact
+  WholeFit : FitFact
+  AskedFit : FitFact
+  EntriesFit : FitFact
+  ReceivedFit : FitFact
+  PlacesFit : FitFact
+
+abbrev pub FitsIn : FitFact → ℕ → List Message → List Giving → List ℕ → List Own → TaggedEnd → Type 0
+FitsIn SentFit base sent_before given_before places own x =
+    FitsSent base sent_before (sent_in own) (drawn_in own) x.sent x.ever
+FitsIn GivenFit base sent_before given_before places own x =
+    FitsGiven (length sent_before) given_before (given_in own) x.given
+FitsIn HeardFit base sent_before given_before places own x =
+    (h : TaggedHearing) → Has x.heard h → IsHeardIn (length sent_before) (heard_in own) h
+FitsIn WholeFit base sent_before given_before places own x = message_in x.whole ≡ whole_in own
+FitsIn AskedFit base sent_before given_before places own x = message_in x.asked ≡ asked_in own
+FitsIn EntriesFit base sent_before given_before places own x = x.entries ≡ entries_in own
+FitsIn ReceivedFit base sent_before given_before places own x = map made_of x.received ≡ received_in own
+FitsIn PlacesFit base sent_before given_before places own x = map made_place x.received ≡ places
+
+-- each of them by itself, so that what a doing leaves as it was is passed on in one line
+abbrev pub Fits : ℕ → List Message → List Giving → List ℕ → List Own → TaggedEnd → Type 0
+Fits base sent_before given_before places own x =
+    (fact : FitFact) → FitsIn fact base sent_before given_before places own x
 
 pub count-of : (base : ℕ) (before now : List Message) (drawn : List ℕ) (sent ever : List TaggedMessage)
     → FitsSent base before now drawn sent ever → length ever ≡ length before + length now
@@ -127,32 +142,24 @@ module _ (base : ℕ) (sent_before : List Message) (given_before : List Giving) 
   pub fits-drew : (places : List ℕ) (own : List Own) (x : TaggedEnd) (number : ℕ) → base ≤ number
       → Fits base sent_before given_before places own x
       → Fits base sent_before given_before places (DrewNumber number ∷ own) x
-  fits-drew places own x number from is = record {
-    sent_fits = record {
-      old = s.old;
-      ever_is = s.ever_is;
-      now_are = s.now_are;
-      old_are = s.old_are;
-      placed = s.placed;
-      old_primaries = s.old_primaries;
-      least = least;
-      drawn_are = λ m has primary. inr (s.drawn_are m has primary);
-    };
-    given_fits = is.given_fits;
-    heard_fits = is.heard_fits;
-    whole = is.whole;
-    asked = is.asked;
-    entries = is.entries;
-    received = is.received;
-    places_are = is.places_are;
+  fits-drew places own x number from is SentFit = record {
+    old = s.old;
+    ever_is = s.ever_is;
+    now_are = s.now_are;
+    old_are = s.old_are;
+    placed = s.placed;
+    old_primaries = s.old_primaries;
+    least = least;
+    drawn_are = λ m has primary. inr (s.drawn_are m has primary);
   }
     where
       s : FitsSent base sent_before (sent_in own) (drawn_in own) x.sent x.ever
-      s = is.sent_fits
+      s = is SentFit
 
       least : (n : ℕ) → Has (drawn_in (DrewNumber number ∷ own)) n → base ≤ n
       least n (inl same) = subst (λ (k : ℕ). base ≤ k) (sym same) from
       least n (inr has) = s.least n has
+  fits-drew places own x number from is fact = is fact
 
   -- a message that is sent has the place behind all others
   abbrev pub newly : TaggedEnd → Message → TaggedMessage
@@ -169,7 +176,7 @@ module _ (base : ℕ) (sent_before : List Message) (given_before : List Giving) 
   may-send places own x side message may is = record { place = refl; new = new; reply = reply }
     where
       s : FitsSent base sent_before (sent_in own) (drawn_in own) x.sent x.ever
-      s = is.sent_fits
+      s = is SentFit
 
       new : is_primary message ≡ true → (m : TaggedMessage) → Has x.ever m → is_primary m.message ≡ true
           → m.message.system ≢ message.system
@@ -188,7 +195,7 @@ module _ (base : ℕ) (sent_before : List Message) (given_before : List Giving) 
       reply : is_primary message ≡ false → AnswersAsked side x.asked (newly x message)
       reply secondary =
           let it = may.reply secondary in
-          let made = some-made x.asked it.asked (is.asked ∙ it.newest) in
+          let made = some-made x.asked it.asked (is AskedFit ∙ it.newest) in
           record {
             whole = made.0;
             is = made.1;
@@ -202,28 +209,19 @@ module _ (base : ℕ) (sent_before : List Message) (given_before : List Giving) 
       → MaySend side own message
       → Fits base sent_before given_before places own x
       → Fits base sent_before given_before places (SentMessage message ∷ own) (done (SentOne (newly x message)) x)
-  fits-sent places own x side message may is = record {
-    sent_fits = record {
-      old = s.old;
-      ever_is = ap (λ (ms : List TaggedMessage). newly x message ∷ ms) s.ever_is;
-      now_are = ap (λ (ms : List Message). message ∷ ms) s.now_are;
-      old_are = s.old_are;
-      placed = (omega arith, s.placed);
-      old_primaries = s.old_primaries;
-      least = s.least;
-      drawn_are = drawn_are;
-    };
-    given_fits = is.given_fits;
-    heard_fits = is.heard_fits;
-    whole = is.whole;
-    asked = asked (is_primary message);
-    entries = is.entries;
-    received = is.received;
-    places_are = is.places_are;
+  fits-sent places own x side message may is SentFit = record {
+    old = s.old;
+    ever_is = ap (λ (ms : List TaggedMessage). newly x message ∷ ms) s.ever_is;
+    now_are = ap (λ (ms : List Message). message ∷ ms) s.now_are;
+    old_are = s.old_are;
+    placed = (omega arith, s.placed);
+    old_primaries = s.old_primaries;
+    least = s.least;
+    drawn_are = drawn_are;
   }
     where
       s : FitsSent base sent_before (sent_in own) (drawn_in own) x.sent x.ever
-      s = is.sent_fits
+      s = is SentFit
 
       drawn_are : (m : TaggedMessage) → Has (newly x message ∷ x.sent) m → is_primary m.message ≡ true
           → Has (drawn_in own) m.message.system
@@ -232,29 +230,27 @@ module _ (base : ℕ) (sent_before : List Message) (given_before : List Giving) 
           let it = (may.primary (ap is_primary (sym equal) ∙ primary)).drawn in
           subst (λ (w : Message). Has (drawn_in own) w.system) (sym equal) it
       drawn_are m (inr has) primary = s.drawn_are m has primary
-
+  fits-sent places own x side message may is AskedFit = asked (is_primary message)
+    where
       asked : (primary : Bool)
           → message_in (if primary then x.asked else None) ≡ asked_after primary (asked_in own)
-      asked true = is.asked
+      asked true = is AskedFit
       asked false = refl
+  fits-sent places own x side message may is fact = is fact
 
   pub fits-received : (places : List ℕ) (own : List Own) (x : TaggedEnd) (w : TaggedWhole) (message : Message) (place
       : ℕ)
       → w.message ≡ message → w.block.place ≡ place
       → Fits base sent_before given_before places own x
       → Fits base sent_before given_before (place ∷ places) (ReceivedMessage message ∷ own) (done (ReceivedOne w) x)
-  fits-received places own x w message place same at is = record {
-    sent_fits = is.sent_fits;
-    given_fits = is.given_fits;
-    heard_fits = is.heard_fits;
-    whole = refl;
-    asked = ap (λ (m : Message). Some m) same;
-    entries = is.entries;
-    received =
-        ap (λ (m : Message). m ∷ map made_of x.received) same ∙ ap (λ (ms : List Message). message ∷ ms) is.received;
-    places_are =
-        ap (λ (n : ℕ). n ∷ map made_place x.received) at ∙ ap (λ (ns : List ℕ). place ∷ ns) is.places_are;
-  }
+  fits-received places own x w message place same at is WholeFit = refl
+  fits-received places own x w message place same at is AskedFit = ap (λ (m : Message). Some m) same
+  fits-received places own x w message place same at is ReceivedFit =
+      ap (λ (m : Message). m ∷ map made_of x.received) same
+      ∙ ap (λ (ms : List Message). message ∷ ms) (is ReceivedFit)
+  fits-received places own x w message place same at is PlacesFit =
+      ap (λ (n : ℕ). n ∷ map made_place x.received) at ∙ ap (λ (ns : List ℕ). place ∷ ns) (is PlacesFit)
+  fits-received places own x w message place same at is fact = is fact
 
   -- the block of a message that the end gives next
   pub record IsNext (places : List ℕ) (own : List Own) (x : TaggedEnd) (place number : ℕ) : Type 0 where
@@ -277,35 +273,17 @@ module _ (base : ℕ) (sent_before : List Message) (given_before : List Giving) 
       last = subst (λ (w : Message). number ≤ block_count w) it.2 may.last;
       once = once;
     };
-    fits = record {
-      sent_fits = is.sent_fits;
-      given_fits = record {
-        new = block ∷ g.new;
-        old = g.old;
-        given_is = ap (λ (bs : List TaggedBlock). block ∷ bs) g.given_is;
-        new_are =
-            ap (λ (n : ℕ). record { place = n; number = number } ∷ map giving_of g.new) it.3
-            ∙ ap (λ (gs : List Giving). behind count (record { place = place; number = number }) ∷ gs) g.new_are;
-        old_are = g.old_are;
-        below = g.below;
-      };
-      heard_fits = is.heard_fits;
-      whole = is.whole;
-      asked = is.asked;
-      entries = is.entries;
-      received = is.received;
-      places_are = is.places_are;
-    };
+    fits = fits;
   }
     where
       count : ℕ
       count = length sent_before
 
       g : FitsGiven (length sent_before) given_before (given_in own) x.given
-      g = is.given_fits
+      g = is GivenFit
 
       it : (m : TaggedMessage) × Has x.sent m × (may.message ≡ bare m) × (m.place ≡ length sent_before + place)
-      it = named base sent_before (sent_in own) (drawn_in own) x.sent x.ever is.sent_fits place may.message may.sent
+      it = named base sent_before (sent_in own) (drawn_in own) x.sent x.ever (is SentFit) place may.message may.sent
 
       block : TaggedBlock
       block = record { place = length x.given; of = it.0; number = number }
@@ -340,19 +318,24 @@ module _ (base : ℕ) (sent_before : List Message) (given_before : List Giving) 
               (subst (λ (n : ℕ). Has (given_in own) (record { place = place; number = n })) number_is place_there)
           go (inr before) = let below = g.below b before in absurd (omega (arith, below, at))
 
+      fits : Fits base sent_before given_before places (GaveBlock place number ∷ own) (done (GaveOne block) x)
+      fits GivenFit = record {
+        new = block ∷ g.new;
+        old = g.old;
+        given_is = ap (λ (bs : List TaggedBlock). block ∷ bs) g.given_is;
+        new_are =
+            ap (λ (n : ℕ). record { place = n; number = number } ∷ map giving_of g.new) it.3
+            ∙ ap (λ (gs : List Giving). behind count (record { place = place; number = number }) ∷ gs) g.new_are;
+        old_are = g.old_are;
+        below = g.below;
+      }
+      fits fact = is fact
+
   pub fits-wrote : (places : List ℕ) (own : List Own) (x : TaggedEnd) (block : TaggedBlock) (place number : ℕ)
       → Fits base sent_before given_before places own x
       → Fits base sent_before given_before places (WroteFrame place number ∷ own) (done (WroteOne block) x)
-  fits-wrote places own x block place number is = record {
-    sent_fits = is.sent_fits;
-    given_fits = is.given_fits;
-    heard_fits = is.heard_fits;
-    whole = is.whole;
-    asked = is.asked;
-    entries = is.entries;
-    received = is.received;
-    places_are = is.places_are;
-  }
+  fits-wrote places own x block place number is SentFit = is SentFit
+  fits-wrote places own x block place number is fact = is fact
 
   pub with-block : (block : TaggedBlock) (message : Option Message) → message_in (with_block block message) ≡ message
   with-block block None = refl
@@ -363,16 +346,10 @@ module _ (base : ℕ) (sent_before : List Message) (given_before : List Giving) 
       → Fits base sent_before given_before places own x
       → Fits base sent_before given_before places (HeardBlock view now flow ∷ own) (done (HeardOne block view now
       flow) x)
-  fits-heard places own x block view now flow is = record {
-    sent_fits = is.sent_fits;
-    given_fits = is.given_fits;
-    heard_fits = heard_fits;
-    whole = with-block block (whole_of flow);
-    asked = is.asked;
-    entries = ap (λ (es : List FlowEntry). Given view now ∷ es) is.entries;
-    received = is.received;
-    places_are = is.places_are;
-  }
+  fits-heard places own x block view now flow is WholeFit = with-block block (whole_of flow)
+  fits-heard places own x block view now flow is EntriesFit =
+      ap (λ (es : List FlowEntry). Given view now ∷ es) (is EntriesFit)
+  fits-heard places own x block view now flow is HeardFit = heard_fits
     where
       newest : Heard
       newest = record { header = view.header; after = length (sent_in own) }
@@ -385,7 +362,7 @@ module _ (base : ℕ) (sent_before : List Message) (given_before : List Giving) 
         header = ap (λ (w : TaggedHearing). w.view.header) (sym same);
         after =
             ap (λ (w : TaggedHearing). w.after) same
-            ∙ count-of base sent_before (sent_in own) (drawn_in own) x.sent x.ever is.sent_fits;
+            ∙ count-of base sent_before (sent_in own) (drawn_in own) x.sent x.ever (is SentFit);
       }
 
       later : (h : TaggedHearing) → IsHeardIn (length sent_before) (heard_in own) h
@@ -395,21 +372,15 @@ module _ (base : ℕ) (sent_before : List Message) (given_before : List Giving) 
       heard_fits : (h : TaggedHearing) → Has (done (HeardOne block view now flow) x).heard h
           → IsHeardIn (length sent_before) (newest ∷ heard_in own) h
       heard_fits h (inl same) = after h same
-      heard_fits h (inr has) = later h (is.heard_fits h has)
+      heard_fits h (inr has) = later h (is HeardFit h has)
+  fits-heard places own x block view now flow is fact = is fact
 
   pub fits-dropped : (places : List ℕ) (own : List Own) (x : TaggedEnd) (header : Header) (now : ℕ)
       → Fits base sent_before given_before places own x
       → Fits base sent_before given_before places (DroppedMessage header now ∷ own) (done (DroppedOne header now) x)
-  fits-dropped places own x header now is = record {
-    sent_fits = is.sent_fits;
-    given_fits = is.given_fits;
-    heard_fits = is.heard_fits;
-    whole = is.whole;
-    asked = is.asked;
-    entries = ap (λ (es : List FlowEntry). Dropped header now ∷ es) is.entries;
-    received = is.received;
-    places_are = is.places_are;
-  }
+  fits-dropped places own x header now is EntriesFit =
+      ap (λ (es : List FlowEntry). Dropped header now ∷ es) (is EntriesFit)
+  fits-dropped places own x header now is fact = is fact
 
   -- ---- a start
 
@@ -419,41 +390,13 @@ module _ (base : ℕ) (sent_before : List Message) (given_before : List Giving) 
       → Fits base sent_before given_before places own x
       → Fits next (sent_in own ++ sent_before) (map (behind (length sent_before)) (given_in own) ++ given_before) [] []
       (restarted x)
-  fits-started places own x next higher above of_ever is = record {
-    sent_fits = record {
-      old = x.ever;
-      ever_is = refl;
-      now_are = refl;
-      old_are = messages;
-      placed = s.placed;
-      old_primaries = primaries;
-      least = λ number has. absurd has;
-      drawn_are = λ m has. absurd has;
-    };
-    given_fits = record {
-      new = [];
-      old = x.given;
-      given_is = refl;
-      new_are = refl;
-      old_are =
-          ap (map giving_of) g.given_is ∙ map-append giving_of g.new g.old
-          ∙ ap (λ (gs : List Giving). gs ++ map giving_of g.old) g.new_are
-          ∙ ap (λ (gs : List Giving). map (behind (length sent_before)) (given_in own) ++ gs) g.old_are;
-      below = below;
-    };
-    heard_fits = λ h has. absurd has;
-    whole = refl;
-    asked = refl;
-    entries = refl;
-    received = refl;
-    places_are = refl;
-  }
+  fits-started places own x next higher above of_ever is = go
     where
       s : FitsSent base sent_before (sent_in own) (drawn_in own) x.sent x.ever
-      s = is.sent_fits
+      s = is SentFit
 
       g : FitsGiven (length sent_before) given_before (given_in own) x.given
-      g = is.given_fits
+      g = is GivenFit
 
       messages : map bare x.ever ≡ sent_in own ++ sent_before
       messages =
@@ -476,3 +419,29 @@ module _ (base : ℕ) (sent_before : List Message) (given_before : List Giving) 
           sym (length-map x.ever bare) ∙ ap length messages
           in
           omega (arith, at, long)
+
+      go : Fits next (sent_in own ++ sent_before) (map (behind (length sent_before)) (given_in own) ++ given_before)
+          [] [] (restarted x)
+      go SentFit = record {
+        old = x.ever;
+        ever_is = refl;
+        now_are = refl;
+        old_are = messages;
+        placed = s.placed;
+        old_primaries = primaries;
+        least = λ number has. absurd has;
+        drawn_are = λ m has. absurd has;
+      }
+      go GivenFit = record {
+        new = [];
+        old = x.given;
+        given_is = refl;
+        new_are = refl;
+        old_are =
+            ap (map giving_of) g.given_is ∙ map-append giving_of g.new g.old
+            ∙ ap (λ (gs : List Giving). gs ++ map giving_of g.old) g.new_are
+            ∙ ap (λ (gs : List Giving). map (behind (length sent_before)) (given_in own) ++ gs) g.old_are;
+        below = below;
+      }
+      go HeardFit = λ h has. absurd has
+      go fact = refl

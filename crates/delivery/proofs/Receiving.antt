@@ -19,6 +19,8 @@ use Rattle.message_flow.specs.Message.{is_primary}
 use Rattle.message_flow.proofs.Keys.{beq-self, key-same, key-self}
 use Rattle.delivery.proofs.Facts.{IsFrameOf, IsMade, IsNewest, IsReceiving, IsSound, Rise, newest_of}
 use Rattle.delivery.proofs.Facts.IsLive.{past, present}
+use Rattle.delivery.proofs.Facts.Fact.{Back, ThereSends}
+use Rattle.delivery.proofs.Facts.WayFact.{Apart, Hearing, Receiving}
 use Rattle.delivery.proofs.Hearing.{all-of}
 use Rattle.delivery.proofs.Tags.{Arrives, TaggedBlock, TaggedEnd, TaggedHearing, TaggedMessage, TaggedWhole, view_of, with_block}
 
@@ -97,25 +99,25 @@ last-of make x y block view flow w is arrives flow_is e = record {
   block_is = by.block_is;
   message = makes.0;
   last = ap (λ (v : BlockView). v.header.number) (sym arrives.is ∙ makes.1);
-  new = newer y.plan y.given x.heard block view is.there_sends.same frame.is_given
-      (λ h has. (is.back.hearing.heard_are h has).is_given) (λ h has. (is.back.hearing.heard_are h has).is) arrives.is
-      is.back.hearing.rise arrives.order
-      (sym (ap (λ (o : Option Header). is_given o view.header) is.back.hearing.last) ∙ makes.2);
+  new = newer y.plan y.given x.heard block view (is ThereSends).same frame.is_given
+      (λ h has. ((is (Back Hearing)).heard_are h has).is_given)
+      (λ h has. ((is (Back Hearing)).heard_are h has).is) arrives.is (is (Back Hearing)).rise arrives.order
+      (sym (ap (λ (o : Option Header). is_given o view.header) (is (Back Hearing)).last) ∙ makes.2);
 }
   where
     by : IsWholeBy block flow w
     by = whole-by block flow w e
 
     frame : IsFrameOf y.sent y.given block
-    frame = is.there_sends.frames_are block arrives.written
+    frame = (is ThereSends).frames_are block arrives.written
 
     -- what was heard with its key is of the same message
     of_message : (v : BlockView) → Has (blocks_in x.entries) v → same_key v.header view.header ≡ true
         → IsBlockOf y.plan.side y.plan.line.device block.of.message v
     of_message v has key =
-        let seen = is.back.hearing.entered v has in
+        let seen = (is (Back Hearing)).entered v has in
         let b = seen.hearing.block in
-        let heard_is = is.back.hearing.heard_are seen.hearing seen.has in
+        let heard_is = (is (Back Hearing)).heard_are seen.hearing seen.has in
         let v_is : v ≡ view_of y.plan b = seen.is ∙ heard_is.is in
         let keys = key-same v.header view.header key in
         let system : b.of.message.system ≡ block.of.message.system =
@@ -125,9 +127,9 @@ last-of make x y block view flow w is arrives flow_is e = record {
         sym (ap (λ (v : BlockView). v.header.function) v_is) ∙ keys.function
         ∙ ap (λ (v : BlockView). v.header.function) arrives.is in
         let same : b.of ≡ block.of =
-        is.back.apart b.of block.of (past seen.hearing seen.has refl) (present frame.of_sent) system
+        (is (Back Apart)) b.of block.of (past seen.hearing seen.has refl) (present frame.of_sent) system
         (ap (λ (n : ℕ). n % 2 == 1) function) in
-        let of = is.there_sends.given_are b heard_is.is_given in
+        let of = (is ThereSends).given_are b heard_is.is_given in
         record {
           number = b.number;
           first = of.first;
@@ -139,7 +141,7 @@ last-of make x y block view flow w is arrives flow_is e = record {
         × (view ≡ block_of y.plan block.of.message (block_count block.of.message))
         × (is_given (last_given (met_of (receiver_of x.plan) x.entries)) view.header ≡ false)
     makes =
-        let of = is.there_sends.given_are block frame.is_given in
+        let of = (is ThereSends).given_are block frame.is_given in
         (make (receiver_of x.plan) x.entries y.plan.side y.plan.line.device block.of.message).whole_is view w.message
         (record { number = block.number; first = of.first; last = of.last; is = arrives.is })
         (all-of _ (blocks_in x.entries) of_message) (sym flow_is ∙ by.flow_is)
@@ -171,7 +173,7 @@ receiving-heard make x y block view flow after is arrives flow_is =
 
     received_are : (w : TaggedWhole) → Has x.received w → IsMade (new ∷ x.heard) w
     received_are w has =
-        let made = is.back.receiving.received_are w has in
+        let made = (is (Back Receiving)).received_are w has in
         record {
           hearing = made.hearing;
           has = inr made.has;
@@ -197,7 +199,7 @@ receiving-heard make x y block view flow after is arrives flow_is =
     later : (w : TaggedWhole) → with_block block (whole_of flow) ≡ Some w → (r : TaggedWhole) → Has x.received r
         → r.block.place < w.block.place
     later w e r has =
-        let made = is.back.receiving.received_are r has in
+        let made = (is (Back Receiving)).received_are r has in
         let below = (last w e).new made.hearing made.has in
         let here : made.hearing.block.place ≡ r.block.place = ap (λ (b : TaggedBlock). b.place) made.block in
         let there : w.block.place ≡ block.place = ap (λ (b : TaggedBlock). b.place) (last w e).block_is in
@@ -221,19 +223,19 @@ receiving-received heard received whole w e is = record {
 
 pub made-given : (x y : TaggedEnd) (w : TaggedWhole) → IsSound x y → IsMade x.heard w → Has y.given w.block
 made-given x y w is made =
-    subst (λ (b : TaggedBlock). Has y.given b) made.block (is.back.hearing.heard_are made.hearing made.has).is_given
+    subst (λ (b : TaggedBlock). Has y.given b) made.block ((is (Back Hearing)).heard_are made.hearing made.has).is_given
 
 pub made-once :
     (x y : TaggedEnd) (v w : TaggedWhole) → IsSound x y → IsMade x.heard v → IsMade x.heard w
     → v.block.of.message.system ≡ w.block.of.message.system
     → is_primary v.block.of.message ≡ is_primary w.block.of.message → v.block ≡ w.block
 made-once x y v w is made_v made_w system parity =
-    is.there_sends.once v.block w.block (made-given x y v is made_v) (made-given x y w is made_w) same
+    (is ThereSends).once v.block w.block (made-given x y v is made_v) (made-given x y w is made_w) same
     (made_v.last ∙ ap (λ (m : TaggedMessage). block_count m.message) same ∙ sym made_w.last)
   where
     same : v.block.of ≡ w.block.of
     same =
-        is.back.apart v.block.of w.block.of
+        (is (Back Apart)) v.block.of w.block.of
         (past made_v.hearing made_v.has (ap (λ (b : TaggedBlock). b.of) made_v.block))
         (past made_w.hearing made_w.has (ap (λ (b : TaggedBlock). b.of) made_w.block)) system parity
 
@@ -243,7 +245,7 @@ pub received-once :
     → r.block.of.message.system ≡ w.block.of.message.system
     → is_primary r.block.of.message ≡ is_primary w.block.of.message → ⊥
 received-once x y r w is whole has system parity =
-    let receiving = is.back.receiving in
+    let receiving = is (Back Receiving) in
     let same = made-once x y r w is (receiving.received_are r has) (receiving.whole_is w whole) system parity in
     let place : r.block.place ≡ w.block.place = ap (λ (b : TaggedBlock). b.place) same in
     omega (arith, receiving.later w whole r has)

@@ -16,6 +16,7 @@ use Rattle.delivery.specs.Order.{giving_at}
 use Rattle.delivery.proofs.Ends.{AreEnds, HasArrived, History, LineSide, newest-arrived}
 use Rattle.delivery.proofs.Facts.{IsDelivered}
 use Rattle.delivery.proofs.Fitting.{Fits, bare, given_place, giving_of, looks-sent, made_of, made_place, may-send, sent_place}
+use Rattle.delivery.proofs.Fitting.FitFact.{GivenFit, PlacesFit, ReceivedFit, SentFit}
 use Rattle.delivery.proofs.Lists.{LooksUp, first-of-pairs, found-at, has-back, has-map, has-mapped}
 use Rattle.delivery.proofs.Sound.{delivered}
 use Rattle.delivery.proofs.Steps.{the-whole}
@@ -33,7 +34,7 @@ pub ever-are : (history : History) (x : TaggedEnd)
     → Fits history.base history.sent_before history.given_before history.places history.own x
     → map bare x.ever ≡ ever_sent history
 ever-are history x is =
-    let s = is.sent_fits in
+    let s = is SentFit in
     ap (map bare) s.ever_is ∙ map-append bare x.sent s.old
     ∙ ap (λ (ms : List Message). ms ++ map bare s.old) s.now_are
     ∙ ap (λ (ms : List Message). sent_in history.own ++ ms) s.old_are
@@ -42,7 +43,7 @@ pub given-are : (history : History) (x : TaggedEnd)
     → Fits history.base history.sent_before history.given_before history.places history.own x
     → map giving_of x.given ≡ ever_given history
 given-are history x is =
-    let g = is.given_fits in
+    let g = is GivenFit in
     ap (map giving_of) g.given_is ∙ map-append giving_of g.new g.old
     ∙ ap (λ (gs : List Giving). gs ++ map giving_of g.old) g.new_are
     ∙ ap (λ (gs : List Giving). map (behind (length history.sent_before)) (given_in history.own) ++ gs) g.old_are
@@ -98,7 +99,7 @@ module _ (plan other : EndPlan) (part beside : LineSide) (history theirs : Histo
     of_sent =
         ap (sent_at w.block.of.place) (sym (ever-are theirs is.there is.there_is.fits))
         ∙ found-at sent_at looks-sent sent_place bare 0 is.there.ever w.block.of w.block.of.place
-        is.there_is.fits.sent_fits.placed it.sent (omega arith)
+        (is.there_is.fits SentFit).placed it.sent (omega arith)
         ∙ ap (λ (m : Message). Some m) (sym is_message);
     last = it.last ∙ ap block_count (sym is_message);
     rises = rises;
@@ -127,7 +128,7 @@ module _ (plan other : EndPlan) (part beside : LineSide) (history theirs : Histo
       once earlier has parity system =
           let old =
           has-mapped made_of is.here.received earlier
-          (subst (λ (ms : List Message). Has ms earlier) (sym is.here_is.fits.received) has)
+          (subst (λ (ms : List Message). Has ms earlier) (sym (is.here_is.fits ReceivedFit)) has)
           in
           it.once old.0 old.1
           (ap is_primary (sym old.2) ∙ parity ∙ ap is_primary (sym whole.2))
@@ -137,7 +138,7 @@ module _ (plan other : EndPlan) (part beside : LineSide) (history theirs : Histo
       rises place has =
           let old =
           has-mapped made_place is.here.received place
-          (subst (λ (ns : List ℕ). Has ns place) (sym is.here_is.fits.places_are) has)
+          (subst (λ (ns : List ℕ). Has ns place) (sym (is.here_is.fits PlacesFit)) has)
           in
           let under = it.order old.0 old.1 in
           let place_is : place ≡ old.0.block.place = old.2 in

@@ -14,37 +14,36 @@ use Rattle.message_end.specs.Plan.{EndPlan}
 use Rattle.message_end.specs.Moves.{KeepLaws, LinePlans, MayMove, Move, act_of, deeds_of, new_run, plan_at, run_after, run_at, seen_at, with_act}
 use Rattle.message_flow.specs.Laws.{BlocksMakeMessages}
 use Rattle.delivery.proofs.Ends.{IsEnd, history_of}
+use Rattle.delivery.proofs.Fitting.{Fits}
+use Rattle.delivery.proofs.Fitting.FitFact.{GivenFit, HeardFit, SentFit}
 use Rattle.delivery.proofs.Moving.{CanDoOne, Holds, acted, can-act, move-step, slips_in, turned-holds}
 use Rattle.delivery.proofs.Sound.{sound-new}
 use Rattle.delivery.proofs.Tags.{new_end}
 
 -- ---- at first
 
+new-fits : (plan : EndPlan) → Fits 0 [] [] [] [] (new_end plan)
+new-fits plan SentFit = record {
+  old = [];
+  ever_is = refl;
+  now_are = refl;
+  old_are = refl;
+  placed = tt;
+  old_primaries = λ m has. absurd has;
+  least = λ number has. absurd has;
+  drawn_are = λ m has. absurd has;
+}
+new-fits plan GivenFit =
+    record { new = []; old = []; given_is = refl; new_are = refl; old_are = refl; below = λ b has. absurd has }
+new-fits plan HeardFit = λ h has. absurd has
+new-fits plan fact = refl
+
 end-new : (plan : EndPlan)
     → IsEnd plan (record { held = None; given = []; frames = []; arrived = []; written = 0; lost = 0 })
     (history_of plan new_run) (new_end plan)
 end-new plan = record {
   plan_is = refl;
-  fits = record {
-    sent_fits = record {
-      old = [];
-      ever_is = refl;
-      now_are = refl;
-      old_are = refl;
-      placed = tt;
-      old_primaries = λ m has. absurd has;
-      least = λ number has. absurd has;
-      drawn_are = λ m has. absurd has;
-    };
-    given_fits =
-        record { new = []; old = []; given_is = refl; new_are = refl; old_are = refl; below = λ b has. absurd has };
-    heard_fits = λ h has. absurd has;
-    whole = refl;
-    asked = refl;
-    entries = refl;
-    received = refl;
-    places_are = refl;
-  };
+  fits = new-fits plan;
   tied = record {
     given_are = refl;
     placed = tt;

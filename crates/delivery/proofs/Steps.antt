@@ -26,7 +26,9 @@ use Rattle.message_flow.specs.History.{flow_after, met_of}
 use Rattle.message_flow.specs.Laws.{BlocksMakeMessages}
 use Rattle.message_flow.specs.Message.{is_primary}
 use Rattle.delivery.proofs.Ends.{AreEnds, HasArrived, History, LineSide, arrived-more, newest-arrived}
+use Rattle.delivery.proofs.Facts.Fact.{HereSends, ThereSends}
 use Rattle.delivery.proofs.Fitting.{Fits, fits-drew, fits-dropped, fits-gave, fits-heard, fits-received, fits-sent, fits-started, fits-wrote, found-sent, given_place, giving_of, may-send, newly, placed-now, sent_place, some-made}
+use Rattle.delivery.proofs.Fitting.FitFact.{EntriesFit, GivenFit, HeardFit, SentFit, WholeFit}
 use Rattle.delivery.proofs.Lists.{LooksUp, first-of-pairs, found-at, placed-above}
 use Rattle.delivery.proofs.Sound.{delivered, sound-done, sound-restarted}
 use Rattle.delivery.proofs.Tags.{Arrives, MayWriteOne, TaggedBlock, TaggedHearing, TaggedMessage, TaggedWhole, done, emptied, restarted, view_of}
@@ -124,7 +126,7 @@ module _ (plan other : EndPlan) (part beside : LineSide) (history theirs : Histo
       → (w : TaggedWhole) × (is.here.whole ≡ Some w) × (w.message ≡ message)
   the-whole message may =
       some-made history.base history.sent_before history.given_before is.here.whole message
-      (is.here_is.fits.whole ∙ may)
+      ((is.here_is.fits WholeFit) ∙ may)
 
   pub ends-received : BlocksMakeMessages → (message : Message) → whole_in history.own ≡ Some message
       → AreEnds plan other part beside
@@ -224,7 +226,7 @@ module _ (plan other : EndPlan) (part beside : LineSide) (history theirs : Histo
   newest-in (block ∷ before) [] old now given_is new_are now_is below newest =
       let has = subst (λ (bs : List TaggedBlock). Has bs block) given_is (inl refl) in
       let under = below block has in
-      let s = is.here_is.fits.sent_fits in
+      let s = is.here_is.fits SentFit in
       let over =
       placed-above sent_place (length history.sent_before) is.here.sent block.of
       (placed-now history.base history.sent_before (sent_in history.own) _ is.here.sent is.here.ever s) newest
@@ -247,7 +249,7 @@ module _ (plan other : EndPlan) (part beside : LineSide) (history theirs : Histo
 
   newest-giving : NewestIsOf is.here.sent is.here.given → IsNewestGiving is.here.given history.own
   newest-giving newest =
-      let g = is.here_is.fits.given_fits in
+      let g = is.here_is.fits GivenFit in
       newest-in is.here.given g.new g.old (given_in history.own) g.given_is g.new_are refl g.below newest
 
   may-write : (n : IsNewestGiving is.here.given history.own)
@@ -268,10 +270,10 @@ module _ (plan other : EndPlan) (part beside : LineSide) (history theirs : Histo
       unanswered : is_primary n.block.of.message ≡ true → (heard : TaggedHearing) → Has is.here.heard heard
           → IsReplyTo is.here.plan.side n.block.of.message heard.view.header → heard.after ≤ n.block.of.place
       unanswered primary heard has reply =
-          let it = is.here_is.fits.heard_fits heard has in
+          let it = (is.here_is.fits HeardFit) heard has in
           let found =
           found-sent history.base history.sent_before (sent_in history.own) _ is.here.sent is.here.ever
-          is.here_is.fits.sent_fits n.block.of n.giving.place n.of_sent at
+          (is.here_is.fits SentFit) n.block.of n.giving.place n.of_sent at
           in
           let of_own =
           subst (λ (header : Header). IsReplyTo plan.side n.block.of.message header) (sym it.header)
@@ -398,7 +400,7 @@ module _ (plan other : EndPlan) (part beside : LineSide) (history theirs : Histo
       found =
           ap (given_at frame.place) is.there_is.tied.given_are
           ∙ found-at given_at given-looks given_place (view_of is.there.plan) 0 is.there.given at.block frame.place
-          is.there_is.tied.placed (is.sound.there_sends.frames_are at.block at.has).is_given (omega (arith, at.at))
+          is.there_is.tied.placed ((is.sound ThereSends).frames_are at.block at.has).is_given (omega (arith, at.at))
 
       is_view : block ≡ view_of is.there.plan at.block
       is_view =
@@ -458,7 +460,7 @@ module _ (plan other : EndPlan) (part beside : LineSide) (history theirs : Histo
       (sym is.here_is.plan_is)
       (subst
       (λ (entries : List FlowEntry). flow ≡ flow_after (receiver_of plan) (met_of (receiver_of plan) entries) block)
-      (sym is.here_is.fits.entries) flow_is)
+      (sym (is.here_is.fits EntriesFit)) flow_is)
 
   ends-framed : BlocksMakeMessages → (block : BlockView) (frame : WrittenFrame) (now : ℕ) (flow : Flow)
       → Contains beside.frames frame → beside.lost ≡ part.lost
@@ -525,7 +527,7 @@ module _ (plan other : EndPlan) (part beside : LineSide) (history theirs : Histo
       plan_is = is.here_is.plan_is;
       fits =
           fits-started history.base history.sent_before history.given_before history.places history.own is.here next
-          higher above (λ b has. (is.sound.here_sends.given_are b has).sent) is.here_is.fits;
+          higher above (λ b has. ((is.sound HereSends).given_are b has).sent) is.here_is.fits;
       tied =
           tied-started is.here.plan part.given part.frames part.written part.written is.here.sent is.here.given []
           part.held
@@ -552,13 +554,5 @@ module _ (plan other : EndPlan) (part beside : LineSide) (history theirs : Histo
   }
     where
       fits-emptied : Fits theirs.base theirs.sent_before theirs.given_before theirs.places theirs.own (emptied is.there)
-      fits-emptied = record {
-        sent_fits = is.there_is.fits.sent_fits;
-        given_fits = is.there_is.fits.given_fits;
-        heard_fits = is.there_is.fits.heard_fits;
-        whole = is.there_is.fits.whole;
-        asked = is.there_is.fits.asked;
-        entries = is.there_is.fits.entries;
-        received = is.there_is.fits.received;
-        places_are = is.there_is.fits.places_are;
-      }
+      fits-emptied SentFit = is.there_is.fits SentFit
+      fits-emptied fact = is.there_is.fits fact

@@ -1,8 +1,9 @@
 -- Runs that can be followed by hand.
-use Rattle.std.specs.Prelude.{◌≡◌, ◌==◌, ℕ, Bool, true, false, List, [], ◌∷◌, length, replicate}
+use Rattle.std.specs.Prelude.{◌≡◌, ◌+◌, ◌==◌, ℕ, Bool, true, false, List, [], ◌∷◌, ◌++◌, length, replicate}
 use Rattle.block_codec.specs.Frame.{frame_bytes}
 use Rattle.gl_base.specs.declared.side.Side.{Side}
 use Rattle.gl_base.specs.declared.side.Side.TheVariants.{Equipment, Host}
+use Rattle.gl_base.specs.Side.{other_side}
 use Rattle.line_end.specs.declared.plan.LinePlan.{LinePlan}
 use Rattle.line_end.specs.Plan.{TimesFit}
 use Rattle.line_end.specs.Step.{ack, enq, eot}
@@ -71,6 +72,14 @@ abbrev pub asking : (stream function : ℕ) (system : ℕ) → Message
 asking stream function system =
     record { stream = stream; function = function; wait = true; system = system; body = [] }
 
+-- the other end takes the ENQ for a block, the end its EOT, and the other end the block's frame
+abbrev pub transfer : Side → ℕ → Message → ℕ → List Scene
+transfer side moment message number =
+    Takes (other_side side) moment (enq ∷ [])
+    ∷ Takes side (moment + 1) (eot ∷ [])
+    ∷ Takes (other_side side) (moment + 2) (frame_of side message number)
+    ∷ []
+
 -- ---- a reply in the middle of which power is lost
 
 -- the host asks twice; a report of the equipment and its first answer have two blocks each
@@ -109,10 +118,8 @@ contention =
 abbrev pub question : List Scene
 question =
     One Host 5 (Did (Calls (Resume 5)))
-    ∷ Takes Equipment 6 (enq ∷ [])
-    ∷ Takes Host 7 (eot ∷ [])
-    ∷ Takes Equipment 8 (frame_of Host first_question 1)
-    ∷ One Equipment 8 (does (ReceivedMessage first_question))
+    ∷ transfer Host 6 first_question 1
+    ++ One Equipment 8 (does (ReceivedMessage first_question))
     ∷ One Equipment 8 (does (SentMessage long_answer))
     ∷ Takes Host 9 (ack ∷ [])
     ∷ []
@@ -121,15 +128,11 @@ question =
 abbrev pub by_turns : List Scene
 by_turns =
     Block Equipment 10 long_answer 1 1
-    ∷ Takes Host 11 (enq ∷ [])
-    ∷ Takes Equipment 12 (eot ∷ [])
-    ∷ Takes Host 13 (frame_of Equipment long_answer 1)
-    ∷ Takes Equipment 14 (ack ∷ [])
+    ∷ transfer Equipment 11 long_answer 1
+    ++ Takes Equipment 14 (ack ∷ [])
     ∷ Block Equipment 15 report 0 2
-    ∷ Takes Host 16 (enq ∷ [])
-    ∷ Takes Equipment 17 (eot ∷ [])
-    ∷ Takes Host 18 (frame_of Equipment report 2)
-    ∷ One Host 18 (does (ReceivedMessage report))
+    ∷ transfer Equipment 16 report 2
+    ++ One Host 18 (does (ReceivedMessage report))
     ∷ Takes Equipment 19 (ack ∷ [])
     ∷ []
 
@@ -141,17 +144,13 @@ loss =
     ∷ One Host 30 (does (DrewNumber 2))
     ∷ One Host 30 (does (SentMessage second_question))
     ∷ Block Host 30 second_question 1 1
-    ∷ Takes Equipment 31 (enq ∷ [])
-    ∷ Takes Host 32 (eot ∷ [])
-    ∷ Takes Equipment 33 (frame_of Host second_question 1)
-    ∷ One Equipment 33 (does (ReceivedMessage second_question))
+    ∷ transfer Host 31 second_question 1
+    ++ One Equipment 33 (does (ReceivedMessage second_question))
     ∷ One Equipment 33 (does (SentMessage short_answer))
     ∷ Takes Host 34 (ack ∷ [])
     ∷ Block Equipment 35 short_answer 0 1
-    ∷ Takes Host 36 (enq ∷ [])
-    ∷ Takes Equipment 37 (eot ∷ [])
-    ∷ Takes Host 38 (frame_of Equipment short_answer 1)
-    ∷ One Host 38 (does (ReceivedMessage short_answer))
+    ∷ transfer Equipment 36 short_answer 1
+    ++ One Host 38 (does (ReceivedMessage short_answer))
     ∷ []
 
 abbrev pub outlived : List Move
@@ -170,22 +169,24 @@ pub record OutlivesLoss : Type 0 where
 
 -- ---- a question that is received in two starts
 
--- the equipment loses its power, and its ACK with it; the host's T2 runs out
-abbrev pub repeated : List Scene
-repeated =
+-- two runs begin so: the equipment receives the host's question
+abbrev pub opening : List Scene
+opening =
     One Host 0 (does (DrewNumber 1))
     ∷ One Host 0 (does (SentMessage first_question))
     ∷ Block Host 0 first_question 0 1
-    ∷ Takes Equipment 1 (enq ∷ [])
-    ∷ Takes Host 2 (eot ∷ [])
-    ∷ Takes Equipment 3 (frame_of Host first_question 1)
-    ∷ One Equipment 3 (does (ReceivedMessage first_question))
-    ∷ One Equipment 4 (Started [] 0)
+    ∷ transfer Host 1 first_question 1
+    ++ One Equipment 3 (does (ReceivedMessage first_question))
+    ∷ []
+
+-- the equipment loses its power, and its ACK with it; the host's T2 runs out
+abbrev pub repeated : List Scene
+repeated =
+    opening
+    ++ One Equipment 4 (Started [] 0)
     ∷ One Host 10002 (Did (Calls (Tick 10002)))
-    ∷ Takes Equipment 10003 (enq ∷ [])
-    ∷ Takes Host 10004 (eot ∷ [])
-    ∷ Takes Equipment 10005 (frame_of Host first_question 1)
-    ∷ One Equipment 10005 (does (ReceivedMessage first_question))
+    ∷ transfer Host 10003 first_question 1
+    ++ One Equipment 10005 (does (ReceivedMessage first_question))
     ∷ []
 
 abbrev pub received_twice : List Move
@@ -214,14 +215,8 @@ other_answer = message_with 1 4 1 (1 ∷ [])
 -- line
 abbrev pub answered : List Scene
 answered =
-    One Host 0 (does (DrewNumber 1))
-    ∷ One Host 0 (does (SentMessage first_question))
-    ∷ Block Host 0 first_question 0 1
-    ∷ Takes Equipment 1 (enq ∷ [])
-    ∷ Takes Host 2 (eot ∷ [])
-    ∷ Takes Equipment 3 (frame_of Host first_question 1)
-    ∷ One Equipment 3 (does (ReceivedMessage first_question))
-    ∷ One Equipment 3 (does (SentMessage answer))
+    opening
+    ++ One Equipment 3 (does (SentMessage answer))
     ∷ Block Equipment 4 answer 0 1
     ∷ One Host 5 Lost
     ∷ Takes Host 5 (enq ∷ [])
@@ -255,10 +250,8 @@ answered_anew =
     ∷ One Host 16 (does (ReceivedMessage alarm))
     ∷ Takes Equipment 17 (ack ∷ [])
     ∷ Block Equipment 18 other_answer 1 1
-    ∷ Takes Host 19 (enq ∷ [])
-    ∷ Takes Equipment 20 (eot ∷ [])
-    ∷ Takes Host 21 (frame_of Equipment other_answer 1)
-    ∷ One Host 21 (does (ReceivedMessage other_answer))
+    ∷ transfer Equipment 19 other_answer 1
+    ++ One Host 21 (does (ReceivedMessage other_answer))
     ∷ []
 
 abbrev pub before_again : List Move

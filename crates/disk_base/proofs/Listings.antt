@@ -1,10 +1,10 @@
 -- What the calls in a disk's list come to.
-use Rattle.std.proofs.Common.{◌≡◌, Bool, true, false, List, [], ◌∷◌, ◌++◌, fold, length, Option, None, Some, if◌then◌else◌, refl, sym, ap, ◌∙◌, arith, append_assoc, append-nil}
+use Rattle.std.proofs.Common.{◌≡◌, ℕ, Bool, true, false, List, [], ◌∷◌, ◌++◌, fold, length, Option, None, Some, if◌then◌else◌, refl, sym, ap, ◌∙◌, arith, append_assoc, append-nil}
 use Rattle.std.proofs.lemmas.List.Sums.{fold-append}
 use Rattle.std.specs.Option.{option_map}
 use Rattle.disk_base.specs.Calls.{DiskCall}
 use Rattle.disk_base.specs.Listed.{AsListed, next_story}
-use Rattle.disk_base.specs.MemDisk.{DiskState, after_call, after_entry, after_refusal, is_full}
+use Rattle.disk_base.specs.MemDisk.{DiskState, after_call, after_entry, after_refusal, is_full, next_attach}
 use Rattle.disk_base.specs.Story.{Story}
 
 -- of a disk in memory that hasn't stopped
@@ -42,3 +42,12 @@ listed_behind {a} {b} {c} {k} {l} {m} first second = record {
   calls = second.calls ∙ ap (λ calls. option_map (λ (all : List DiskCall). all ++ second.more) calls) first.calls ∙ both_listed first.more second.more k;
   told = second.told ∙ ap (λ told. option_map (λ story. fold next_story story second.more) told) first.told ∙ both_told first.more second.more a;
 }
+
+-- an attaching keeps all bytes
+pub attaching_keeps : (s : DiskState) (grow : ℕ) → (after_call (next_attach grow s) s).story ≡ s.story
+attaching_keeps s grow =
+    let call = next_attach grow s in
+    elim (is_full 0 s) as (λ full. (if full then after_refusal s else after_entry call s).story ≡ s.story) [
+      | true ↦ refl
+      | false ↦ elim s.plan.stopped as (λ stopped. (if stopped then s.story else s.story) ≡ s.story) [ true ↦ refl | false ↦ refl ]
+    ]

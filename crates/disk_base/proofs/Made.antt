@@ -1,5 +1,5 @@
 -- What a call changes of a disk in memory.
-use Rattle.std.proofs.Common.{◌≡◌, ℕ, ◌+◌, ◌-◌, ◌≤◌, Bool, true, false, ◌||◌, ◌==◌, nat_le, nat_lt, List, [], ◌∷◌, ◌++◌, length, take, if◌then◌else◌, sym, ap, subst, ◌∙◌, arith, length-append, vec_capacity, vec_len}
+use Rattle.std.proofs.Common.{◌≡◌, ℕ, ◌+◌, ◌-◌, ◌≤◌, Bool, true, false, ◌||◌, ◌==◌, nat_le, nat_lt, List, [], ◌∷◌, ◌++◌, length, take, if◌then◌else◌, sym, ap, subst, ◌∙◌, arith, length-append, vec_capacity, vec_len, Option}
 use Rattle.std.proofs.lemmas.List.{take_all, take-append-le}
 use Rattle.disk_base.specs.Calls.{DiskCall}
 use Rattle.disk_base.specs.Kept.{IsMemDisk, IsSettled, disk_state, effective_calls}
@@ -18,8 +18,8 @@ use Rattle.disk_base.proofs.Logs.{IsPushed, length-calls, pushed}
 use Rattle.disk_base.proofs.Steps.{one_more_call, settled_on}
 
 -- the state with these fields
-abbrev state : Story → List DiskCall → ℕ → ℕ → ℕ → FaultPlan → ℕ → DiskState
-state story calls used most room plan faults = record {
+abbrev state : Story → List DiskCall → ℕ → ℕ → ℕ → FaultPlan → ℕ → Option (List ℕ) → DiskState
+state story calls used most room plan faults file = record {
   story = story;
   calls = calls;
   used = used;
@@ -27,18 +27,20 @@ state story calls used most room plan faults = record {
   room = room;
   plan = plan;
   faults = faults;
+  file = file;
 }
 
-same_state : {s t : Story} {cs ds : List DiskCall} {u v m n r q : ℕ} {p o : FaultPlan} {f g : ℕ} → s ≡ t → cs ≡ ds → u ≡ v → m ≡ n → r ≡ q → p ≡ o →
-    f ≡ g → state s cs u m r p f ≡ state t ds v n q o g
-same_state {s} {t} {cs} {ds} {u} {v} {m} {n} {r} {q} {p} {o} {f} {g} a b c d e h i =
-    ap (λ (x : Story). state x cs u m r p f) a
-    ∙ ap (λ (x : List DiskCall). state t x u m r p f) b
-    ∙ ap (λ (x : ℕ). state t ds x m r p f) c
-    ∙ ap (λ (x : ℕ). state t ds v x r p f) d
-    ∙ ap (λ (x : ℕ). state t ds v n x p f) e
-    ∙ ap (λ (x : FaultPlan). state t ds v n q x f) h
-    ∙ ap (λ (x : ℕ). state t ds v n q o x) i
+same_state : {s t : Story} {cs ds : List DiskCall} {u v m n r q : ℕ} {p o : FaultPlan} {f g : ℕ} {h k : Option (List ℕ)} → s ≡ t → cs ≡ ds →
+    u ≡ v → m ≡ n → r ≡ q → p ≡ o → f ≡ g → h ≡ k → state s cs u m r p f h ≡ state t ds v n q o g k
+same_state {s} {t} {cs} {ds} {u} {v} {m} {n} {r} {q} {p} {o} {f} {g} {h} {k} a b c d e i j l =
+    ap (λ (x : Story). state x cs u m r p f h) a
+    ∙ ap (λ (x : List DiskCall). state t x u m r p f h) b
+    ∙ ap (λ (x : ℕ). state t ds x m r p f h) c
+    ∙ ap (λ (x : ℕ). state t ds v x r p f h) d
+    ∙ ap (λ (x : ℕ). state t ds v n x p f h) e
+    ∙ ap (λ (x : FaultPlan). state t ds v n q x f h) i
+    ∙ ap (λ (x : ℕ). state t ds v n q o x h) j
+    ∙ ap (λ (x : Option (List ℕ)). state t ds v n q o g x) l
 
 -- whether the list is full, as it is counted
 pub full_is : (d : Inside) (n : ℕ) (full : Bool) → vec_len d.entries ≡ length d.entries.items →
@@ -61,6 +63,7 @@ pub record IsListed (d d' : Inside) (entry : LoggedCall) (bytes : List ℕ) : Ty
   pub room : d'.room ≡ d.room
   pub plan : d'.plan ≡ next_plan d.plan
   pub faults : d'.faults ≡ faults_after entry.answer d.faults
+  pub file : d'.file.name ≡ d.file.name
   pub count : entry.count ≡ length bytes
   pub within : entry.at + entry.count ≤ length d.bytes.items
   pub enough : is_full (length bytes) (disk_state d) ≡ false
@@ -98,7 +101,7 @@ module _ (d d' : Inside) (entry : LoggedCall) (bytes : List ℕ) (is : IsMemDisk
       story ≡ (if d.plan.stopped then story_of d.base.items (effective_calls d) else next_story (story_of d.base.items (effective_calls d)) (call_of entry bytes)) →
       disk_state d' ≡ after_call (call_of entry bytes) (disk_state d)
   entered a b =
-      same_state (a ∙ b) calls_now listed.used listed.most listed.room listed.plan listed.faults
+      same_state (a ∙ b) calls_now listed.used listed.most listed.room listed.plan listed.faults listed.file
       ∙ sym (ap (λ (full : Bool). if full then after_refusal (disk_state d) else after_entry (call_of entry bytes) (disk_state d)) listed.enough)
 
   -- a call of a disk that has stopped

@@ -1,4 +1,4 @@
--- What some calls and then more calls count.
+-- What some calls and then more calls count and keep.
 use Rattle.std.proofs.Common.{◌≡◌, ◌⊎◌, inl, inr, ⊎_elim, ℕ, ◌+◌, suc, ◌-◌, ◌<◌, ◌≤◌, true, List, Option, ◌∙◌, refl, sym, ap, arith}
 use Rattle.std.proofs.lemmas.Bool.{cases_lt}
 use Rattle.disk_base.specs.Calls.{DiskCall, Logs, sync_call, write_call}
@@ -90,3 +90,7 @@ pub both_wider : (at : ℕ) (bytes : List ℕ) (C E : Type 0) (before after : Op
 both_wider at bytes C E before after Done more is = is
 both_wider at bytes C E before after Failed more (inl is) = inl (logs_wider (write_call at bytes) C E _ _ more is)
 both_wider at bytes C E before after Failed more (inr is) = inr (logs_wider sync_call C E _ _ more is)
+
+-- what both stretches keep: the disk, and its file
+pub same_then : {A B : Type 0} {a b c : A} {x y z : B} → (b ≡ a) × (y ≡ x) → (c ≡ b) × (z ≡ y) → (c ≡ a) × (z ≡ x)
+same_then one two = (two.0 ∙ one.0, two.1 ∙ one.1)

@@ -17,6 +17,11 @@ abbrev pub HasSize : ℕ → ℕ → DiskAnswer → Type 0
 HasSize grow size Done = grow ≤ size
 HasSize grow size Failed = Unit {0}
 
+-- the file that a disk has behind an attaching that gave this answer
+abbrev pub file_behind : List ℕ → DiskAnswer → Option (List ℕ) → Option (List ℕ)
+file_behind file Done before = Some file
+file_behind file Failed before = before
+
 -- the buffer holds the bytes from a place on
 abbrev pub Reads : Option Story → ℕ → List ℕ → DiskAnswer → Type 0
 Reads told at into Done = (s : Story) → told ≡ Some s → into ≡ bytes_at s.now.bytes at (length into)

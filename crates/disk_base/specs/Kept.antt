@@ -19,6 +19,7 @@ disk_state d = record {
   room = d.room;
   plan = d.plan;
   faults = d.faults;
+  file = d.file.name;
 }
 
 -- the bytes now, the settled bytes and the loose ranges of the story of these calls are those after the calls, after

@@ -8,6 +8,7 @@ pub mod Listed
 pub mod Log
 pub mod MemDisk
 pub mod Plan
+pub mod SameDisk
 pub mod Settle
 pub mod SizeLaws
 pub mod Story

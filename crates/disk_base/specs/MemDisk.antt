@@ -1,7 +1,9 @@
 -- A disk in memory (this profile).
 use Rattle.std.specs.Prelude.{ℕ, ◌+◌, ◌-◌, Bool, ◌||◌, nat_le, nat_lt, List, [], ◌∷◌, ◌++◌, length, if◌then◌else◌}
+use Rattle.std.specs.Prelude.{Option, None}
 use Rattle.disk_base.specs.Calls.{DiskCall, attach_call, read_call, sync_call, write_call}
 use Rattle.disk_base.specs.Cut.{image_of}
+use Rattle.disk_base.specs.Disk.{file_behind}
 use Rattle.disk_base.specs.Faults.{DiskHealth, one_more}
 use Rattle.disk_base.specs.Listed.{next_story}
 use Rattle.disk_base.specs.Plan.{next_answer, next_plan, no_faults}
@@ -14,7 +16,7 @@ use Rattle.disk_base.specs.declared.disk.DiskAnswer.TheVariants.{Done, Failed}
 use Rattle.disk_base.specs.declared.fault_plan.FaultPlan.{FaultPlan}
 
 -- the bytes of every moment, the list of calls, how many bytes they were to write, for how many calls and such bytes
--- the list has room, which calls to come fail, and the count of faults
+-- the list has room, which calls to come fail, the count of faults, and the name of the file
 pub record DiskState : Type 0 where
   pub story : Story
   pub calls : List DiskCall
@@ -23,8 +25,9 @@ pub record DiskState : Type 0 where
   pub room : ℕ
   pub plan : FaultPlan
   pub faults : ℕ
+  pub file : Option (List ℕ)
 
--- settled bytes, and no call yet
+-- settled bytes, no call yet, and no file
 abbrev pub disk_with : List ℕ → ℕ → ℕ → DiskState
 disk_with bytes most room = record {
   story = settled_story bytes;
@@ -34,6 +37,7 @@ disk_with bytes most room = record {
   room = room;
   plan = no_faults;
   faults = 0;
+  file = None;
 }
 
 abbrev pub disk_size : DiskState → ℕ
@@ -89,6 +93,10 @@ after_entry call s = record s {
 -- the disk after a call, with the answer that it gave
 abbrev pub after_call : DiskCall → DiskState → DiskState
 after_call call s = if is_full (length call.bytes) s then after_refusal s else after_entry call s
+
+-- the disk after an attaching, with the answer that it gave
+abbrev pub after_attaching : List ℕ → DiskCall → DiskState → DiskState
+after_attaching file call s = record (after_call call s) { file = file_behind file (answer_of call s) s.file }
 
 -- a call as it comes into the list
 abbrev pub call_due : CallKind → ℕ → ℕ → List ℕ → DiskState → DiskCall

@@ -1,6 +1,6 @@
 ghost use Rattle.std.specs.Prelude.{◌≡◌, ◌+◌, ◌<◌, ◌≤◌, ℕ, false, List, Option, Some, length};
 ghost use Rattle.disk_base.specs.Calls.{DiskCall, Logs, attach_call, read_call, sync_call, write_call};
-ghost use Rattle.disk_base.specs.Disk.{Attaches, HasSize, Reads, Syncs, Writes};
+ghost use Rattle.disk_base.specs.Disk.{Attaches, HasSize, Reads, Syncs, Writes, file_behind};
 ghost use Rattle.disk_base.specs.Faults.{DiskHealth, HasCause, IsCrowded};
 ghost use Rattle.disk_base.specs.Listed.{AsListed};
 ghost use Rattle.disk_base.specs.Story.{Story};
@@ -45,14 +45,19 @@ pub trait Disk {
     /// Which disk it is. No call changes it.
     ghost name: { Self → ℕ };
 
+    /// The name of the file that was attached last, where one was.
+    ghost file_is: { Self → Option (List ℕ) };
+
     /// Takes the file of this name as the disk, which is to have at least `grow` bytes. The bytes and what a crash may
-    /// leave of them stay. Bytes are added only where there are fewer than `grow`.
+    /// leave of them stay. Bytes are added only where there are fewer than `grow`. Where it fails, the file is the one
+    /// that it was.
     fn attach(&mut self, file: &str, grow: u64) -> DiskAnswer
         ensures told { Attaches grow (told self.old) (told self.new) }
         ensures size { HasSize grow (size_is self.new) result }
         ensures calls { Logs (attach_call grow) (IsCrowded (health self.old) 1 0)
             (calls self.old) (calls self.new) result }
         ensures cause { HasCause (health self.old) (health self.new) 1 0 (size_is self.old < grow) result }
+        ensures file { file_is self.new ≡ file_behind file.now result (file_is self.old) }
         ensures name { name self.new ≡ name self.old };
 
     /// How many bytes there are.
@@ -70,7 +75,7 @@ pub trait Disk {
         ensures listed { (health self.old).stopped ≡ false →
             AsListed (told self.old) (calls self.old) (told self.new) (calls self.new) }
         ensures cause { HasCause (health self.old) (health self.new) 1 0 ⊥ result }
-        ensures name { name self.new ≡ name self.old };
+        ensures same_disk { (name self.new ≡ name self.old) × (file_is self.new ≡ file_is self.old) };
 
     /// Puts bytes in place of those from a place on. A crash before the next good sync leaves anything in their range.
     /// Where this fails, the range may be changed, and all else is as it was.
@@ -84,7 +89,7 @@ pub trait Disk {
             AsListed (told self.old) (calls self.old) (told self.new) (calls self.new) }
         ensures cause { HasCause (health self.old) (health self.new) 1 (length bytes.now)
             ((health self.old).room < length bytes.now) result }
-        ensures name { name self.new ≡ name self.old };
+        ensures same_disk { (name self.new ≡ name self.old) × (file_is self.new ≡ file_is self.old) };
 
     /// Makes all written bytes last through a crash. Where it fails, none of them are any safer than before.
     fn sync(&mut self) -> DiskAnswer
@@ -94,7 +99,7 @@ pub trait Disk {
         ensures listed { (health self.old).stopped ≡ false →
             AsListed (told self.old) (calls self.old) (told self.new) (calls self.new) }
         ensures cause { HasCause (health self.old) (health self.new) 1 0 ⊥ result }
-        ensures name { name self.new ≡ name self.old };
+        ensures same_disk { (name self.new ≡ name self.old) × (file_is self.new ≡ file_is self.old) };
 
     /// The size is the number of the bytes, where they are told.
     ghost sized: { (disk : Self) (s : Story) → told disk ≡ Some s → length s.now.bytes ≡ size_is disk };
@@ -114,6 +119,8 @@ impl<D: Disk> Disk for &mut D {
     ghost health = { λ disk. D.health disk.now };
 
     ghost name = { λ disk. disk.ghost_name };
+
+    ghost file_is = { λ disk. D.file_is disk.now };
 
     ghost sized = { λ disk s is. D.sized disk.now s is };
 

@@ -1,6 +1,7 @@
 //! Disks that can lose power: what they hold, and what a crash at any moment may leave of it.
 #![tactic(auto)]
 
+mod attached;
 mod cut;
 mod disk;
 mod fault_plan;
@@ -10,6 +11,7 @@ mod mem_disk;
 mod no_memory;
 mod settling;
 
+pub use attached::AttachedFile;
 pub use cut::CutChoice;
 pub use disk::{CallKind, Disk, DiskAnswer};
 pub use fault_plan::FaultPlan;

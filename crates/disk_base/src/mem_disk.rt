@@ -6,13 +6,14 @@ ghost use Rattle.disk_base.specs.Disk.{Attaches, HasSize, Reads, Syncs, Writes};
 ghost use Rattle.disk_base.specs.Faults.{HasCause, IsCrowded};
 ghost use Rattle.disk_base.specs.Images.{IsImage};
 ghost use Rattle.disk_base.specs.Listed.{AsListed};
-ghost use Rattle.disk_base.specs.MemDisk.{after_call, after_cut, answer_of, answer_planned, call_due};
+ghost use Rattle.disk_base.specs.MemDisk.{after_attaching, after_call, after_cut, answer_of, answer_planned, call_due};
 ghost use Rattle.disk_base.specs.MemDisk.{disk_health, disk_size, disk_with};
 ghost use Rattle.disk_base.specs.MemDisk.{next_attach, next_read, next_sync, next_write};
 ghost use Rattle.disk_base.specs.MemDisk.{faults_after as counted};
 ghost use Rattle.disk_base.specs.declared.disk.DiskAnswer.TheVariants.{Failed};
 ghost use Rattle.disk_base.specs.SizeLaws.{told_size};
 
+use crate::attached::AttachedFile;
 use crate::cut::{CutChoice, left_bytes, mark_writes};
 use crate::disk::{CallKind, Disk, DiskAnswer};
 use crate::fault_plan::FaultPlan;
@@ -21,9 +22,9 @@ use crate::no_memory::NoMemory;
 use std::alloc::Global;
 use std::marker::Model;
 
-/// A disk in memory. It takes all its memory when it is made. Its list of calls has room for so many calls and so
-/// many written bytes; a call past either fails, and isn't listed. An attaching that asks for more bytes than there
-/// are fails too, and is listed.
+/// A disk in memory. It takes all its memory when it is made, and is whatever file it is to attach. Its list of calls
+/// has room for so many calls and so many written bytes; a call past either fails, and isn't listed. An attaching that
+/// asks for more bytes than there are fails too, and is listed.
 #[derive(Debug, Drop)]
 pub struct MemDisk {
     // what it began with
@@ -39,6 +40,7 @@ pub struct MemDisk {
     synced: usize,
     plan: FaultPlan,
     faults: u64,
+    file: AttachedFile,
 }
 
 impl Model for MemDisk {
@@ -81,6 +83,7 @@ impl MemDisk {
             synced: 0,
             plan: FaultPlan::new(),
             faults: 0,
+            file: AttachedFile::none(),
         })
     }
 
@@ -219,20 +222,27 @@ impl Disk for MemDisk {
 
     ghost name = { λ s. 0 };
 
+    ghost file_is = { λ s. s.file };
+
     ghost sized = { λ s story is. told_size s story is };
 
     ghost calls_told = { λ s story is. (s.calls, refl) };
 
-    fn attach(&mut self, _file: &str, grow: u64) -> DiskAnswer
+    fn attach(&mut self, file: &str, grow: u64) -> DiskAnswer
         ensures told { Attaches grow (Some self.old.story) (Some self.new.story) }
         ensures size { HasSize grow (disk_size self.new) result }
         ensures calls { Logs (attach_call grow) (IsCrowded (disk_health self.old) 1 0)
             (Some self.old.calls) (Some self.new.calls) result }
         ensures cause { HasCause (disk_health self.old) (disk_health self.new) 1 0 (disk_size self.old < grow) result }
         ensures answer { result ≡ answer_of (next_attach grow self.old) self.old }
-        ensures state { self.new ≡ after_call (next_attach grow self.old) self.old }
+        ensures state { self.new ≡ after_attaching file.now (next_attach grow self.old) self.old }
     {
-        self.call(CallKind::Attach, 0, grow, &[])
+        let answer = self.call(CallKind::Attach, 0, grow, &[]);
+        match answer {
+            DiskAnswer::Done => self.file = AttachedFile::of(file.as_bytes()),
+            DiskAnswer::Failed => {}
+        }
+        answer
     }
 
     fn size(&self) -> u64

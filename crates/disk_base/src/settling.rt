@@ -1,6 +1,7 @@
 ghost use Rattle.std.specs.Prelude.{◌≡◌, ◌+◌, ◌<◌, ◌≤◌, false, length};
 ghost use Rattle.disk_base.specs.Faults.{HasCause, IsCrowded};
 ghost use Rattle.disk_base.specs.Listed.{AsListed};
+ghost use Rattle.disk_base.specs.SameDisk.{IsSameDisk};
 ghost use Rattle.disk_base.specs.Settle.{LogsBoth, Settles};
 
 use crate::disk::{Disk, DiskAnswer};
@@ -17,7 +18,7 @@ pub fn settle<D: Disk>(disk: &mut D, at: u64, bytes: &[u8]) -> DiskAnswer
         AsListed (D.told disk.old) (D.calls disk.old) (D.told disk.new) (D.calls disk.new) }
     ensures cause { HasCause (D.health disk.old) (D.health disk.new) 2 (length bytes.now)
         ((D.health disk.old).room < length bytes.now) result }
-    ensures name { D.name disk.new ≡ D.name disk.old }
+    ensures same_disk { IsSameDisk D.Disk disk.old disk.new }
 {
     match disk.write(at, bytes) {
         DiskAnswer::Failed => return DiskAnswer::Failed,

@@ -5,8 +5,8 @@ use Rattle.gl_base.specs.declared.side.Side.TheVariants.{Equipment, Host}
 use Rattle.line_end.specs.declared.event.Phase.{Phase}
 use Rattle.line_end.specs.Step.{enq}
 use Rattle.line_way.specs.declared.character.Character.{Character}
-use Rattle.line_way.specs.Kept.{asks_first, control, framed_from, has_frame, rest_of, with_byte, written_as, ways_after}
-use Rattle.line_way.specs.Ways.{Ways}
+use Rattle.line_way.specs.Kept.{asks_first, control, direction_to, framed_from, has_frame, rest_of, with_byte, with_direction, written_as, ways_after}
+use Rattle.line_way.specs.Ways.{Way, Ways}
 use Rattle.end_pair.proofs.Bytes.{AreBytes}
 
 abbrev pub AreByteCharacters : List Character → Type 0
@@ -15,6 +15,16 @@ AreByteCharacters (character ∷ rest) = (character.byte < 256) × AreByteCharac
 
 abbrev pub AreByteWays : Ways → Type 0
 AreByteWays ways = AreByteCharacters ways.to_equipment.under_way × AreByteCharacters ways.to_host.under_way
+
+pub bytes-to : (side : Side) (ways : Ways) → AreByteWays ways → AreByteCharacters (direction_to side ways).under_way
+bytes-to Equipment ways are = are.0
+bytes-to Host ways are = are.1
+
+pub bytes-with :
+    (side : Side) (way : Way) (ways : Ways) → AreByteCharacters way.under_way → AreByteWays ways
+    → AreByteWays (with_direction side way ways)
+bytes-with Equipment way ways new are = (new, are.1)
+bytes-with Host way ways new are = (are.0, new)
 
 append : (xs ys : List Character) → AreByteCharacters xs → AreByteCharacters ys → AreByteCharacters (xs ++ ys)
 append [] ys one two = two

@@ -1,6 +1,6 @@
 -- What both ends have done, as moves, at each event and in the whole run.
 use Rattle.std.specs.List.{All}
-use Rattle.std.proofs.Common.{◌≡◌, ◌<◌, ◌≤◌, zero, suc, ℕ, ◌==◌, Bool, true, false, List, [], ◌∷◌, ◌++◌, length, if◌then◌else◌, refl, sym, ap, subst, ◌∙◌, append_assoc, append-nil, arith}
+use Rattle.std.proofs.Common.{◌≡◌, ◌<◌, ◌≤◌, zero, suc, ℕ, ◌+◌, ◌==◌, Bool, true, false, List, [], ◌∷◌, ◌++◌, length, if◌then◌else◌, refl, sym, ap, subst, ◌∙◌, append_assoc, append-nil, arith}
 use Rattle.gl_base.specs.declared.side.Side.{Side}
 use Rattle.gl_base.specs.declared.side.Side.TheVariants.{Equipment, Host}
 use Rattle.line_order.specs.Acts.{HasNoSlip}
@@ -9,17 +9,16 @@ use Rattle.line_order.specs.Characters as order
 use Rattle.line_schedule.specs.declared.event.Event.{Event}
 use Rattle.line_schedule.specs.declared.event.Event.TheVariants as event
 use Rattle.line_way.specs.declared.character.Character.{Character}
-use Rattle.line_way.specs.Kept.{direction_to}
+use Rattle.line_way.specs.Kept.{direction_to, with_change, with_noise}
 use Rattle.line_way.proofs.Deeds.{change-stands}
 use Rattle.line_way.specs.Ways.{StandsFor, Ways, characters_of, is_under_way, next_byte}
-use Rattle.message_end.specs.Core.{Step, Went}
-use Rattle.message_end.specs.Core.Went.{Goes, Spent}
+use Rattle.message_end.specs.Core.{Step}
 use Rattle.message_end.specs.Doings.{Doing}
-use Rattle.message_end.specs.Ends.{AreBegunOf, AreOfStep, DoesMore, DoesStep, Input, KeepsLaw, Machine, MayTake}
+use Rattle.message_end.specs.Ends.{Input, KeepsLaw, Machine, MayTake}
 use Rattle.message_end.specs.Ends.Input.{Char, Command, Time}
 use Rattle.message_end.specs.Log.{log_of, start_of}
-use Rattle.message_end.specs.Moves.{KeepLaws, LinePlans, Move, deeds_of, line_of_moves, plan_at, run_at, seen_at}
-use Rattle.message_end.specs.Moves.Kind.{Added, Changed, Lost, Started}
+use Rattle.message_end.specs.Moves.{IsNextByte, KeepLaws, Kind, LinePlans, Move, deeds_of, line_of_moves, plan_at, seen_at}
+use Rattle.message_end.specs.Moves.Kind.{Added, Changed, Did, Lost, Started}
 use Rattle.trace_log.specs.Laws.{log_with}
 use Rattle.trace_log.specs.Log.{Entry, Happening}
 use Rattle.trace_log.specs.declared.commands.HostCommand.{HostCommand}
@@ -27,57 +26,92 @@ use Rattle.trace_log.specs.declared.commands.ToolCommand.{ToolCommand}
 use Rattle.end_pair.specs.declared.answers.WorldStep.{WorldStep}
 use Rattle.end_pair.specs.declared.answers.WorldStep.TheVariants as answer
 use Rattle.end_pair.specs.Kept.{MayHappen}
-use Rattle.end_pair.specs.Laws.{AreNoNotes, AreSteps, HasBytes}
+use Rattle.end_pair.specs.Laws.{AreNoNotes, AreSteps, HasBytes, IsOfMoves}
 use Rattle.end_pair.specs.Laws.AreSteps.{no_moves, one_step}
 use Rattle.end_pair.specs.Run.{piece_of}
-use Rattle.end_pair.specs.Steps.{gives, made, slip_of, slipped, slips, stepped}
-use Rattle.end_pair.specs.World.{Piece, World, added_to, after_event, after_events, and_more, and_on, at_start, begun, both_stepped, changed_at, equipment_stepped, given, given_next, given_times, host_stepped, later, lost_from, most_steps, settled, settled_times, still, turned_out, way_to, with_equipment, with_host}
-use Rattle.end_pair.proofs.ByteWays.{AreByteCharacters, AreByteWays, bytes-after, dropped, with-byte}
+use Rattle.end_pair.specs.Steps.{Stepped, entries_of, stepped}
+use Rattle.end_pair.specs.World.{Piece, World, added_to, after_event, after_events, and_more, and_on, at_start, begun, both_stepped, changed_at, equipment_stepped, given, given_next, given_times, host_stepped, later, lost, lost_from, most_steps, settled, settled_times, still, turned_out, way_to}
+use Rattle.end_pair.proofs.ByteWays.{AreByteCharacters, AreByteWays, bytes-to, bytes-with, dropped, with-byte}
 use Rattle.end_pair.proofs.Doing.{IsNext}
 use Rattle.end_pair.proofs.LineDeeds.{add-stands, lose-stands, lost-more, lost-none, new-stands}
-use Rattle.end_pair.proofs.Moved.{IsAt, goes-moves, moves-split, moves_with, no-slip-in, other-is, spent-moves}
+use Rattle.end_pair.proofs.Moved.{HasStepped, IsAt, has-stepped, moves-split, moves_with, other-is}
 
 module _ {S T : Type 0}
     (did_e : ℕ → List Doing → S → Type 0) (did_h : ℕ → List Doing → T → Type 0)
-    (tool : ToolCommand → Type 0) (user : HostCommand → Type 0) (first_e : Step S Happening) (first_h : Step T Happening)
+    (tool : ToolCommand → Type 0) (user : HostCommand → Type 0)
+    (first_e : Step S Happening) (first_h : Step T Happening)
     (e : Machine S ToolCommand) (h : Machine T HostCommand) (plans : LinePlans)
     (law_e : KeepsLaw (plan_at Equipment plans) did_e tool first_e e)
     (law_h : KeepsLaw (plan_at Host plans) did_h user first_h h) where
-  -- the world is what these moves have made of it
-  pub record Holds (world : World S T) (moves : List Move) : Type 0 where
+  -- lawful moves, step by step, have left the ends in these states
+  pub record AreMade (moves : List Move) (s : S) (t : T) : Type 0 where
     pub keep : KeepLaws plans moves
     pub clean : HasNoSlip (new_line plans.equipment.times plans.host.times) (deeds_of moves)
-    pub equipment : IsAt did_e Equipment plans moves world.equipment
-    pub host : IsAt did_h Host plans moves world.host
+    pub equipment : IsAt did_e Equipment plans moves s
+    pub host : IsAt did_h Host plans moves t
+    pub steps : AreSteps did_e did_h plans moves
+
+  -- the world is what these moves have made of it
+  pub record Holds (world : World S T) (moves : List Move) : Type 0 where
+    pub made : AreMade moves world.equipment world.host
     pub stands : StandsFor world.ways (line_of_moves plans moves)
     pub bytes : AreByteWays world.ways
-    pub steps : AreSteps did_e did_h plans moves
 
   -- the entries of a piece, behind those before, are the log of some moves, and at most an entry that is no note
   pub record Good (piece : Piece S T) (before : List Entry) : Type 0 where
-    pub moves : List Move
-    pub keep : KeepLaws plans moves
-    pub clean : HasNoSlip (new_line plans.equipment.times plans.host.times) (deeds_of moves)
-    pub steps : AreSteps did_e did_h plans moves
-    pub last : List Entry
-    pub few : length last ≤ 1
-    pub no_notes : AreNoNotes last
-    pub log : piece.entries ++ before ≡ last ++ log_of moves
-    pub on : piece.went ≡ answer.Went → (last ≡ []) × Holds piece.world moves
+    pub of : IsOfMoves did_e did_h plans (piece.entries ++ before)
+    pub on : piece.went ≡ answer.Went → (of.last ≡ []) × Holds piece.world of.moves
 
   abbrev pub Keeps : (World S T → Piece S T) → Type 0
   Keeps more = (world : World S T) (moves : List Move) → Holds world moves → Good (more world) (log_of moves)
 
+  -- one step more
+  made-more :
+      (moves step before : List Move) (s : S) (t : T) → moves ≡ step ++ before → AreSteps did_e did_h plans before
+      → KeepLaws plans moves → HasNoSlip (new_line plans.equipment.times plans.host.times) (deeds_of moves)
+      → IsAt did_e Equipment plans moves s → IsAt did_h Host plans moves t → AreMade moves s t
+  made-more moves step before s t is steps keep clean equipment host = record {
+    keep = keep;
+    clean = clean;
+    equipment = equipment;
+    host = host;
+    steps =
+        one_step moves step before is
+        (record { state_of_equipment = s; state_of_host = t; equipment_did = equipment.is; host_did = host.is }) steps;
+  }
+
+  -- a log of moves, with these entries behind it
+  abbrev with_last :
+      (moves : List Move) (s : S) (t : T) (last log : List Entry) → AreMade moves s t → length last ≤ 1
+      → AreNoNotes last → log ≡ last ++ log_of moves → IsOfMoves did_e did_h plans log
+  with_last moves s t last log made few no_notes is = record {
+    moves = moves;
+    keep = made.keep;
+    no_slip = made.clean;
+    steps = made.steps;
+    last = last;
+    at_most_one = few;
+    no_notes = no_notes;
+    is = is;
+  }
+
+  -- the same log
+  abbrev pub same_moves :
+      (log other : List Entry) → other ≡ log → IsOfMoves did_e did_h plans log → IsOfMoves did_e did_h plans other
+  same_moves log other same of = record {
+    moves = of.moves;
+    keep = of.keep;
+    no_slip = of.no_slip;
+    steps = of.steps;
+    last = of.last;
+    at_most_one = of.at_most_one;
+    no_notes = of.no_notes;
+    is = same ∙ of.is;
+  }
+
   goes-still : (world : World S T) (moves : List Move) → Holds world moves → Good (still world) (log_of moves)
   goes-still world moves holds = record {
-    moves = moves;
-    keep = holds.keep;
-    clean = holds.clean;
-    steps = holds.steps;
-    last = [];
-    few = omega arith;
-    no_notes = tt;
-    log = refl;
+    of = with_last moves world.equipment world.host [] (log_of moves) holds.made (omega arith) tt refl;
     on = λ on. (refl, holds);
   }
 
@@ -88,20 +122,14 @@ module _ {S T : Type 0}
       go : (went : WorldStep) → piece.went ≡ went → Good (and_on went piece rest) before
       go answer.Went is =
           let at = good.on is in
-          let next = two piece.world good.moves at.1 in
+          let next = two piece.world good.of.moves at.1 in
+          let more = (rest piece.world).entries in
           record {
-            moves = next.moves;
-            keep = next.keep;
-            clean = next.clean;
-            steps = next.steps;
-            last = next.last;
-            few = next.few;
-            no_notes = next.no_notes;
-            log =
-                append_assoc (rest piece.world).entries piece.entries before
-                ∙ ap (λ (l : List Entry). (rest piece.world).entries ++ l)
-                (good.log ∙ ap (λ (l : List Entry). l ++ log_of good.moves) at.0)
-                ∙ next.log;
+            of =
+                same_moves (more ++ log_of good.of.moves) ((more ++ piece.entries) ++ before)
+                (append_assoc more piece.entries before
+                ∙ ap (λ (l : List Entry). more ++ l)
+                (good.of.is ∙ ap (λ (l : List Entry). l ++ log_of good.of.moves) at.0)) next.of;
             on = next.on;
           }
       go answer.Slip is = good
@@ -109,241 +137,91 @@ module _ {S T : Type 0}
       go answer.NumbersSpent is = good
       go answer.NoMemory is = good
 
-  keeps-then : (first rest : World S T → Piece S T) → Keeps first → Keeps rest → Keeps (λ world. and_more (first world) rest)
-  keeps-then first rest one two world moves holds = good-then (first world) (log_of moves) rest (one world moves holds) two
+  keeps-then :
+      (first rest : World S T → Piece S T) → Keeps first → Keeps rest → Keeps (λ world. and_more (first world) rest)
+  keeps-then first rest one two world moves holds =
+      good-then (first world) (log_of moves) rest (one world moves holds) two
 
-  -- no step is left, or a slip was found
+  -- no step is left
   goes-out : (world : World S T) (moves : List Move) → Holds world moves → Good (turned_out world) (log_of moves)
   goes-out world moves holds = record {
-    moves = moves;
-    keep = holds.keep;
-    clean = holds.clean;
-    steps = holds.steps;
-    last = [];
-    few = omega arith;
-    no_notes = tt;
-    log = refl;
+    of = with_last moves world.equipment world.host [] (log_of moves) holds.made (omega arith) tt refl;
     on = λ on. cc;
   }
 
   -- ---- steps
 
-  abbrev equipment_made : Input ToolCommand → World S T → Went S Happening → Piece S T
-  equipment_made input world went =
-      with_equipment e h world (made e Equipment world.moment input world.ways went)
+  -- a step of either end, where one is left
+  step-keeps :
+      {X : Type 0} (did : ℕ → List Doing → X → Type 0) (side : Side) (step : Stepped X) (world : World S T)
+      (moves : List Move) (s : S) (t : T)
+      → Holds world moves → (is : HasStepped did side plans world.moment moves step)
+      → IsAt did_e Equipment plans (moves_with side world.moment is.done moves) s
+      → IsAt did_h Host plans (moves_with side world.moment is.done moves) t
+      → Good
+      (if world.steps == most_steps then turned_out world
+      else record {
+        world =
+            record { equipment = s; host = t; ways = step.ways; moment = world.moment; steps = world.steps + 1 };
+        entries = step.entries;
+        went = step.went;
+      })
+      (log_of moves)
+  step-keeps did side step world moves s t holds is equipment host = by_turn (world.steps == most_steps)
+    where
+      later : List Move
+      later = moves_with side world.moment is.done moves
 
-  abbrev host_made : Input HostCommand → World S T → Went T Happening → Piece S T
-  host_made input world went = with_host e h world (made h Host world.moment input world.ways went)
+      made : AreMade later s t
+      made =
+          made-more later (moves_with side world.moment is.done []) moves s t
+          (moves-split side world.moment is.done moves) holds.made.steps is.are.keep is.are.no_slip equipment host
 
-  equipment-made :
-      (input : Input ToolCommand) → MayTake tool input → (world : World S T) (moves : List Move) → Holds world moves
-      → IsNext (seen_at Equipment plans moves).there.under_way input
-      → slips e Equipment world.moment input world.equipment world.ways ≡ false
-      → (went : Went S Happening) → e.act world.equipment input world.moment ≡ went
-      → Good (equipment_made input world went) (log_of moves)
-  equipment-made input may world moves holds next none (Goes step) is =
-      let more : DoesMore (plan_at Equipment plans) did_e (run_at Equipment plans moves).base (run_at Equipment plans moves).doings (AreOfStep input world.moment) step =
-      subst (DoesStep (plan_at Equipment plans) did_e (run_at Equipment plans moves).base (run_at Equipment plans moves).doings input world.moment) is
-      (law_e.goes_on (run_at Equipment plans moves).base (run_at Equipment plans moves).doings world.equipment input world.moment holds.equipment.is may)
-      in
-      let moved =
-      goes-moves did_e tool first_e e Equipment plans law_e world.moment moves world.equipment input world.ways step holds.keep holds.clean
-      holds.equipment next
-      (no-slip-in did_e tool first_e e Equipment plans law_e world.moment moves world.equipment input world.ways holds.equipment holds.stands none)
-      holds.stands more
-      in
-      let steps : AreSteps did_e did_h plans (moves_with Equipment world.moment moved.done moves) =
-      one_step _ (moves_with Equipment world.moment moved.done []) moves (moves-split Equipment world.moment moved.done moves) (record {
-        state_of_equipment = step.next;
-        state_of_host = world.host;
-        equipment_did = moved.are.at.is;
-        host_did = (other-is did_h Equipment plans world.moment moved.done moves world.host holds.host).is;
-      }) holds.steps
-      in
-      record {
-        moves = moves_with Equipment world.moment moved.done moves;
-        keep = moved.are.keep;
-        clean = moved.are.no_slip;
-        steps = steps;
-        last = [];
-        few = omega arith;
-        no_notes = tt;
-        log = sym moved.are.log;
-        on = λ on. (
-          refl,
-          record {
-            keep = moved.are.keep;
-            clean = moved.are.no_slip;
-            steps = steps;
-            equipment = moved.are.at;
-            host = other-is did_h Equipment plans world.moment moved.done moves world.host holds.host;
-            stands = moved.ways_are;
-            bytes = bytes-after Equipment (gives input) (e.line step.next).phase step.written world.ways moved.bytes holds.bytes;
-          },
-        );
-      }
-  equipment-made input may world moves holds next none (Spent step) is =
-      let more : DoesMore (plan_at Equipment plans) did_e (run_at Equipment plans moves).base (run_at Equipment plans moves).doings (AreBegunOf input world.moment) step =
-      subst (DoesStep (plan_at Equipment plans) did_e (run_at Equipment plans moves).base (run_at Equipment plans moves).doings input world.moment) is
-      (law_e.goes_on (run_at Equipment plans moves).base (run_at Equipment plans moves).doings world.equipment input world.moment holds.equipment.is may)
-      in
-      let moved =
-      spent-moves did_e tool first_e e Equipment plans law_e world.moment moves world.equipment input step holds.keep holds.clean
-      holds.equipment next
-      (no-slip-in did_e tool first_e e Equipment plans law_e world.moment moves world.equipment input world.ways holds.equipment holds.stands none)
-      more
-      in
-      record {
-        moves = moves_with Equipment world.moment more.done moves;
-        keep = moved.keep;
-        clean = moved.no_slip;
-        steps = one_step _ (moves_with Equipment world.moment more.done []) moves (moves-split Equipment world.moment more.done moves) (record {
-          state_of_equipment = step.next;
-          state_of_host = world.host;
-          equipment_did = moved.at.is;
-          host_did = (other-is did_h Equipment plans world.moment more.done moves world.host holds.host).is;
-        }) holds.steps;
-        last = [];
-        few = omega arith;
-        no_notes = tt;
-        log = sym moved.log;
-        on = λ on. cc;
+      log : step.entries ++ log_of moves ≡ is.last ++ log_of later
+      log =
+          ap (λ (es : List Entry). es ++ log_of moves) is.entries
+          ∙ append_assoc is.last (entries_of side world.moment is.noted) (log_of moves)
+          ∙ ap (λ (es : List Entry). is.last ++ es) (sym is.are.log)
+
+      by_turn : (b : Bool)
+          → Good
+          (if b then turned_out world
+          else record {
+            world =
+                record { equipment = s; host = t; ways = step.ways; moment = world.moment; steps = world.steps + 1 };
+            entries = step.entries;
+            went = step.went;
+          })
+          (log_of moves)
+      by_turn true = goes-out world moves holds
+      by_turn false = record {
+        of = with_last later s t is.last (step.entries ++ log_of moves) made is.few is.no_notes log;
+        on = λ went. let on = is.on went in (on.0, record { made = made; stands = on.1; bytes = on.2 });
       }
 
   equipment-keeps :
       (input : Input ToolCommand) → MayTake tool input → (world : World S T) (moves : List Move) → Holds world moves
       → IsNext (seen_at Equipment plans moves).there.under_way input
       → Good (equipment_stepped e h input world) (log_of moves)
-  equipment-keeps input may world moves holds next = by_turn (world.steps == most_steps)
-    where
-      by_slip : (b : Bool) → slips e Equipment world.moment input world.equipment world.ways ≡ b
-          → Good (with_equipment e h world
-          (if b then slipped Equipment world.moment world.equipment world.ways
-          else made e Equipment world.moment input world.ways (e.act world.equipment input world.moment))) (log_of moves)
-      by_slip true is = record {
-        moves = moves;
-        keep = holds.keep;
-        clean = holds.clean;
-        steps = holds.steps;
-        last = slip_of Equipment world.moment world.ways ∷ [];
-        few = omega arith;
-        no_notes = (tt, tt);
-        log = refl;
-        on = λ on. cc;
-      }
-      by_slip false is =
-          equipment-made input may world moves holds next is (e.act world.equipment input world.moment) refl
-
-      by_turn : (b : Bool)
-          → Good (if b then turned_out world
-          else with_equipment e h world (stepped e Equipment world.moment input world.equipment world.ways)) (log_of moves)
-      by_turn true = goes-out world moves holds
-      by_turn false = by_slip (slips e Equipment world.moment input world.equipment world.ways) refl
-
-  host-made :
-      (input : Input HostCommand) → MayTake user input → (world : World S T) (moves : List Move) → Holds world moves
-      → IsNext (seen_at Host plans moves).there.under_way input
-      → slips h Host world.moment input world.host world.ways ≡ false
-      → (went : Went T Happening) → h.act world.host input world.moment ≡ went
-      → Good (host_made input world went) (log_of moves)
-  host-made input may world moves holds next none (Goes step) is =
-      let more : DoesMore (plan_at Host plans) did_h (run_at Host plans moves).base (run_at Host plans moves).doings (AreOfStep input world.moment) step =
-      subst (DoesStep (plan_at Host plans) did_h (run_at Host plans moves).base (run_at Host plans moves).doings input world.moment) is
-      (law_h.goes_on (run_at Host plans moves).base (run_at Host plans moves).doings world.host input world.moment holds.host.is may)
+  equipment-keeps input may world moves holds next =
+      let is =
+      has-stepped did_e tool first_e e Equipment plans law_e world.moment moves world.equipment input world.ways may
+      holds.made.keep holds.made.clean holds.made.equipment next holds.stands holds.bytes
       in
-      let moved =
-      goes-moves did_h user first_h h Host plans law_h world.moment moves world.host input world.ways step holds.keep holds.clean
-      holds.host next
-      (no-slip-in did_h user first_h h Host plans law_h world.moment moves world.host input world.ways holds.host holds.stands none)
-      holds.stands more
-      in
-      let steps : AreSteps did_e did_h plans (moves_with Host world.moment moved.done moves) =
-      one_step _ (moves_with Host world.moment moved.done []) moves (moves-split Host world.moment moved.done moves) (record {
-        state_of_equipment = world.equipment;
-        state_of_host = step.next;
-        equipment_did = (other-is did_e Host plans world.moment moved.done moves world.equipment holds.equipment).is;
-        host_did = moved.are.at.is;
-      }) holds.steps
-      in
-      record {
-        moves = moves_with Host world.moment moved.done moves;
-        keep = moved.are.keep;
-        clean = moved.are.no_slip;
-        steps = steps;
-        last = [];
-        few = omega arith;
-        no_notes = tt;
-        log = sym moved.are.log;
-        on = λ on. (
-          refl,
-          record {
-            keep = moved.are.keep;
-            clean = moved.are.no_slip;
-            steps = steps;
-            equipment = other-is did_e Host plans world.moment moved.done moves world.equipment holds.equipment;
-            host = moved.are.at;
-            stands = moved.ways_are;
-            bytes = bytes-after Host (gives input) (h.line step.next).phase step.written world.ways moved.bytes holds.bytes;
-          },
-        );
-      }
-  host-made input may world moves holds next none (Spent step) is =
-      let more : DoesMore (plan_at Host plans) did_h (run_at Host plans moves).base (run_at Host plans moves).doings (AreBegunOf input world.moment) step =
-      subst (DoesStep (plan_at Host plans) did_h (run_at Host plans moves).base (run_at Host plans moves).doings input world.moment) is
-      (law_h.goes_on (run_at Host plans moves).base (run_at Host plans moves).doings world.host input world.moment holds.host.is may)
-      in
-      let moved =
-      spent-moves did_h user first_h h Host plans law_h world.moment moves world.host input step holds.keep holds.clean
-      holds.host next
-      (no-slip-in did_h user first_h h Host plans law_h world.moment moves world.host input world.ways holds.host holds.stands none)
-      more
-      in
-      record {
-        moves = moves_with Host world.moment more.done moves;
-        keep = moved.keep;
-        clean = moved.no_slip;
-        steps = one_step _ (moves_with Host world.moment more.done []) moves (moves-split Host world.moment more.done moves) (record {
-          state_of_equipment = world.equipment;
-          state_of_host = step.next;
-          equipment_did = (other-is did_e Host plans world.moment more.done moves world.equipment holds.equipment).is;
-          host_did = moved.at.is;
-        }) holds.steps;
-        last = [];
-        few = omega arith;
-        no_notes = tt;
-        log = sym moved.log;
-        on = λ on. cc;
-      }
+      step-keeps did_e Equipment (stepped e Equipment world.moment input world.equipment world.ways) world moves _
+      world.host holds is is.are.at (other-is did_h Equipment plans world.moment is.done moves world.host holds.made.host)
 
   host-keeps :
       (input : Input HostCommand) → MayTake user input → (world : World S T) (moves : List Move) → Holds world moves
       → IsNext (seen_at Host plans moves).there.under_way input
       → Good (host_stepped e h input world) (log_of moves)
-  host-keeps input may world moves holds next = by_turn (world.steps == most_steps)
-    where
-      by_slip : (b : Bool) → slips h Host world.moment input world.host world.ways ≡ b
-          → Good (with_host e h world
-          (if b then slipped Host world.moment world.host world.ways
-          else made h Host world.moment input world.ways (h.act world.host input world.moment))) (log_of moves)
-      by_slip true is = record {
-        moves = moves;
-        keep = holds.keep;
-        clean = holds.clean;
-        steps = holds.steps;
-        last = slip_of Host world.moment world.ways ∷ [];
-        few = omega arith;
-        no_notes = (tt, tt);
-        log = refl;
-        on = λ on. cc;
-      }
-      by_slip false is =
-          host-made input may world moves holds next is (h.act world.host input world.moment) refl
-
-      by_turn : (b : Bool)
-          → Good (if b then turned_out world
-          else with_host e h world (stepped h Host world.moment input world.host world.ways)) (log_of moves)
-      by_turn true = goes-out world moves holds
-      by_turn false = by_slip (slips h Host world.moment input world.host world.ways) refl
+  host-keeps input may world moves holds next =
+      let is =
+      has-stepped did_h user first_h h Host plans law_h world.moment moves world.host input world.ways may
+      holds.made.keep holds.made.clean holds.made.host next holds.stands holds.bytes
+      in
+      step-keeps did_h Host (stepped h Host world.moment input world.host world.ways) world moves world.equipment _
+      holds is (other-is did_e Host plans world.moment is.done moves world.equipment holds.made.equipment) is.are.at
 
   -- ---- characters
 
@@ -355,19 +233,29 @@ module _ {S T : Type 0}
   given-keeps : (side : Side) → Keeps (given e h side)
   given-keeps side world moves holds = go side (direction_to side world.ways).under_way refl
     where
+      small :
+          (side : Side) (c : Character) (cs : List Character) → (direction_to side world.ways).under_way ≡ c ∷ cs
+          → c.byte < 256
+      small side c cs is = (subst AreByteCharacters is (bytes-to side world.ways holds.bytes)).0
+
+      next :
+          (side : Side) (c : Character) (cs : List Character) → (direction_to side world.ways).under_way ≡ c ∷ cs
+          → IsNextByte (seen_at side plans moves).there.under_way c.byte
+      next side c cs is =
+          subst (λ (cs : List order.Character). IsNextByte cs c.byte)
+          (ap characters_of (sym is) ∙ next-way side world.ways (line_of_moves plans moves) holds.stands) refl
+
       go : (side : Side) (under_way : List Character) → (direction_to side world.ways).under_way ≡ under_way
           → Good (given_next e h side (next_byte (characters_of under_way)) world) (log_of moves)
       go side [] is = goes-still world moves holds
       go Equipment (c ∷ cs) is =
-          equipment-keeps (Char c.byte) (subst AreByteCharacters is holds.bytes.0).0 world moves holds
-          (subst (λ (cs : List order.Character). IsNext {C = ToolCommand} cs (Char c.byte)) (ap characters_of (sym is) ∙ next-way Equipment world.ways (line_of_moves plans moves) holds.stands) refl)
-      go Host (c ∷ cs) is =
-          host-keeps (Char c.byte) (subst AreByteCharacters is holds.bytes.1).0 world moves holds
-          (subst (λ (cs : List order.Character). IsNext {C = HostCommand} cs (Char c.byte)) (ap characters_of (sym is) ∙ next-way Host world.ways (line_of_moves plans moves) holds.stands) refl)
+          equipment-keeps (Char c.byte) (small Equipment c cs is) world moves holds (next Equipment c cs is)
+      go Host (c ∷ cs) is = host-keeps (Char c.byte) (small Host c cs is) world moves holds (next Host c cs is)
 
   times-keeps : (n : ℕ) (side : Side) → Keeps (given_times e h n side)
   times-keeps zero side = goes-still
-  times-keeps (suc n) side = keeps-then (given e h side) (given_times e h n side) (given-keeps side) (times-keeps n side)
+  times-keeps (suc n) side =
+      keeps-then (given e h side) (given_times e h n side) (given-keeps side) (times-keeps n side)
 
   settled-keeps : Keeps (settled e h)
   settled-keeps world moves holds = go (is_under_way (characters_of (way_to Equipment world).under_way))
@@ -384,93 +272,71 @@ module _ {S T : Type 0}
   both-keeps : Keeps (both_stepped e h)
   both-keeps =
       keeps-then (equipment_stepped e h Time) (host_stepped e h Time)
-      (λ world moves holds. equipment-keeps Time tt world moves holds tt) (λ world moves holds. host-keeps Time tt world moves holds tt)
+      (λ world moves holds. equipment-keeps Time tt world moves holds tt)
+      (λ world moves holds. host-keeps Time tt world moves holds tt)
 
   -- ---- what becomes of characters
 
+  -- that is no end's doing
+  abbrev IsFate : Kind → Type 0
+  IsFate (Did doing) = ⊥
+  IsFate (Started found base) = ⊥
+  IsFate _ = Unit {0}
+
+  fate-made :
+      (side : Side) (kind : Kind) (now : ℕ) (moves : List Move) (s : S) (t : T) → IsFate kind → AreMade moves s t
+      → AreMade (record { side = side; moment = now; kind = kind } ∷ moves) s t
+  fate-made side (Did doing) now moves s t is made = absurd is
+  fate-made side (Started found base) now moves s t is made = absurd is
+  fate-made Equipment kind now moves s t is made =
+      made-more _ (_ ∷ []) moves s t refl made.steps (tt, made.keep) (refl, made.clean) made.equipment made.host
+  fate-made Host kind now moves s t is made =
+      made-more _ (_ ∷ []) moves s t refl made.steps (tt, made.keep) (refl, made.clean) made.equipment made.host
+
   lost-once : (side : Side) (world : World S T) (moves : List Move) → Holds world moves
       → Holds (lost_from 1 side world) (record { side = side; moment = world.moment; kind = Lost } ∷ moves)
-  lost-once Equipment world moves holds = record {
-    keep = (tt, holds.keep);
-    clean = (refl, holds.clean);
-    steps = one_step _ (_ ∷ []) moves refl (record { state_of_equipment = world.equipment; state_of_host = world.host; equipment_did = holds.equipment.is; host_did = holds.host.is }) holds.steps;
-    equipment = record { is = holds.equipment.is; state = holds.equipment.state };
-    host = record { is = holds.host.is; state = holds.host.state };
-    stands = lose-stands Equipment world.ways (line_of_moves plans moves) holds.stands;
-    bytes = (dropped 1 world.ways.to_equipment.under_way holds.bytes.0, holds.bytes.1);
-  }
-  lost-once Host world moves holds = record {
-    keep = (tt, holds.keep);
-    clean = (refl, holds.clean);
-    steps = one_step _ (_ ∷ []) moves refl (record { state_of_equipment = world.equipment; state_of_host = world.host; equipment_did = holds.equipment.is; host_did = holds.host.is }) holds.steps;
-    equipment = record { is = holds.equipment.is; state = holds.equipment.state };
-    host = record { is = holds.host.is; state = holds.host.state };
-    stands = lose-stands Host world.ways (line_of_moves plans moves) holds.stands;
-    bytes = (holds.bytes.0, dropped 1 world.ways.to_host.under_way holds.bytes.1);
+  lost-once side world moves holds = record {
+    made = fate-made side Lost world.moment moves world.equipment world.host tt holds.made;
+    stands = lose-stands side world.ways (line_of_moves plans moves) holds.stands;
+    bytes =
+        bytes-with side (lost 1 (way_to side world)) world.ways
+        (dropped 1 (way_to side world).under_way (bytes-to side world.ways holds.bytes)) holds.bytes;
   }
 
   losses-keep : (n : ℕ) (side : Side) → Keeps (λ world. still (lost_from n side world))
   losses-keep zero side world moves holds =
-      subst (λ (w : World S T). Good (still w) (log_of moves)) (sym (lost-none side world)) (goes-still world moves holds)
+      subst (λ (w : World S T). Good (still w) (log_of moves)) (sym (lost-none side world))
+      (goes-still world moves holds)
   losses-keep (suc n) side world moves holds =
       subst (λ (w : World S T). Good (still w) (log_of moves)) (sym (lost-more n side world))
       (losses-keep n side (lost_from 1 side world) _ (lost-once side world moves holds))
 
   change-keeps : (side : Side) (place byte : ℕ) → byte < 256 → Keeps (λ world. still (changed_at side place byte world))
-  change-keeps Equipment place byte small world moves holds =
-      goes-still (changed_at Equipment place byte world) (record { side = Equipment; moment = world.moment; kind = Changed place byte } ∷ moves) (record {
-        keep = (tt, holds.keep);
-        clean = (refl, holds.clean);
-        steps = one_step _ (_ ∷ []) moves refl (record { state_of_equipment = world.equipment; state_of_host = world.host; equipment_did = holds.equipment.is; host_did = holds.host.is }) holds.steps;
-        equipment = record { is = holds.equipment.is; state = holds.equipment.state };
-        host = record { is = holds.host.is; state = holds.host.state };
-        stands = change-stands Equipment place byte world.ways (line_of_moves plans moves) holds.stands;
-        bytes = (with-byte place byte world.ways.to_equipment.under_way small holds.bytes.0, holds.bytes.1);
-      })
-  change-keeps Host place byte small world moves holds =
-      goes-still (changed_at Host place byte world) (record { side = Host; moment = world.moment; kind = Changed place byte } ∷ moves) (record {
-        keep = (tt, holds.keep);
-        clean = (refl, holds.clean);
-        steps = one_step _ (_ ∷ []) moves refl (record { state_of_equipment = world.equipment; state_of_host = world.host; equipment_did = holds.equipment.is; host_did = holds.host.is }) holds.steps;
-        equipment = record { is = holds.equipment.is; state = holds.equipment.state };
-        host = record { is = holds.host.is; state = holds.host.state };
-        stands = change-stands Host place byte world.ways (line_of_moves plans moves) holds.stands;
-        bytes = (holds.bytes.0, with-byte place byte world.ways.to_host.under_way small holds.bytes.1);
+  change-keeps side place byte small world moves holds =
+      goes-still (changed_at side place byte world)
+      (record { side = side; moment = world.moment; kind = Changed place byte } ∷ moves) (record {
+        made = fate-made side (Changed place byte) world.moment moves world.equipment world.host tt holds.made;
+        stands = change-stands side place byte world.ways (line_of_moves plans moves) holds.stands;
+        bytes =
+            bytes-with side (with_change place byte (way_to side world)) world.ways
+            (with-byte place byte (way_to side world).under_way small (bytes-to side world.ways holds.bytes))
+            holds.bytes;
       })
 
   add-keeps : (side : Side) (byte : ℕ) → byte < 256 → Keeps (λ world. still (added_to side byte world))
-  add-keeps Equipment byte small world moves holds =
-      goes-still (added_to Equipment byte world) (record { side = Equipment; moment = world.moment; kind = Added byte } ∷ moves) (record {
-        keep = (tt, holds.keep);
-        clean = (refl, holds.clean);
-        steps = one_step _ (_ ∷ []) moves refl (record { state_of_equipment = world.equipment; state_of_host = world.host; equipment_did = holds.equipment.is; host_did = holds.host.is }) holds.steps;
-        equipment = record { is = holds.equipment.is; state = holds.equipment.state };
-        host = record { is = holds.host.is; state = holds.host.state };
-        stands = add-stands Equipment byte world.ways (line_of_moves plans moves) holds.stands;
-        bytes = ((small, holds.bytes.0), holds.bytes.1);
-      })
-  add-keeps Host byte small world moves holds =
-      goes-still (added_to Host byte world) (record { side = Host; moment = world.moment; kind = Added byte } ∷ moves) (record {
-        keep = (tt, holds.keep);
-        clean = (refl, holds.clean);
-        steps = one_step _ (_ ∷ []) moves refl (record { state_of_equipment = world.equipment; state_of_host = world.host; equipment_did = holds.equipment.is; host_did = holds.host.is }) holds.steps;
-        equipment = record { is = holds.equipment.is; state = holds.equipment.state };
-        host = record { is = holds.host.is; state = holds.host.state };
-        stands = add-stands Host byte world.ways (line_of_moves plans moves) holds.stands;
-        bytes = (holds.bytes.0, (small, holds.bytes.1));
+  add-keeps side byte small world moves holds =
+      goes-still (added_to side byte world)
+      (record { side = side; moment = world.moment; kind = Added byte } ∷ moves) (record {
+        made = fate-made side (Added byte) world.moment moves world.equipment world.host tt holds.made;
+        stands = add-stands side byte world.ways (line_of_moves plans moves) holds.stands;
+        bytes =
+            bytes-with side (with_noise byte (way_to side world)) world.ways
+            (small, bytes-to side world.ways holds.bytes) holds.bytes;
       })
 
   later-keeps : (ms : ℕ) (more : World S T → Piece S T) → Keeps more → Keeps (λ world. more (later ms world))
   later-keeps ms more one world moves holds =
-      one (later ms world) moves (record {
-        keep = holds.keep;
-        clean = holds.clean;
-        steps = holds.steps;
-        equipment = holds.equipment;
-        host = holds.host;
-        stands = holds.stands;
-        bytes = holds.bytes;
-      })
+      one (later ms world) moves (record { made = holds.made; stands = holds.stands; bytes = holds.bytes })
 
   -- ---- events
 
@@ -481,16 +347,20 @@ module _ {S T : Type 0}
   event-keeps (event.Add side byte) may bytes = add-keeps side byte bytes
   event-keeps event.Settle may bytes = settles-keeps 65536
   event-keeps (event.Wait ms) may bytes = later-keeps ms (both_stepped e h) both-keeps
-  event-keeps (event.Tool command) may bytes = λ world moves holds. equipment-keeps (Command command) may world moves holds tt
-  event-keeps (event.Host command) may bytes = λ world moves holds. host-keeps (Command command) may world moves holds tt
+  event-keeps (event.Tool command) may bytes =
+      λ world moves holds. equipment-keeps (Command command) may world moves holds tt
+  event-keeps (event.Host command) may bytes =
+      λ world moves holds. host-keeps (Command command) may world moves holds tt
   event-keeps (event.Cut call choice) may bytes = goes-still
 
-  events-keep : (events : List Event) → All (MayHappen tool user) events → All HasBytes events → Keeps (after_events e h events)
+  events-keep :
+      (events : List Event) → All (MayHappen tool user) events → All HasBytes events → Keeps (after_events e h events)
   events-keep [] may bytes = goes-still
   events-keep (event ∷ events) may bytes =
       keeps-then (after_event e h event) (after_events e h events)
       (event-keeps event (may 0 event (omega arith)) (bytes 0 event (omega arith)))
-      (events-keep events (λ k d within. may (suc k) d (omega (arith, within))) (λ k d within. bytes (suc k) d (omega (arith, within))))
+      (events-keep events (λ k d within. may (suc k) d (omega (arith, within)))
+      (λ k d within. bytes (suc k) d (omega (arith, within))))
 
   -- ---- the start
 
@@ -501,14 +371,12 @@ module _ {S T : Type 0}
 
   start-holds : Holds (at_start first_e first_h).world started
   start-holds = record {
-    keep = (
-      record { least = omega arith; above = λ drawn has. absurd has },
-      (record { least = omega arith; above = λ drawn has. absurd has }, tt),
-    );
-    clean = (refl, (refl, tt));
-    steps = one_step _ started [] (sym (append-nil started)) (record { state_of_equipment = first_e.next; state_of_host = first_h.next; equipment_did = law_e.starts.is; host_did = law_h.starts.is }) no_moves;
-    equipment = record { is = law_e.starts.is; state = refl };
-    host = record { is = law_h.starts.is; state = refl };
+    made =
+        made-more started started [] first_e.next first_h.next (sym (append-nil started)) no_moves (
+          record { least = omega arith; above = λ drawn has. absurd has },
+          (record { least = omega arith; above = λ drawn has. absurd has }, tt),
+        ) (refl, (refl, tt)) (record { is = law_e.starts.is; state = refl })
+        (record { is = law_h.starts.is; state = refl });
     stands = new-stands plans.equipment.times plans.host.times law_e.fits.times law_h.fits.times;
     bytes = (tt, tt);
   }
@@ -516,21 +384,19 @@ module _ {S T : Type 0}
   start-log : (at_start first_e first_h).entries ≡ log_of started
   start-log =
       ap (λ (ns : List Happening). log_with 0 Host ns (log_with 0 Equipment first_e.notes [])) law_h.starts.notes
-      ∙ ap (λ (ns : List Happening). log_with 0 Host (start_of Host law_h.starts.found law_h.starts.base ∷ []) (log_with 0 Equipment ns [])) law_e.starts.notes
+      ∙ ap
+      (λ (ns : List Happening).
+      log_with 0 Host (start_of Host law_h.starts.found law_h.starts.base ∷ []) (log_with 0 Equipment ns []))
+      law_e.starts.notes
 
   pub run-is : (events : List Event) → All (MayHappen tool user) events → All HasBytes events
       → Good (piece_of e h first_e first_h events) []
   run-is events may bytes =
       good-then (begun e h first_e first_h) [] (after_events e h events)
       (good-then (at_start first_e first_h) [] (both_stepped e h) (record {
-        moves = started;
-        keep = start-holds.keep;
-        clean = start-holds.clean;
-        steps = start-holds.steps;
-        last = [];
-        few = omega arith;
-        no_notes = tt;
-        log = append-nil (at_start first_e first_h).entries ∙ start-log;
+        of =
+            with_last started first_e.next first_h.next [] ((at_start first_e first_h).entries ++ [])
+            start-holds.made (omega arith) tt (append-nil (at_start first_e first_h).entries ∙ start-log);
         on = λ on. (refl, start-holds);
       }) both-keeps)
       (events-keep events may bytes)

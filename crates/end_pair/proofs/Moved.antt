@@ -1,5 +1,5 @@
 -- What an end does in a step keeps the laws, makes no slip, and is noted.
-use Rattle.std.proofs.Common.{◌≡◌, ℕ, false, List, [], ◌∷◌, ◌++◌, None, refl, sym, ap, subst, ◌∙◌, append_assoc, append-nil}
+use Rattle.std.proofs.Common.{◌≡◌, ◌≤◌, ℕ, Bool, true, false, List, [], ◌∷◌, ◌++◌, length, None, if◌then◌else◌, refl, sym, ap, subst, ◌∙◌, append_assoc, append-nil, arith}
 use Rattle.std.proofs.lemmas.List.{append_cancel_left}
 use Rattle.gl_base.specs.declared.side.Side.{Side}
 use Rattle.gl_base.specs.declared.side.Side.TheVariants.{Equipment, Host}
@@ -16,10 +16,11 @@ use Rattle.line_way.specs.Step.{AreDecisions, step_deeds}
 use Rattle.line_way.specs.Ways.{StandsFor, Ways}
 use Rattle.line_way.proofs.Slipping.{slip-stands}
 use Rattle.line_way.proofs.Steps.{step-stands}
-use Rattle.message_end.specs.Core.{Step}
+use Rattle.message_end.specs.Core.{Step, Went}
+use Rattle.message_end.specs.Core.Went.{Goes, Spent}
 use Rattle.message_end.specs.Doings.{AreLawful, Doing, IsLawful, line_of}
 use Rattle.message_end.specs.Doings.Doing.{Calls, Does, Gives, Says}
-use Rattle.message_end.specs.Ends.{AreBegunOf, AreOfStep, DoesMore, Input, KeepsLaw, Machine, taking_calls}
+use Rattle.message_end.specs.Ends.{AreBegunOf, AreOfStep, DoesMore, DoesStep, Input, KeepsLaw, Machine, MayTake, taking_calls}
 use Rattle.message_end.specs.Ends.Input.{Char, Command, Time}
 use Rattle.message_end.specs.History.{noted_in, notes_of_own, written_in}
 use Rattle.message_end.specs.Log.{log_of, noted_of_own, with_note}
@@ -28,11 +29,15 @@ use Rattle.message_end.specs.Moves.{IsOnWay, KeepLaws, LinePlans, Move, act_of_c
 use Rattle.message_end.specs.Moves.Kind.{Did}
 use Rattle.message_end.specs.Own.{Own}
 use Rattle.message_end.specs.Own.Own.{DrewNumber, DroppedMessage, GaveBlock, HeardBlock, ReceivedMessage, SentMessage, WroteFrame}
+use Rattle.message_end.specs.Plan.{EndPlan}
 use Rattle.trace_log.specs.Laws.{log_with}
 use Rattle.trace_log.specs.Log.{Entry, Happening}
 use Rattle.trace_log.specs.Log.Entry.{Noted}
 use Rattle.trace_log.specs.Log.Happening.{Received, Sent, Wrote}
-use Rattle.end_pair.specs.Steps.{entries_of, gives, slips, wrote}
+use Rattle.end_pair.specs.declared.answers.WorldStep.TheVariants as answer
+use Rattle.end_pair.specs.Laws.{AreNoNotes}
+use Rattle.end_pair.specs.Steps.{Stepped, entries_of, gives, made, slip_of, slipped, slips, stepped, wrote}
+use Rattle.end_pair.proofs.ByteWays.{AreByteWays, bytes-after}
 use Rattle.end_pair.proofs.Bytes.{AreBytes, are-written, behind}
 use Rattle.end_pair.proofs.Doing.{AreDone, AreOnWay, IsNext, NoSlipIn, are-done, call_deed, deeds_by, deeds_with, line-after, no-slip, no-slip-first, on-way-first, seen-after, step-deeds, step-no-slip, step-on-way}
 
@@ -182,10 +187,16 @@ noted-behind (Says what ∷ before) doings =
 
 -- ---- the end, and the other one
 
--- these moves have made the end what it is
-pub record IsAt {S : Type 0} (did : ℕ → List Doing → S → Type 0) (side : Side) (plans : LinePlans) (moves : List Move) (s : S) : Type 0 where
-  pub is : did (run_at side plans moves).base (run_at side plans moves).doings s
-  pub state : (seen_at side plans moves).here.state ≡ line_of (plan_at side plans) (run_at side plans moves).doings
+-- its doings have made the end what it is, and its line
+pub record HasBecome {S : Type 0}
+    (did : ℕ → List Doing → S → Type 0) (plan : EndPlan) (run : Run) (line : LineState) (s : S) : Type 0 where
+  pub is : did run.base run.doings s
+  pub state : line ≡ line_of plan run.doings
+
+-- these moves have
+abbrev pub IsAt : {S : Type 0} → (ℕ → List Doing → S → Type 0) → Side → LinePlans → List Move → S → Type 0
+IsAt did side plans moves s =
+    HasBecome did (plan_at side plans) (run_at side plans moves) (seen_at side plans moves).here.state s
 
 there-state : (call : LineCall) (view : View) → (act_here (act_of_call call) view).there.state ≡ view.there.state
 there-state (Send block now) view = refl
@@ -207,32 +218,34 @@ other-state side (call ∷ before) line =
     ∙ there-state call (seen_from side (line_after line (deeds_by side before)))
     ∙ other-state side before line
 
+other-run :
+    (side : Side) (plans : LinePlans) (now : ℕ) (done : List Doing) (moves : List Move)
+    → run_at (other_side side) plans (moves_with side now done moves) ≡ run_at (other_side side) plans moves
+other-run side plans now [] moves = refl
+other-run Equipment plans now (doing ∷ before) moves = other-run Equipment plans now before moves
+other-run Host plans now (doing ∷ before) moves = other-run Host plans now before moves
+
+here-there : (side : Side) (line : Line)
+    → (seen_from (other_side side) line).here.state ≡ (seen_from side line).there.state
+here-there Equipment line = refl
+here-there Host line = refl
+
 pub other-is :
-    {S : Type 0} (did : ℕ → List Doing → S → Type 0) (side : Side) (plans : LinePlans) (now : ℕ) (done : List Doing) (moves : List Move)
-    (s : S)
+    {S : Type 0} (did : ℕ → List Doing → S → Type 0) (side : Side) (plans : LinePlans) (now : ℕ)
+    (done : List Doing) (moves : List Move) (s : S)
     → IsAt did (other_side side) plans moves s → IsAt did (other_side side) plans (moves_with side now done moves) s
-other-is did Equipment plans now done moves s at = record {
-  is = subst (λ (r : Run). did r.base r.doings s) (sym (run done)) at.is;
+other-is did side plans now done moves s at = record {
+  is = subst (λ (r : Run). did r.base r.doings s) (sym run) at.is;
   state =
-      ap (λ (l : Line). l.host.state) (line-moves plans Equipment now done moves)
-      ∙ other-state Equipment (calls_in done) (line_of_moves plans moves) ∙ at.state
-      ∙ ap (λ (r : Run). line_of (plan_at Host plans) r.doings) (sym (run done));
+      here-there side (line_of_moves plans (moves_with side now done moves))
+      ∙ ap (λ (l : Line). (seen_from side l).there.state) (line-moves plans side now done moves)
+      ∙ other-state side (calls_in done) (line_of_moves plans moves)
+      ∙ sym (here-there side (line_of_moves plans moves)) ∙ at.state
+      ∙ ap (λ (r : Run). line_of (plan_at (other_side side) plans) r.doings) (sym run);
 }
   where
-    run : (done : List Doing) → run_at Host plans (moves_with Equipment now done moves) ≡ run_at Host plans moves
-    run [] = refl
-    run (doing ∷ before) = run before
-other-is did Host plans now done moves s at = record {
-  is = subst (λ (r : Run). did r.base r.doings s) (sym (run done)) at.is;
-  state =
-      ap (λ (l : Line). l.equipment.state) (line-moves plans Host now done moves)
-      ∙ other-state Host (calls_in done) (line_of_moves plans moves) ∙ at.state
-      ∙ ap (λ (r : Run). line_of (plan_at Equipment plans) r.doings) (sym (run done));
-}
-  where
-    run : (done : List Doing) → run_at Equipment plans (moves_with Host now done moves) ≡ run_at Equipment plans moves
-    run [] = refl
-    run (doing ∷ before) = run before
+    run : run_at (other_side side) plans (moves_with side now done moves) ≡ run_at (other_side side) plans moves
+    run = other-run side plans now done moves
 
 -- ---- a step
 
@@ -244,6 +257,21 @@ pub record AreMoves {S : Type 0}
   pub no_slip : HasNoSlip (new_line plans.equipment.times plans.host.times) (deeds_of (moves_with side now done moves))
   pub at : IsAt did side plans (moves_with side now done moves) next
   pub log : log_of (moves_with side now done moves) ≡ entries_of side now noted ++ log_of moves
+
+-- what a step has left is what its moves have made, but for at most an entry that is no note
+pub record HasStepped {S : Type 0}
+    (did : ℕ → List Doing → S → Type 0) (side : Side) (plans : LinePlans) (now : ℕ) (moves : List Move) (step : Stepped S)
+    : Type 0 where
+  pub done : List Doing
+  pub noted : List Happening
+  pub are : AreMoves did side plans now moves step.end noted done
+  pub last : List Entry
+  pub few : length last ≤ 1
+  pub no_notes : AreNoNotes last
+  pub entries : step.entries ≡ last ++ entries_of side now noted
+  pub on :
+      step.went ≡ answer.Went
+      → (last ≡ []) × StandsFor step.ways (line_of_moves plans (moves_with side now done moves)) × AreByteWays step.ways
 
 module _ {S C : Type 0} (did : ℕ → List Doing → S → Type 0) (takes : C → Type 0) (first : Step S Happening) (machine : Machine S C)
     (side : Side) (plans : LinePlans) (law : KeepsLaw (plan_at side plans) did takes first machine) where
@@ -343,7 +371,7 @@ module _ {S C : Type 0} (did : ℕ → List Doing → S → Type 0) (takes : C �
   wrote-done (byte ∷ bytes) line doings done are = record { state = are.state; run = are.run; written = are.written }
 
   -- a step in which the numbers are spent
-  pub spent-moves :
+  spent-moves :
       (now : ℕ) (moves : List Move) (s : S) (input : Input C) (step : Step S Happening) → KeepLaws plans moves
       → HasNoSlip (new_line plans.equipment.times plans.host.times) (deeds_of moves) → IsAt did side plans moves s
       → IsNext (seen_at side plans moves).there.under_way input → NoSlipIn side now (line_of_moves plans moves) input
@@ -362,15 +390,15 @@ module _ {S C : Type 0} (did : ℕ → List Doing → S → Type 0) (takes : C �
           (no-slip-first side line more.calls.later (calls_in more.done) (calls-quiet now line input (more.calls.later ++ calls_in more.done) more.calls.whole quiet))
 
   -- a step that goes on, with the characters that it has written
-  pub record HasMoved (now : ℕ) (moves : List Move) (input : Input C) (ways : Ways) (step : Step S Happening) : Type 0 where
-    pub done : List Doing
-    pub are : AreMoves did side plans now moves step.next (step.notes ++ wrote step.written) done
-    pub bytes : AreBytes step.written
-    pub ways_are :
+  record HasMoved (now : ℕ) (moves : List Move) (input : Input C) (ways : Ways) (step : Step S Happening) : Type 0 where
+    done : List Doing
+    are : AreMoves did side plans now moves step.next (step.notes ++ wrote step.written) done
+    bytes : AreBytes step.written
+    ways_are :
         StandsFor (ways_after side (gives input) (machine.line step.next).phase step.written ways)
         (line_of_moves plans (moves_with side now done moves))
 
-  pub goes-moves :
+  goes-moves :
       (now : ℕ) (moves : List Move) (s : S) (input : Input C) (ways : Ways) (step : Step S Happening) → KeepLaws plans moves
       → HasNoSlip (new_line plans.equipment.times plans.host.times) (deeds_of moves) → IsAt did side plans moves s
       → IsNext (seen_at side plans moves).there.under_way input → NoSlipIn side now (line_of_moves plans moves) input
@@ -427,7 +455,7 @@ module _ {S C : Type 0} (did : ℕ → List Doing → S → Type 0) (takes : C �
       deeds_are = ap (deeds_by side) more.calls.are ∙ deeds.0
 
   -- no slip was found before the step
-  pub no-slip-in :
+  no-slip-in :
       (now : ℕ) (moves : List Move) (s : S) (input : Input C) (ways : Ways) → IsAt did side plans moves s
       → StandsFor ways (line_of_moves plans moves) → slips machine side now input s ways ≡ false
       → NoSlipIn side now (line_of_moves plans moves) input
@@ -442,3 +470,62 @@ module _ {S C : Type 0} (did : ℕ → List Doing → S → Type 0) (takes : C �
     where
       same : (seen_at side plans moves).here.state ≡ machine.line s
       same = at.state ∙ sym (law.keeps (run_at side plans moves).base (run_at side plans moves).doings s at.is).line_is
+
+  -- a slip, found before it, leaves all as it was
+  pub has-stepped :
+      (now : ℕ) (moves : List Move) (s : S) (input : Input C) (ways : Ways) → MayTake takes input → KeepLaws plans moves
+      → HasNoSlip (new_line plans.equipment.times plans.host.times) (deeds_of moves) → IsAt did side plans moves s
+      → IsNext (seen_at side plans moves).there.under_way input → StandsFor ways (line_of_moves plans moves)
+      → AreByteWays ways → HasStepped did side plans now moves (stepped machine side now input s ways)
+  has-stepped now moves s input ways may keep clean at next stands bytes =
+      by_slip (slips machine side now input s ways) refl
+    where
+      run : Run
+      run = run_at side plans moves
+
+      by_went : NoSlipIn side now (line_of_moves plans moves) input → (went : Went S Happening)
+          → DoesStep (plan_at side plans) did run.base run.doings input now went
+          → HasStepped did side plans now moves (made machine side now input ways went)
+      by_went quiet (Goes step) more =
+          let moved = goes-moves now moves s input ways step keep clean at next quiet stands more in
+          record {
+            done = moved.done;
+            noted = step.notes ++ wrote step.written;
+            are = moved.are;
+            last = [];
+            few = omega arith;
+            no_notes = tt;
+            entries = refl;
+            on = λ on. (
+              refl,
+              moved.ways_are,
+              bytes-after side (gives input) (machine.line step.next).phase step.written ways moved.bytes bytes,
+            );
+          }
+      by_went quiet (Spent step) more = record {
+        done = more.done;
+        noted = step.notes;
+        are = spent-moves now moves s input step keep clean at next quiet more;
+        last = [];
+        few = omega arith;
+        no_notes = tt;
+        entries = refl;
+        on = λ on. cc;
+      }
+
+      by_slip : (b : Bool) → slips machine side now input s ways ≡ b
+          → HasStepped did side plans now moves
+          (if b then slipped side now s ways else made machine side now input ways (machine.act s input now))
+      by_slip true is = record {
+        done = [];
+        noted = [];
+        are = record { keep = keep; no_slip = clean; at = at; log = refl };
+        last = slip_of side now ways ∷ [];
+        few = omega arith;
+        no_notes = (tt, tt);
+        entries = refl;
+        on = λ on. cc;
+      }
+      by_slip false none =
+          by_went (no-slip-in now moves s input ways at stands none) (machine.act s input now)
+          (law.goes_on run.base run.doings s input now at.is may)

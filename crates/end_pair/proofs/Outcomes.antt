@@ -1,5 +1,5 @@
 -- The log of a run as that of moves; and how many steps a run makes.
-use Rattle.std.proofs.Common.{◌≡◌, ◌≤◌, zero, suc, ℕ, ◌+◌, ◌==◌, Bool, true, false, List, [], ◌∷◌, ◌++◌, Option, Some, None, if◌then◌else◌, refl, sym, ap, ◌∙◌, append-nil, arith}
+use Rattle.std.proofs.Common.{◌≡◌, ◌≢◌, ◌≤◌, zero, suc, ℕ, ◌+◌, ◌==◌, Bool, true, false, List, [], ◌∷◌, ◌++◌, Option, Some, None, if◌then◌else◌, refl, sym, ap, ◌∙◌, append-nil, arith}
 use Rattle.std.specs.List.{All}
 use Rattle.std.proofs.lemmas.Bool.Decides.{nat_tests}
 use Rattle.gl_base.specs.declared.side.Side.{Side}
@@ -7,8 +7,7 @@ use Rattle.gl_base.specs.declared.side.Side.TheVariants.{Equipment, Host}
 use Rattle.line_schedule.specs.declared.event.Event.{Event}
 use Rattle.line_schedule.specs.declared.event.Event.TheVariants as event
 use Rattle.line_way.specs.Ways.{characters_of, is_under_way, next_byte}
-use Rattle.message_end.specs.Core.{Step, Went}
-use Rattle.message_end.specs.Core.Went.{Goes, Spent}
+use Rattle.message_end.specs.Core.{Step}
 use Rattle.message_end.specs.Doings.{Doing}
 use Rattle.message_end.specs.Ends.{Input, KeepsLaw, Machine}
 use Rattle.message_end.specs.Ends.Input.{Char, Command, Time}
@@ -24,9 +23,10 @@ use Rattle.end_pair.specs.Kept.{MayHappen}
 use Rattle.end_pair.specs.Laws.{HasBytes, IsOfMoves, RunsAreBounded}
 use Rattle.end_pair.specs.Run.{closing, piece_of, whole_log}
 use Rattle.end_pair.specs.Run as run
-use Rattle.end_pair.specs.Steps.{made, slipped, slips, stepped}
+use Rattle.end_pair.specs.Steps.{stepped}
 use Rattle.end_pair.specs.World.{Piece, World, after_event, after_events, and_more, and_on, at_start, begun, both_stepped, equipment_stepped, given, given_next, given_times, host_stepped, later, most_steps, settled, settled_times, still, turned_out, way_to, with_equipment, with_host}
-use Rattle.end_pair.proofs.Holding.{Good, run-is}
+use Rattle.end_pair.proofs.Causes.{by-cause}
+use Rattle.end_pair.proofs.Holding.{Good, run-is, same_moves}
 
 -- ---- the whole log
 
@@ -47,20 +47,15 @@ log-is {S} {T} did_e did_h tool user first_e first_h e h plans law_e law_h event
     good : Good did_e did_h tool user first_e first_h e h plans law_e law_h piece []
     good = run-is did_e did_h tool user first_e first_h e h plans law_e law_h events may bytes
 
-    entries : piece.entries ≡ good.last ++ log_of good.moves
-    entries = sym (append-nil piece.entries) ∙ good.log
+    of : IsOfMoves did_e did_h plans piece.entries
+    of =
+        same_moves did_e did_h tool user first_e first_h e h plans law_e law_h (piece.entries ++ []) piece.entries
+        (sym (append-nil piece.entries)) good.of
 
     some : piece.entries ≡ whole_log piece → IsOfMoves did_e did_h plans (whole_log piece)
-    some is = record {
-      moves = good.moves;
-      keep = good.keep;
-      no_slip = good.clean;
-      steps = good.steps;
-      last = good.last;
-      at_most_one = good.few;
-      no_notes = good.no_notes;
-      is = sym is ∙ entries;
-    }
+    some is =
+        same_moves did_e did_h tool user first_e first_h e h plans law_e law_h piece.entries (whole_log piece)
+        (sym is) of
 
     same : (how : WorldStep) → piece.went ≡ how → closing how piece.world.moment ≡ [] → piece.entries ≡ whole_log piece
     same how is none =
@@ -68,17 +63,17 @@ log-is {S} {T} did_e did_h tool user first_e first_h e h plans law_e law_h event
 
     go : (went : WorldStep) → piece.went ≡ went → IsOfMoves did_e did_h plans (whole_log piece)
     go answer.Went is = record {
-      moves = good.moves;
-      keep = good.keep;
-      no_slip = good.clean;
-      steps = good.steps;
+      moves = of.moves;
+      keep = of.keep;
+      no_slip = of.no_slip;
+      steps = of.steps;
       at_most_one = omega arith;
       last = Ended piece.world.moment ∷ [];
       no_notes = (tt, tt);
       is =
           ap (λ (w : WorldStep). closing w piece.world.moment ++ piece.entries) is
           ∙ ap (λ (es : List Entry). Ended piece.world.moment ∷ es)
-          (entries ∙ ap (λ (es : List Entry). es ++ log_of good.moves) (good.on is).0);
+          (of.is ∙ ap (λ (es : List Entry). es ++ log_of of.moves) (good.on is).0);
     }
     go answer.Slip is = some (same answer.Slip is refl)
     go answer.Turns is = some (same answer.Turns is refl)
@@ -111,51 +106,27 @@ module _ {S T : Type 0} (e : Machine S ToolCommand) (h : Machine T HostCommand) 
   bounds-then : (first more : World S T → Piece S T) → Bounds first → Bounds more → Bounds (λ world. and_more (first world) more)
   bounds-then first more one two world few = bounded-then (first world) more (one world few) two
 
-  equipment-bounds : (input : Input ToolCommand) → Bounds (equipment_stepped e h input)
-  equipment-bounds input world few = by_turn (world.steps == most_steps) refl
+  -- a step of either end is one of all steps, and is made where one is left
+  turn-bounds :
+      (world : World S T) (piece : Piece S T) → world.steps ≤ 4000000 → piece.world.steps ≡ world.steps + 1
+      → piece.went ≢ answer.Turns → IsBounded (if world.steps == most_steps then turned_out world else piece)
+  turn-bounds world piece few counts other = go (world.steps == most_steps) refl
     where
-      by_went : (went : Went S Happening) → world.steps + 1 ≤ 4000000
-          → IsBounded (with_equipment e h world (made e Equipment world.moment input world.ways went))
-      by_went (Goes step) fits = record { steps = fits; turns = λ is. cc }
-      by_went (Spent step) fits = record { steps = fits; turns = λ is. cc }
-
-      by_slip : (b : Bool) → world.steps + 1 ≤ 4000000
-          → IsBounded (with_equipment e h world
-          (if b then slipped Equipment world.moment world.equipment world.ways
-          else made e Equipment world.moment input world.ways (e.act world.equipment input world.moment)))
-      by_slip true fits = record { steps = fits; turns = λ is. cc }
-      by_slip false fits = by_went (e.act world.equipment input world.moment) fits
-
-      by_turn : (b : Bool) → (world.steps == most_steps) ≡ b
-          → IsBounded (if b then turned_out world
-          else with_equipment e h world (stepped e Equipment world.moment input world.equipment world.ways))
-      by_turn true is = record { steps = few; turns = λ turns. grind (arith, nat_tests) }
-      by_turn false is =
+      go : (b : Bool) → (world.steps == most_steps) ≡ b → IsBounded (if b then turned_out world else piece)
+      go true is = record { steps = few; turns = λ turns. grind (arith, nat_tests) }
+      go false is =
           let fits : world.steps + 1 ≤ 4000000 = grind (arith, nat_tests) in
-          by_slip (slips e Equipment world.moment input world.equipment world.ways) fits
+          record { steps = omega (arith, fits, counts); turns = λ turns. absurd (other turns) }
+
+  equipment-bounds : (input : Input ToolCommand) → Bounds (equipment_stepped e h input)
+  equipment-bounds input world few =
+      turn-bounds world (with_equipment e h world (stepped e Equipment world.moment input world.equipment world.ways)) few refl
+      (by-cause e Equipment world.moment input world.equipment world.ways).no_other.0
 
   host-bounds : (input : Input HostCommand) → Bounds (host_stepped e h input)
-  host-bounds input world few = by_turn (world.steps == most_steps) refl
-    where
-      by_went : (went : Went T Happening) → world.steps + 1 ≤ 4000000
-          → IsBounded (with_host e h world (made h Host world.moment input world.ways went))
-      by_went (Goes step) fits = record { steps = fits; turns = λ is. cc }
-      by_went (Spent step) fits = record { steps = fits; turns = λ is. cc }
-
-      by_slip : (b : Bool) → world.steps + 1 ≤ 4000000
-          → IsBounded (with_host e h world
-          (if b then slipped Host world.moment world.host world.ways
-          else made h Host world.moment input world.ways (h.act world.host input world.moment)))
-      by_slip true fits = record { steps = fits; turns = λ is. cc }
-      by_slip false fits = by_went (h.act world.host input world.moment) fits
-
-      by_turn : (b : Bool) → (world.steps == most_steps) ≡ b
-          → IsBounded (if b then turned_out world
-          else with_host e h world (stepped h Host world.moment input world.host world.ways))
-      by_turn true is = record { steps = few; turns = λ turns. grind (arith, nat_tests) }
-      by_turn false is =
-          let fits : world.steps + 1 ≤ 4000000 = grind (arith, nat_tests) in
-          by_slip (slips h Host world.moment input world.host world.ways) fits
+  host-bounds input world few =
+      turn-bounds world (with_host e h world (stepped h Host world.moment input world.host world.ways)) few refl
+      (by-cause h Host world.moment input world.host world.ways).no_other.0
 
   given-bounds : (side : Side) → Bounds (given e h side)
   given-bounds side world few = go side (next_byte (characters_of (way_to side world).under_way))

@@ -15,6 +15,9 @@ use Rattle.end_pair.proofs.Pieces.{Comes, Leads, leads_done, leads_on, leads_sto
 abbrev pub IsEmptyTo : {S T : Type 0} → Side → World S T → Type 0
 IsEmptyTo side world = is_under_way (characters_of (way_to side world).under_way) ≡ false
 
+abbrev pub IsQuiet : {S T : Type 0} → World S T → Type 0
+IsQuiet world = IsEmptyTo Equipment world × IsEmptyTo Host world
+
 pub both_empty : (a b : Bool) → (not a && not b) ≡ true → (a ≡ false) × (b ≡ false)
 both_empty true b is = cc
 both_empty false true is = cc
@@ -23,6 +26,45 @@ both_empty false false is = (refl, refl)
 none-next : (cs : List Character) → is_under_way (characters_of cs) ≡ false → next_byte (characters_of cs) ≡ None
 none-next [] none = refl
 none-next (c ∷ cs) none = cc
+
+-- a piece so many times, or until nothing is left for it
+pub record Repeats {S T : Type 0}
+    (once : World S T → Piece S T) (times : ℕ → World S T → Piece S T) (Empty : World S T → Type 0) : Type 0 where
+  pub over : (world : World S T) → times 0 world ≡ still world
+  pub more : (n m : ℕ) (world : World S T) → n ≡ m + 1 → times n world ≡ and_more (once world) (times m)
+  pub none : (n : ℕ) (world : World S T) → Empty world → times n world ≡ still world
+
+module _ {S T : Type 0} {once : World S T → Piece S T} {times : ℕ → World S T → Piece S T} {Empty : World S T → Type 0}
+    (is : Repeats once times Empty) where
+  pub times_done : (n : ℕ) (world : World S T) (lines : List ℕ) (whole : Piece S T) (old : List ℕ) → Empty world
+      → Leads (times n world) lines whole old → Comes whole world old lines Went
+  times_done n world lines whole old none leads =
+      leads_done world lines whole old (subst (λ (p : Piece S T). Leads p lines whole old) (is.none n world none) leads)
+
+  pub times_over : (n : ℕ) (world : World S T) (lines : List ℕ) (whole : Piece S T) (old : List ℕ) → n ≡ 0
+      → Leads (times n world) lines whole old → Comes whole world old lines Went
+  times_over n world lines whole old over leads =
+      leads_done world lines whole old
+      (subst (λ (p : Piece S T). Leads p lines whole old) (ap (λ (k : ℕ). times k world) over ∙ is.over world) leads)
+
+  pub times_on :
+      (n m : ℕ) (world after : World S T) (between lines : List ℕ) (whole : Piece S T) (old : List ℕ) → n ≡ m + 1
+      → Comes (once world) after between lines Went → Leads (times n world) between whole old
+      → Leads (times m after) lines whole old
+  times_on n m world after between lines whole old is_n comes leads =
+      leads_on (once world) (times m) after between lines whole old comes
+      (subst (λ (p : Piece S T). Leads p between whole old) (is.more n m world is_n) leads)
+
+  pub times_stop :
+      (n m : ℕ) (world after : World S T) (between lines : List ℕ) (answer : WorldStep)
+      (whole : Piece S T) (old : List ℕ)
+      → n ≡ m + 1 → answer ≢ Went → Comes (once world) after between lines answer
+      → Leads (times n world) between whole old → Comes whole after old lines answer
+  times_stop n m world after between lines answer whole old is_n stops comes leads =
+      leads_stop (once world) (times m) after between lines answer whole old stops comes
+      (subst (λ (p : Piece S T). Leads p between whole old) (is.more n m world is_n) leads)
+
+-- ---- to one end
 
 module _ {S T : Type 0} (e : Machine S ToolCommand) (h : Machine T HostCommand) where
   given-none : (side : Side) (world : World S T) → IsEmptyTo side world → given e h side world ≡ still world
@@ -33,79 +75,47 @@ module _ {S T : Type 0} (e : Machine S ToolCommand) (h : Machine T HostCommand) 
       → given_times e h n side world ≡ and_more (given e h side world) (given_times e h m side)
   times-more n m side world is_n = ap (λ (k : ℕ). given_times e h k side world) (is_n ∙ add-one m)
 
-  times-none : (n : ℕ) (side : Side) (world : World S T) → IsEmptyTo side world → given_times e h n side world ≡ still world
+  times-none : (n : ℕ) (side : Side) (world : World S T) → IsEmptyTo side world
+      → given_times e h n side world ≡ still world
   times-none zero side world none = refl
   times-none (suc n) side world none =
       ap (λ (first : Piece S T). and_more first (given_times e h n side)) (given-none side world none)
-      ∙ ap (λ (next : Piece S T). record { world = next.world; entries = next.entries ++ []; went = next.went }) (times-none n side world none)
+      ∙ ap (λ (next : Piece S T). record { world = next.world; entries = next.entries ++ []; went = next.went })
+      (times-none n side world none)
 
-  pub give_done : (n : ℕ) (side : Side) (world : World S T) (lines : List ℕ) (whole : Piece S T) (old : List ℕ) → IsEmptyTo side world
-      → Leads (given_times e h n side world) lines whole old → Comes whole world old lines Went
-  give_done n side world lines whole old none leads =
-      leads_done world lines whole old (subst (λ (p : Piece S T). Leads p lines whole old) (times-none n side world none) leads)
-
-  pub give_over : (n : ℕ) (side : Side) (world : World S T) (lines : List ℕ) (whole : Piece S T) (old : List ℕ) → n ≡ 0
-      → Leads (given_times e h n side world) lines whole old → Comes whole world old lines Went
-  give_over n side world lines whole old over leads =
-      leads_done world lines whole old (subst (λ (k : ℕ). Leads (given_times e h k side world) lines whole old) over leads)
-
-  pub give_on : (n m : ℕ) (side : Side) (world after : World S T) (between lines : List ℕ) (whole : Piece S T) (old : List ℕ) → n ≡ m + 1
-      → Comes (given e h side world) after between lines Went → Leads (given_times e h n side world) between whole old
-      → Leads (given_times e h m side after) lines whole old
-  give_on n m side world after between lines whole old is_n comes leads =
-      leads_on (given e h side world) (given_times e h m side) after between lines whole old comes
-      (subst (λ (p : Piece S T). Leads p between whole old) (times-more n m side world is_n) leads)
-
-  pub give_stop : (n m : ℕ) (side : Side) (world after : World S T) (between lines : List ℕ) (answer : WorldStep) (whole : Piece S T) (old : List ℕ)
-      → n ≡ m + 1 → answer ≢ Went → Comes (given e h side world) after between lines answer
-      → Leads (given_times e h n side world) between whole old → Comes whole after old lines answer
-  give_stop n m side world after between lines answer whole old is_n stops comes leads =
-      leads_stop (given e h side world) (given_times e h m side) after between lines answer whole old stops comes
-      (subst (λ (p : Piece S T). Leads p between whole old) (times-more n m side world is_n) leads)
+  pub gives_times : (side : Side) → Repeats (given e h side) (λ n. given_times e h n side) (IsEmptyTo side)
+  gives_times side = record {
+    over = λ world. refl;
+    more = λ n m world is_n. times-more n m side world is_n;
+    none = λ n world empty. times-none n side world empty;
+  }
 
   -- ---- to both ends
 
-  settled-none : (world : World S T) → IsEmptyTo Equipment world → IsEmptyTo Host world → settled e h world ≡ still world
+  settled-none : (world : World S T) → IsEmptyTo Equipment world → IsEmptyTo Host world
+      → settled e h world ≡ still world
   settled-none world none empty =
-      ap (λ (b : Bool). if b then given e h Equipment world else given e h Host world) none ∙ given-none Host world empty
+      ap (λ (b : Bool). if b then given e h Equipment world else given e h Host world) none
+      ∙ given-none Host world empty
 
   settles-more : (n m : ℕ) (world : World S T) → n ≡ m + 1
       → settled_times e h n world ≡ and_more (settled e h world) (settled_times e h m)
   unfolding settled_times
   settles-more n m world is_n = ap (λ (k : ℕ). settled_times e h k world) (is_n ∙ add-one m)
 
-  settles-none : (n : ℕ) (world : World S T) → IsEmptyTo Equipment world → IsEmptyTo Host world → settled_times e h n world ≡ still world
+  settles-none : (n : ℕ) (world : World S T) → IsEmptyTo Equipment world → IsEmptyTo Host world
+      → settled_times e h n world ≡ still world
   unfolding settled_times
   settles-none zero world none empty = refl
   settles-none (suc n) world none empty =
       ap (λ (first : Piece S T). and_more first (settled_times e h n)) (settled-none world none empty)
-      ∙ ap (λ (next : Piece S T). record { world = next.world; entries = next.entries ++ []; went = next.went }) (settles-none n world none empty)
+      ∙ ap (λ (next : Piece S T). record { world = next.world; entries = next.entries ++ []; went = next.went })
+      (settles-none n world none empty)
 
   settles-zero : (world : World S T) → settled_times e h 0 world ≡ still world
   unfolding settled_times
   settles-zero world = refl
 
-  pub settle_done : (n : ℕ) (world : World S T) (lines : List ℕ) (whole : Piece S T) (old : List ℕ) → IsEmptyTo Equipment world → IsEmptyTo Host world
-      → Leads (settled_times e h n world) lines whole old → Comes whole world old lines Went
-  settle_done n world lines whole old none empty leads =
-      leads_done world lines whole old (subst (λ (p : Piece S T). Leads p lines whole old) (settles-none n world none empty) leads)
-
-  pub settle_over : (n : ℕ) (world : World S T) (lines : List ℕ) (whole : Piece S T) (old : List ℕ) → n ≡ 0
-      → Leads (settled_times e h n world) lines whole old → Comes whole world old lines Went
-  settle_over n world lines whole old over leads =
-      leads_done world lines whole old
-      (subst (λ (p : Piece S T). Leads p lines whole old) (ap (λ (k : ℕ). settled_times e h k world) over ∙ settles-zero world) leads)
-
-  pub settle_on : (n m : ℕ) (world after : World S T) (between lines : List ℕ) (whole : Piece S T) (old : List ℕ) → n ≡ m + 1
-      → Comes (settled e h world) after between lines Went → Leads (settled_times e h n world) between whole old
-      → Leads (settled_times e h m after) lines whole old
-  settle_on n m world after between lines whole old is_n comes leads =
-      leads_on (settled e h world) (settled_times e h m) after between lines whole old comes
-      (subst (λ (p : Piece S T). Leads p between whole old) (settles-more n m world is_n) leads)
-
-  pub settle_stop : (n m : ℕ) (world after : World S T) (between lines : List ℕ) (answer : WorldStep) (whole : Piece S T) (old : List ℕ)
-      → n ≡ m + 1 → answer ≢ Went → Comes (settled e h world) after between lines answer
-      → Leads (settled_times e h n world) between whole old → Comes whole after old lines answer
-  settle_stop n m world after between lines answer whole old is_n stops comes leads =
-      leads_stop (settled e h world) (settled_times e h m) after between lines answer whole old stops comes
-      (subst (λ (p : Piece S T). Leads p between whole old) (settles-more n m world is_n) leads)
+  pub settles_times : Repeats (settled e h) (settled_times e h) IsQuiet
+  settles_times =
+      record { over = settles-zero; more = settles-more; none = λ n world quiet. settles-none n world quiet.0 quiet.1 }

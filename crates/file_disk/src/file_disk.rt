@@ -3,7 +3,7 @@ ghost use Rattle.disk_base.specs.Faults.{Rose};
 ghost use Rattle.disk_base.specs.declared.disk.DiskAnswer.{DiskAnswer};
 ghost use Rattle.file_disk.specs.FileDisk.{Counts, file_health};
 
-use disk_base::{Disk, DiskAnswer};
+use disk_base::{AttachedFile, Disk, DiskAnswer};
 use std::fs::{OpenFile, OpenOptions};
 use std::os::unix::fs::FileExt;
 use std::{io, rt};
@@ -15,6 +15,7 @@ use std::{io, rt};
 pub struct FileDisk<R: rt::Files> {
     system: R,
     file: Option<R::File>,
+    attached: AttachedFile,
     size: u64,
     faults: u64,
 }
@@ -27,6 +28,7 @@ impl<R: rt::Files> FileDisk<R> {
         FileDisk {
             system,
             file: None,
+            attached: AttachedFile::none(),
             size: 0,
             faults: 0,
         }
@@ -36,6 +38,7 @@ impl<R: rt::Files> FileDisk<R> {
     fn counts<T>(&mut self, answer: &io::Result<T>) -> DiskAnswer
         ensures count { Counts self.old.faults self.new.faults result }
         ensures size { self.new.size ≡ self.old.size }
+        ensures attached { self.new.attached ≡ self.old.attached }
     {
         match answer {
             Ok(_) => DiskAnswer::Done,
@@ -48,6 +51,7 @@ impl<R: rt::Files> FileDisk<R> {
         ensures failed { result ≡ DiskAnswer.Failed }
         ensures rose { Rose self.old.faults self.new.faults }
         ensures size { self.new.size ≡ self.old.size }
+        ensures attached { self.new.attached ≡ self.old.attached }
     {
         self.faults = self.faults.saturating_add(1);
         DiskAnswer::Failed
@@ -68,6 +72,8 @@ where
 
     ghost name = { λ _. 0 };
 
+    ghost file_is = { λ disk. disk.attached.name };
+
     ghost sized = { λ disk s is. absurd cc };
 
     ghost calls_told = { λ disk s is. absurd cc };
@@ -75,8 +81,9 @@ where
     // The file is made where it isn't there and some bytes are asked for.
     fn attach(&mut self, file: &str, grow: u64) -> DiskAnswer {
         match opened(&self.system, file, grow) {
-            Ok((file, size)) => {
-                self.file = Some(file);
+            Ok((opened, size)) => {
+                self.file = Some(opened);
+                self.attached = AttachedFile::of(file.as_bytes());
                 self.size = size;
                 DiskAnswer::Done
             }

@@ -3,6 +3,7 @@ ghost use Rattle.std.specs.Int.{w64, from_be_bytes};
 ghost use Rattle.disk_base.specs.Calls.{Logs, read_call};
 ghost use Rattle.disk_base.specs.Faults.{HasCause, IsCrowded};
 ghost use Rattle.disk_base.specs.Listed.{AsListed};
+ghost use Rattle.disk_base.specs.SameDisk.{IsSameDisk};
 ghost use Rattle.disk_base.specs.Story.{Story};
 ghost use Rattle.gate_cell.specs.Calls.{ReadsCell, call_answer};
 ghost use Rattle.gate_cell.specs.Cell.{copy_bytes as bytes_of, copy_of as number_in, copy_place as place_of};
@@ -78,7 +79,7 @@ pub fn read_cell<D: Disk>(disk: &mut D, at: u64) -> CellAnswer
     ensures listed { (D.health disk.old).stopped ≡ false →
         AsListed (D.told disk.old) (D.calls disk.old) (D.told disk.new) (D.calls disk.new) }
     ensures cause { HasCause (D.health disk.old) (D.health disk.new) 1 0 ⊥ (call_answer result) }
-    ensures name { D.name disk.new ≡ D.name disk.old }
+    ensures same_disk { IsSameDisk D.Disk disk.old disk.new }
 {
     let mut cell = [0; 17];
     match disk.read(at, &mut cell) {

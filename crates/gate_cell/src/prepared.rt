@@ -1,6 +1,7 @@
 ghost use Rattle.std.specs.Prelude.{◌≡◌, ◌+◌, ◌<◌, ◌≤◌, false, [], ◌∷◌, None, Some, IfOk};
 ghost use Rattle.disk_base.specs.Faults.{HasCause, IsCrowded};
 ghost use Rattle.disk_base.specs.Listed.{AsListed};
+ghost use Rattle.disk_base.specs.SameDisk.{IsSameDisk};
 ghost use Rattle.disk_base.specs.Settle.{LogsBoth};
 ghost use Rattle.disk_base.specs.Story.{Story};
 ghost use Rattle.gate_cell.specs.Cell.{gate_byte as byte_of};
@@ -44,7 +45,7 @@ impl<D: Disk> Prepared<D> {
             AsListed (D.told self.disk) (D.calls self.disk) (D.told after) (D.calls after)) }
         ensures cause { OnDisk (λ disk. disk) result (λ after answer.
             HasCause (D.health self.disk) (D.health after) 2 1 ((D.health self.disk).room < 1) answer) }
-        ensures name { OnDisk (λ disk. disk) result (λ after answer. D.name after ≡ D.name self.disk) }
+        ensures same_disk { OnDisk (λ disk. disk) result (λ after answer. IsSameDisk D.Disk self.disk after) }
     {
         let Prepared { disk, at, second } = self;
         let mut disk = disk;

@@ -1,6 +1,7 @@
 ghost use Rattle.std.specs.Prelude.{◌≡◌, ◌+◌, ◌<◌, ◌≤◌, false, None, Some, IfOk};
 ghost use Rattle.disk_base.specs.Faults.{HasCause, IsCrowded};
 ghost use Rattle.disk_base.specs.Listed.{AsListed};
+ghost use Rattle.disk_base.specs.SameDisk.{IsSameDisk};
 ghost use Rattle.disk_base.specs.Story.{Story};
 ghost use Rattle.gate_cell.specs.Calls.{LogsPreparing};
 ghost use Rattle.gate_cell.specs.Cell.{cell_in, spare_is_second};
@@ -29,7 +30,7 @@ pub fn prepare<D: Disk>(disk: D, at: u64, value: u64) -> Result<Prepared<D>, D>
         AsListed (D.told disk) (D.calls disk) (D.told after) (D.calls after)) }
     ensures cause { OnDisk (λ w. w.disk) result (λ after answer.
         HasCause (D.health disk) (D.health after) 3 8 ((D.health disk).room < 8) answer) }
-    ensures name { OnDisk (λ w. w.disk) result (λ after answer. D.name after ≡ D.name disk) }
+    ensures same_disk { OnDisk (λ w. w.disk) result (λ after answer. IsSameDisk D.Disk disk after) }
 {
     let mut disk = disk;
     let mut gate = [0];

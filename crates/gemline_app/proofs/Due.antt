@@ -27,7 +27,7 @@ use Rattle.gemline_app.specs.Spelling.{text_place}
 use Rattle.gemline_app.specs.Words.{capture_limit, command_of, item_limit, name_in}
 use Rattle.gemline_app.specs.declared.outcome.FileRole.TheVariants as role
 use Rattle.gemline_app.specs.declared.outcome.Outcome.{Outcome}
-use Rattle.gemline_app.specs.declared.outcome.Outcome.TheVariants.{Done, Usage, BadFrame, BadText, BadHex, BadItem, BadLine, Longer, FileLonger, FileFailed, ReadFailed, NoMemory, WriteFailed, TurnsSpent, Slip, DiskFailed, NotSpool, PlanNotBuilt, LineNotBuilt}
+use Rattle.gemline_app.specs.declared.outcome.Outcome.TheVariants.{Done, Usage, BadFrame, BadText, BadHex, BadItem, BadLine, Longer, FileLonger, FileFailed, ReadFailed, NoMemory, WriteFailed, TurnsSpent, NumbersSpent, Slip, DiskFailed, NotSpool, PlanNotBuilt, LineNotBuilt}
 use Rattle.gemline_app.specs.declared.words.Command.{Command}
 use Rattle.gemline_app.specs.declared.words.Command.TheVariants.{Show, Spell, SpellHex, Replay, Format, Spool}
 use Rattle.gemline_app.proofs.HexLaws.{means_read, one_break}
@@ -62,6 +62,7 @@ written_due source files disk out line (BadLine number) written = absurd written
 written_due source files disk out line (FileLonger which) written = absurd written
 written_due source files disk out line (FileFailed which) written = absurd written
 written_due source files disk out line TurnsSpent written = absurd written
+written_due source files disk out line NumbersSpent written = absurd written
 written_due source files disk out line DiskFailed written = absurd written
 written_due source files disk out line (NotSpool at) written = absurd written
 written_due source files disk out line Slip written = absurd written
@@ -85,6 +86,7 @@ text_refused text (BadLine number) refuses = absurd refuses
 text_refused text (FileLonger which) refuses = absurd refuses
 text_refused text (FileFailed which) refuses = absurd refuses
 text_refused text TurnsSpent refuses = absurd refuses
+text_refused text NumbersSpent refuses = absurd refuses
 text_refused text DiskFailed refuses = absurd refuses
 text_refused text (NotSpool at) refuses = absurd refuses
 text_refused text Slip refuses = absurd refuses
@@ -107,6 +109,7 @@ hex_refused digits (BadLine number) refuses = absurd refuses
 hex_refused digits (FileLonger which) refuses = absurd refuses
 hex_refused digits (FileFailed which) refuses = absurd refuses
 hex_refused digits TurnsSpent refuses = absurd refuses
+hex_refused digits NumbersSpent refuses = absurd refuses
 hex_refused digits DiskFailed refuses = absurd refuses
 hex_refused digits (NotSpool at) refuses = absurd refuses
 hex_refused digits Slip refuses = absurd refuses
@@ -200,6 +203,7 @@ unread_due limit Asks source files disk out (BadLine number) due was is_due = ab
 unread_due limit Asks source files disk out (FileLonger which) due was is_due = absurd was
 unread_due limit Asks source files disk out (FileFailed which) due was is_due = absurd was
 unread_due limit Asks source files disk out TurnsSpent due was is_due = absurd was
+unread_due limit Asks source files disk out NumbersSpent due was is_due = absurd was
 unread_due limit Asks source files disk out DiskFailed due was is_due = absurd was
 unread_due limit Asks source files disk out (NotSpool at) due was is_due = absurd was
 unread_due limit Asks source files disk out Slip due was is_due = absurd was
@@ -234,9 +238,9 @@ comes_due (Some SpellHex) words source files disk out outcome due (files_unread,
 comes_due (Some Replay) words source files disk out outcome due (unread, unused, comes) (bytes, told, is_due) =
     replay_due source files disk out (name_in words role.Plan) (name_in words role.Schedule) bytes outcome due told comes is_due
 comes_due (Some (Format slots)) words source files disk out outcome due (unread, files_unread, was) is_due =
-    formatted_due source files disk out slots outcome due was is_due
+    formatted_due source files disk out _ slots outcome due was is_due
 comes_due (Some Spool) words source files disk out outcome due (unread, files_unread, was) is_due =
-    listed_due source files disk out outcome due was is_due
+    listed_due source files disk out _ outcome due was is_due
 
 pub due_outcome : (words : List (List ℕ)) (source : SourceTold) (files : FilesTold) (disk : DiskTold) (out err : SinkTold) (status : ℕ) (due : Outcome)
     → (run : IsRun words source files disk out err status) → IsDue (command_of words) words source files disk due
@@ -273,6 +277,7 @@ module _ (source : SourceTold) (files : FilesTold) (disk : DiskTold) (out : Sink
   unread_ends (FileLonger which) was = absurd was
   unread_ends (FileFailed which) was = absurd was
   unread_ends TurnsSpent was = absurd was
+  unread_ends NumbersSpent was = absurd was
   unread_ends DiskFailed was = absurd was
   unread_ends (NotSpool at) was = absurd was
   unread_ends Slip was = absurd was

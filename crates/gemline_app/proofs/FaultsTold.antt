@@ -11,13 +11,13 @@ use Rattle.line_show.specs.declared.printer.Stop.{Stop}
 use Rattle.line_show.specs.declared.printer.Stop.TheVariants as stop
 use Rattle.line_schedule.specs.declared.schedule.ScheduleFault.{ScheduleFault}
 use Rattle.line_schedule.specs.declared.schedule.ScheduleFault.TheVariants as schedule_fault
-use Rattle.line_world.specs.Run.{Runs}
-use Rattle.line_world.specs.declared.course.Course.{Course}
-use Rattle.line_world.specs.declared.running.RunEnd.{RunEnd}
-use Rattle.line_world.specs.declared.running.RunEnd.TheVariants as end
+use Rattle.end_pair.specs.Run.{Runs}
+use Rattle.end_pair.specs.declared.answers.RunEnd.{RunEnd}
+use Rattle.end_pair.specs.declared.answers.RunEnd.TheVariants as end
+use Rattle.end_pair.specs.declared.answers.WorldStep.{WorldStep}
 use Rattle.spool_show.specs.Told.{DiskTold}
-use Rattle.spool_show.specs.Formatting.{FormatsSpool}
-use Rattle.spool_show.specs.Showing.{ShowsSpool}
+use Rattle.spool_show.specs.Formatting.{FormatsFile, FormatsSpool}
+use Rattle.spool_show.specs.Showing.{ShowsFile, ShowsSpool}
 use Rattle.spool_show.specs.declared.spool_end.SpoolEnd.{SpoolEnd}
 use Rattle.spool_show.specs.declared.spool_end.SpoolEnd.TheVariants as spool
 use Rattle.gemline_app.specs.Spool.{EndedAs, IsUnused, outcome_of_spool}
@@ -26,12 +26,12 @@ use Rattle.gemline_app.specs.Gemline.{AreUnread, ComesFrom, ComesOnInput, HexRef
 use Rattle.gemline_app.specs.Laws.{CountsFaults, IsCounted, is_disk_fault, is_file_fault, is_read_fault, is_write_fault}
 use Rattle.gemline_app.specs.Outcome.{outcome_of_show}
 use Rattle.gemline_app.specs.Replay.{FileRefuses, ReplayComes, ScheduleComes, ScheduleRefuses, TextRuns, files_since, outcome_of_end, schedule_refusal}
-use Rattle.gemline_app.specs.Words.{capture_limit, command_of, item_limit, name_in}
+use Rattle.gemline_app.specs.Words.{capture_limit, command_of, item_limit, name_in, spool_name}
 use Rattle.gemline_app.specs.Written.{IsUntouched}
 use Rattle.gemline_app.specs.declared.outcome.FileRole.{FileRole}
 use Rattle.gemline_app.specs.declared.outcome.FileRole.TheVariants as role
 use Rattle.gemline_app.specs.declared.outcome.Outcome.{Outcome}
-use Rattle.gemline_app.specs.declared.outcome.Outcome.TheVariants.{Done, Usage, BadFrame, BadText, BadHex, BadItem, BadLine, Longer, FileLonger, FileFailed, ReadFailed, NoMemory, WriteFailed, TurnsSpent, Slip, DiskFailed, NotSpool, PlanNotBuilt, LineNotBuilt}
+use Rattle.gemline_app.specs.declared.outcome.Outcome.TheVariants.{Done, Usage, BadFrame, BadText, BadHex, BadItem, BadLine, Longer, FileLonger, FileFailed, ReadFailed, NoMemory, WriteFailed, TurnsSpent, NumbersSpent, Slip, DiskFailed, NotSpool, PlanNotBuilt, LineNotBuilt}
 use Rattle.gemline_app.specs.declared.words.Command.{Command}
 use Rattle.gemline_app.specs.declared.words.Command.TheVariants.{Show, Spell, SpellHex, Replay, Format, Spool}
 
@@ -71,6 +71,7 @@ written_counts line out ReadFailed was = absurd was
 written_counts line out NoMemory was = absurd was
 written_counts line out WriteFailed was = record { read = refl; file = refl; on_disk = refl; write = was.fault.rose }
 written_counts line out TurnsSpent was = absurd was
+written_counts line out NumbersSpent was = absurd was
 written_counts line out DiskFailed was = absurd was
 written_counts line out (NotSpool at) was = absurd was
 written_counts line out Slip was = absurd was
@@ -99,6 +100,7 @@ text_plain text ReadFailed was = absurd was
 text_plain text NoMemory was = record { read = refl; file = refl; on_disk = refl; write = refl }
 text_plain text WriteFailed was = absurd was
 text_plain text TurnsSpent was = absurd was
+text_plain text NumbersSpent was = absurd was
 text_plain text DiskFailed was = absurd was
 text_plain text (NotSpool at) was = absurd was
 text_plain text Slip was = absurd was
@@ -120,6 +122,7 @@ hex_plain digits ReadFailed was = absurd was
 hex_plain digits NoMemory was = record { read = refl; file = refl; on_disk = refl; write = refl }
 hex_plain digits WriteFailed was = absurd was
 hex_plain digits TurnsSpent was = absurd was
+hex_plain digits NumbersSpent was = absurd was
 hex_plain digits DiskFailed was = absurd was
 hex_plain digits (NotSpool at) was = absurd was
 hex_plain digits Slip was = absurd was
@@ -168,6 +171,7 @@ module _ (source : SourceTold) (files : FilesTold) (disk : DiskTold) (out : Sink
   unread_counts limit stands left NoMemory was = record { read = was.cause.same; file = stands.file; on_disk = stands.on_disk; write = left }
   unread_counts limit stands left WriteFailed was = absurd was
   unread_counts limit stands left TurnsSpent was = absurd was
+  unread_counts limit stands left NumbersSpent was = absurd was
   unread_counts limit stands left DiskFailed was = absurd was
   unread_counts limit stands left (NotSpool at) was = absurd was
   unread_counts limit stands left Slip was = absurd was
@@ -215,6 +219,7 @@ file_refused which name files out left ReadFailed was = absurd was
 file_refused which name files out left NoMemory was = record { read = refl; on_disk = refl; file = was.cause.same; write = left }
 file_refused which name files out left WriteFailed was = absurd was
 file_refused which name files out left TurnsSpent was = absurd was
+file_refused which name files out left NumbersSpent was = absurd was
 file_refused which name files out left DiskFailed was = absurd was
 file_refused which name files out left (NotSpool at) was = absurd was
 file_refused which name files out left Slip was = absurd was
@@ -231,12 +236,13 @@ stand_files files out outcome stands counts = record {
   write = counts.write;
 }
 
-by_end : (out : SinkTold) (text : List ℕ) (course : Course) (ended : RunEnd) → Runs out text course ended → CountsWrites out (outcome_of_end ended)
-by_end out text course end.Whole (at, wrote) = record { read = refl; file = refl; on_disk = refl; write = wrote.health.same }
-by_end out text course end.Slip (at, wrote) = record { read = refl; file = refl; on_disk = refl; write = wrote.health.same }
-by_end out text course end.Turns (at, wrote) = record { read = refl; file = refl; on_disk = refl; write = wrote.health.same }
-by_end out text course end.NoMemory part = record { read = refl; file = refl; on_disk = refl; write = part.wrote.health.same }
-by_end out text course end.WriteFailed short = record { read = refl; file = refl; on_disk = refl; write = short.fault.rose }
+by_end : (out : SinkTold) (text : List ℕ) (went : WorldStep) (ended : RunEnd) → Runs out text went ended → CountsWrites out (outcome_of_end ended)
+by_end out text went end.Whole (at, wrote) = record { read = refl; file = refl; on_disk = refl; write = wrote.health.same }
+by_end out text went end.Slip (at, wrote) = record { read = refl; file = refl; on_disk = refl; write = wrote.health.same }
+by_end out text went end.Turns (at, wrote) = record { read = refl; file = refl; on_disk = refl; write = wrote.health.same }
+by_end out text went end.NumbersSpent (at, wrote) = record { read = refl; file = refl; on_disk = refl; write = wrote.health.same }
+by_end out text went end.NoMemory part = record { read = refl; file = refl; on_disk = refl; write = part.wrote.health.same }
+by_end out text went end.WriteFailed short = record { read = refl; file = refl; on_disk = refl; write = short.fault.rose }
 
 left_of : (text : List ℕ) (out : SinkTold) (fault : ScheduleFault) → ScheduleRefuses text out fault → IsUntouched out
 left_of text out (schedule_fault.Line number) (at, left) = left
@@ -304,7 +310,7 @@ record CountsDisk (disk : DiskTold) (out : SinkTold) (outcome : Outcome) : Type 
   on_disk : IsCounted (is_disk_fault outcome) disk.faults disk.faults_after
   write : IsCounted (is_write_fault outcome) out.health.faults out.health_after.faults
 
-by_making : (slots : ℕ) (disk : DiskTold) (out : SinkTold) (ended : SpoolEnd) → FormatsSpool slots disk out ended
+by_making : (slots : ℕ) (disk : DiskTold) (out : SinkTold) (ended : SpoolEnd) → FormatsFile slots disk out ended
     → CountsDisk disk out (outcome_of_spool ended)
 by_making slots disk out spool.Done was =
     record { read = refl; file = refl; on_disk = was.count; write = was.made.1.health.same }
@@ -314,7 +320,7 @@ by_making slots disk out spool.DiskFailed was =
 by_making slots disk out spool.WriteFailed was =
     record { read = refl; file = refl; on_disk = was.count; write = was.made.1.fault.rose }
 
-by_listing : (disk : DiskTold) (out : SinkTold) (ended : SpoolEnd) → ShowsSpool disk out ended
+by_listing : (disk : DiskTold) (out : SinkTold) (ended : SpoolEnd) → ShowsFile disk out ended
     → CountsDisk disk out (outcome_of_spool ended)
 by_listing disk out spool.Done was =
     record { read = refl; file = refl; on_disk = was.count; write = was.written.1.1.health.same }
@@ -369,11 +375,11 @@ comes_counts (Some Replay) words source files disk out outcome (unread, unused, 
       write = counts.write;
     }
 comes_counts (Some (Format slots)) words source files disk out outcome (unread, files_unread, was) =
-    spool_counts source files disk out outcome (FormatsSpool slots disk out) unread files_unread
-    (λ ended formats. by_making slots disk out ended formats) was
+    spool_counts source files disk out outcome (FormatsSpool (spool_name words) slots disk out) unread files_unread
+    (λ ended formats. by_making slots disk out ended formats.formatted) was
 comes_counts (Some Spool) words source files disk out outcome (unread, files_unread, was) =
-    spool_counts source files disk out outcome (ShowsSpool disk out) unread files_unread
-    (λ ended shows. by_listing disk out ended shows) was
+    spool_counts source files disk out outcome (ShowsSpool (spool_name words) disk out) unread files_unread
+    (λ ended shows. by_listing disk out ended shows.shown) was
 
 pub faults_told : (words : List (List ℕ)) (source : SourceTold) (files : FilesTold) (disk : DiskTold) (out err : SinkTold) (status : ℕ)
     → (run : IsRun words source files disk out err status) → CountsFaults source files disk out run.outcome

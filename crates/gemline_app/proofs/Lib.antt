@@ -3,9 +3,8 @@ mod Due
 mod FaultsTold
 mod FirstExchange
 mod HexLaws
+mod HexMeaning
 mod ReadBack
 mod ReplayDue
 mod Replaying
-mod SpelledBytes
 mod SpoolDue
-mod TextItems

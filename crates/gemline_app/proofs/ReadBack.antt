@@ -18,10 +18,11 @@ use Rattle.gemline_app.specs.Words.{command_of, item_limit}
 use Rattle.gemline_app.specs.declared.words.Command.{Command}
 use Rattle.gemline_app.specs.declared.words.Command.TheVariants.{Spell, SpellHex}
 use Rattle.gemline_app.specs.declared.outcome.Outcome.{Outcome}
-use Rattle.gemline_app.specs.declared.outcome.Outcome.TheVariants.{Done, Usage, BadFrame, BadText, BadHex, BadItem, BadLine, Longer, FileLonger, FileFailed, ReadFailed, NoMemory, WriteFailed, TurnsSpent, Slip, DiskFailed, NotSpool, PlanNotBuilt, LineNotBuilt}
+use Rattle.gemline_app.specs.declared.outcome.Outcome.TheVariants.{Done, Usage, BadFrame, BadText, BadHex, BadItem, BadLine, Longer, FileLonger, FileFailed, ReadFailed, NoMemory, WriteFailed, TurnsSpent, NumbersSpent, Slip, DiskFailed, NotSpool, PlanNotBuilt, LineNotBuilt}
 use Rattle.gemline_app.proofs.Due.{due_outcome, one_bytes, read_of}
-use Rattle.gemline_app.proofs.SpelledBytes.{hex_means, spelled_bytes}
-use Rattle.gemline_app.proofs.TextItems.{text_encodes, text_in_range}
+use Rattle.gemline_app.proofs.HexMeaning.{hex_means}
+use Rattle.line_schedule.proofs.SpelledBytes.{spelled_bytes}
+use Rattle.line_schedule.proofs.TextItems.{text_encodes, text_in_range}
 
 pub one_hex_item : HexSpellsOne
 one_hex_item digits first second (bytes, means, spells) (bytes', means', spells') =
@@ -51,6 +52,7 @@ done_is ReadFailed is = absurd (omega (arith, is))
 done_is NoMemory is = absurd (omega (arith, is))
 done_is WriteFailed is = absurd (omega (arith, is))
 done_is TurnsSpent is = absurd (omega (arith, is))
+done_is NumbersSpent is = absurd (omega (arith, is))
 done_is DiskFailed is = absurd (omega (arith, is))
 done_is (NotSpool at) is = absurd (omega (arith, is))
 done_is Slip is = absurd (omega (arith, is))

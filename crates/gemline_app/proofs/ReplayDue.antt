@@ -7,17 +7,18 @@ use Rattle.gl_base.specs.declared.files.FileAnswer.TheVariants as file
 use Rattle.gl_base.specs.declared.files.MemFile.{MemFile}
 use Rattle.gl_base.specs.Told.{FilesTold, SinkTold, SourceTold}
 use Rattle.spool_show.specs.Told.{DiskTold}
-use Rattle.line_world.specs.Run.{Runs, course_of, trace_text}
-use Rattle.line_world.specs.declared.course.Course.{Course}
-use Rattle.line_world.specs.declared.running.RunEnd.{RunEnd}
-use Rattle.line_world.specs.declared.running.RunEnd.TheVariants as end
-use Rattle.gemline_app.specs.Laws.{Hinders, IsPlanDue, IsScheduleDue, ScheduleAsks, outcome_of_course}
-use Rattle.gemline_app.specs.Replay.{FileRefuses, ReplayComes, ScheduleComes, TextRuns, WasFile, empty_plan, files_since, files_until, outcome_of_end}
+use Rattle.end_pair.specs.Run.{Runs}
+use Rattle.end_pair.specs.declared.answers.RunEnd.{RunEnd}
+use Rattle.end_pair.specs.declared.answers.RunEnd.TheVariants as end
+use Rattle.end_pair.specs.declared.answers.WorldStep.{WorldStep}
+use Rattle.line_world.specs.Run.{trace_text, went_of}
+use Rattle.gemline_app.specs.Laws.{Hinders, IsPlanDue, IsScheduleDue, ScheduleAsks, outcome_of_run}
+use Rattle.gemline_app.specs.Replay.{FileRefuses, ReplayComes, ScheduleComes, TextRuns, WasFile, empty_plans, files_since, files_until, outcome_of_end}
 use Rattle.gemline_app.specs.Words.{file_limit}
 use Rattle.gemline_app.specs.declared.outcome.FileRole.{FileRole}
 use Rattle.gemline_app.specs.declared.outcome.FileRole.TheVariants as role
 use Rattle.gemline_app.specs.declared.outcome.Outcome.{Outcome}
-use Rattle.gemline_app.specs.declared.outcome.Outcome.TheVariants.{Done, Usage, BadFrame, BadText, BadHex, BadItem, BadLine, Longer, FileLonger, FileFailed, ReadFailed, NoMemory, WriteFailed, TurnsSpent, Slip, DiskFailed, NotSpool, PlanNotBuilt, LineNotBuilt}
+use Rattle.gemline_app.specs.declared.outcome.Outcome.TheVariants.{Done, Usage, BadFrame, BadText, BadHex, BadItem, BadLine, Longer, FileLonger, FileFailed, ReadFailed, NoMemory, WriteFailed, TurnsSpent, NumbersSpent, Slip, DiskFailed, NotSpool, PlanNotBuilt, LineNotBuilt}
 
 -- what reading a file came to, where the files tell its bytes
 told_answer : (limit : ℕ) (name bytes : List ℕ) (told : Option (List MemFile)) (answer : FileAnswer) → told_file name told ≡ Some bytes →
@@ -52,6 +53,7 @@ refused which name bytes files Longer told refuses = absurd refuses
 refused which name bytes files ReadFailed told refuses = absurd refuses
 refused which name bytes files WriteFailed told refuses = absurd refuses
 refused which name bytes files TurnsSpent told refuses = absurd refuses
+refused which name bytes files NumbersSpent told refuses = absurd refuses
 refused which name bytes files DiskFailed told refuses = absurd refuses
 refused which name bytes files (NotSpool at) told refuses = absurd refuses
 refused which name bytes files Slip told refuses = absurd refuses
@@ -82,20 +84,29 @@ failed source files disk out outcome found is rose = subst (Hinders source files
 
 -- ---- a schedule that was carried out
 
-ended_due : (source : SourceTold) (files : FilesTold) (disk : DiskTold) (out : SinkTold) (text : List ℕ) (course : Course) (ended : RunEnd) (outcome due : Outcome) →
-    outcome ≡ outcome_of_end ended → Runs out text course ended → due ≡ outcome_of_course course → Comes source files disk out outcome due
-ended_due source files disk out text course end.Whole outcome due is (at, wrote) is_due = inl (is ∙ sym (is_due ∙ ap outcome_of_course at))
-ended_due source files disk out text course end.Slip outcome due is (at, wrote) is_due = inl (is ∙ sym (is_due ∙ ap outcome_of_course at))
-ended_due source files disk out text course end.Turns outcome due is (at, wrote) is_due = inl (is ∙ sym (is_due ∙ ap outcome_of_course at))
-ended_due source files disk out text course end.NoMemory outcome due is part is_due = inr (hindered source files disk out outcome is)
-ended_due source files disk out text course end.WriteFailed outcome due is short is_due =
+ended_due :
+    (source : SourceTold) (files : FilesTold) (disk : DiskTold) (out : SinkTold) (text : List ℕ) (went : WorldStep)
+    (ended : RunEnd) (outcome due : Outcome)
+    → outcome ≡ outcome_of_end ended → Runs out text went ended → due ≡ outcome_of_run went
+    → Comes source files disk out outcome due
+ended_due source files disk out text went end.Whole outcome due is (at, wrote) is_due =
+    inl (is ∙ sym (is_due ∙ ap outcome_of_run at))
+ended_due source files disk out text went end.Slip outcome due is (at, wrote) is_due =
+    inl (is ∙ sym (is_due ∙ ap outcome_of_run at))
+ended_due source files disk out text went end.Turns outcome due is (at, wrote) is_due =
+    inl (is ∙ sym (is_due ∙ ap outcome_of_run at))
+ended_due source files disk out text went end.NumbersSpent outcome due is (at, wrote) is_due =
+    inl (is ∙ sym (is_due ∙ ap outcome_of_run at))
+ended_due source files disk out text went end.NoMemory outcome due is part is_due =
+    inr (hindered source files disk out outcome is)
+ended_due source files disk out text went end.WriteFailed outcome due is short is_due =
     inr (subst (Hinders source files disk out) (sym is) short.fault.rose)
 
 text_due : (source : SourceTold) (files : FilesTold) (disk : DiskTold) (out : SinkTold) (text : List ℕ) (outcome due : Outcome) → TextRuns text out outcome
     → ScheduleAsks text due →
     Comes source files disk out outcome due
 text_due source files disk out text outcome due runs (inl (schedule, is, is_due)) = elim (runs.only schedule is) [
-  | inl was ↦ ended_due source files disk out (trace_text empty_plan schedule) (course_of empty_plan schedule) was.ended outcome due was.outcome_is was.wrote is_due
+  | inl was ↦ ended_due source files disk out (trace_text empty_plans schedule) (went_of empty_plans schedule) was.ended outcome due was.outcome_is was.wrote is_due
   | inr memory ↦ inr (hindered source files disk out outcome memory.0)
 ]
 text_due source files disk out text outcome due runs (inr (inl (number, at, is_due))) = elim (runs.outside number at).0 [

@@ -8,10 +8,12 @@ use Rattle.line_schedule.specs.declared.schedule.ScheduleFault.{ScheduleFault}
 use Rattle.line_schedule.specs.declared.schedule.ScheduleFault.TheVariants as schedule_fault
 use Rattle.line_end.specs.declared.plan.LinePlan.{LinePlan}
 use Rattle.gl_base.specs.Told.{SinkTold}
-use Rattle.line_world.specs.Run.{Runs, course_of, log_of, trace_text}
-use Rattle.line_world.specs.declared.running.RunEnd.{RunEnd}
+use Rattle.end_pair.specs.Run.{Runs}
+use Rattle.end_pair.specs.declared.answers.RunEnd.{RunEnd}
+use Rattle.line_world.specs.Run.{ComesInOrder, log_of, plans_of, trace_text, went_of}
+use Rattle.message_end.specs.Moves.{LinePlans}
 use Rattle.trace_log.specs.Delivered.{Delivered}
-use Rattle.gemline_app.specs.Replay.{ComesOnly, ScheduleRefuses, TextRuns, WasReplayed, empty_plan, outcome_of_end, schedule_refusal}
+use Rattle.gemline_app.specs.Replay.{ComesOnly, ScheduleRefuses, TextRuns, WasReplayed, empty_plan, empty_plans, outcome_of_end, schedule_refusal}
 use Rattle.gemline_app.specs.Written.{IsUntouched}
 use Rattle.gemline_app.specs.declared.outcome.Outcome.{Outcome}
 
@@ -55,12 +57,18 @@ refuses_text text out fault outcome reads untouched is =
     })
 
 -- what was carried out over the parameters of an empty plan
-pub replayed_over : (plan : LinePlan) (schedule : Schedule) (out : SinkTold) (ended : RunEnd) (outcome : Outcome) → plan ≡ empty_plan →
-    outcome ≡ outcome_of_end ended → Runs out (trace_text plan schedule) (course_of plan schedule) ended → Delivered (log_of plan schedule) →
-    WasReplayed schedule out outcome
-replayed_over plan schedule out ended outcome same is wrote delivered = record {
+pub replayed_over :
+    (plans : LinePlans) (schedule : Schedule) (out : SinkTold) (ended : RunEnd) (outcome : Outcome)
+    → plans ≡ empty_plans → outcome ≡ outcome_of_end ended
+    → Runs out (trace_text plans schedule) (went_of plans schedule) ended → Delivered (log_of plans schedule)
+    → ComesInOrder plans (log_of plans schedule) → WasReplayed schedule out outcome
+replayed_over plans schedule out ended outcome same is wrote delivered in_order = record {
   ended = ended;
   outcome_is = is;
-  wrote = subst (λ (p : LinePlan). Runs out (trace_text p schedule) (course_of p schedule) ended) same wrote;
-  delivered = subst (λ (p : LinePlan). Delivered (log_of p schedule)) same delivered;
+  wrote = subst (λ (p : LinePlans). Runs out (trace_text p schedule) (went_of p schedule) ended) same wrote;
+  delivered = subst (λ (p : LinePlans). Delivered (log_of p schedule)) same delivered;
+  in_order = subst (λ (p : LinePlans). ComesInOrder p (log_of p schedule)) same in_order;
 }
+
+pub both_empty : (plan : LinePlan) → plan ≡ empty_plan → plans_of plan plan ≡ empty_plans
+both_empty plan is = ap (λ (p : LinePlan). plans_of p p) is

@@ -1,10 +1,10 @@
 -- Which outcome of `format` and of `spool` is due.
-use Rattle.std.proofs.Common.{◌≡◌, ℕ, refl, sym, ap, subst, ◌∙◌, inl, inr}
+use Rattle.std.proofs.Common.{◌≡◌, ℕ, List, refl, sym, ap, subst, ◌∙◌, inl, inr}
 use Rattle.disk_base.specs.Faults.{Rose as RoseOnDisk}
 use Rattle.gl_base.specs.Faults.{Rose}
 use Rattle.gl_base.specs.Told.{FilesTold, SinkTold, SourceTold}
-use Rattle.spool_show.specs.Formatting.{FormatsSpool}
-use Rattle.spool_show.specs.Showing.{ShowsSpool}
+use Rattle.spool_show.specs.Formatting.{FormatsFile, FormatsSpool}
+use Rattle.spool_show.specs.Showing.{ShowsFile, ShowsSpool}
 use Rattle.spool_show.specs.Told.{DiskTold}
 use Rattle.spool_show.specs.declared.spool_end.SpoolEnd.{SpoolEnd}
 use Rattle.spool_show.specs.declared.spool_end.SpoolEnd.TheVariants as spool
@@ -19,20 +19,22 @@ pub rose_of : {before now : ℕ} → RoseOnDisk before now → Rose before now
 rose_of rose = record { by_one = rose.by_one; later = rose.later }
 
 module _ (source : SourceTold) (files : FilesTold) (disk : DiskTold) (out : SinkTold) where
-  made_due : (slots : ℕ) (ended : SpoolEnd) → FormatsSpool slots disk out ended
+  made_due : (slots : ℕ) (ended : SpoolEnd) → FormatsFile slots disk out ended
       → Comes source files disk out (outcome_of_spool ended) Done
   made_due slots spool.Done was = inl refl
   made_due slots (spool.NotSpool place) was = absurd was.made.1
   made_due slots spool.DiskFailed was = inr (rose_of was.count)
   made_due slots spool.WriteFailed was = inr was.made.1.fault.rose
 
-  pub formatted_due : (slots : ℕ) (outcome due : Outcome) → EndedAs (FormatsSpool slots disk out) outcome → due ≡ Done
+  pub formatted_due : (name : List ℕ) (slots : ℕ) (outcome due : Outcome)
+      → EndedAs (FormatsSpool name slots disk out) outcome → due ≡ Done
       → Comes source files disk out outcome due
-  formatted_due slots outcome due was is =
+  formatted_due name slots outcome due was is =
       subst (Comes source files disk out outcome) (sym is)
-      (subst (λ (o : Outcome). Comes source files disk out o Done) (sym was.outcome_is) (made_due slots was.ended was.ends))
+      (subst (λ (o : Outcome). Comes source files disk out o Done) (sym was.outcome_is)
+      (made_due slots was.ended was.ends.formatted))
 
-  shown_due : (ended : SpoolEnd) (due : Outcome) → ShowsSpool disk out ended → IsSpoolDue disk due
+  shown_due : (ended : SpoolEnd) (due : Outcome) → ShowsFile disk out ended → IsSpoolDue disk due
       → Comes source files disk out (outcome_of_spool ended) due
   shown_due spool.Done due was (s, told, is) = inl (sym (is ∙ ap outcome_of_break (was.written.0 s told)))
   shown_due (spool.NotSpool place) due was (s, told, is) =
@@ -40,7 +42,9 @@ module _ (source : SourceTold) (files : FilesTold) (disk : DiskTold) (out : Sink
   shown_due spool.DiskFailed due was is = inr (rose_of was.count)
   shown_due spool.WriteFailed due was is = inr was.written.1.1.fault.rose
 
-  pub listed_due : (outcome due : Outcome) → EndedAs (ShowsSpool disk out) outcome → IsSpoolDue disk due
+  pub listed_due : (name : List ℕ) (outcome due : Outcome) → EndedAs (ShowsSpool name disk out) outcome
+      → IsSpoolDue disk due
       → Comes source files disk out outcome due
-  listed_due outcome due was is =
-      subst (λ (o : Outcome). Comes source files disk out o due) (sym was.outcome_is) (shown_due was.ended due was.ends is)
+  listed_due name outcome due was is =
+      subst (λ (o : Outcome). Comes source files disk out o due) (sym was.outcome_is)
+      (shown_due was.ended due was.ends.shown is)

@@ -23,7 +23,7 @@ use Rattle.gemline_app.specs.Outcome.{file_of, line_of, outcome_of_show, status_
 use Rattle.gemline_app.specs.Spelling.{HexSpells, spelled_line, text_line, text_place}
 use Rattle.gemline_app.specs.Replay.{ReplayComes}
 use Rattle.gemline_app.specs.Spool.{EndedAs, IsUnused}
-use Rattle.gemline_app.specs.Words.{capture_limit, command_of, item_limit, name_in}
+use Rattle.gemline_app.specs.Words.{capture_limit, command_of, item_limit, name_in, spool_name}
 use Rattle.gemline_app.specs.Written.{IsUntouched}
 use Rattle.gemline_app.specs.declared.outcome.FileRole.TheVariants as role
 use Rattle.gemline_app.specs.declared.outcome.Outcome.{Outcome}
@@ -146,9 +146,9 @@ ComesFrom (Some Replay) words source files disk out outcome =
     IsUnread source × IsUnused disk
     × ReplayComes (name_in words role.Plan) (name_in words role.Schedule) files out outcome
 ComesFrom (Some (Format slots)) words source files disk out outcome =
-    IsUnread source × AreUnread files × EndedAs (FormatsSpool slots disk out) outcome
+    IsUnread source × AreUnread files × EndedAs (FormatsSpool (spool_name words) slots disk out) outcome
 ComesFrom (Some Spool) words source files disk out outcome =
-    IsUnread source × AreUnread files × EndedAs (ShowsSpool disk out) outcome
+    IsUnread source × AreUnread files × EndedAs (ShowsSpool (spool_name words) disk out) outcome
 
 -- the bytes went to a sink, all of them or, where a write failed, a part
 abbrev pub WereSent : List ℕ → SinkTold → Type 0

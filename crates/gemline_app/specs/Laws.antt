@@ -6,9 +6,9 @@ use Rattle.gl_base.specs.Told.{FilesTold, SinkTold, SourceTold}
 use Rattle.gl_base.specs.Files.{told_file}
 use Rattle.line_schedule.specs.Schedule.{IsSchedule, LaterAt, OutsideAt}
 use Rattle.line_schedule.specs.declared.schedule.Schedule.{Schedule}
-use Rattle.line_world.specs.Run.{course_of}
-use Rattle.line_world.specs.declared.course.Course.{Course}
-use Rattle.line_world.specs.declared.course.Course.TheVariants.{GoesOn, Slips, Turns}
+use Rattle.end_pair.specs.declared.answers.WorldStep.{WorldStep}
+use Rattle.end_pair.specs.declared.answers.WorldStep.TheVariants as went
+use Rattle.line_world.specs.Run.{went_of}
 use Rattle.line_show.specs.Capture.{Piece, Reads}
 use Rattle.line_show.specs.Lines.{lines_of}
 use Rattle.line_show.specs.declared.capture.Ending.{Ending}
@@ -27,11 +27,11 @@ use Rattle.gemline_app.specs.Gemline.{IsRun}
 use Rattle.gemline_app.specs.HexInput.{HexMeans, IsHexBreak}
 use Rattle.gemline_app.specs.Outcome.{outcome_of_show}
 use Rattle.gemline_app.specs.Spelling.{HexSpells, spelled_line, text_line, text_place}
-use Rattle.gemline_app.specs.Replay.{empty_plan}
+use Rattle.gemline_app.specs.Replay.{empty_plans}
 use Rattle.gemline_app.specs.Words.{capture_limit, command_of, file_limit, item_limit, name_in}
 use Rattle.gemline_app.specs.declared.outcome.FileRole.TheVariants as role
 use Rattle.gemline_app.specs.declared.outcome.Outcome.{Outcome}
-use Rattle.gemline_app.specs.declared.outcome.Outcome.TheVariants.{Done, Usage, BadText, BadHex, BadItem, BadLine, Longer, FileLonger, FileFailed, ReadFailed, NoMemory, WriteFailed, TurnsSpent, Slip, DiskFailed, NotSpool, PlanNotBuilt, LineNotBuilt}
+use Rattle.gemline_app.specs.declared.outcome.Outcome.TheVariants.{Done, Usage, BadText, BadHex, BadItem, BadLine, Longer, FileLonger, FileFailed, ReadFailed, NoMemory, WriteFailed, TurnsSpent, NumbersSpent, Slip, DiskFailed, NotSpool, PlanNotBuilt, LineNotBuilt}
 use Rattle.gemline_app.specs.declared.words.Command.{Command}
 use Rattle.gemline_app.specs.declared.words.Command.TheVariants.{Show, Spell, SpellHex, Replay, Format, Spool}
 
@@ -65,15 +65,17 @@ IsInputDue limit Asks source due =
     × (((limit < length bytes) × (due ≡ Longer)) ⊎ ((length bytes ≤ limit) × Asks bytes due))
 
 -- what the text of a schedule asks for: its trace, or its first line that can't be carried out
-abbrev pub outcome_of_course : Course → Outcome
-outcome_of_course GoesOn = Done
-outcome_of_course Slips = Slip
-outcome_of_course Turns = TurnsSpent
+abbrev pub outcome_of_run : WorldStep → Outcome
+outcome_of_run went.Went = Done
+outcome_of_run went.Slip = Slip
+outcome_of_run went.Turns = TurnsSpent
+outcome_of_run went.NumbersSpent = NumbersSpent
+outcome_of_run went.NoMemory = NoMemory
 
 abbrev pub ScheduleAsks : List ℕ → Outcome → Type 0
 ScheduleAsks text due =
     ((schedule : Schedule) × IsSchedule text schedule.events
-    × (due ≡ outcome_of_course (course_of empty_plan schedule)))
+    × (due ≡ outcome_of_run (went_of empty_plans schedule)))
     ⊎ (((number : ℕ) × OutsideAt text number × (due ≡ BadLine number))
     ⊎ ((number : ℕ) × LaterAt text number × (due ≡ LineNotBuilt number)))
 

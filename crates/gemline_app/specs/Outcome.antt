@@ -11,7 +11,7 @@ use Rattle.line_show.specs.declared.printer.Stop.{Stop}
 use Rattle.line_show.specs.declared.printer.Stop.TheVariants as stop
 use Rattle.gemline_app.specs.Words.{name_in}
 use Rattle.gemline_app.specs.declared.outcome.Outcome.{Outcome}
-use Rattle.gemline_app.specs.declared.outcome.Outcome.TheVariants.{Done, Usage, BadFrame, BadText, BadHex, BadItem, BadLine, Longer, FileLonger, FileFailed, ReadFailed, NoMemory, WriteFailed, TurnsSpent, Slip, DiskFailed, NotSpool, PlanNotBuilt, LineNotBuilt}
+use Rattle.gemline_app.specs.declared.outcome.Outcome.TheVariants.{Done, Usage, BadFrame, BadText, BadHex, BadItem, BadLine, Longer, FileLonger, FileFailed, ReadFailed, NoMemory, WriteFailed, TurnsSpent, NumbersSpent, Slip, DiskFailed, NotSpool, PlanNotBuilt, LineNotBuilt}
 
 -- what showing a capture came to
 abbrev pub outcome_of_show : Result Ending Stop → Outcome
@@ -36,6 +36,7 @@ status_of NoMemory = 71
 status_of WriteFailed = 73
 status_of TurnsSpent = 75
 status_of Slip = 76
+status_of NumbersSpent = 77
 status_of DiskFailed = 74
 status_of (NotSpool at) = 78
 status_of PlanNotBuilt = 79
@@ -74,6 +75,7 @@ head_of NoMemory = codes "gemline: 71 memory\n"
 head_of WriteFailed = codes "gemline: 73 write\n"
 head_of TurnsSpent = codes "gemline: 75 turns\n"
 head_of Slip = codes "gemline: 76 slip\n"
+head_of NumbersSpent = codes "gemline: 77 numbers\n"
 head_of DiskFailed = codes "gemline: 74 disk\n"
 head_of (NotSpool at) = codes "gemline: 78 not a spool at " ++ decimal at ++ codes "\n"
 head_of PlanNotBuilt = codes "gemline: 79 not built in plan\n"

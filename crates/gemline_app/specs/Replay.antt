@@ -10,16 +10,18 @@ use Rattle.line_schedule.specs.declared.schedule.Schedule.{Schedule}
 use Rattle.line_schedule.specs.declared.schedule.ScheduleFault.{ScheduleFault}
 use Rattle.line_schedule.specs.declared.schedule.ScheduleFault.TheVariants as schedule_fault
 use Rattle.gl_base.specs.Told.{FilesTold, SinkTold}
-use Rattle.line_world.specs.Run.{Runs, course_of, log_of, trace_text}
-use Rattle.line_world.specs.declared.running.RunEnd.{RunEnd}
-use Rattle.line_world.specs.declared.running.RunEnd.TheVariants as end
+use Rattle.end_pair.specs.Run.{Runs}
+use Rattle.end_pair.specs.declared.answers.RunEnd.{RunEnd}
+use Rattle.end_pair.specs.declared.answers.RunEnd.TheVariants as end
+use Rattle.line_world.specs.Run.{ComesInOrder, log_of, plans_of, trace_text, went_of}
+use Rattle.message_end.specs.Moves.{LinePlans}
 use Rattle.trace_log.specs.Delivered.{Delivered}
 use Rattle.gemline_app.specs.Words.{file_limit}
 use Rattle.gemline_app.specs.Written.{IsUntouched}
 use Rattle.gemline_app.specs.declared.outcome.FileRole.{FileRole}
 use Rattle.gemline_app.specs.declared.outcome.FileRole.TheVariants as role
 use Rattle.gemline_app.specs.declared.outcome.Outcome.{Outcome}
-use Rattle.gemline_app.specs.declared.outcome.Outcome.TheVariants.{Done, BadLine, LineNotBuilt, PlanNotBuilt, FileLonger, FileFailed, TurnsSpent, Slip, NoMemory, WriteFailed}
+use Rattle.gemline_app.specs.declared.outcome.Outcome.TheVariants.{Done, BadLine, LineNotBuilt, PlanNotBuilt, FileLonger, FileFailed, TurnsSpent, NumbersSpent, Slip, NoMemory, WriteFailed}
 
 -- the parameters of an empty plan
 abbrev pub empty_plan : LinePlan
@@ -30,6 +32,10 @@ empty_plan = record {
   t4 = 45000;
   max_body = 1048576;
 }
+
+-- which both ends have
+abbrev pub empty_plans : LinePlans
+empty_plans = plans_of empty_plan empty_plan
 
 -- reading a file within its limit came to this
 pub record WasFile (which : FileRole) (name : List ℕ) (files : FilesTold) (answer : FileAnswer) : Type 0 where
@@ -54,16 +60,18 @@ abbrev pub outcome_of_end : RunEnd → Outcome
 outcome_of_end end.Whole = Done
 outcome_of_end end.Slip = Slip
 outcome_of_end end.Turns = TurnsSpent
+outcome_of_end end.NumbersSpent = NumbersSpent
 outcome_of_end end.NoMemory = NoMemory
 outcome_of_end end.WriteFailed = WriteFailed
 
 -- A schedule was carried out: its trace was written, or a part of it, and each message that its log notes as delivered
--- was sent, whole, and once (SEMI E4, E5; this profile).
+-- was sent, whole, and once; and messages come in order (SEMI E4, E5; this profile).
 pub record WasReplayed (schedule : Schedule) (out : SinkTold) (outcome : Outcome) : Type 0 where
   pub ended : RunEnd
   pub outcome_is : outcome ≡ outcome_of_end ended
-  pub wrote : Runs out (trace_text empty_plan schedule) (course_of empty_plan schedule) ended
-  pub delivered : Delivered (log_of empty_plan schedule)
+  pub wrote : Runs out (trace_text empty_plans schedule) (went_of empty_plans schedule) ended
+  pub delivered : Delivered (log_of empty_plans schedule)
+  pub in_order : ComesInOrder empty_plans (log_of empty_plans schedule)
 
 -- the refusal of a schedule's text
 abbrev pub schedule_refusal : ScheduleFault → Outcome

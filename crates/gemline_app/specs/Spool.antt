@@ -10,6 +10,7 @@ use Rattle.gemline_app.specs.declared.outcome.Outcome.TheVariants.{Done, DiskFai
 pub record IsUnused (disk : DiskTold) : Type 0 where
   pub told : disk.after ≡ disk.before
   pub faults : disk.faults_after ≡ disk.faults
+  pub file : disk.file_after ≡ disk.file
 
 -- what the end of a word about a spool file is an outcome of
 abbrev pub outcome_of_spool : SpoolEnd → Outcome

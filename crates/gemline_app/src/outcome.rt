@@ -46,6 +46,8 @@ pub enum Outcome {
     TurnsSpent,
     /// A slip arrived: a block with right length and sum that isn't one whole frame of the other end.
     Slip,
+    /// An end was to draw a number for a message, and all 2^32 were drawn.
+    NumbersSpent,
     /// The disk failed.
     DiskFailed,
     /// The bytes of the spool file stand for no list. They break there.
@@ -79,6 +81,7 @@ impl Outcome {
             Outcome::WriteFailed => 73,
             Outcome::TurnsSpent => 75,
             Outcome::Slip => 76,
+            Outcome::NumbersSpent => 77,
             Outcome::DiskFailed => 74,
             Outcome::NotSpool { .. } => 78,
             Outcome::PlanNotBuilt | Outcome::LineNotBuilt { .. } => 79,
@@ -116,6 +119,7 @@ impl Outcome {
             Outcome::WriteFailed => put(&mut line, b"gemline: 73 write\n"),
             Outcome::TurnsSpent => put(&mut line, b"gemline: 75 turns\n"),
             Outcome::Slip => put(&mut line, b"gemline: 76 slip\n"),
+            Outcome::NumbersSpent => put(&mut line, b"gemline: 77 numbers\n"),
             Outcome::DiskFailed => put(&mut line, b"gemline: 74 disk\n"),
             Outcome::NotSpool { at } => {
                 put_place(&mut line, b"gemline: 78 not a spool at ", *at);

@@ -1,4 +1,4 @@
-//! A schedule carried out over two ends and the line between them.
+//! A schedule carried out over two talkers and the line between them.
 
 ghost use Rattle.std.specs.Prelude.{◌≡◌, List, Ok};
 ghost use Rattle.gemline_app.specs.Replay.{FileAnswers, ReplayComes, ScheduleComes, TextRuns, empty_plan};
@@ -92,7 +92,11 @@ fn run_text<W: Sink>(alloc: Global, text: &[u8], out: &mut W) -> Outcome
         result }
 {
     match read_schedule(alloc, text) {
-        Ok(schedule) => outcome_of_end(run(alloc, &empty_plan(), &schedule, out)),
+        Ok(schedule) => {
+            let plan = empty_plan();
+            let (end, _world) = run(alloc, &plan, &plan, &schedule, out);
+            outcome_of_end(end)
+        }
         Err(fault) => schedule_refusal(fault),
     }
 }
@@ -121,6 +125,7 @@ fn outcome_of_end(end: RunEnd) -> Outcome
         RunEnd::Whole => Outcome::Done,
         RunEnd::Slip => Outcome::Slip,
         RunEnd::Turns => Outcome::TurnsSpent,
+        RunEnd::NumbersSpent => Outcome::NumbersSpent,
         RunEnd::NoMemory => Outcome::NoMemory,
         RunEnd::WriteFailed => Outcome::WriteFailed,
     }

@@ -4,7 +4,7 @@ ghost use Rattle.gemline_app.specs.Gemline.{WasSpelled, WereSent};
 ghost use Rattle.gemline_app.specs.Outcome.{file_of, line_of, outcome_of_show, status_of};
 ghost use Rattle.gemline_app.specs.Replay.{ReplayComes};
 ghost use Rattle.gemline_app.specs.Spool.{EndedAs, outcome_of_spool};
-ghost use Rattle.gemline_app.specs.Words.{capture_limit, command_of, item_limit, name_in};
+ghost use Rattle.gemline_app.specs.Words.{capture_limit, command_of, item_limit, name_in, spool_name};
 ghost use Rattle.gemline_app.specs.declared.outcome.FileRole.TheVariants as roles;
 ghost use Rattle.gl_base.specs.Told.{files_told, sink_told, source_told};
 ghost use Rattle.spool_show.specs.Formatting.{FormatsSpool};
@@ -206,7 +206,9 @@ fn make_spool<W: Sink, D: Disk>(words: &[String], slots: u32, out: &mut W, disk:
     requires some { 1 ≤ slots }
     requires most { slots ≤ 65535 }
     ensures { EndedAs
-        (FormatsSpool slots (disk_told D.Disk disk.old disk.new) (sink_told W.Sink out.old out.new))
+        (FormatsSpool (spool_name (map string_bytes words.now)) slots
+        (disk_told D.Disk disk.old disk.new)
+        (sink_told W.Sink out.old out.new))
         result }
 {
     outcome_of_spool(format_spool(disk, spool_name(words), slots, out))
@@ -215,7 +217,9 @@ fn make_spool<W: Sink, D: Disk>(words: &[String], slots: u32, out: &mut W, disk:
 // Writes the list of the spool file that the words name.
 fn list_spool<W: Sink, D: Disk>(words: &[String], out: &mut W, disk: &mut D) -> Outcome
     ensures { EndedAs
-        (ShowsSpool (disk_told D.Disk disk.old disk.new) (sink_told W.Sink out.old out.new))
+        (ShowsSpool (spool_name (map string_bytes words.now))
+        (disk_told D.Disk disk.old disk.new)
+        (sink_told W.Sink out.old out.new))
         result }
 {
     outcome_of_spool(show_spool(disk, spool_name(words), out))

@@ -148,6 +148,8 @@ impl Disk for NoDisk {
 
     ghost name = { λ _. 0 };
 
+    ghost file_is = { λ _. None };
+
     ghost sized = { λ disk s is. absurd cc };
 
     ghost calls_told = { λ disk s is. absurd cc };
@@ -316,7 +318,7 @@ static SCHEDULES: [Case; 7] = [
         (65, "", "gemline: 65 schedule line 2\n"),
     ),
     (
-        (b"", b"wait 1\nlose H 1", 1, b""),
+        (b"", b"wait 1\ntool online", 1, b""),
         (79, "", "gemline: 79 not built at line 2\n"),
     ),
     (
@@ -329,11 +331,11 @@ static SCHEDULES: [Case; 7] = [
     ),
 ];
 
-/// Schedules whose one line sends a message, the item of which is so many lists.
+/// Schedules whose one line sets a variable to so many lists.
 static LISTS: [Case; 2] = [
     (
         (
-            b"host send S1F1 W ",
+            b"tool set 1 ",
             b"<L ",
             64,
             b">>>>>>>>>>>>>>>>>>>>>>>>>>>>>>>>>>>>>>>>>>>>>>>>>>>>>>>>>>>>>>>>",
@@ -341,7 +343,7 @@ static LISTS: [Case; 2] = [
         (79, "", "gemline: 79 not built at line 1\n"),
     ),
     (
-        (b"host send S1F1 W ", b"<L ", 65, LISTS_END),
+        (b"tool set 1 ", b"<L ", 65, LISTS_END),
         (65, "", "gemline: 65 schedule line 1\n"),
     ),
 ];
@@ -452,7 +454,10 @@ static SPOOL_WORDS: [&'static [&'static str]; 7] = [
 const FIRST_MESSAGE: &str = "0 E start len=0 base=0\n0 H start\n\
     0 E sent S1F13 W 00000000 0102410747454D4C494E45410131\n0 E tx 05\n0 H tx 04\n\
     0 E tx 188000810D8001000000000102410747454D4C494E45410131044E\n\
-    0 H rx S1F13 W 00000000 0102410747454D4C494E45410131\n0 H tx 06\n0 end\n";
+    0 H rx S1F13 W 00000000 0102410747454D4C494E45410131\n\
+    0 H sent S1F14 00000000 0102410747454D4C494E45410131\n0 H tx 0605\n0 E tx 04\n\
+    0 H tx 180000010E8001000000000102410747454D4C494E45410131034F\n\
+    0 E rx S1F14 00000000 0102410747454D4C494E45410131\n0 E tx 06\n0 end\n";
 
 const NO_ANSWER: &str = "0 E start len=0 base=0\n0 H start\n\
     0 E sent S1F13 W 00000000 0102410747454D4C494E45410131\n0 E tx 05\n\
@@ -889,12 +894,13 @@ fn pages_and_pieces(rt: HostRuntime) -> Result<(), Fail> {
     Ok(())
 }
 
-/// What no run of today comes to, and its line.
-static REPORTS: [(Outcome, u8, &str); 4] = [
+/// What no test's run comes to, and its line.
+static REPORTS: [(Outcome, u8, &str); 5] = [
     (Outcome::Done, 0, ""),
     (Outcome::NoMemory, 71, "gemline: 71 memory\n"),
     (Outcome::TurnsSpent, 75, "gemline: 75 turns\n"),
     (Outcome::Slip, 76, "gemline: 76 slip\n"),
+    (Outcome::NumbersSpent, 77, "gemline: 77 numbers\n"),
 ];
 
 /// Whether an outcome is told with this status and this line.

@@ -7,5 +7,7 @@ pub mod Ranges
 pub mod Readers
 pub mod ScheduleLaws
 pub mod ScriptLaws
+pub mod SpelledBytes
 pub mod Telling
+pub mod TextItems
 pub mod WordReaders

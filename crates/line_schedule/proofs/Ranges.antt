@@ -1,7 +1,8 @@
 -- What lines tell is within its ranges.
-use Rattle.std.proofs.Common.{◌≡◌, ℕ, zero, suc, ◌≤◌, false, List, [], ◌∷◌, map, fold, refl, sym, ap, ◌∙◌, arith}
-use Rattle.std.specs.Prelude.{max}
+use Rattle.std.proofs.Common.{◌≡◌, ℕ, zero, suc, ◌<◌, ◌≤◌, Bool, true, false, List, [], ◌∷◌, map, fold, inl, inr, refl, sym, ap, subst, ◌∙◌, arith}
+use Rattle.std.specs.Prelude.{All, max}
 use Rattle.std.specs.List.{AllByRecursion}
+use Rattle.std.proofs.lemmas.List.Elements.{All-cons, All-nil}
 use Rattle.disk_base.specs.declared.cut.CutChoice.{CutChoice}
 use Rattle.disk_base.specs.declared.cut.CutChoice.TheVariants as choice
 use Rattle.gl_base.specs.declared.side.Side.{Side}
@@ -10,11 +11,15 @@ use Rattle.secs_items.specs.declared.item.Item.{Item, out-Item}
 use Rattle.secs_items.specs.declared.item.Item.TheFolds.{fold-roll-Item, map-Item}
 use Rattle.secs_items.specs.declared.item.Item.TheOpen.{Item-F}
 use Rattle.secs_items.specs.declared.item.Item.TheViews.{roll-out-Item}
+use Rattle.secs_items.specs.Elements.{IsByte}
 use Rattle.secs_items.specs.Kinds.{is_list}
 use Rattle.secs_items.specs.Layers.{items_of, kind_of}
 use Rattle.secs_items.specs.Limits.{max_depth}
 use Rattle.secs_items.specs.Measures.{depth_of, layer_depth}
+use Rattle.secs_items.specs.Spelling.{shortest_spelling}
+use Rattle.secs_items.proofs.SpellLaws.{shortest_is_spelled}
 use Rattle.secs_text.specs.Grammar.{IsShallow, NestsWithin}
+use Rattle.secs_text.proofs.Quotes.{digit_small}
 use Rattle.secs_text.proofs.Shallow.{text_shallow}
 use Rattle.trace_log.specs.Commands.{HostCommandFits, ToolCommandFits}
 use Rattle.trace_log.specs.declared.commands.HostCommand.{HostCommand}
@@ -26,8 +31,10 @@ use Rattle.line_schedule.specs.declared.event.Event.TheVariants as event
 use Rattle.line_schedule.specs.declared.script.ScriptStep.{ScriptStep}
 use Rattle.line_schedule.specs.declared.script.ScriptStep.TheVariants as step
 use Rattle.line_schedule.specs.Events.{ChoiceFits, EventFits}
-use Rattle.line_schedule.specs.Grammar.{IsChoice, IsEventLine, IsHostCommand, IsScriptLine, IsStep, IsToolCommand}
+use Rattle.line_schedule.specs.Grammar.{IsBody, IsChoice, IsEventLine, IsHexByte, IsHostCommand, IsScriptLine, IsStep, IsToolCommand, IsWaitAndBody}
 use Rattle.line_schedule.specs.Script.{LineFits, StepFits}
+use Rattle.line_schedule.proofs.SpelledBytes.{spelled_bytes}
+use Rattle.line_schedule.proofs.TextItems.{text_in_range}
 
 -- ---- how deep an item is
 
@@ -74,6 +81,28 @@ shallow : (i : Item) → IsShallow i → depth_of i ≤ max_depth
 unfolding IsShallow
 shallow i nests = nests_shallow 64 i nests
 
+-- ---- bytes
+
+hex_fits : (byte : ℕ) (text : List ℕ) → IsHexByte byte text → byte < 256
+hex_fits byte text is =
+    let high = digit_small is.first is.high is.high_is in
+    let low = digit_small is.second is.low is.low_is in
+    omega (arith, high, low, is.value)
+
+each_byte : (bytes : List ℕ) → AllByRecursion IsByte bytes → All (λ (b : ℕ). b < 256) bytes
+each_byte [] all = All-nil (λ (b : ℕ). b < 256)
+each_byte (b ∷ bytes) all = All-cons (λ (b : ℕ). b < 256) b bytes all.0 (each_byte bytes all.1)
+
+body_bytes : (body text : List ℕ) → IsBody body text → All (λ (b : ℕ). b < 256) body
+body_bytes body text (inl (hyphen, is)) = subst (All (λ (b : ℕ). b < 256)) (sym is) (All-nil (λ (b : ℕ). b < 256))
+body_bytes body text (inr (item, reads, none, is)) =
+    let spelled = spelled_bytes item (shortest_spelling item) (shortest_is_spelled item (text_in_range text item reads) none) in
+    subst (All (λ (b : ℕ). b < 256)) (sym is) (each_byte (shortest_spelling item) spelled)
+
+sent_bytes : (wait : Bool) (body text : List ℕ) → IsWaitAndBody wait body text → All (λ (b : ℕ). b < 256) body
+sent_bytes true body text (rest, placed, is) = body_bytes body rest is
+sent_bytes false body text is = body_bytes body text is
+
 -- ---- commands
 
 tool_fits : (command : ToolCommand) (text : List ℕ) → IsToolCommand command text → ToolCommandFits command
@@ -90,7 +119,11 @@ tool_fits (tool.Terminal tid bytes) text is = tt
 
 host_fits : (command : HostCommand) (text : List ℕ) → IsHostCommand command text → HostCommandFits command
 host_fits (host.Send stream function wait body) text (rest, placed, (name, more, same, (behind, begins, (first, second, parts, x, y)), ends)) =
-    record { at_least = x.at_least; at_most = x.at_most; odd = y.1 }
+    record {
+      name = record { at_least = x.at_least; at_most = x.at_most; odd = y.1 };
+      byte = omega (arith, y.0.at_most);
+      bytes = sent_bytes wait body more ends;
+    }
 host_fits host.Enable text is = tt
 host_fits host.Disable text is = tt
 
@@ -105,8 +138,8 @@ choice_fits (choice.First n) text (rest, placed, is) = is.at_most
 pub event_fits : (told : Event) (line : List ℕ) → IsEventLine told line → EventFits told
 event_fits (event.To side n) line is = tt
 event_fits (event.Lose side n) line is = tt
-event_fits (event.Change side place byte) line is = tt
-event_fits (event.Add side byte) line is = tt
+event_fits (event.Change side place byte) line (rest, placed, (behind, sided, (first, second, same, number, is))) = hex_fits byte second is
+event_fits (event.Add side byte) line (rest, placed, (behind, sided, is)) = hex_fits byte behind is
 event_fits event.Settle line is = tt
 event_fits (event.Wait ms) line (rest, placed, is) = is.at_most
 event_fits (event.Tool command) line (rest, placed, is) = tool_fits command rest is

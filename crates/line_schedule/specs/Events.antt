@@ -1,9 +1,10 @@
 -- The events that lines of a schedule tell, found by functions that compute; which are carried out (this profile).
-use Rattle.std.specs.Prelude.{ℕ, ◌-◌, ◌^◌, ◌≤◌, Bool, true, false, List, codes, Option}
+use Rattle.std.specs.Prelude.{ℕ, ◌-◌, ◌^◌, ◌<◌, ◌≤◌, Bool, true, false, List, codes, Option}
 use Rattle.std.specs.Option.{option_map, option_or}
 use Rattle.disk_base.specs.declared.cut.CutChoice.{CutChoice}
 use Rattle.disk_base.specs.declared.cut.CutChoice.TheVariants as choice
 use Rattle.trace_log.specs.Commands.{HostCommandFits, ToolCommandFits}
+use Rattle.trace_log.specs.declared.commands.HostCommand.TheVariants as host
 use Rattle.line_schedule.specs.declared.event.Event.{Event}
 use Rattle.line_schedule.specs.declared.event.Event.TheVariants as event
 use Rattle.line_schedule.specs.Commands.{host_command_in, tool_command_in}
@@ -72,10 +73,11 @@ event_in line = option_or (line_event_in line) (option_or (tool_in line) (host_i
 
 -- whether the event is carried out by now
 abbrev pub is_carried_out : Event → Bool
-is_carried_out (event.To side n) = true
-is_carried_out event.Settle = true
-is_carried_out (event.Wait ms) = true
-is_carried_out _ = false
+is_carried_out (event.Tool command) = false
+is_carried_out (event.Host host.Enable) = false
+is_carried_out (event.Host host.Disable) = false
+is_carried_out (event.Cut call choice) = false
+is_carried_out _ = true
 
 -- ---- ranges
 
@@ -84,8 +86,10 @@ abbrev pub ChoiceFits : CutChoice → Type 0
 ChoiceFits (choice.First n) = n ≤ 2 ^ 32 - 1
 ChoiceFits _ = Unit {0}
 
--- the clock moves by 1,000 seconds at most, and disk calls are counted from 1
+-- the clock moves by 1,000 seconds at most, characters are bytes, and disk calls are counted from 1
 abbrev pub EventFits : Event → Type 0
+EventFits (event.Change side place byte) = byte < 256
+EventFits (event.Add side byte) = byte < 256
 EventFits (event.Wait ms) = ms ≤ 1000000
 EventFits (event.Tool command) = ToolCommandFits command
 EventFits (event.Host command) = HostCommandFits command

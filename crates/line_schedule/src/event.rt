@@ -40,6 +40,7 @@ impl Event {
         ensures { IsTrue result ↔ EventFits self.now }
     {
         match self {
+            Event::Change(_, _, byte) | Event::Add(_, byte) => *byte <= u8::MAX,
             Event::Wait(milliseconds) => *milliseconds <= LONGEST_WAIT,
             Event::Tool(command) => command.fits(),
             Event::Host(command) => command.fits(),
@@ -48,11 +49,17 @@ impl Event {
         }
     }
 
-    /// Whether the event is carried out by now: characters that an end takes, those that settle, and the clock.
+    /// Whether the event is carried out by now: all but losses of power, what the tool says, and what switches the
+    /// host's communication.
     pub fn is_carried_out(&self) -> bool
         ensures { result ≡ is_carried_out self.now }
     {
-        matches!(self, Event::To(_, _) | Event::Settle | Event::Wait(_))
+        !matches!(
+            self,
+            Event::Tool(_)
+                | Event::Host(HostCommand::Enable | HostCommand::Disable)
+                | Event::Cut(_, _)
+        )
     }
 }
 

@@ -1,9 +1,2 @@
-mod Bare
-mod Carrying
-mod Deliveries
-mod Gathered
-mod Parts
-mod Progress
-mod Safe
-mod Texts
-mod Written
+mod Behind
+mod Events

@@ -1,5 +1,1 @@
-pub mod Ends
-pub mod Kept
-pub mod Laws
 pub mod Run
-pub mod World

@@ -1,15 +1,9 @@
-//! The world of two ends and the line between them: a schedule is carried out, and what both ends note is written.
+//! The worlds that run: two talkers on one line, by a schedule, whose trace is written.
 #![tactic(auto)]
 
-mod character;
-mod course;
-mod ends;
-mod laws;
 mod running;
-mod station;
 #[cfg(test)]
 mod tests;
-mod world;
 
-pub use laws::{deliveries_were_sent, runs_are_bounded};
-pub use running::{RunEnd, run};
+pub use end_pair::{RunEnd, World, WorldFault, WorldStep};
+pub use running::run;

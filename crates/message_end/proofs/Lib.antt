@@ -1,11 +1,14 @@
 pub mod Carrying
-mod Courses
+pub mod Courses
 pub mod Duties
 mod Keeps
 pub mod Lawful
+pub mod Leaving
 pub mod Lines
 mod Lists
+pub mod Lower
 mod Open
+pub mod Parts
 pub mod Reading
 pub mod Steps
 pub mod Such

@@ -14,7 +14,7 @@ use Rattle.line_end.specs.Step.LineCall.{Take, Tick}
 use Rattle.message_flow.specs.declared.step.Note.{Note}
 use Rattle.message_flow.specs.declared.step.StepOut.{StepOut}
 use Rattle.message_flow.specs.Assembly as assembly
-use Rattle.message_flow.specs.Assembly.{flow_to, header_so_far}
+use Rattle.message_flow.specs.Assembly.{WholeFits, flow_to, header_so_far}
 use Rattle.trace_log.specs.Text.{printed_note}
 use Rattle.transact.specs.declared.begun.Begun.{Begun}
 use Rattle.transact.specs.Numbers.{NumbersView}
@@ -99,6 +99,11 @@ took_by e (Refused cause) = took.Nothing
 
 abbrev pub took_at : {K : Type 0} → EndView K → ℕ → ℕ → Took
 took_at e byte now = took_by e (line_step e.line (Take byte now)).event
+
+-- a message that has come whole is one that blocks can carry
+abbrev pub IsGood : Took → Type 0
+IsGood (took.Came header flow) = WholeFits longest_text flow
+IsGood _ = Unit {0}
 
 -- what T4 and T3 end now, and what a header answers
 abbrev pub dropped_now : {K : Type 0} → EndView K → ℕ → Option Header

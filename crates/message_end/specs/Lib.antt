@@ -2,6 +2,7 @@ pub mod Calls
 pub mod Core
 pub mod Doings
 pub mod Duties
+pub mod Endings
 pub mod Ends
 pub mod History
 pub mod Laws
@@ -9,5 +10,6 @@ pub mod LineCalls
 pub mod Log
 pub mod Moves
 pub mod Own
+pub mod Parts
 pub mod Plan
 pub mod Worked

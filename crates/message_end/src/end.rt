@@ -5,8 +5,10 @@ ghost use Rattle.arrayvec.specs.ArrayVec.{array_vec_len};
 ghost use Rattle.block_codec.specs.Header.{Fits};
 ghost use Rattle.block_codec.specs.Protocol.{longest_text};
 ghost use Rattle.line_end.specs.Plan.{LinePlanFits};
-ghost use Rattle.message_end.specs.Calls.{Becomes, Begins, Carries, FitsLine, IsCame, IsCarried, IsNew, answered_by, deadline_of_end, dropped_now, due_now, failed_as, failed_at, is_sent, is_waiting_for, least, took_at};
+ghost use Rattle.message_end.specs.Calls.{Becomes, Begins, Carries, FitsLine, IsCame, IsCarried, IsGood, IsNew, answered_by, deadline_of_end, dropped_now, due_now, failed_as, failed_at, is_sent, is_waiting_for, least, took_at};
 ghost use Rattle.message_end.specs.Core.{Command, acknowledges, asked_by, hears, held_header, is_crowded_out, is_held_answered, judges, queues, replies_to, reply_text, sends, takes_back, unsent_name, with_transactions};
+ghost use Rattle.message_end.specs.Endings.{is_of_open};
+ghost use Rattle.message_end.specs.Laws.{new_end};
 ghost use Rattle.message_flow.specs.Assembly.{WholeFits};
 ghost use Rattle.message_flow.specs.Message.{MessageFits};
 ghost use Rattle.message_flow.specs.Outgoing.{is_source_of, last_header};
@@ -134,6 +136,27 @@ impl<K: Copy> MessageEnd<K> {
         }
     }
 
+    /// A start anew, with the numbers that are left. The plan must fit.
+    pub fn restart(&mut self, alloc: Global, side: Side, plan: &LinePlan)
+        requires { LinePlanFits plan.now }
+        ensures { self.new ≡ new_end (record { side = side; line = plan.now }) self.old.numbers }
+    {
+        let parts = &mut *self.parts;
+        parts.line = LineEnd::new(side, plan.times);
+        parts.outgoing = Outgoing::new(alloc, side, plan.device);
+        parts.assembly = Assembly::new(alloc, side, Some(plan.device), plan.t4, plan.max_body);
+        parts.transactions = Transactions::new(alloc, plan.t3);
+        parts.drawn = None;
+        parts.asked = None;
+    }
+
+    /// The number that is drawn next, where one is left.
+    pub fn next(&self) -> u64
+        ensures { result ≡ self.now.numbers.next }
+    {
+        self.parts.numbers.next()
+    }
+
     /// Sends a primary under the next number, in a transaction where it has a kind. `false`: 64 transactions are open,
     /// or 128 messages wait; it is noted so, and draws no number.
     pub fn primary(
@@ -145,6 +168,7 @@ impl<K: Copy> MessageEnd<K> {
         requires { FitsLine unsent }
         ensures carries { Carries (Command.Primary unsent) self.old out.old self.new out.new result }
         ensures sent { IfOk result (λ sent. sent ≡ is_sent unsent self.old) }
+        ensures line { out.new.line ≡ out.old.line }
     {
         if self.is_crowded_out(unsent.kind.is_some()) {
             note_full(alloc, &unsent, out)?;
@@ -161,6 +185,7 @@ impl<K: Copy> MessageEnd<K> {
     pub fn draw(&mut self, out: &mut StepOut) -> Result<u32, Stop>
         ensures carries { Carries Command.Draw self.old out.old self.new out.new result }
         ensures number { IfOk result (λ number. self.new.drawn ≡ Some number) }
+        ensures line { out.new.line ≡ out.old.line }
     {
         let Some(number) = self.parts.numbers.draw() else {
             return Err(Stop::NumbersSpent);
@@ -187,6 +212,7 @@ impl<K: Copy> MessageEnd<K> {
         requires { FitsLine unsent }
         ensures carries { Carries (Command.DrawnPrimary unsent) self.old out.old self.new out.new result }
         ensures sent { IfOk result (λ sent. sent ≡ is_some self.old.drawn && is_sent unsent self.old) }
+        ensures line { out.new.line ≡ out.old.line }
     {
         let Some(system) = self.parts.drawn else {
             return Ok(false);
@@ -205,6 +231,7 @@ impl<K: Copy> MessageEnd<K> {
     pub fn reply(&mut self, alloc: Global, body: Row<u8>, out: &mut StepOut) -> Result<(), Stop>
         requires { length body ≤ longest_text }
         ensures carries { Carries (Command.Reply body) self.old out.old self.new out.new result }
+        ensures line { out.new.line ≡ out.old.line }
     {
         let Some(asked) = self.parts.asked else {
             return Ok(());
@@ -215,6 +242,7 @@ impl<K: Copy> MessageEnd<K> {
     /// Replies to the primary that asks with function 0 and no body.
     pub fn abort(&mut self, alloc: Global, out: &mut StepOut) -> Result<(), Stop>
         ensures carries { Carries Command.Abort self.old out.old self.new out.new result }
+        ensures line { out.new.line ≡ out.old.line }
     {
         let Some(asked) = self.parts.asked else {
             return Ok(());
@@ -251,6 +279,7 @@ impl<K: Copy> MessageEnd<K> {
         ensures carries { Carries (Command.Take byte now) self.old out.old self.new out.new result }
         ensures took { IfOk result (λ brought. brought ≡ took_at self.old byte now) }
         ensures at_most { array_vec_len out.new.line ≤ array_vec_len out.old.line + 257 }
+        ensures whole { IfOk result (λ brought. IsGood brought) }
     {
         let held = self.parts.line.held();
         match self.parts.line.take(byte, now, &mut out.line) {
@@ -291,6 +320,7 @@ impl<K: Copy> MessageEnd<K> {
     ) -> Result<Option<Header>, Stop>
         ensures carries { Carries (Command.DropDue now) self.old out.old self.new out.new result }
         ensures dropped { IfOk result (λ dropped. dropped ≡ dropped_now self.old now) }
+        ensures line { out.new.line ≡ out.old.line }
     {
         let Some(header) = self.parts.assembly.tick(now) else {
             return Ok(None);
@@ -309,6 +339,7 @@ impl<K: Copy> MessageEnd<K> {
     ) -> Result<Option<(Header, K)>, Stop>
         ensures carries { Carries (Command.Expire now) self.old out.old self.new out.new result }
         ensures primary { IfOk result (λ primary. primary ≡ due_now self.old now) }
+        ensures line { out.new.line ≡ out.old.line }
     {
         let Some(primary) = self.parts.transactions.tick(now) else {
             return Ok(None);
@@ -327,6 +358,7 @@ impl<K: Copy> MessageEnd<K> {
     ) -> Result<Match<K>, Stop>
         ensures carries { Carries (Command.Answer header.now) self.old out.old self.new out.new result }
         ensures found { IfOk result (λ found. found ≡ match_of header.now (answered_by self.old header.now)) }
+        ensures line { out.new.line ≡ out.old.line }
     {
         match self.parts.transactions.answer(header) {
             Match::Reply(kind) => return Ok(Match::Reply(kind)),
@@ -348,6 +380,7 @@ impl<K: Copy> MessageEnd<K> {
     ) -> Result<Option<(Header, K)>, Stop>
         ensures carries { Carries (Command.GiveUp header.now) self.old out.old self.new out.new result }
         ensures primary { IfOk result (λ primary. primary ≡ option_map primary_of (answered_by self.old header.now)) }
+        ensures line { out.new.line ≡ out.old.line }
     {
         let Some(primary) = self.parts.transactions.answered(header) else {
             return Ok(None);
@@ -431,6 +464,13 @@ impl<K: Copy> MessageEnd<K> {
         self.parts.transactions.first()
     }
 
+    /// Whether the message of the block with this header is a primary whose transaction is open.
+    pub fn is_of_open(&self, header: &Header) -> bool
+        ensures { result ≡ is_of_open self.now header.now }
+    {
+        header.function % 2 == 1 && self.parts.transactions.is_open(header.system)
+    }
+
     /// How many transactions are open.
     pub fn open(&self) -> usize
         ensures open { result ≡ length self.now.transactions.begun }
@@ -478,7 +518,8 @@ impl<K: Copy> MessageEnd<K> {
     ) -> Result<(), Stop>
         requires fits { FitsLine unsent }
         requires room { length self.old.outgoing.waiting < 128 }
-        ensures { Becomes (sends printed_note unsent system) self.old out.old self.new out.new result }
+        ensures does { Becomes (sends printed_note unsent system) self.old out.old self.new out.new result }
+        ensures line { out.new.line ≡ out.old.line }
     {
         let Unsent {
             stream,
@@ -515,7 +556,8 @@ impl<K: Copy> MessageEnd<K> {
     fn queue(&mut self, alloc: Global, message: Message, out: &mut StepOut) -> Result<(), Stop>
         requires fits { MessageFits message }
         requires room { length self.old.outgoing.waiting < 128 }
-        ensures { Becomes (queues printed_note message) self.old out.old self.new out.new result }
+        ensures does { Becomes (queues printed_note message) self.old out.old self.new out.new result }
+        ensures line { out.new.line ≡ out.old.line }
     {
         out.notes.push(sent_note(alloc, &message)?)?;
         match self.parts.outgoing.push(message) {
@@ -536,7 +578,8 @@ impl<K: Copy> MessageEnd<K> {
     ) -> Result<(), Stop>
         requires stream { asked.name.stream < 128 }
         requires short { length body ≤ longest_text }
-        ensures { Becomes (replies_to printed_note asked function body) self.old out.old self.new out.new result }
+        ensures does { Becomes (replies_to printed_note asked function body) self.old out.old self.new out.new result }
+        ensures line { out.new.line ≡ out.old.line }
     {
         self.parts.asked = None;
         let message = Message {
@@ -578,6 +621,7 @@ impl<K: Copy> MessageEnd<K> {
         ensures does { Becomes (hears printed_note block.now now) self.old out.old self.new out.new result }
         ensures took { IfOk result (IsCame self.old block.now) }
         ensures line { out.new.line ≡ out.old.line }
+        ensures whole { IfOk result (λ brought. IsGood brought) }
     {
         let header = block.header();
         let flow = self.parts.assembly.accept(block, now)?;

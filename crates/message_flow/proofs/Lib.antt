@@ -8,9 +8,9 @@ mod Found
 mod Judging
 mod Kept
 pub mod Keys
-mod Making
+pub mod Making
 mod Missed
 mod Numbered
 pub mod Places
 mod Queue
-mod Standing
+pub mod Standing

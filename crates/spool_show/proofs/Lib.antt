@@ -1,4 +1,3 @@
 mod MessageLines
-mod NewFiles
 mod ShownFiles
 mod SpoolFiles

@@ -8,6 +8,7 @@ use Rattle.std.specs.List.{slice_get}
 use Rattle.disk_base.specs.Faults.{Rose}
 use Rattle.disk_base.specs.Story.{Story, bytes_at}
 use Rattle.disk_base.specs.declared.disk.Disk as trait
+use Rattle.disk_base.proofs.Stretches.{same_then}
 use Rattle.gl_base.specs.Sending.{IsUnderWay, WroteShort}
 use Rattle.gl_base.specs.Sink.{SinkHealth}
 use Rattle.gl_base.specs.Told.{SinkTold}
@@ -113,7 +114,7 @@ shown_on {D} {members} v w x e one two = record {
       ∙ ap (λ (u : SpoolView D). record { disk = x.disk; slots = u.slots; first = u.first; len = u.len; mark = u.mark })
       one.same;
   told = two.told ∙ one.told;
-  name = two.name ∙ one.name;
+  same_disk = same_then one.same_disk two.same_disk;
   count = count_on (members.health v.disk).faults (members.health w.disk).faults (members.health x.disk).faults e
       one.count two.count;
 }
@@ -122,7 +123,7 @@ pub shown_first :
     {D : Type 0} {members : trait.Ghosts D} {was : Option (List ℕ)} {a : SinkHealth} (v : SpoolView D) (page : List ℕ)
     → AreShown members v v 0 (told was was a a) page page
 shown_first {D} {members} v page = record {
-  shown = record { same = refl; told = refl; name = refl; count = refl };
+  shown = record { same = refl; told = refl; same_disk = (refl, refl); count = refl };
   lines = ([], nothing_put page, no_line (members.told v.disk) 0);
 }
 

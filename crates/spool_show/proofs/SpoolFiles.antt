@@ -9,7 +9,8 @@ use Rattle.disk_base.specs.declared.disk.DiskAnswer.TheVariants as answer
 use Rattle.gl_base.specs.Sink.{SinkHealth}
 use Rattle.gl_base.specs.Told.{SinkTold}
 use Rattle.gl_base.proofs.Appending.{told, wrote_nothing}
-use Rattle.spool_show.specs.Showing.{HasShown, IsCounted, IsSound, ShowsList, ShowsSpool, TellsSpool, end_of_refusal, refused_disk}
+use Rattle.spool_show.specs.Showing.{HasFile, HasShown, IsCounted, IsSound, Keeps, ShowsFile, ShowsList, TellsSpool}
+use Rattle.spool_show.specs.Showing.{end_of_refusal, refused_disk}
 use Rattle.spool_show.specs.Text.{file_text}
 use Rattle.spool_show.specs.Told.{DiskTold}
 use Rattle.spool_show.specs.declared.spool_end.SpoolEnd.{SpoolEnd}
@@ -21,9 +22,15 @@ use Rattle.spool_slots.specs.declared.states.Recovering.{Recovering}
 use Rattle.spool_slots.specs.declared.states.Recovering.TheVariants as recovering
 
 -- what a disk told, by its parts
-abbrev pub disk_parts : Option Story → Option Story → ℕ → ℕ → DiskTold
-disk_parts before after faults faults_after =
-    record { before = before; after = after; faults = faults; faults_after = faults_after }
+abbrev pub disk_parts : Option (List ℕ) → Option (List ℕ) → Option Story → Option Story → ℕ → ℕ → DiskTold
+disk_parts file file_after before after faults faults_after = record {
+  before = before;
+  after = after;
+  faults = faults;
+  faults_after = faults_after;
+  file = file;
+  file_after = file_after;
+}
 
 -- a file that was taken as it is has its bytes
 pub attached : {before after : Option Story} → Attaches 0 before after → after ≡ before
@@ -58,11 +65,14 @@ recovered_text before here slots first len mark out e is rests shows =
     (recovered_list before out e (subst (λ t. ShowsList t out e) is shows))
 
 -- the same of the disk before it took the file
-pub shows_before : {before mid after : Option Story} {a b c : ℕ} (out : SinkTold) (e : SpoolEnd) → mid ≡ before → b ≡ a
-    → ShowsSpool (disk_parts mid after b c) out e → ShowsSpool (disk_parts before after a c) out e
-shows_before {before} {mid} {after} {a} {b} {c} out e is same shows =
-    subst (λ t. ShowsSpool (disk_parts t after a c) out e) is
-    (subst (λ n. ShowsSpool (disk_parts mid after n c) out e) same shows)
+pub shows_before : {f g h : Option (List ℕ)} {before mid after : Option Story} {a b c : ℕ} (out : SinkTold)
+    (e : SpoolEnd) → mid ≡ before → b ≡ a
+    → ShowsFile (disk_parts h g mid after b c) out e → ShowsFile (disk_parts f g before after a c) out e
+shows_before {before} {mid} {after} {a} {b} {c} out e is same shows = record {
+  written = subst (λ t. TellsSpool t out e) is shows.written;
+  kept = subst (λ t. Keeps t after) is shows.kept;
+  count = subst (λ n. IsCounted n c e) same shows.count;
+}
 
 -- a disk was read behind a sync, and its count of faults stands or rose by the last read
 recovered_count : {D : Type 0} {members : trait.Ghosts D} {old new : D} {most : ℕ}
@@ -75,10 +85,10 @@ failed_count {D} {members} old new most is =
     subst (λ n. Rose n (members.health new).faults) is.cause.same is.reads.cause.rose
 
 -- where a device wasn't recovered, nothing was written
-pub not_recovered : {D : Type 0} (members : trait.Ghosts D) {was : Option (List ℕ)} {a : SinkHealth} (old : D)
+pub not_recovered : {D : Type 0} (members : trait.Ghosts D) {f g was : Option (List ℕ)} {a : SinkHealth} (old : D)
     (refusal : Recovering D) → Recovers members old (Err refusal)
-    → ShowsSpool
-    (disk_parts (members.told old) (members.told (refused_disk refusal)) (members.health old).faults
+    → ShowsFile
+    (disk_parts f g (members.told old) (members.told (refused_disk refusal)) (members.health old).faults
     (members.health (refused_disk refusal)).faults)
     (told was was a a) (end_of_refusal refusal)
 not_recovered members old (recovering.NotSpool raw place) (read, breaks) =
@@ -95,11 +105,12 @@ not_recovered members old (recovering.Failed spent) (inr read) = record {
 }
 
 -- the list of a recovered file was shown
-pub shows_recovered : {D : Type 0} {members : trait.Ghosts D} {out : SinkTold} (old : D) (v w : SpoolView D) (e : SpoolEnd)
-    → Recovers members old (Ok v) → HasShown members v w e → ShowsList (members.told v.disk) out e
-    → ShowsSpool
-    (disk_parts (members.told old) (members.told w.disk) (members.health old).faults (members.health w.disk).faults) out e
-shows_recovered {D} {members} {out} old v w e (read, stands) shown shows = record {
+pub shows_recovered : {D : Type 0} {members : trait.Ghosts D} {f g : Option (List ℕ)} {out : SinkTold} (old : D)
+    (v w : SpoolView D) (e : SpoolEnd) → Recovers members old (Ok v) → HasShown members v w e → ShowsList (members.told v.disk) out e
+    → ShowsFile
+    (disk_parts f g (members.told old) (members.told w.disk) (members.health old).faults
+    (members.health w.disk).faults) out e
+shows_recovered {D} {members} {out = out} old v w e (read, stands) shown shows = record {
   written = recovered_text (members.told old) (members.told v.disk) v.slots v.first v.len v.mark out e read.told
       (λ s told_is. (stands s told_is).0) shows;
   kept = inr (shown.told ∙ read.told);
@@ -107,8 +118,8 @@ shows_recovered {D} {members} {out} old v w e (read, stands) shown shows = recor
 }
 
 -- the file wasn't taken
-pub not_attached : {before after : Option Story} {a b : ℕ} {was : Option (List ℕ)} {h : SinkHealth} → Attaches 0 before after
-    → Rose a b → ShowsSpool (disk_parts before after a b) (told was was h h) end.DiskFailed
+pub not_attached : {f g : Option (List ℕ)} {before after : Option Story} {a b : ℕ} {was : Option (List ℕ)} {h : SinkHealth}
+    → Attaches 0 before after → Rose a b → ShowsFile (disk_parts f g before after a b) (told was was h h) end.DiskFailed
 not_attached is rose = record {
   written = ([], wrote_nothing, λ s told_is. (file_text (file_in s.now.bytes), refl));
   kept = inl (attached is);
@@ -116,12 +127,21 @@ not_attached is rose = record {
 }
 
 -- the same of equal disks and ends
-pub shows_same : {before before' after after' : Option Story} {a a' b b' : ℕ} {e e' : SpoolEnd} (out : SinkTold)
-    → before ≡ before' → after ≡ after' → a ≡ a' → b ≡ b' → e ≡ e' → ShowsSpool (disk_parts before after a b) out e
-    → ShowsSpool (disk_parts before' after' a' b') out e'
-shows_same {before} {before'} {after} {after'} {a} {a'} {b} {b'} {e} {e'} out one two three four five shows =
-    subst (ShowsSpool (disk_parts before' after' a' b') out) five
-    (subst (λ n. ShowsSpool (disk_parts before' after' a' n) out e) four
-    (subst (λ n. ShowsSpool (disk_parts before' after' n b) out e) three
-    (subst (λ t. ShowsSpool (disk_parts before' t a b) out e) two
-    (subst (λ t. ShowsSpool (disk_parts t after a b) out e) one shows))))
+pub shows_same : {f g : Option (List ℕ)} {before before' after after' : Option Story} {a a' b b' : ℕ}
+    {e e' : SpoolEnd} (out : SinkTold) → before ≡ before' → after ≡ after' → a ≡ a' → b ≡ b' → e ≡ e'
+    → ShowsFile (disk_parts f g before after a b) out e
+    → ShowsFile (disk_parts f g before' after' a' b') out e'
+shows_same {f} {g} {before} {before'} {after} {after'} {a} {a'} {b} {b'} {e} {e'} out one two three four five shows =
+    subst (ShowsFile (disk_parts f g before' after' a' b') out) five
+    (subst (λ n. ShowsFile (disk_parts f g before' after' a' n) out e) four
+    (subst (λ n. ShowsFile (disk_parts f g before' after' n b) out e) three
+    (subst (λ t. ShowsFile (disk_parts f g before' t a b) out e) two
+    (subst (λ t. ShowsFile (disk_parts f g t after a b) out e) one shows))))
+
+-- a file was attached, and is so still
+pub has_file : (name : List ℕ) (before : Option (List ℕ)) {mid after : Option (List ℕ)} (e : SpoolEnd) → mid ≡ Some name → after ≡ mid
+    → HasFile name before after e
+has_file name before end.Done is same = same ∙ is
+has_file name before (end.NotSpool place) is same = same ∙ is
+has_file name before end.WriteFailed is same = same ∙ is
+has_file name before end.DiskFailed is same = inr (same ∙ is)

@@ -1,11 +1,11 @@
 -- What making a spool file comes to (this profile).
-use Rattle.std.specs.Prelude.{ℕ, [], Option}
+use Rattle.std.specs.Prelude.{ℕ, List, [], Option}
 use Rattle.disk_base.specs.Story.{Story}
 use Rattle.disk_base.specs.declared.disk.DiskAnswer.{DiskAnswer}
 use Rattle.disk_base.specs.declared.disk.DiskAnswer.TheVariants as answer
 use Rattle.gl_base.specs.Sending.{WroteShort, WroteText}
 use Rattle.gl_base.specs.Told.{SinkTold}
-use Rattle.spool_show.specs.Showing.{IsCounted}
+use Rattle.spool_show.specs.Showing.{HasFile, IsCounted}
 use Rattle.spool_show.specs.Text.{formatted_line}
 use Rattle.spool_show.specs.Told.{DiskTold}
 use Rattle.spool_show.specs.declared.spool_end.SpoolEnd.{SpoolEnd}
@@ -37,6 +37,12 @@ abbrev pub MakesSpool : ℕ → Option Story → SinkTold → SpoolEnd → Type 
 MakesSpool slots after out DiskFailed = WroteText out []
 MakesSpool slots after out end = StandsEmpty after slots answer.Done × WritesFormatted slots out end
 
-pub record FormatsSpool (slots : ℕ) (disk : DiskTold) (out : SinkTold) (end : SpoolEnd) : Type 0 where
+-- what came of the file that a disk has
+pub record FormatsFile (slots : ℕ) (disk : DiskTold) (out : SinkTold) (end : SpoolEnd) : Type 0 where
   pub made : MakesSpool slots disk.after out end
   pub count : IsCounted disk.faults disk.faults_after end
+
+-- what came of the file of this name
+pub record FormatsSpool (name : List ℕ) (slots : ℕ) (disk : DiskTold) (out : SinkTold) (end : SpoolEnd) : Type 0 where
+  pub file : HasFile name disk.file disk.file_after end
+  pub formatted : FormatsFile slots disk out end

@@ -2,6 +2,7 @@
 use Rattle.std.specs.Prelude.{◌≡◌, ◌⊎◌, ℕ, ◌+◌, ◌≤◌, List, [], ◌++◌, take, drop, Option, Some, None}
 use Rattle.std.specs.Option.{option_map}
 use Rattle.disk_base.specs.Faults.{Rose}
+use Rattle.disk_base.specs.SameDisk.{IsSameDisk}
 use Rattle.disk_base.specs.Story.{Story, with_sync}
 use Rattle.disk_base.specs.declared.disk.Disk as trait
 use Rattle.gl_base.specs.Sending.{IsUnderWay, WroteShort, WroteText}
@@ -68,10 +69,21 @@ TellsSpool told out (NotSpool place) = WroteText out [] × BreaksAt told place
 abbrev pub Keeps : Option Story → Option Story → Type 0
 Keeps before after = (after ≡ before) ⊎ (after ≡ option_map with_sync before)
 
-pub record ShowsSpool (disk : DiskTold) (out : SinkTold) (end : SpoolEnd) : Type 0 where
+-- what was shown of the file that a disk has
+pub record ShowsFile (disk : DiskTold) (out : SinkTold) (end : SpoolEnd) : Type 0 where
   pub written : TellsSpool disk.before out end
   pub kept : Keeps disk.before disk.after
   pub count : IsCounted disk.faults disk.faults_after end
+
+-- a disk has the file of this name; where it failed, maybe the one still that it had before
+abbrev pub HasFile : List ℕ → Option (List ℕ) → Option (List ℕ) → SpoolEnd → Type 0
+HasFile name before after DiskFailed = (after ≡ before) ⊎ (after ≡ Some name)
+HasFile name before after _ = after ≡ Some name
+
+-- what was shown of the file of this name
+pub record ShowsSpool (name : List ℕ) (disk : DiskTold) (out : SinkTold) (end : SpoolEnd) : Type 0 where
+  pub file : HasFile name disk.file disk.file_after end
+  pub shown : ShowsFile disk out end
 
 -- ---- the lines of the messages
 
@@ -79,7 +91,7 @@ pub record ShowsSpool (disk : DiskTold) (out : SinkTold) (end : SpoolEnd) : Type
 pub record HasShown {D : Type 0} (members : trait.Ghosts D) (v w : SpoolView D) (end : SpoolEnd) : Type 0 where
   pub same : w ≡ record { disk = w.disk; slots = v.slots; first = v.first; len = v.len; mark = v.mark }
   pub told : members.told w.disk ≡ members.told v.disk
-  pub name : members.name w.disk ≡ members.name v.disk
+  pub same_disk : IsSameDisk members v.disk w.disk
   pub count : IsCounted (members.health v.disk).faults (members.health w.disk).faults end
 
 -- a text is the lines of so many messages, from a place of the list on

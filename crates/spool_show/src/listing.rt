@@ -1,7 +1,8 @@
 ghost use Rattle.std.specs.Prelude.{◌≡◌, ◌+◌, ◌-◌, ◌<◌, ◌≤◌, drop, take};
 ghost use Rattle.gl_base.specs.Told.{sink_told};
 ghost use Rattle.spool_show.specs.Text.{line_of};
-ghost use Rattle.spool_show.specs.Showing.{HasShown, PutsLine, PutsLines, ShowsList, ShowsSpool, end_of_refusal, refused_disk};
+ghost use Rattle.spool_show.specs.Showing.{HasShown, PutsLine, PutsLines, ShowsFile, ShowsList};
+ghost use Rattle.spool_show.specs.Showing.{ShowsSpool, end_of_refusal, refused_disk};
 ghost use Rattle.spool_show.specs.Told.{disk_told};
 
 use crate::lines::{LINE, put_head_line, put_message_line};
@@ -14,7 +15,7 @@ use spool_slots::{OldestAnswer, Raw, Recovering, SlotHead, Spool};
 /// disk takes the file as it is and keeps its list and mark. Where the disk or the output fails, a part of the lines
 /// was written, from the front. It takes no memory, and reads each message's slot once behind a recovery.
 pub fn show_spool<D: Disk, W: Sink>(disk: &mut D, file: &str, out: &mut W) -> SpoolEnd
-    ensures { ShowsSpool (disk_told D.Disk disk.old disk.new) (sink_told W.Sink out.old out.new) result }
+    ensures { ShowsSpool file.now (disk_told D.Disk disk.old disk.new) (sink_told W.Sink out.old out.new) result }
 {
     match disk.attach(file, 0) {
         DiskAnswer::Done => show_attached(disk, out),
@@ -24,7 +25,8 @@ pub fn show_spool<D: Disk, W: Sink>(disk: &mut D, file: &str, out: &mut W) -> Sp
 
 // The same of a disk that has taken its file.
 fn show_attached<D: Disk, W: Sink>(disk: &mut D, out: &mut W) -> SpoolEnd
-    ensures { ShowsSpool (disk_told D.Disk disk.old disk.new) (sink_told W.Sink out.old out.new) result }
+    ensures shown { ShowsFile (disk_told D.Disk disk.old disk.new) (sink_told W.Sink out.old out.new) result }
+    ensures file { D.file_is disk.new ≡ D.file_is disk.old }
 {
     match Raw::new(disk).recover() {
         Ok(spool) => {

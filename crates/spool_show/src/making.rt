@@ -1,6 +1,7 @@
 ghost use Rattle.std.specs.Prelude.{◌≡◌, ◌≤◌};
 ghost use Rattle.gl_base.specs.Told.{sink_told};
-ghost use Rattle.spool_show.specs.Formatting.{FormatsSpool, WritesFormatted, end_of_answer, unformatted_disk};
+ghost use Rattle.spool_show.specs.Formatting.{FormatsFile, FormatsSpool, WritesFormatted};
+ghost use Rattle.spool_show.specs.Formatting.{end_of_answer, unformatted_disk};
 ghost use Rattle.spool_show.specs.Showing.{IsCounted};
 ghost use Rattle.spool_show.specs.Told.{disk_told};
 ghost use Rattle.spool_slots.specs.Format.{StandsEmpty};
@@ -17,7 +18,8 @@ use spool_slots::{Formatting, Raw};
 pub fn format_spool<D: Disk, W: Sink>(disk: &mut D, file: &str, slots: u32, out: &mut W) -> SpoolEnd
     requires some { 1 ≤ slots }
     requires most { slots ≤ 65535 }
-    ensures { FormatsSpool slots (disk_told D.Disk disk.old disk.new) (sink_told W.Sink out.old out.new) result }
+    ensures { FormatsSpool file.now slots (disk_told D.Disk disk.old disk.new) (sink_told W.Sink out.old out.new)
+        result }
 {
     match disk.attach(file, bytes_of(slots)) {
         DiskAnswer::Done => format_attached(disk, slots, out),
@@ -30,7 +32,9 @@ fn format_attached<D: Disk, W: Sink>(disk: &mut D, slots: u32, out: &mut W) -> S
     requires some { 1 ≤ slots }
     requires most { slots ≤ 65535 }
     requires size { slot_place slots ≤ D.size_is disk.old }
-    ensures { FormatsSpool slots (disk_told D.Disk disk.old disk.new) (sink_told W.Sink out.old out.new) result }
+    ensures formatted { FormatsFile slots (disk_told D.Disk disk.old disk.new) (sink_told W.Sink out.old out.new)
+        result }
+    ensures file { D.file_is disk.new ≡ D.file_is disk.old }
 {
     match make_file(disk, slots) {
         DiskAnswer::Done => write_formatted(slots, out),
@@ -45,6 +49,7 @@ fn make_file<D: Disk>(disk: &mut D, slots: u32) -> DiskAnswer
     requires size { slot_place slots ≤ D.size_is disk.old }
     ensures stands { StandsEmpty (D.told disk.new) slots result }
     ensures count { IsCounted (D.health disk.old).faults (D.health disk.new).faults (end_of_answer result) }
+    ensures file { D.file_is disk.new ≡ D.file_is disk.old }
 {
     match Raw::new(disk).format(slots) {
         Ok(spool) => {

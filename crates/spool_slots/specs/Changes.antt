@@ -8,6 +8,7 @@ use Rattle.disk_base.specs.Calls.{DiskCall, Logs, read_call, sync_call, with_cal
 use Rattle.disk_base.specs.Cut.{image_of}
 use Rattle.disk_base.specs.Faults.{DiskHealth, HasCause, IsCrowded, IsPlanned}
 use Rattle.disk_base.specs.Listed.{AsListed}
+use Rattle.disk_base.specs.SameDisk.{IsSameDisk}
 use Rattle.disk_base.specs.Settle.{LogsBoth, Settles}
 use Rattle.disk_base.specs.Story.{Story, bytes_at, with_sync}
 use Rattle.disk_base.specs.Through.{Through}
@@ -94,14 +95,14 @@ pub record HasSettled {D : Type 0} (members : disk.Ghosts D) (old new : D) (at :
       AsListed (members.told old) (members.calls old) (members.told new) (members.calls new)
   pub cause : HasCause (members.health old) (members.health new) 2 (length bytes)
       ((members.health old).room < length bytes) answer
-  pub name : members.name new ≡ members.name old
+  pub same_disk : IsSameDisk members old new
 
 -- a sync was made, and then at most so many reads, of which the last one failed, or none
 pub record HasRecovered {D : Type 0} (members : disk.Ghosts D) (old new : D) (most : ℕ) (answer : DiskAnswer) :
     Type 0 where
   pub told : members.told new ≡ option_map with_sync (members.told old)
   pub size : members.size_is new ≡ members.size_is old
-  pub name : members.name new ≡ members.name old
+  pub same_disk : IsSameDisk members old new
   pub synced : DiskHealth
   pub cause : HasCause (members.health old) synced 1 0 ⊥ Done
   pub reads : HasRead synced (members.health new) (with_call (sync_call Done) (members.calls old)) (members.calls new)
@@ -111,7 +112,7 @@ pub record HasRecovered {D : Type 0} (members : disk.Ghosts D) (old new : D) (mo
 pub record HasNoSync {D : Type 0} (members : disk.Ghosts D) (old new : D) : Type 0 where
   pub told : members.told new ≡ members.told old
   pub size : members.size_is new ≡ members.size_is old
-  pub name : members.name new ≡ members.name old
+  pub same_disk : IsSameDisk members old new
   pub cause : HasCause (members.health old) (members.health new) 1 0 ⊥ Failed
   pub calls : Logs sync_call (IsCrowded (members.health old) 1 0) (members.calls old) (members.calls new) Failed
 
@@ -203,7 +204,7 @@ pub record HasLooked {D : Type 0} (members : disk.Ghosts D) (v w : SpoolView D) 
   pub calls : Logs (read_call (slot_place k) 4096) (IsCrowded (members.health v.disk) 1 0) (members.calls v.disk)
       (members.calls w.disk) answer
   pub cause : HasCause (members.health v.disk) (members.health w.disk) 1 0 ⊥ answer
-  pub name : members.name w.disk ≡ members.name v.disk
+  pub same_disk : IsSameDisk members v.disk w.disk
 
 -- the message of a number, with its slot's bytes
 pub record IsFound (s : Story) (slots first number : ℕ) (into : List ℕ) (head : SlotHead) : Type 0 where
@@ -250,7 +251,7 @@ pub record HasReserved {D : Type 0} (members : disk.Ghosts D) (v : SpoolView D) 
   pub listed : (members.health v.disk).stopped ≡ false →
       AsListed (members.told v.disk) (members.calls v.disk) (members.told after) (members.calls after)
   pub cause : HasCause (members.health v.disk) (members.health after) 5 9 ((members.health v.disk).room < 9) answer
-  pub name : members.name after ≡ members.name v.disk
+  pub same_disk : IsSameDisk members v.disk after
 
 -- where one of the three calls that prepare the mark was to fail, a crash leaves the file as it was; elsewhere the gate
 -- of the cell decides

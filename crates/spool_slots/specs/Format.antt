@@ -2,6 +2,7 @@
 use Rattle.std.specs.Prelude.{◌≡◌, ◌⊎◌, ℕ, ◌+◌, ◌<◌, ◌≤◌, false, List, [], ◌++◌, length, replicate, Option, Some, Result, Ok, Err}
 use Rattle.std.specs.Int.{w32, to_be_bytes}
 use Rattle.disk_base.specs.Faults.{HasCause}
+use Rattle.disk_base.specs.SameDisk.{IsSameDisk}
 use Rattle.disk_base.specs.Story.{Story}
 use Rattle.disk_base.specs.declared.disk.Disk as disk
 use Rattle.disk_base.specs.declared.disk.DiskAnswer.{DiskAnswer}
@@ -47,7 +48,7 @@ pub record HasFormatted {D : Type 0} (members : disk.Ghosts D) (old new : D) (sl
   pub size : members.size_is new ≡ members.size_is old
   pub cause : HasCause (members.health old) (members.health new) (slots + 2) (slots + 4096)
       ((members.health old).room < slots + 4096) answer
-  pub name : members.name new ≡ members.name old
+  pub same_disk : IsSameDisk members old new
 
 -- the empty list stands, with mark 0, and is in hand
 abbrev pub Formats : {D : Type 0} → disk.Ghosts D → D → ℕ → Result (SpoolView D) (Formatting D) → Type 0

@@ -1,5 +1,6 @@
 ghost use Rattle.std.specs.Prelude.{◌≡◌, ◌+◌, ◌<◌, ◌≤◌, None};
 ghost use Rattle.disk_base.specs.Faults.{HasCause};
+ghost use Rattle.disk_base.specs.SameDisk.{IsSameDisk};
 ghost use Rattle.spool_slots.specs.Format.{ClosesSlots, StandsEmpty, first_page as page_of};
 ghost use Rattle.spool_slots.specs.Slot.{slot_place as place_of};
 
@@ -32,7 +33,7 @@ pub fn close_slots<D: Disk>(disk: &mut D, slots: u32) -> DiskAnswer
     ensures size { D.size_is disk.new ≡ D.size_is disk.old }
     ensures cause { HasCause (D.health disk.old) (D.health disk.new) slots slots
         ((D.health disk.old).room < slots) result }
-    ensures name { D.name disk.new ≡ D.name disk.old }
+    ensures same_disk { IsSameDisk D.Disk disk.old disk.new }
 {
     for slot in 0..slots {
         match disk.write(slot_place(slot), &[CLOSED]) {
@@ -52,7 +53,7 @@ pub fn write_empty<D: Disk>(disk: &mut D, slots: u32) -> DiskAnswer
     ensures size { D.size_is disk.new ≡ D.size_is disk.old }
     ensures cause { HasCause (D.health disk.old) (D.health disk.new) (slots + 2) (slots + 4096)
         ((D.health disk.old).room < slots + 4096) result }
-    ensures name { D.name disk.new ≡ D.name disk.old }
+    ensures same_disk { IsSameDisk D.Disk disk.old disk.new }
 {
     match disk.write(0, &first_page(slots)) {
         DiskAnswer::Done => {}

@@ -1,6 +1,7 @@
 ghost use Rattle.std.specs.Prelude.{◌≡◌, ℕ, ◌+◌, ◌<◌, ◌≤◌, List, Option, Some, IfSome, length, min};
 ghost use Rattle.std.specs.Int.{w64, from_be_bytes};
 ghost use Rattle.std.specs.List.{slice_get};
+ghost use Rattle.disk_base.specs.SameDisk.{IsSameDisk};
 ghost use Rattle.spool_slots.specs.Front.{front_in, magic_break as wrong_magic, mark_of as mark_in};
 ghost use Rattle.spool_slots.specs.Front.{mark_place as place_in, unlike_at};
 ghost use Rattle.spool_slots.specs.Reading.{FrontFits, FrontIs, FrontSays, reading_answer};
@@ -153,7 +154,7 @@ fn read_into<D: Disk>(disk: &mut D, size: u64, front: &mut [u8]) -> Reading<Fron
     ensures size { D.size_is disk.new ≡ D.size_is disk.old }
     ensures reads { HasRead (D.health disk.old) (D.health disk.new) (D.calls disk.old) (D.calls disk.new) 1
         (reading_answer result) }
-    ensures name { D.name disk.new ≡ D.name disk.old }
+    ensures same_disk { IsSameDisk D.Disk disk.old disk.new }
 {
     match disk.read(0, front) {
         DiskAnswer::Failed => return Reading::Failed,
@@ -170,7 +171,7 @@ pub fn read_front<D: Disk>(disk: &mut D) -> Reading<Front>
     ensures size { D.size_is disk.new ≡ D.size_is disk.old }
     ensures reads { HasRead (D.health disk.old) (D.health disk.new) (D.calls disk.old) (D.calls disk.new) 1
         (reading_answer result) }
-    ensures name { D.name disk.new ≡ D.name disk.old }
+    ensures same_disk { IsSameDisk D.Disk disk.old disk.new }
 {
     let size = disk.size();
     let mut bytes = [0; 29];

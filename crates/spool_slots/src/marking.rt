@@ -1,6 +1,7 @@
 ghost use Rattle.std.specs.Prelude.{◌≡◌, ◌<◌, ◌≤◌, false, None, Some, IfErr, IfOk};
 ghost use Rattle.disk_base.specs.Faults.{HasCause, IsCrowded};
 ghost use Rattle.disk_base.specs.Listed.{AsListed};
+ghost use Rattle.disk_base.specs.SameDisk.{IsSameDisk};
 ghost use Rattle.disk_base.specs.Story.{Story};
 ghost use Rattle.disk_base.specs.Through.{GoesThrough};
 ghost use Rattle.gate_cell.specs.Cell.{value_in};
@@ -33,7 +34,7 @@ pub fn write_mark<D: Disk>(disk: D, mark: u64) -> Result<D, D>
         HasCause (D.health disk) (D.health after) 5 9 ((D.health disk).room < 9) answer) }
     ensures loss { (s : Story) → D.told disk ≡ Some s → IsSure (D.health disk) 5 9 →
         IfErr result (λ after. HasLostMark s mark (D.health disk) (D.told after)) }
-    ensures name { OnDisk (λ d. d) result (λ after answer. D.name after ≡ D.name disk) }
+    ensures same_disk { OnDisk (λ d. d) result (λ after answer. IsSameDisk D.Disk disk after) }
 {
     match prepare(disk, MARK_PLACE, mark) {
         Err(disk) => Err(disk),

@@ -1,4 +1,5 @@
 ghost use Rattle.std.specs.Prelude.{◌≡◌, ◌+◌, ◌-◌, ◌*◌, ◌^◌, ◌<◌, ◌≤◌};
+ghost use Rattle.disk_base.specs.SameDisk.{IsSameDisk};
 ghost use Rattle.spool_slots.specs.Reading.{FileFits, FileIs, reading_answer};
 ghost use Rattle.spool_slots.specs.Reads.{HasRead, file_reads};
 
@@ -77,7 +78,7 @@ pub fn read_file<D: Disk>(disk: &mut D) -> Reading<Known>
     ensures reads { HasRead (D.health disk.old) (D.health disk.new) (D.calls disk.old) (D.calls disk.new)
         (file_reads (D.size_is disk.old) result)
         (reading_answer result) }
-    ensures name { D.name disk.new ≡ D.name disk.old }
+    ensures same_disk { IsSameDisk D.Disk disk.old disk.new }
 {
     match read_front(disk) {
         Reading::Whole(front) => match read_slots(disk, front.slots) {

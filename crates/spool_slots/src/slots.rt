@@ -1,5 +1,6 @@
 ghost use Rattle.std.specs.Prelude.{◌≡◌, ℕ, ◌+◌, ◌*◌, ◌%◌, ◌<◌, ◌≤◌, ◌^◌, true, List, [], ◌∷◌, length, Option, Some, None, IfSome, drop};
 ghost use Rattle.std.specs.List.{slice_get};
+ghost use Rattle.disk_base.specs.SameDisk.{IsSameDisk};
 ghost use Rattle.disk_base.specs.Story.{bytes_at};
 ghost use Rattle.spool_slots.specs.Area.{put_if};
 ghost use Rattle.spool_slots.specs.Changes.{HasSettled};
@@ -53,7 +54,7 @@ fn read_start<D: Disk>(disk: &mut D, slot: u32, start: &mut [u8; 15]) -> DiskAns
     ensures size { D.size_is disk.new ≡ D.size_is disk.old }
     ensures reads { HasRead (D.health disk.old) (D.health disk.new) (D.calls disk.old) (D.calls disk.new) 1
         result }
-    ensures name { D.name disk.new ≡ D.name disk.old }
+    ensures same_disk { IsSameDisk D.Disk disk.old disk.new }
 {
     disk.read(slot_place(slot), start)
 }
@@ -142,7 +143,7 @@ fn scan_slot<D: Disk>(disk: &mut D, slots: u32, slot: u32, scan: Scan) -> Readin
     ensures size { D.size_is disk.new ≡ D.size_is disk.old }
     ensures reads { HasRead (D.health disk.old) (D.health disk.new) (D.calls disk.old) (D.calls disk.new) 1
         (reading_answer result) }
-    ensures name { D.name disk.new ≡ D.name disk.old }
+    ensures same_disk { IsSameDisk D.Disk disk.old disk.new }
 {
     let mut start = [0; 15];
     match read_start(disk, slot, &mut start) {
@@ -165,7 +166,7 @@ pub fn scan_slots<D: Disk>(disk: &mut D, slots: u32) -> Reading<Scan>
     ensures size { D.size_is disk.new ≡ D.size_is disk.old }
     ensures reads { HasRead (D.health disk.old) (D.health disk.new) (D.calls disk.old) (D.calls disk.new) slots
         (reading_answer result) }
-    ensures name { D.name disk.new ≡ D.name disk.old }
+    ensures same_disk { IsSameDisk D.Disk disk.old disk.new }
 {
     let mut scan = Scan {
         count: 0,
@@ -204,7 +205,7 @@ fn check_slot<D: Disk>(disk: &mut D, slot: u32, end: u64) -> Reading<()>
     ensures size { D.size_is disk.new ≡ D.size_is disk.old }
     ensures reads { HasRead (D.health disk.old) (D.health disk.new) (D.calls disk.old) (D.calls disk.new) 1
         (reading_answer result) }
-    ensures name { D.name disk.new ≡ D.name disk.old }
+    ensures same_disk { IsSameDisk D.Disk disk.old disk.new }
 {
     let mut start = [0; 15];
     match read_start(disk, slot, &mut start) {
@@ -226,7 +227,7 @@ fn check_slots<D: Disk>(disk: &mut D, slots: u32, end: u64) -> Reading<()>
     ensures size { D.size_is disk.new ≡ D.size_is disk.old }
     ensures reads { HasRead (D.health disk.old) (D.health disk.new) (D.calls disk.old) (D.calls disk.new) slots
         (reading_answer result) }
-    ensures name { D.name disk.new ≡ D.name disk.old }
+    ensures same_disk { IsSameDisk D.Disk disk.old disk.new }
 {
     for slot in 0..slots {
         match check_slot(disk, slot, end) {
@@ -248,7 +249,7 @@ pub fn read_slots<D: Disk>(disk: &mut D, slots: u32) -> Reading<Scan>
     ensures size { D.size_is disk.new ≡ D.size_is disk.old }
     ensures reads { HasRead (D.health disk.old) (D.health disk.new) (D.calls disk.old) (D.calls disk.new) (2 * slots)
         (reading_answer result) }
-    ensures name { D.name disk.new ≡ D.name disk.old }
+    ensures same_disk { IsSameDisk D.Disk disk.old disk.new }
 {
     match scan_slots(disk, slots) {
         Reading::Whole(scan) => {

@@ -114,8 +114,8 @@ impl<D: Disk> Raw<D> {
     }
 
     /// Takes up the list and the mark for which the device's bytes stand, after a sync, and writes nothing. Bytes that
-    /// stand for none are `NotSpool`, with the first place at which they break. It makes one read, and one of each slot;
-    /// a second one of the slots only where the numbers of the open ones have a gap.
+    /// stand for none are `NotSpool`, with the first place at which they break. It makes one read, and one of each
+    /// slot; a second one of the slots only where the numbers of the open ones have a gap.
     pub fn recover(self) -> Result<Spool<D>, Recovering<D>>
         ensures { Recovers D.Disk self.disk result }
     {

@@ -1,5 +1,5 @@
 -- The commands that a schedule or a script gives to the ends (this profile).
-use Rattle.std.specs.Prelude.{◌≡◌, ℕ, ◌≤◌, ◌%◌}
+use Rattle.std.specs.Prelude.{◌≡◌, ℕ, ◌<◌, ◌≤◌, ◌%◌, List, All}
 use Rattle.secs_items.specs.Limits.{max_depth}
 use Rattle.secs_items.specs.Measures.{depth_of}
 use Rattle.trace_log.specs.declared.commands.HostCommand.{HostCommand}
@@ -18,6 +18,12 @@ pub record IsPrimaryName (stream function : ℕ) : Type 0 where
   pub at_most : stream ≤ 127
   pub odd : function % 2 ≡ 1
 
+-- and its function and its text are bytes
+pub record MayBeSent (stream function : ℕ) (body : List ℕ) : Type 0 where
+  pub name : IsPrimaryName stream function
+  pub byte : function < 256
+  pub bytes : All (λ byte. byte < 256) body
+
 abbrev pub HostCommandFits : HostCommand → Type 0
-HostCommandFits (Send stream function wait body) = IsPrimaryName stream function
+HostCommandFits (Send stream function wait body) = MayBeSent stream function body
 HostCommandFits _ = Unit {0}

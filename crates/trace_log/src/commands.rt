@@ -1,5 +1,5 @@
 ghost use Rattle.std.specs.Prelude.{◌↔◌, IsTrue};
-ghost use Rattle.trace_log.specs.Commands.{HostCommandFits, ToolCommandFits};
+ghost use Rattle.trace_log.specs.Commands.{HostCommandFits, MayBeSent, ToolCommandFits};
 
 use gl_base::Row;
 use secs_items::{Item, MAX_DEPTH};
@@ -62,9 +62,17 @@ impl HostCommand {
             HostCommand::Send {
                 stream,
                 function,
+                body,
                 ..
-            } => 1 <= *stream && *stream <= 127 && *function % 2 == 1,
+            } => may_be_sent(*stream, *function, body.as_slice()),
             _ => true,
         }
     }
+}
+
+// Whether a message of this name and text may be sent. That its parts are bytes is said by their types.
+fn may_be_sent(stream: u8, function: u8, body: &[u8]) -> bool
+    ensures { IsTrue result ↔ MayBeSent stream function body.now }
+{
+    1 <= stream && stream <= 127 && function % 2 == 1
 }

@@ -53,6 +53,13 @@ impl Numbers {
         self.end = (self.end + u64::from(count)).min(0x1_0000_0000);
     }
 
+    /// The number that is drawn next, where one is left.
+    pub fn next(&self) -> u64
+        ensures { result ≡ self.now.next }
+    {
+        self.next
+    }
+
     /// How many numbers are left.
     pub fn left(&self) -> u64
         ensures left { result ≡ self.now.end - self.now.next }

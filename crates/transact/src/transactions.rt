@@ -195,8 +195,8 @@ impl<K: Copy> Transactions<K> {
         self.begun.iter().filter_map(|begun| begun.deadline).min()
     }
 
-    // Whether an open transaction has these system bytes.
-    fn is_open(&self, system: u32) -> bool
+    /// Whether an open transaction has these system bytes.
+    pub fn is_open(&self, system: u32) -> bool
         ensures { result ≡ list_any (has_system system) self.now.begun }
     {
         self.begun.iter().any(|begun| begun.has_system(system))

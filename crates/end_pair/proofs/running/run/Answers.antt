@@ -53,8 +53,8 @@ events-preserved g c =
     (after_events e.machine h.machine (drop (i + 1) c.args.schedule.now.events)) (seen e.means h.means c.step.new.self) c.as_slice.ensures
     c.in-Done.ensures.passes c.truncate.ensures next (record { puts = c.in-Went.ensures.lines; world = c.in-Went.ensures.world })
 
-pub returns-in-Whole-clause-text : goal.returns-in-Whole-clause-text
-returns-in-Whole-clause-text g c =
+pub returns-in-Whole : goal.returns-in-Whole
+returns-in-Whole g c =
     let e = g.E.End in
     let h = g.H.End in
     let past : length c.args.schedule.now.events ≤ c.events.event-index =
@@ -63,21 +63,11 @@ returns-in-Whole-clause-text g c =
     ap (λ (events : List Event). after_events e.machine h.machine events (seen e.means h.means c.events.world))
     (drop_all c.events.event-index c.args.schedule.now.events past)
     in
-    (closed _ _ _ _ _ _ c.events.invariant (seen e.means h.means c.events.world) c.close-went.new.lines _ c.moment.result c.close-went.result end.Whole over
-    c.moment.ensures c.close-went.ensures c.as_slice-2.ensures c.in-Whole.ensures).0
-
-pub returns-in-Whole-clause-world : goal.returns-in-Whole-clause-world
-returns-in-Whole-clause-world g c =
-    let e = g.E.End in
-    let h = g.H.End in
-    let past : length c.args.schedule.now.events ≤ c.events.event-index =
-    omega (arith, c.events-test.false, ap length c.as_slice-event-items.ensures) in
-    let over =
-    ap (λ (events : List Event). after_events e.machine h.machine events (seen e.means h.means c.events.world))
-    (drop_all c.events.event-index c.args.schedule.now.events past)
+    let whole =
+    closed _ _ _ _ _ _ c.events.invariant (seen e.means h.means c.events.world) c.close-went.new.lines _ c.moment.result
+    c.close-went.result end.Whole over c.moment.ensures c.close-went.ensures c.as_slice-2.ensures c.in-Whole.ensures
     in
-    (closed _ _ _ _ _ _ c.events.invariant (seen e.means h.means c.events.world) c.close-went.new.lines _ c.moment.result c.close-went.result end.Whole over
-    c.moment.ensures c.close-went.ensures c.as_slice-2.ensures c.in-Whole.ensures).1
+    record { text = whole.0; world = whole.1 }
 
 pub returns : goal.returns
 returns g c =

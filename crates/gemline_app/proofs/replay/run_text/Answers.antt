@@ -1,13 +1,15 @@
 use Rattle.std.proofs.Common.{refl}
-use Rattle.gemline_app.proofs.Replaying.{refuses_text, replayed_over, runs_schedule}
+use Rattle.gemline_app.proofs.Replaying.{both_empty, refuses_text, replayed_over, runs_schedule}
 use Rattle.gemline_app.proofs.replay.run_text.Goals as goal
 
 pub returns-in-Ok : goal.returns-in-Ok
 returns-in-Ok g c =
     let reads = c.in-Ok.ensures in
+    let run = c.run-end.ensures in
+    let empty = both_empty c.empty_plan-plan.result c.empty_plan-plan.ensures in
     runs_schedule _ _ c.in-Ok.schedule _
     (record { only = reads.only; line = reads.line; not_built = reads.not_built; outside = reads.outside; later = reads.later }) reads.found
-    (replayed_over c.empty_plan.result c.in-Ok.schedule _ c.run.result _ c.empty_plan.ensures c.outcome_of_end.ensures c.run.ensures.text c.run.ensures.delivered)
+    (replayed_over _ c.in-Ok.schedule _ c.run-end.result.0 _ empty c.outcome_of_end.ensures run.text run.delivered run.in_order)
 
 pub returns-in-Err : goal.returns-in-Err
 returns-in-Err g c =

@@ -1,4 +1,4 @@
-use Rattle.gemline_app.proofs.TextItems.{text_encodes}
+use Rattle.line_schedule.proofs.TextItems.{text_encodes}
 use Rattle.gemline_app.proofs.spelling.spelled.Goals as goal
 
 pub spelling_of-requires : goal.spelling_of-requires

@@ -2,13 +2,13 @@ use Rattle.std.proofs.Common.{◌≡◌, ◌∙◌, ◌+◌, ◌<◌, ℕ, [], �
 use Rattle.std.specs.Option.{option_map}
 use Rattle.disk_base.specs.Faults.{IsUsed}
 use Rattle.disk_base.specs.Story.{with_write}
-use Rattle.disk_base.proofs.Stretches.{fault_behind, used_behind, used_none}
+use Rattle.disk_base.proofs.Stretches.{fault_behind, same_then, used_behind, used_none}
 use Rattle.spool_slots.specs.Format.{ClosesTo}
 use Rattle.spool_slots.proofs.Fresh.{closes_more, none_closed}
 use Rattle.spool_slots.proofs.format.close_slots.Goals as goal
 
 pub loop-slot-init : goal.loop-slot-init
-loop-slot-init g c = (λ t told. (t, told, none_closed t), refl, refl, used_none _)
+loop-slot-init g c = (λ t told. (t, told, none_closed t), refl, (refl, refl), used_none _)
 
 pub loop-slot-preserved : goal.loop-slot-preserved
 loop-slot-preserved g c = (
@@ -16,7 +16,7 @@ loop-slot-preserved g c = (
       c.loop-slot-test.true c.requires.size c.loop-slot.invariant.0
       (subst (λ (n : ℕ). g.D.Disk.told c.write.new.self ≡ option_map (with_write n (0 ∷ [])) (g.D.Disk.told c.loop-slot.disk)) c.slot_place.ensures c.in-Done.ensures.told),
   c.in-Done.ensures.size ∙ c.loop-slot.invariant.1,
-  c.in-Done.ensures.name ∙ c.loop-slot.invariant.2,
+  same_then c.loop-slot.invariant.2 c.in-Done.ensures.same_disk,
   used_behind _ _ c.loop-slot.slot c.loop-slot.slot c.loop-slot.invariant.3 _ 1 1 (c.loop-slot.slot + 1) (c.loop-slot.slot + 1) refl refl c.in-Done.ensures.cause,
 )
 

@@ -1,5 +1,6 @@
 use Rattle.std.proofs.Common.{◌≡◌}
 use Rattle.disk_base.specs.Faults.{IsUsed}
+use Rattle.disk_base.specs.SameDisk.{IsSameDisk}
 use Rattle.spool_slots.specs.Format.{ClosesTo}
 use Rattle.spool_slots.proofs.format.close_slots.Given as goal
 
@@ -7,5 +8,5 @@ abbrev pub invariant-loop-slot : goal.invariant-loop-slot
 invariant-loop-slot g l =
     ClosesTo (g.D.Disk.told l.fn.disk) (g.D.Disk.told l.disk) l.slot
     × (g.D.Disk.size_is l.disk ≡ g.D.Disk.size_is l.fn.disk)
-    × (g.D.Disk.name l.disk ≡ g.D.Disk.name l.fn.disk)
+    × IsSameDisk g.D.Disk l.fn.disk l.disk
     × IsUsed (g.D.Disk.health l.fn.disk) (g.D.Disk.health l.disk) l.slot l.slot

@@ -1,6 +1,7 @@
 use Rattle.std.proofs.Common.{refl, ◌∙◌, ◌≡◌, ap, subst, arith, None}
 use Rattle.spool_slots.specs.Area.{first_at}
 use Rattle.spool_slots.specs.Slot.{ahead_break, in_slot, slot_in}
+use Rattle.disk_base.proofs.Stretches.{same_then}
 use Rattle.disk_base.specs.declared.disk.DiskAnswer.TheVariants.{Done, Failed}
 use Rattle.spool_slots.proofs.Stretches.{none_read, read_behind, read_wider}
 use Rattle.spool_slots.proofs.Firsts.{first_found, first_next}
@@ -15,7 +16,7 @@ returns-in-Broken-clause-end g c s is =
     )
 
 pub loop-slot-init : goal.loop-slot-init
-loop-slot-init g c = (λ s is. refl, refl, refl, refl, none_read _ _)
+loop-slot-init g c = (λ s is. refl, refl, refl, (refl, refl), none_read _ _)
 
 pub loop-slot-preserved : goal.loop-slot-preserved
 loop-slot-preserved g c = (
@@ -24,7 +25,7 @@ loop-slot-preserved g c = (
       (ap (in_slot c.loop-slot.slot) (c.in-Whole.ensures.end s (c.loop-slot.invariant.1 ∙ is))),
   c.in-Whole.ensures.told ∙ c.loop-slot.invariant.1,
   c.in-Whole.ensures.size ∙ c.loop-slot.invariant.2,
-  c.in-Whole.ensures.name ∙ c.loop-slot.invariant.3,
+  same_then c.loop-slot.invariant.3 c.in-Whole.ensures.same_disk,
   read_behind _ _ _ _ _ _ c.loop-slot.slot 1 _ Done (omega arith) c.loop-slot.invariant.4 c.in-Whole.ensures.reads,
 )
 

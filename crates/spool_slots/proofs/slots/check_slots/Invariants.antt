@@ -1,6 +1,7 @@
 use Rattle.std.proofs.Common.{◌≡◌, Some, None}
 use Rattle.disk_base.specs.declared.disk.DiskAnswer.TheVariants.{Done}
 use Rattle.disk_base.specs.Story.{Story}
+use Rattle.disk_base.specs.SameDisk.{IsSameDisk}
 use Rattle.spool_slots.specs.Area.{first_at}
 use Rattle.spool_slots.specs.Reads.{HasRead}
 use Rattle.spool_slots.specs.Slot.{ahead_break, in_slot, slot_in}
@@ -12,5 +13,5 @@ invariant-loop-slot g l =
     first_at (λ k. in_slot k (ahead_break l.fn.end (slot_in s.now.bytes k))) l.slot ≡ None)
     × (g.D.Disk.told l.disk ≡ g.D.Disk.told l.fn.disk)
     × (g.D.Disk.size_is l.disk ≡ g.D.Disk.size_is l.fn.disk)
-    × (g.D.Disk.name l.disk ≡ g.D.Disk.name l.fn.disk)
+    × IsSameDisk g.D.Disk l.fn.disk l.disk
     × HasRead (g.D.Disk.health l.fn.disk) (g.D.Disk.health l.disk) (g.D.Disk.calls l.fn.disk) (g.D.Disk.calls l.disk) l.slot Done

@@ -2,6 +2,7 @@ use Rattle.std.proofs.Common.{refl, ◌∙◌, ◌≡◌, ap, subst, arith, None
 use Rattle.spool_slots.specs.Area.{first_at, messages_below}
 use Rattle.spool_slots.specs.Reading.{IsScan}
 use Rattle.spool_slots.specs.Slot.{in_slot, slot_break, slot_in}
+use Rattle.disk_base.proofs.Stretches.{same_then}
 use Rattle.disk_base.specs.declared.disk.DiskAnswer.TheVariants.{Done, Failed}
 use Rattle.spool_slots.proofs.Stretches.{none_read, read_behind, read_wider}
 use Rattle.std.proofs.lemmas.List.Elements.{All-nil}
@@ -19,7 +20,7 @@ returns-in-Broken-clause-scan g c s is =
 
 pub loop-slot-init : goal.loop-slot-init
 loop-slot-init g c =
-    (λ s is. (refl, record { count = refl; least = refl; behind = All-nil (IsBelow 0) }), refl, refl, refl, none_read _ _, omega arith, omega arith, omega arith)
+    (λ s is. (refl, record { count = refl; least = refl; behind = All-nil (IsBelow 0) }), refl, refl, (refl, refl), none_read _ _, omega arith, omega arith, omega arith)
 
 pub loop-slot-preserved : goal.loop-slot-preserved
 loop-slot-preserved g c = (
@@ -32,7 +33,7 @@ loop-slot-preserved g c = (
       ),
   c.in-Whole.ensures.told ∙ c.loop-slot.invariant.1,
   c.in-Whole.ensures.size ∙ c.loop-slot.invariant.2,
-  c.in-Whole.ensures.name ∙ c.loop-slot.invariant.3,
+  same_then c.loop-slot.invariant.3 c.in-Whole.ensures.same_disk,
   read_behind _ _ _ _ _ _ c.loop-slot.slot 1 _ Done (omega arith) c.loop-slot.invariant.4 c.in-Whole.ensures.reads,
   omega (arith, c.in-Whole.ensures.fits.0, c.loop-slot.invariant.5),
   c.in-Whole.ensures.fits.1,

@@ -1,6 +1,7 @@
 use Rattle.std.proofs.Common.{◌≡◌, ◌≤◌, ◌<◌, ◌^◌, Some, None}
 use Rattle.disk_base.specs.declared.disk.DiskAnswer.TheVariants.{Done}
 use Rattle.disk_base.specs.Story.{Story}
+use Rattle.disk_base.specs.SameDisk.{IsSameDisk}
 use Rattle.spool_slots.specs.Area.{first_at, messages_below}
 use Rattle.spool_slots.specs.Reading.{IsScan}
 use Rattle.spool_slots.specs.Reads.{HasRead}
@@ -14,7 +15,7 @@ invariant-loop-slot g l =
     × IsScan l.scan (messages_below (slot_in s.now.bytes) l.slot))
     × (g.D.Disk.told l.disk ≡ g.D.Disk.told l.fn.disk)
     × (g.D.Disk.size_is l.disk ≡ g.D.Disk.size_is l.fn.disk)
-    × (g.D.Disk.name l.disk ≡ g.D.Disk.name l.fn.disk)
+    × IsSameDisk g.D.Disk l.fn.disk l.disk
     × HasRead (g.D.Disk.health l.fn.disk) (g.D.Disk.health l.disk) (g.D.Disk.calls l.fn.disk) (g.D.Disk.calls l.disk) l.slot Done
     × (l.scan.count ≤ l.slot)
     × (l.scan.least < 2 ^ 63)

@@ -27,7 +27,7 @@ returns g c =
             (subst (λ n. Logs (read_call c.slot_place-at.result n) (IsCrowded (g.D.Disk.health c.self.inside.disk) 1 0) (g.D.Disk.calls c.self.inside.disk) (g.D.Disk.calls c.read.new.self) Done)
             c.told-into c.in-Done.ensures.calls);
         cause = c.in-Done.ensures.cause;
-        name = c.in-Done.ensures.name;
+        same_disk = c.in-Done.ensures.same_disk;
       },
       from,
       below,
@@ -61,7 +61,7 @@ returns-in-Failed g c =
             (subst (λ n. Logs (read_call c.slot_place-at.result n) (IsCrowded (g.D.Disk.health c.self.inside.disk) 1 0) (g.D.Disk.calls c.self.inside.disk) (g.D.Disk.calls c.read.new.self) Failed)
             c.told-into c.in-Failed.ensures.calls);
         cause = c.in-Failed.ensures.cause;
-        name = c.in-Failed.ensures.name;
+        same_disk = c.in-Failed.ensures.same_disk;
       },
       from,
       below,

@@ -32,7 +32,7 @@ returns-in-Ok g c =
       calls = λ s told. c.in-Ok.ensures.calls s told;
       listed = λ going. c.in-Ok.ensures.listed going;
       cause = c.in-Ok.ensures.cause;
-      name = c.in-Ok.ensures.name;
+      same_disk = c.in-Ok.ensures.same_disk;
     } in
     subst (λ (w : SpoolView g.row.D.Denot). Reserves g.D.Disk c.args.self (Ok (w, k.mark)))
     (sym (c.taken_up.ensures ∙ ap (λ (n : Known). in_hand c.in-Ok.disk n) c.with_mark_moved.ensures))
@@ -53,7 +53,7 @@ returns-in-Err g c =
         calls = λ s told. c.in-Err.ensures.calls s told;
         listed = λ going. c.in-Err.ensures.listed going;
         cause = c.in-Err.ensures.cause;
-        name = c.in-Err.ensures.name;
+        same_disk = c.in-Err.ensures.same_disk;
       },
       λ sure. reserve_lost g.D.Disk d c.in-Err.disk k c.self.invariant c.if-known-gt-MARK_MOST.false (λ s told. c.in-Err.ensures.loss s told sure),
     )

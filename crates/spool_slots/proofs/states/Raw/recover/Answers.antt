@@ -2,6 +2,7 @@ use Rattle.std.proofs.Common.{◌≡◌, ◌∙◌, ◌≤◌, ◌*◌, ◌+◌,
 use Rattle.std.specs.Option.{option_map}
 use Rattle.disk_base.specs.Story.{Story, with_sync}
 use Rattle.disk_base.specs.declared.disk.DiskAnswer.TheVariants.{Done}
+use Rattle.disk_base.proofs.Stretches.{same_then}
 use Rattle.spool_slots.specs.Area.{first_of}
 use Rattle.spool_slots.specs.Changes.{HasRecovered}
 use Rattle.spool_slots.specs.File.{file_in}
@@ -30,7 +31,7 @@ returns-in-Whole g c =
       record {
         told = c.in-Whole.ensures.told ∙ c.in-Done.ensures.told;
         size = c.in-Whole.ensures.size ∙ c.in-Done.ensures.size;
-        name = c.in-Whole.ensures.name ∙ c.in-Done.ensures.name;
+        same_disk = same_then c.in-Done.ensures.same_disk c.in-Whole.ensures.same_disk;
         synced = g.D.Disk.health c.sync.new.self;
         cause = c.in-Done.ensures.cause;
         reads = read_from c.in-Done.ensures.calls c.in-Whole.ensures.reads;
@@ -48,7 +49,7 @@ returns-in-Broken g c = (
   record {
     told = c.in-Broken.ensures.told ∙ c.in-Done.ensures.told;
     size = c.in-Broken.ensures.size ∙ c.in-Done.ensures.size;
-    name = c.in-Broken.ensures.name ∙ c.in-Done.ensures.name;
+    same_disk = same_then c.in-Done.ensures.same_disk c.in-Broken.ensures.same_disk;
     synced = g.D.Disk.health c.sync.new.self;
     cause = c.in-Done.ensures.cause;
     reads = read_from c.in-Done.ensures.calls (most_same c.in-Done.ensures.size c.in-Broken.ensures.reads);
@@ -60,7 +61,7 @@ pub returns-in-Failed-read_file : goal.returns-in-Failed-read_file
 returns-in-Failed-read_file g c = inr (record {
   told = c.in-Failed-read_file.ensures.told ∙ c.in-Done.ensures.told;
   size = c.in-Failed-read_file.ensures.size ∙ c.in-Done.ensures.size;
-  name = c.in-Failed-read_file.ensures.name ∙ c.in-Done.ensures.name;
+  same_disk = same_then c.in-Done.ensures.same_disk c.in-Failed-read_file.ensures.same_disk;
   synced = g.D.Disk.health c.sync.new.self;
   cause = c.in-Done.ensures.cause;
   reads = read_from c.in-Done.ensures.calls (most_same c.in-Done.ensures.size c.in-Failed-read_file.ensures.reads);
@@ -70,7 +71,7 @@ pub returns-in-Failed : goal.returns-in-Failed
 returns-in-Failed g c = inl (record {
   told = c.in-Failed.ensures.told;
   size = c.in-Failed.ensures.size;
-  name = c.in-Failed.ensures.name;
+  same_disk = c.in-Failed.ensures.same_disk;
   cause = c.in-Failed.ensures.cause;
   calls = c.in-Failed.ensures.calls;
 })

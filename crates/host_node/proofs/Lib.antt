@@ -1,0 +1,5 @@
+mod Ended
+mod Overdue
+mod Reading
+mod Texts
+mod Turned

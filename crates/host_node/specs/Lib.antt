@@ -1,0 +1,5 @@
+pub mod Calls
+pub mod Host
+pub mod Lawful
+pub mod Replies
+pub mod Spelled

@@ -1,0 +1,14 @@
+use Rattle.std.proofs.Common.{sym, ◌∙◌}
+use Rattle.trace_log.specs.Text.{printed_note}
+use Rattle.message_end.specs.Calls.{in_step}
+use Rattle.talker.specs.Talker.{expires}
+use Rattle.talker.proofs.Due.{done_none}
+use Rattle.talker.proofs.duties.expire_all.Goals as goal
+
+pub returns-then-not-branch-clause-does : goal.returns-then-not-branch-clause-does
+returns-then-not-branch-clause-does c =
+    let none = c.in_ok-expire_one.ensures.none c.if-not-branch.true in
+    sym c.transactions.invariant.done
+    ∙ done_none printed_note c.transactions.left (expires c.args.now)
+    (in_step c.transactions.core c.transactions.out) none
+    ∙ sym none ∙ c.in_ok-expire_one.ensures.carries
