@@ -77,18 +77,29 @@ fn reads_events_in_order(rt: HostRuntime) -> Result<(), Fail> {
 #[test]
 fn names_the_first_line_that_stops(rt: HostRuntime) -> Result<(), Fail> {
     let alloc = rt.alloc();
-    assert!(rt; refuses(alloc, b"settle\njump\nlose E 1\n", ScheduleFault::Line(2)));
-    assert!(rt; refuses(alloc, b"#\n\nlose E 1\njump", ScheduleFault::NotBuilt(3)));
+    assert!(rt; refuses(alloc, b"settle\njump\ncut 1 old\n", ScheduleFault::Line(2)));
+    assert!(rt; refuses(alloc, b"#\n\ncut 1 old\njump", ScheduleFault::NotBuilt(3)));
+    Ok(())
+}
+
+#[test]
+fn lines_that_are_carried_out(rt: HostRuntime) -> Result<(), Fail> {
+    let lines = [
+        b"lose E 0".as_slice(),
+        b"change H 0 aF",
+        b"add E 00",
+        b"host send S1F17 W -",
+        b"host send S127F255 -",
+        b"host send S01F001  <L>",
+    ];
+    assert!(rt; first_other(rt.alloc(), &lines, Answer::Told).is_none());
     Ok(())
 }
 
 #[test]
 fn lines_that_are_not_carried_out(rt: HostRuntime) -> Result<(), Fail> {
     let lines = [
-        b"lose E 0".as_slice(),
-        b"change H 0 aF",
-        b"add E 00",
-        b"cut 1 old",
+        b"cut 1 old".as_slice(),
         b"cut 01 new",
         b"cut 4294967295 fill A5",
         b"cut 1 first 0",
@@ -97,9 +108,7 @@ fn lines_that_are_not_carried_out(rt: HostRuntime) -> Result<(), Fail> {
         b"tool alarm 7 set",
         b"tool terminal 255 <A \"\">",
         b"host enable",
-        b"host send S1F17 W -",
-        b"host send S127F255 -",
-        b"host send S01F001  <L>",
+        b"host disable",
     ];
     assert!(rt; first_other(rt.alloc(), &lines, Answer::NotBuilt).is_none());
     Ok(())
