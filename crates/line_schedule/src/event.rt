@@ -40,6 +40,7 @@ impl Event {
         ensures { IsTrue result ↔ EventFits self.now }
     {
         match self {
+            // Always so; what is read of a byte tells its range.
             Event::Change(_, _, byte) | Event::Add(_, byte) => *byte <= u8::MAX,
             Event::Wait(milliseconds) => *milliseconds <= LONGEST_WAIT,
             Event::Tool(command) => command.fits(),
