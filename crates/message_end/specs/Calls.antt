@@ -3,6 +3,7 @@ use Rattle.std.specs.Prelude.{◌≡◌, ◌<◌, ◌≤◌, ◌%◌, ℕ, Bool,
 use Rattle.std.specs.List.{filter_map, find, reduce}
 use Rattle.std.specs.Option.{option_map}
 use Rattle.block_codec.specs.Block.{BlockView}
+use Rattle.block_codec.specs.Header.{Fits}
 use Rattle.block_codec.specs.Protocol.{longest_text}
 use Rattle.block_codec.specs.declared.header.Header.{Header}
 use Rattle.gl_base.specs.declared.side.Side.{Side}
@@ -104,6 +105,11 @@ took_at e byte now = took_by e (line_step e.line (Take byte now)).event
 abbrev pub IsGood : Took → Type 0
 IsGood (took.Came header flow) = WholeFits longest_text flow
 IsGood _ = Unit {0}
+
+-- the header of a block that has come fits
+abbrev pub HasHeader : Took → Type 0
+HasHeader (took.Came header flow) = Fits header
+HasHeader _ = Unit {0}
 
 -- what T4 and T3 end now, and what a header answers
 abbrev pub dropped_now : {K : Type 0} → EndView K → ℕ → Option Header

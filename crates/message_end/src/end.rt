@@ -1,11 +1,11 @@
-ghost use Rattle.std.specs.Prelude.{◌≡◌, ◌+◌, ◌-◌, ◌^◌, ◌<◌, ◌≤◌, ◌++◌, ◌∷◌, ◌&&◌, [], Some, None, IfOk, OnOk, is_some, length, not, slice_get};
+ghost use Rattle.std.specs.Prelude.{◌≡◌, ◌+◌, ◌-◌, ◌^◌, ◌<◌, ◌≤◌, ◌++◌, ◌∷◌, ◌&&◌, [], Some, None, IfOk, IfSome, OnOk, is_some, length, not, slice_get};
 ghost use Rattle.std.specs.List.{count_by, find, list_any};
 ghost use Rattle.std.specs.Option.{option_map};
 ghost use Rattle.arrayvec.specs.ArrayVec.{array_vec_len};
 ghost use Rattle.block_codec.specs.Header.{Fits};
 ghost use Rattle.block_codec.specs.Protocol.{longest_text};
 ghost use Rattle.line_end.specs.Plan.{LinePlanFits};
-ghost use Rattle.message_end.specs.Calls.{Becomes, Begins, Carries, FitsLine, IsCame, IsCarried, IsGood, IsNew, answered_by, deadline_of_end, dropped_now, due_now, failed_as, failed_at, is_sent, is_waiting_for, least, took_at};
+ghost use Rattle.message_end.specs.Calls.{Becomes, Begins, Carries, FitsLine, HasHeader, IsCame, IsCarried, IsGood, IsNew, answered_by, deadline_of_end, dropped_now, due_now, failed_as, failed_at, is_sent, is_waiting_for, least, took_at};
 ghost use Rattle.message_end.specs.Core.{Command, acknowledges, asked_by, hears, held_header, is_crowded_out, is_held_answered, judges, queues, replies_to, reply_text, sends, takes_back, unsent_name, with_transactions};
 ghost use Rattle.message_end.specs.Endings.{is_of_open};
 ghost use Rattle.message_end.specs.Laws.{new_end};
@@ -17,7 +17,7 @@ ghost use Rattle.trace_log.specs.Log.Happening.{Full};
 ghost use Rattle.trace_log.specs.Text.{note_of, printed_note};
 ghost use Rattle.transact.specs.Matching.{AwaitsReply};
 ghost use Rattle.transact.specs.Numbers.{numbers_from};
-ghost use Rattle.transact.specs.Transactions.{has_system, kind_of, match_of, primary_of};
+ghost use Rattle.transact.specs.Transactions.{PrimaryFits, has_system, kind_of, match_of, primary_of};
 
 use crate::Unsent;
 use arrayvec::ArrayVec;
@@ -280,6 +280,7 @@ impl<K: Copy> MessageEnd<K> {
         ensures took { IfOk result (λ brought. brought ≡ took_at self.old byte now) }
         ensures at_most { array_vec_len out.new.line ≤ array_vec_len out.old.line + 257 }
         ensures whole { IfOk result (λ brought. IsGood brought) }
+        ensures header { IfOk result (λ brought. HasHeader brought) }
     {
         let held = self.parts.line.held();
         match self.parts.line.take(byte, now, &mut out.line) {
@@ -320,6 +321,7 @@ impl<K: Copy> MessageEnd<K> {
     ) -> Result<Option<Header>, Stop>
         ensures carries { Carries (Command.DropDue now) self.old out.old self.new out.new result }
         ensures dropped { IfOk result (λ dropped. dropped ≡ dropped_now self.old now) }
+        ensures fits { IfOk result (λ dropped. IfSome dropped Fits) }
         ensures line { out.new.line ≡ out.old.line }
     {
         let Some(header) = self.parts.assembly.tick(now) else {
@@ -339,6 +341,7 @@ impl<K: Copy> MessageEnd<K> {
     ) -> Result<Option<(Header, K)>, Stop>
         ensures carries { Carries (Command.Expire now) self.old out.old self.new out.new result }
         ensures primary { IfOk result (λ primary. primary ≡ due_now self.old now) }
+        ensures fits { IfOk result (λ primary. PrimaryFits primary) }
         ensures line { out.new.line ≡ out.old.line }
     {
         let Some(primary) = self.parts.transactions.tick(now) else {
@@ -380,6 +383,7 @@ impl<K: Copy> MessageEnd<K> {
     ) -> Result<Option<(Header, K)>, Stop>
         ensures carries { Carries (Command.GiveUp header.now) self.old out.old self.new out.new result }
         ensures primary { IfOk result (λ primary. primary ≡ option_map primary_of (answered_by self.old header.now)) }
+        ensures fits { IfOk result (λ primary. PrimaryFits primary) }
         ensures line { out.new.line ≡ out.old.line }
     {
         let Some(primary) = self.parts.transactions.answered(header) else {
@@ -459,7 +463,8 @@ impl<K: Copy> MessageEnd<K> {
 
     /// The header of the primary whose transaction began first, and its kind.
     pub fn first(&self) -> Option<(Header, K)>
-        ensures { result ≡ option_map primary_of (slice_get self.now.transactions.begun 0) }
+        ensures primary { result ≡ option_map primary_of (slice_get self.now.transactions.begun 0) }
+        ensures fits { PrimaryFits result }
     {
         self.parts.transactions.first()
     }
@@ -503,9 +508,11 @@ impl<K: Copy> MessageEnd<K> {
 
     // Whether there is no room for a primary, in a transaction where it has one.
     fn is_crowded_out(&self, awaited: bool) -> bool
-        ensures { result ≡ is_crowded_out awaited self.now }
+        ensures crowded { result ≡ is_crowded_out awaited self.now }
+        ensures device { self.now.outgoing.device < 32768 }
     {
-        (awaited && self.parts.transactions.len() >= 64) || self.parts.outgoing.len() >= 128
+        let waiting = self.parts.outgoing.len();
+        (awaited && self.parts.transactions.len() >= 64) || waiting >= 128
     }
 
     // Sends a primary for which there is room, under a number of its own.
@@ -518,6 +525,7 @@ impl<K: Copy> MessageEnd<K> {
     ) -> Result<(), Stop>
         requires fits { FitsLine unsent }
         requires room { length self.old.outgoing.waiting < 128 }
+        requires device { self.old.outgoing.device < 32768 }
         ensures does { Becomes (sends printed_note unsent system) self.old out.old self.new out.new result }
         ensures line { out.new.line ≡ out.old.line }
     {
@@ -622,6 +630,7 @@ impl<K: Copy> MessageEnd<K> {
         ensures took { IfOk result (IsCame self.old block.now) }
         ensures line { out.new.line ≡ out.old.line }
         ensures whole { IfOk result (λ brought. IsGood brought) }
+        ensures header { IfOk result (λ brought. HasHeader brought) }
     {
         let header = block.header();
         let flow = self.parts.assembly.accept(block, now)?;
@@ -743,8 +752,8 @@ fn failed(held: Option<Header>) -> Took
     }
 }
 
-// The earlier of two moments.
-fn least(one: Option<u64>, other: Option<u64>) -> Option<u64>
+/// The earlier of two moments, where there are any.
+pub fn least(one: Option<u64>, other: Option<u64>) -> Option<u64>
     ensures { result ≡ least one other }
 {
     match (one, other) {

@@ -8,7 +8,7 @@ mod laws;
 mod tests;
 mod unsent;
 
-pub use end::{MessageEnd, Stop, Took};
+pub use end::{MessageEnd, Stop, Took, least};
 pub use ends::End;
 pub use laws::{ends_are_lawful, notes_are_read, worked_run};
 pub use unsent::Unsent;

@@ -1,10 +1,13 @@
 -- When a secondary answers a primary.
 use Rattle.std.specs.Prelude.{◌≡◌, Bool, true, ◌+◌, ◌%◌, ◌==◌, ◌&&◌, ◌||◌, not}
 use Rattle.std.specs.Bool.{beq}
+use Rattle.block_codec.specs.Header.{Fits}
 use Rattle.block_codec.specs.declared.header.Header.{Header}
 
--- a header is of a primary that awaits a reply: its function is odd and the W bit is set (SEMI E5, transaction)
+-- a header is of a primary that awaits a reply: it fits, its function is odd and the W bit is set (SEMI E5,
+-- transaction)
 pub record AwaitsReply (header : Header) : Type 0 where
+  pub fits : Fits header
   pub odd : header.function % 2 ≡ 1
   pub wait : header.wait ≡ true
 

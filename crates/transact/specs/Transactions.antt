@@ -1,6 +1,7 @@
 -- The transactions of one side: the primaries that it has begun and that have not ended.
 use Rattle.std.specs.Prelude.{◌≡◌, ◌≢◌, ℕ, Bool, false, ◌≤◌, ◌==◌, nat_le, List, [], ◌∷◌, ◌++◌, length, set, All, Result, Ok, Err, Option, Some, None, if◌then◌else◌}
 use Rattle.std.specs.List.{AllPairs, find, list_any, position, position_or_len, remove}
+use Rattle.block_codec.specs.Header.{Fits}
 use Rattle.block_codec.specs.declared.header.Header.{Header}
 use Rattle.transact.specs.declared.begun.Begun.{Begun}
 use Rattle.transact.specs.declared.transactions.Beginning.{Beginning}
@@ -96,6 +97,11 @@ match_of header (Some begun) = if header.function == 0 then Abort begun.kind els
 -- the primary's header, and its kind
 abbrev pub primary_of : {K : Type 0} → Begun K → Header × K
 primary_of begun = (begun.header, begun.kind)
+
+-- the header of a primary that is handed out fits
+abbrev pub PrimaryFits : {K : Type 0} → Option (Header × K) → Type 0
+PrimaryFits None = Unit {0}
+PrimaryFits (Some primary) = Fits primary.0
 
 abbrev pub kind_of : {K : Type 0} → Begun K → K
 kind_of begun = begun.kind

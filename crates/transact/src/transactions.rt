@@ -4,7 +4,7 @@ ghost use Rattle.std.specs.Option.{option_map};
 ghost use Rattle.transact.specs.declared.begun.Begun.{Begun};
 ghost use Rattle.transact.specs.declared.transactions.Match.TheVariants.{Stranger};
 ghost use Rattle.transact.specs.Matching.{AwaitsReply};
-ghost use Rattle.transact.specs.Transactions.{AtFirst, BeginAnswer, IsTransactions, TransactionsView, deadline_of, has_system, is_answered_by, is_due, kind_of, match_of, primary_of, with_deadline, with_primary, without_first};
+ghost use Rattle.transact.specs.Transactions.{AtFirst, BeginAnswer, IsOpen, IsTransactions, PrimaryFits, TransactionsView, deadline_of, has_system, is_answered_by, is_due, kind_of, match_of, primary_of, with_deadline, with_primary, without_first};
 
 use crate::begun::Begun;
 use block_codec::Header;
@@ -103,8 +103,8 @@ impl<K: Copy> Transactions<K> {
     }
 
     /// The other end acknowledged, at this moment, the last block of the primary with these system bytes, and T3 runs
-    /// from then on, also where it ran before. `true` exactly where the transaction is open; else nothing changes. Moments are in
-    /// milliseconds.
+    /// from then on, also where it ran before. `true` exactly where the transaction is open; else nothing changes.
+    /// Moments are in milliseconds.
     pub fn sent(&mut self, system: u32, now: u64) -> bool
         requires { now < 2 ^ 62 }
         ensures is_open { result ≡ list_any (has_system system) self.old.begun }
@@ -148,7 +148,8 @@ impl<K: Copy> Transactions<K> {
     /// The header of the primary that a message with this header answers, and its kind. `None` exactly where it answers
     /// no open one.
     pub fn answered(&self, header: &Header) -> Option<(Header, K)>
-        ensures { result ≡ option_map primary_of (find (is_answered_by header.now) self.now.begun) }
+        ensures primary { result ≡ option_map primary_of (find (is_answered_by header.now) self.now.begun) }
+        ensures fits { PrimaryFits result }
     {
         self.begun
             .iter()
@@ -158,7 +159,8 @@ impl<K: Copy> Transactions<K> {
 
     /// The header of the primary whose transaction began first, and its kind. `None` exactly where none is open.
     pub fn first(&self) -> Option<(Header, K)>
-        ensures { result ≡ option_map primary_of (slice_get self.now.begun 0) }
+        ensures primary { result ≡ option_map primary_of (slice_get self.now.begun 0) }
+        ensures fits { PrimaryFits result }
     {
         self.begun.first().map(|begun| (begun.header, begun.kind))
     }
@@ -179,6 +181,7 @@ impl<K: Copy> Transactions<K> {
     /// is its primary's header and kind. `None` exactly where T3 has run out on none; then nothing changes.
     pub fn tick(&mut self, now: u64) -> Option<(Header, K)>
         ensures primary { result ≡ option_map primary_of (find (is_due now) self.old.begun) }
+        ensures fits { PrimaryFits result }
         ensures rest { self.new ≡ without_first (is_due now) self.old }
         ensures none { IfNone result (self.new ≡ self.old) }
     {
@@ -229,6 +232,7 @@ impl<K: Copy> Transactions<K> {
     fn take_out(&mut self, place: Option<usize>) -> Option<Begun<K>>
         requires { IfSome place (λ at. at < length self.old.begun) }
         ensures found { AtFirst self.old.begun place (λ test. result ≡ find test self.old.begun) }
+        ensures open { IfSome result IsOpen }
         ensures rest { AtFirst self.old.begun place (λ test. self.new ≡ without_first test self.old) }
         ensures none { IfNone result (self.new ≡ self.old) }
     {
