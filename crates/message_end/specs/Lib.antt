@@ -1,5 +1,6 @@
 pub mod Calls
 pub mod Core
+pub mod Course
 pub mod Doings
 pub mod Duties
 pub mod Endings
