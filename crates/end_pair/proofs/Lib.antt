@@ -5,6 +5,7 @@ pub mod Doing
 pub mod Holding
 pub mod LineDeeds
 pub mod Moved
+pub mod Noting
 pub mod Outcomes
 pub mod Pieces
 pub mod Progress

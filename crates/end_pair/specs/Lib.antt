@@ -1,5 +1,6 @@
 pub mod Kept
 pub mod Laws
+pub mod Noted
 pub mod Run
 pub mod Steps
 pub mod World

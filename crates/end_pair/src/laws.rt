@@ -3,6 +3,7 @@ ghost use Rattle.line_schedule.specs.declared.event.Event.{Event};
 ghost use Rattle.message_end.specs.Moves.{LinePlans};
 ghost use Rattle.end_pair.specs.Kept.{MayHappen};
 ghost use Rattle.end_pair.specs.Laws.{AreOnLine, HasBytes, IsOfMoves, RunsAreBounded, StepsEndByCause};
+ghost use Rattle.end_pair.specs.Noted.{EntriesAreOfCourses};
 ghost use Rattle.end_pair.specs.Run.{log_of};
 ghost use Rattle.end_pair.specs.Worked.{WorkedRuns};
 
@@ -31,6 +32,12 @@ pub fn runs_are_moves<E: End<Command = ToolCommand>, H: End<Command = HostComman
         (H.did host)
         plans
         (log_of E.machine H.machine (E.start equipment) (H.start host) events) }
+{}
+
+/// Whatever a schedule does, what the log has of an end is what the end notes when it meets some steps, one after the
+/// other. So what holds of all that an end may note holds of its entries in the log of every run.
+pub fn entries_are_of_courses<E: End<Command = ToolCommand>, H: End<Command = HostCommand>>()
+    ensures { EntriesAreOfCourses E.State H.State }
 {}
 
 /// Two runs that can be followed by hand: a block is carried, and with one character of its frame replaced it is a

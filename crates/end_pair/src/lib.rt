@@ -10,6 +10,8 @@ mod step;
 mod world;
 
 pub use answers::{RunEnd, WorldFault, WorldStep};
-pub use laws::{runs_are_bounded, runs_are_moves, steps_end_by_cause, worked_runs};
+pub use laws::{
+    entries_are_of_courses, runs_are_bounded, runs_are_moves, steps_end_by_cause, worked_runs,
+};
 pub use running::run;
 pub use world::World;
