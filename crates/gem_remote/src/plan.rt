@@ -91,7 +91,8 @@ impl RemotePlan {
         self.commands.len() <= MOST && are_distinct(self.commands.as_slice())
     }
 
-    pub(crate) fn copy(&self, alloc: Global) -> Result<RemotePlan, NoMemory>
+    /// An equal plan.
+    pub fn copy(&self, alloc: Global) -> Result<RemotePlan, NoMemory>
         ensures { IfOk result (λ copy. copy ≡ self.now) }
     {
         let mut commands = Row::new(alloc);

@@ -35,7 +35,7 @@ defined (Unlink ceid ∷ past) q stands = defined past q stands
 defined (Enable is_enabled ceids ∷ past) q stands = defined past q stands
 
 -- the list of those that stand has these and no others
-listed : (past : List ReportEntry) (q : ℕ) → is_some (report_at past q) ≡ list_any (nat_eq q) (standing_at past)
+pub listed : (past : List ReportEntry) (q : ℕ) → is_some (report_at past q) ≡ list_any (nat_eq q) (standing_at past)
 listed past q =
     go (is_some (report_at past q)) refl
     ∙ sym (among_filtered (λ r. is_some (report_at past r)) q (filter_map defined_in past))

@@ -39,7 +39,7 @@ keyed q (e ∷ es) =
     [ true ↦ refl | false ↦ keyed q es ]
 
 -- as many reports are kept as stand
-count_is : (reports : ReportTable) (past : List ReportEntry) → HasReports reports past → length reports ≡ report_count past
+pub count_is : (reports : ReportTable) (past : List ReportEntry) → HasReports reports past → length reports ≡ report_count past
 count_is reports past has =
     sym (length-map reports (λ (e : ℕ × List ℕ). e.0))
     ∙ counted past (keys_of reports) has.distinct (λ q. keyed q reports ∙ ap (λ o. is_some o) (has.each q))
@@ -275,7 +275,7 @@ sum_changed f g c (x ∷ xs) distinct there same =
         let was = sum_by-cons f x xs in
         omega (arith, others, here, now, was)
 
-links_of_rows :
+pub links_of_rows :
     (past : List ReportEntry) (ks : List ℕ) → links_in (event_rows past ks) ≡ sum_by (λ k. length (links_at past k)) ks
 links_of_rows past [] = refl
 links_of_rows past (k ∷ ks) =

@@ -3,6 +3,7 @@ mod Counted
 mod Entering
 mod Kept
 mod Members
+mod Reporting
 mod Rows
 mod Spelled
 mod Steps

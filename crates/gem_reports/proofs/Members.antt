@@ -91,7 +91,7 @@ among_so_far so_far (x ∷ xs) q =
 pub among_each_once : (xs : List ℕ) (q : ℕ) → list_any (nat_eq q) (each_once xs) ≡ list_any (nat_eq q) xs
 among_each_once xs q = among_so_far [] xs q
 
-inserted_distinct : (xs : List ℕ) (k : ℕ) → IsDistinct nat_eq xs → IsDistinct nat_eq (with_number xs k)
+pub inserted_distinct : (xs : List ℕ) (k : ℕ) → IsDistinct nat_eq xs → IsDistinct nat_eq (with_number xs k)
 inserted_distinct xs k distinct = go (list_any (nat_eq k) xs) refl
   where
     go : (b : Bool) → list_any (nat_eq k) xs ≡ b

@@ -31,7 +31,7 @@ neither_deleted false true = refl
 neither_deleted false false = refl
 
 -- a report is deleted, and its links go
-deleted_row :
+pub deleted_row :
     (r : ℕ) (deleted now : List ℕ) (start past : List ReportEntry) (ceid : ℕ)
     → ((q : ℕ) → list_any (nat_eq q) now ≡ cond (nat_eq r q) true (list_any (nat_eq q) deleted))
     → without deleted ceid (event_after start ceid) ≡ event_after past ceid
@@ -56,13 +56,13 @@ deleted_row r deleted now start past ceid keys is =
     ap (λ (b : Bool). record { is_enabled = b; rptids = filter (λ x. not (list_any (nat_eq x) now)) first }) on
     ∙ ap (λ (rs : List ℕ). record { is_enabled = enabled_at past ceid; rptids = rs }) all
 
-put_report :
+pub put_report :
     (b : Bool) (vids : List ℕ) (o : Option (List ℕ))
     → cond b (Some vids) o ≡ unwrap_or (cond b (Some (Some vids)) None) o
 put_report true vids o = refl
 put_report false vids o = refl
 
-removed_report :
+pub removed_report :
     (b : Bool) (o : Option (List ℕ)) → cond b None o ≡ unwrap_or (cond b (Some None) None) o
 removed_report true o = refl
 removed_report false o = refl
@@ -130,7 +130,7 @@ no_ids : (ids : List ℕ) → (length ids == 0) ≡ true → ids ≡ []
 no_ids [] none = refl
 no_ids (id ∷ ids) none = let more : (length (id ∷ ids) == 0) ≡ false = grind (arith, nat_tests) in absurd (cc)
 
-link_row :
+pub link_row :
     (c : ℕ) (rptids : List ℕ) (past : List ReportEntry) (k : ℕ)
     → at_event c (with_links rptids) k (event_after past k) ≡ event_after (Link c rptids ∷ past) k
 link_row c rptids past k = go (nat_eq c k) refl
@@ -140,7 +140,7 @@ link_row c rptids past k = go (nat_eq c k) refl
     go true same = rw same (ap (λ (rs : List ℕ). with_links rs (event_after past k)) (sym (filter_all rptids)))
     go false other = rw other refl
 
-unlink_row :
+pub unlink_row :
     (c : ℕ) (past : List ReportEntry) (k : ℕ)
     → at_event c (with_links []) k (event_after past k) ≡ event_after (Unlink c ∷ past) k
 unlink_row c past k = go (nat_eq c k) refl

@@ -4,4 +4,5 @@ pub mod Drafts
 pub mod Events
 pub mod History
 pub mod Laws
+pub mod Reporting
 pub mod Tables

@@ -1,4 +1,4 @@
-ghost use Rattle.gem_reports.specs.Laws.{ReportsAreCounted, ReportsHaveVariables};
+ghost use Rattle.gem_reports.specs.Laws.{ReportsAreCounted, ReportsGoByWhatStands, ReportsHaveVariables};
 
 /// After each history there are as many reports as RPTIDs of which one stands.
 pub fn reports_are_counted()
@@ -8,4 +8,10 @@ pub fn reports_are_counted()
 /// After accepted requests every VID of a report that stands is a variable's, since variables neither come nor go.
 pub fn reports_have_variables()
     ensures { ReportsHaveVariables }
+{}
+
+/// What requests are answered and leave is a function of what stands: of the events with their links, of the reports,
+/// and of how many these are. No order of the reports matters.
+pub fn reports_go_by_what_stands()
+    ensures { ReportsGoByWhatStands }
 {}

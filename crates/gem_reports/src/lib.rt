@@ -16,5 +16,5 @@ mod tests;
 
 pub use answers::{Drack, Erack, Lrack};
 pub use gem_shapes::{Definition, Linking};
-pub use laws::{reports_are_counted, reports_have_variables};
+pub use laws::{reports_are_counted, reports_go_by_what_stands, reports_have_variables};
 pub use reports::Reports;
