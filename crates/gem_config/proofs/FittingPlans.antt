@@ -7,8 +7,8 @@ use Rattle.std.proofs.lemmas.Cmp.{nat_list_eq_equiv}
 use Rattle.std.proofs.lemmas.List.{length-append, map-append, map-id}
 use Rattle.std.proofs.lemmas.List.Elements.{All-append, All-cons, All-nil}
 use Rattle.std.proofs.lemmas.Map.Keys.{IsDistinct-push}
-use Rattle.equipment_node.specs.declared.plan.Plans.{Plans}
-use Rattle.equipment_node.specs.Plan.{CanBeSpooled, EquipmentPlanFits, EventsFit, IsShortText, PlansFit, function_of}
+use Rattle.equipment_tables.specs.declared.plan.Plans.{Plans}
+use Rattle.equipment_tables.specs.Plan.{CanBeSpooled, EquipmentPlanFits, EventsFit, IsShortText, PlansFit, function_of}
 use Rattle.gem_alarms.specs.declared.plan.AlarmPlan.{AlarmPlan}
 use Rattle.gem_alarms.specs.Plan.{AlarmFits, AlarmsFit}
 use Rattle.gem_remote.specs.declared.plan.CommandPlan.{CommandPlan}

@@ -1,6 +1,6 @@
 -- What a plan file means, by its document or by having none.
 use Rattle.std.proofs.Common.{◌≡◌, sym, ap, ◌∙◌, ℕ, inl, inr, List, Some, Result, Ok, Err}
-use Rattle.equipment_node.specs.declared.plan.Plans.{Plans}
+use Rattle.equipment_tables.specs.declared.plan.Plans.{Plans}
 use Rattle.toml.specs.Data.{Members}
 use Rattle.gem_config.specs.declared.fault.ConfigFault.{ConfigFault}
 use Rattle.gem_config.specs.declared.fault.ConfigFault.TheVariants as fault

@@ -1,8 +1,8 @@
 -- What a plan file means: the plans of both ends, or the first refusal (this profile).
 use Rattle.std.specs.Prelude.{◌≡◌, ◌⊎◌, ℕ, Bool, List, [], ◌∷◌, codes, IsUtf8, IfErr, IfOk, ◌≢◌, Option, Some, None, Result, Ok, Err}
-use Rattle.equipment_node.specs.declared.plan.EquipmentPlan.{EquipmentPlan}
-use Rattle.equipment_node.specs.declared.plan.Plans.{Plans}
-use Rattle.equipment_node.specs.Plan.{PlansFit}
+use Rattle.equipment_tables.specs.declared.plan.EquipmentPlan.{EquipmentPlan}
+use Rattle.equipment_tables.specs.declared.plan.Plans.{Plans}
+use Rattle.equipment_tables.specs.Plan.{PlansFit}
 use Rattle.line_end.specs.declared.plan.LinePlan.{LinePlan}
 use Rattle.toml.specs.Data.{Members}
 use Rattle.toml.specs.Parse.{parse_document}

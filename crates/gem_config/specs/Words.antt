@@ -5,7 +5,7 @@ use Rattle.gem_states.specs.declared.control.ControlState.{ControlState}
 use Rattle.gem_states.specs.declared.control.ControlState.TheVariants.{EquipmentOffline, HostOffline, Local, Remote}
 use Rattle.secs_items.specs.declared.kind.Kind.{Kind}
 use Rattle.secs_items.specs.declared.kind.Kind.TheVariants as kind
-use Rattle.equipment_node.specs.Plan.{function_of}
+use Rattle.equipment_tables.specs.Plan.{function_of}
 
 abbrev pub control_named : List ℕ → Option ControlState
 control_named name =

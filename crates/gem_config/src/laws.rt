@@ -1,8 +1,8 @@
 //! Laws of plan files.
 
 ghost use Rattle.std.specs.Prelude.{ℕ, List, Ok};
-ghost use Rattle.equipment_node.specs.declared.plan.Plans.{Plans};
-ghost use Rattle.equipment_node.specs.Plan.{PlansFit};
+ghost use Rattle.equipment_tables.specs.declared.plan.Plans.{Plans};
+ghost use Rattle.equipment_tables.specs.Plan.{PlansFit};
 ghost use Rattle.gem_config.specs.Plans.{Means};
 
 /// What a plan file means fits.

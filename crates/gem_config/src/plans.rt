@@ -11,7 +11,7 @@ use crate::fault::{ConfigFault, ConfigWhat};
 use crate::rows::{commands, refusal, rows, section};
 use crate::sections::{Constants, ToolSection, host_enable_of, line_of, tool_of, worth};
 use crate::unknown::least_other;
-use equipment_node::{EquipmentPlan, HostPlan, Plans};
+use equipment_tables::{EquipmentPlan, HostPlan, Plans};
 use gem_alarms::AlarmPlan;
 use gem_remote::{CommandPlan, RemotePlan};
 use gem_vars::{ConstantPlan, VariablePlan, VarsPlan};

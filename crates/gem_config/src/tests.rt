@@ -1,5 +1,5 @@
 use super::{ConfigFault, ConfigWhat, read_plans};
-use equipment_node::Plans;
+use equipment_tables::Plans;
 use gem_states::ControlState;
 use gl_base::{NoMemory, Row};
 use std::alloc::Global;

@@ -2,7 +2,7 @@
 
 ghost use Rattle.std.specs.Prelude.{◌≡◌, IfOk};
 ghost use Rattle.gem_config.specs.Words.{all_spooled, control_named, kind_named, spooled_named};
-ghost use Rattle.equipment_node.specs.Plan.{function_of};
+ghost use Rattle.equipment_tables.specs.Plan.{function_of};
 
 use gem_shapes::RuleEntry;
 use gem_states::ControlState;

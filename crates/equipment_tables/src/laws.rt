@@ -1,0 +1,15 @@
+ghost use Rattle.equipment_tables.specs.Laws.{TablesAreLookedBackFor};
+
+use gem_alarms::alarms_are_looked_back_for;
+use gem_reports::reports_go_by_what_stands;
+use gem_vars::vars_are_looked_back_for;
+
+/// After each history the tables are those that are looked back for: each value, constant, report, link, enable and
+/// alarm is what the newest entry says that was accepted, and otherwise the plan.
+pub fn tables_are_looked_back_for()
+    ensures { TablesAreLookedBackFor }
+{
+    vars_are_looked_back_for();
+    reports_go_by_what_stands();
+    alarms_are_looked_back_for();
+}

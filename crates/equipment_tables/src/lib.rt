@@ -1,0 +1,17 @@
+//! The tables of the equipment: what it is planned as, what its tool and its host set in it, and what it answers from
+//! it.
+#![tactic(auto)]
+
+mod answers;
+#[cfg(test)]
+mod answers_tests;
+mod copies;
+mod laws;
+mod plan;
+mod tables;
+
+pub use answers::{Answer, bounded, request_of};
+pub use laws::tables_are_looked_back_for;
+pub use line_end::HostPlan;
+pub use plan::{EquipmentPlan, Plans};
+pub use tables::Tables;
