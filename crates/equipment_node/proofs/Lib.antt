@@ -1,0 +1,17 @@
+mod Alarms
+mod Ended
+mod Following
+mod Heeding
+mod HeldReports
+mod HostReports
+mod Longer
+mod PlainTurns
+mod QuietNotes
+mod Reading
+mod Reporting
+mod SilentCommands
+mod Starting
+mod Taking
+mod Texts
+mod ToolReports
+mod Turned

@@ -1,0 +1,235 @@
+-- Notes of which nothing is said where reports are spoken of, and what follows behind others.
+use Rattle.std.proofs.Common.{◌≡◌, refl, sym, ap, subst, ◌∙◌, inl, inr, ◌⊎◌, ◌<◌, ◌+◌, arith, Bool, true, false, ℕ, ◌==◌, ◌&&◌, ◌||◌, List, [], ◌∷◌, ◌++◌, length, cond, if◌then◌else◌}
+use Rattle.std.specs.Prelude.{filter}
+use Rattle.message_flow.specs.declared.message.Message.{Message}
+use Rattle.trace_log.specs.Log.{Happening}
+use Rattle.message_end.specs.Course.{noted_behind}
+use Rattle.message_end.specs.Own.{Has}
+use Rattle.equipment_tables.specs.declared.plan.EquipmentPlan.{EquipmentPlan}
+use Rattle.equipment_node.specs.Reported.{is_answer, HoldsItsValues, Reported, events_in, is_of, next_dataid, past_in, reports_in}
+
+-- ---- the messages of which something is said
+
+abbrev pub is_report : ℕ → ℕ → Bool
+is_report stream function = (stream == 6) && ((function == 11) || ((function == 16) || (function == 20)))
+
+-- none of the three
+pub record IsNone (message : Message) : Type 0 where
+  pub s6f11 : is_of 6 11 message ≡ false
+  pub s6f16 : is_of 6 16 message ≡ false
+  pub s6f20 : is_of 6 20 message ≡ false
+
+pub none-of : (message : Message) → is_report message.stream message.function ≡ false → IsNone message
+none-of message none =
+    go (message.stream == 6) (message.function == 11) (message.function == 16) (message.function == 20) refl refl refl
+    refl none
+  where
+    go : (a b c d : Bool) → (message.stream == 6) ≡ a → (message.function == 11) ≡ b → (message.function == 16) ≡ c
+        → (message.function == 20) ≡ d → (a && (b || (c || d))) ≡ false → IsNone message
+    go true true c d ea eb ec ed is = absurd (cc)
+    go true false true d ea eb ec ed is = absurd (cc)
+    go true false false true ea eb ec ed is = absurd (cc)
+    go true false false false ea eb ec ed is = record {
+      s6f11 = ap (λ (b : Bool). (message.stream == 6) && b) eb ∙ ap (λ (a : Bool). a && false) ea;
+      s6f16 = ap (λ (b : Bool). (message.stream == 6) && b) ec ∙ ap (λ (a : Bool). a && false) ea;
+      s6f20 = ap (λ (b : Bool). (message.stream == 6) && b) ed ∙ ap (λ (a : Bool). a && false) ea;
+    }
+    go false b c d ea eb ec ed is = record {
+      s6f11 = ap (λ (a : Bool). a && (message.function == 11)) ea;
+      s6f16 = ap (λ (a : Bool). a && (message.function == 16)) ea;
+      s6f20 = ap (λ (a : Bool). a && (message.function == 20)) ea;
+    }
+
+pub nothing-said :
+    (plan : EquipmentPlan) (message : Message) (before : List Happening) → IsNone message → is_answer message ≡ false
+    → HoldsItsValues plan message before
+nothing-said plan message before none answer = record {
+  s6f11 = λ is. let e = none.s6f11 in absurd (cc);
+  s6f16 = λ is. let e = none.s6f16 in absurd (cc);
+  s6f20 = λ is. let e = none.s6f20 in absurd (cc);
+  reply = λ is. absurd (cc);
+}
+
+-- ---- quiet notes
+
+-- nothing is read off such a note
+abbrev pub IsQuietNote : Happening → Type 0
+IsQuietNote (Happening.EquipmentStarted found base) = ⊥
+IsQuietNote (Happening.Event ceid dataid) = ⊥
+IsQuietNote (Happening.Recorded entry) = ⊥
+IsQuietNote (Happening.Sent message) =
+    (is_report message.stream message.function ≡ false) × (is_answer message ≡ false)
+IsQuietNote _ = Unit {0}
+
+-- all that is read off the notes is as it was, and what was said of them is said still
+pub record IsAsBefore (old new : List Happening) : Type 0 where
+  pub past : past_in new ≡ past_in old
+  pub events : events_in new ≡ events_in old
+  pub reports : reports_in new ≡ reports_in old
+  pub next : next_dataid new ≡ next_dataid old
+  pub keeps : (plan : EquipmentPlan) → Reported plan old → Reported plan new
+
+pub as-it-was : (notes : List Happening) → IsAsBefore notes notes
+as-it-was notes = record { past = refl; events = refl; reports = refl; next = refl; keeps = λ plan so. so }
+
+pub as-before-both : (one two three : List Happening) → IsAsBefore one two → IsAsBefore two three → IsAsBefore one three
+as-before-both one two three first second = record {
+  past = second.past ∙ first.past;
+  events = second.events ∙ first.events;
+  reports = second.reports ∙ first.reports;
+  next = second.next ∙ first.next;
+  keeps = λ plan so. second.keeps plan (first.keeps plan so);
+}
+
+-- a message of which nothing is said
+pub none-sent : (message : Message) → IsNone message → is_answer message ≡ false → (notes : List Happening)
+    → IsAsBefore notes (Happening.Sent message ∷ notes)
+none-sent message none answer notes = record {
+  past = refl;
+  events = refl;
+  reports = ap (λ (b : Bool). if b then message ∷ reports_in notes else reports_in notes) none.s6f11;
+  next = refl;
+  keeps = λ plan so. (nothing-said plan message notes none answer, so);
+}
+
+pub quiet-note : (what : Happening) → IsQuietNote what → (notes : List Happening) → IsAsBefore notes (what ∷ notes)
+quiet-note (Happening.EquipmentStarted found base) quiet notes = absurd quiet
+quiet-note Happening.HostStarted quiet notes =
+    record { past = refl; events = refl; reports = refl; next = refl; keeps = λ plan so. (tt, so) }
+quiet-note Happening.Power quiet notes =
+    record { past = refl; events = refl; reports = refl; next = refl; keeps = λ plan so. (tt, so) }
+quiet-note Happening.Closed quiet notes =
+    record { past = refl; events = refl; reports = refl; next = refl; keeps = λ plan so. (tt, so) }
+quiet-note (Happening.Sent message) quiet notes = none-sent message (none-of message quiet.0) quiet.1 notes
+quiet-note (Happening.Received message) quiet notes =
+    record { past = refl; events = refl; reports = refl; next = refl; keeps = λ plan so. (tt, so) }
+quiet-note (Happening.Wrote characters) quiet notes =
+    record { past = refl; events = refl; reports = refl; next = refl; keeps = λ plan so. (tt, so) }
+quiet-note (Happening.Comms state) quiet notes =
+    record { past = refl; events = refl; reports = refl; next = refl; keeps = λ plan so. (tt, so) }
+quiet-note (Happening.Control state) quiet notes =
+    record { past = refl; events = refl; reports = refl; next = refl; keeps = λ plan so. (tt, so) }
+quiet-note (Happening.Spool active) quiet notes =
+    record { past = refl; events = refl; reports = refl; next = refl; keeps = λ plan so. (tt, so) }
+quiet-note (Happening.Set vid) quiet notes =
+    record { past = refl; events = refl; reports = refl; next = refl; keeps = λ plan so. (tt, so) }
+quiet-note (Happening.Event ceid dataid) quiet notes = absurd quiet
+quiet-note (Happening.Alarm alid set) quiet notes =
+    record { past = refl; events = refl; reports = refl; next = refl; keeps = λ plan so. (tt, so) }
+quiet-note (Happening.Carried rcmd) quiet notes =
+    record { past = refl; events = refl; reports = refl; next = refl; keeps = λ plan so. (tt, so) }
+quiet-note (Happening.Display tid text) quiet notes =
+    record { past = refl; events = refl; reports = refl; next = refl; keeps = λ plan so. (tt, so) }
+quiet-note Happening.Refused quiet notes =
+    record { past = refl; events = refl; reports = refl; next = refl; keeps = λ plan so. (tt, so) }
+quiet-note (Happening.Storing number message) quiet notes =
+    record { past = refl; events = refl; reports = refl; next = refl; keeps = λ plan so. (tt, so) }
+quiet-note (Happening.Stored number) quiet notes =
+    record { past = refl; events = refl; reports = refl; next = refl; keeps = λ plan so. (tt, so) }
+quiet-note (Happening.Leaving number cause) quiet notes =
+    record { past = refl; events = refl; reports = refl; next = refl; keeps = λ plan so. (tt, so) }
+quiet-note (Happening.Gone number) quiet notes =
+    record { past = refl; events = refl; reports = refl; next = refl; keeps = λ plan so. (tt, so) }
+quiet-note (Happening.Try number system) quiet notes =
+    record { past = refl; events = refl; reports = refl; next = refl; keeps = λ plan so. (tt, so) }
+quiet-note (Happening.Duplicate header) quiet notes =
+    record { past = refl; events = refl; reports = refl; next = refl; keeps = λ plan so. (tt, so) }
+quiet-note (Happening.Unexpected header) quiet notes =
+    record { past = refl; events = refl; reports = refl; next = refl; keeps = λ plan so. (tt, so) }
+quiet-note (Happening.Foreign header) quiet notes =
+    record { past = refl; events = refl; reports = refl; next = refl; keeps = λ plan so. (tt, so) }
+quiet-note (Happening.TooLongBlock header) quiet notes =
+    record { past = refl; events = refl; reports = refl; next = refl; keeps = λ plan so. (tt, so) }
+quiet-note (Happening.Crowded header) quiet notes =
+    record { past = refl; events = refl; reports = refl; next = refl; keeps = λ plan so. (tt, so) }
+quiet-note (Happening.DroppedByT4 header) quiet notes =
+    record { past = refl; events = refl; reports = refl; next = refl; keeps = λ plan so. (tt, so) }
+quiet-note (Happening.Failed title) quiet notes =
+    record { past = refl; events = refl; reports = refl; next = refl; keeps = λ plan so. (tt, so) }
+quiet-note (Happening.TimedOut title) quiet notes =
+    record { past = refl; events = refl; reports = refl; next = refl; keeps = λ plan so. (tt, so) }
+quiet-note (Happening.Stranger title) quiet notes =
+    record { past = refl; events = refl; reports = refl; next = refl; keeps = λ plan so. (tt, so) }
+quiet-note (Happening.Dropped name) quiet notes =
+    record { past = refl; events = refl; reports = refl; next = refl; keeps = λ plan so. (tt, so) }
+quiet-note (Happening.Denied name) quiet notes =
+    record { past = refl; events = refl; reports = refl; next = refl; keeps = λ plan so. (tt, so) }
+quiet-note (Happening.Discarded name) quiet notes =
+    record { past = refl; events = refl; reports = refl; next = refl; keeps = λ plan so. (tt, so) }
+quiet-note (Happening.TooLong name) quiet notes =
+    record { past = refl; events = refl; reports = refl; next = refl; keeps = λ plan so. (tt, so) }
+quiet-note (Happening.Full name) quiet notes =
+    record { past = refl; events = refl; reports = refl; next = refl; keeps = λ plan so. (tt, so) }
+quiet-note (Happening.Recorded past) quiet notes = absurd quiet
+
+-- ---- notes behind notes
+
+pub one-behind : (notes : List Happening) (what : Happening) (before : List Happening)
+    → noted_behind (notes ++ what ∷ []) before ≡ what ∷ noted_behind notes before
+one-behind [] what before = refl
+one-behind (first ∷ notes) what before = one-behind notes what (first ∷ before)
+
+-- at most one quiet note more, in a step
+abbrev pub AddsQuiet : List Happening → List Happening → Type 0
+AddsQuiet old new = (new ≡ old) ⊎ ((what : Happening) × IsQuietNote what × (new ≡ old ++ what ∷ []))
+
+-- one note more at most, behind which all is as it was
+abbrev pub Follows : List Happening → List Happening → List Happening → Type 0
+Follows before old new =
+    (new ≡ old)
+    ⊎ ((what : Happening) × IsAsBefore (noted_behind old before) (what ∷ noted_behind old before)
+    × (new ≡ old ++ what ∷ []))
+
+pub follows : (before old new : List Happening) → Follows before old new
+    → IsAsBefore (noted_behind old before) (noted_behind new before)
+follows before old new (inl same) =
+    subst (λ (l : List Happening). IsAsBefore (noted_behind old before) (noted_behind l before)) (sym same)
+    (as-it-was (noted_behind old before))
+follows before old new (inr adds) =
+    subst (λ (l : List Happening). IsAsBefore (noted_behind old before) l)
+    (sym (ap (λ (l : List Happening). noted_behind l before) adds.2 ∙ one-behind old adds.0 before)) adds.1
+
+pub adds-quiet : (before old new : List Happening) → AddsQuiet old new
+    → IsAsBefore (noted_behind old before) (noted_behind new before)
+adds-quiet before old new (inl same) =
+    subst (λ (l : List Happening). IsAsBefore (noted_behind old before) (noted_behind l before)) (sym same)
+    (as-it-was (noted_behind old before))
+adds-quiet before old new (inr adds) =
+    subst (λ (l : List Happening). IsAsBefore (noted_behind old before) l)
+    (sym (ap (λ (l : List Happening). noted_behind l before) adds.2 ∙ one-behind old adds.0 before))
+    (quiet-note adds.0 adds.1 (noted_behind old before))
+
+-- ---- counts
+
+abbrev pub one : Bool → ℕ
+one true = 1
+one false = 0
+
+pub counted : {X : Type 0} (test : X → Bool) (x : X) (xs : List X)
+    → length (filter test (x ∷ xs)) ≡ one (test x) + length (filter test xs)
+counted {X} test x xs = go (test x)
+  where
+    go : (b : Bool) → length (cond b (x ∷ filter test xs) (filter test xs)) ≡ one b + length (filter test xs)
+    go true = omega arith
+    go false = omega arith
+
+pub counted-last : {X : Type 0} (test : X → Bool) (xs : List X) (x : X)
+    → length (filter test (xs ++ x ∷ [])) ≡ length (filter test xs) + one (test x)
+counted-last test [] x = let e = counted test x [] in omega (arith, e)
+counted-last test (y ∷ xs) x =
+    let first = counted test y (xs ++ x ∷ []) in
+    let again = counted test y xs in
+    let rest = counted-last test xs x in
+    omega (arith, first, again, rest)
+
+-- where some are counted there is one
+pub some-passes : {X : Type 0} (test : X → Bool) (xs : List X) → 0 < length (filter test xs)
+    → (x : X) × Has xs x × (test x ≡ true)
+some-passes test [] some = absurd (omega (arith, some))
+some-passes {X} test (y ∷ xs) some = go (test y) refl some (some-passes test xs)
+  where
+    go : (b : Bool) → test y ≡ b → 0 < length (cond b (y ∷ filter test xs) (filter test xs))
+        → (0 < length (filter test xs) → (x : X) × Has xs x × (test x ≡ true))
+        → (x : X) × Has (y ∷ xs) x × (test x ≡ true)
+    go true is more next = (y, inl refl, is)
+    go false is more next = let found = next more in (found.0, inr found.1, found.2)

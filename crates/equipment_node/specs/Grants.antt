@@ -1,0 +1,7 @@
+-- The reports that wait for leave to go.
+use Rattle.std.specs.Prelude.{ℕ, List}
+
+-- an S6F11 of several blocks: the system bytes of the S6F5 that asks for it, and its text
+pub record GrantView : Type 0 where
+  pub system : ℕ
+  pub body : List ℕ

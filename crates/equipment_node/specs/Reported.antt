@@ -1,0 +1,179 @@
+-- What is said of the reports among all that the equipment has noted: each holds what its variables held as its event
+-- happened, or as it was asked for (SEMI E30, event data collection). The newest comes first: what was noted before is
+-- the rest of the list.
+use Rattle.std.specs.Prelude.{◌≡◌, ◌<◌, ◌^◌, ◌%◌, ◌+◌, ◌==◌, ◌&&◌, ℕ, Bool, true, not, List, [], ◌∷◌, length, filter, bytes_eq, Some, None, is_some, if◌then◌else◌}
+use Rattle.gem_reports.specs.Reporting.{is_enabled_in}
+use Rattle.gem_shapes.specs.declared.request.Request.{Request}
+use Rattle.gem_shapes.specs.declared.request.Request.TheVariants as request
+use Rattle.message_flow.specs.declared.message.Message.{Message}
+use Rattle.secs_items.specs.declared.item.Item.{Item}
+use Rattle.secs_items.specs.Encoding.{encode_fault}
+use Rattle.secs_items.specs.Spelling.{shortest_spelling}
+use Rattle.trace_log.specs.declared.commands.ToolCommand.{ToolCommand}
+use Rattle.trace_log.specs.declared.commands.ToolCommand.TheVariants as tool
+use Rattle.trace_log.specs.Log.{Happening, Past}
+use Rattle.message_end.specs.Core.{reply_function}
+use Rattle.message_end.specs.Own.{Has}
+use Rattle.equipment_tables.specs.declared.plan.EquipmentPlan.{EquipmentPlan}
+use Rattle.equipment_tables.specs.Answers.{event_item, report_item_of}
+use Rattle.equipment_tables.specs.Past.{tables_at}
+use Rattle.equipment_tables.specs.Requests.{request_of}
+use Rattle.equipment_tables.specs.Tables.{TablesState}
+
+-- ---- what is read off the notes since the newest start
+
+-- what counts when the equipment looks back
+abbrev pub past_in : List Happening → List Past
+past_in [] = []
+past_in (Happening.EquipmentStarted found base ∷ before) = []
+past_in (Happening.Recorded entry ∷ before) = entry ∷ past_in before
+past_in (_ ∷ before) = past_in before
+
+-- the commands of the tool among these
+abbrev pub commands_in : List Past → List ToolCommand
+commands_in [] = []
+commands_in (Past.Commanded command ∷ past) = command ∷ commands_in past
+commands_in (Past.Asked primary ∷ past) = commands_in past
+
+-- the tables as they are then: each variable, report, link and enable as it is looked back for
+abbrev pub tables_in : EquipmentPlan → List Happening → TablesState
+tables_in plan before = tables_at plan (past_in before)
+
+-- an event, with what counted before it
+pub record Happened : Type 0 where
+  pub ceid : ℕ
+  pub dataid : ℕ
+  pub past : List Past
+
+abbrev pub events_in : List Happening → List Happened
+events_in [] = []
+events_in (Happening.EquipmentStarted found base ∷ before) = []
+events_in (Happening.Event ceid dataid ∷ before) =
+    record { ceid = ceid; dataid = dataid; past = past_in before } ∷ events_in before
+events_in (_ ∷ before) = events_in before
+
+-- S6F11, S6F16 and S6F20 (SEMI E5)
+abbrev pub is_of : ℕ → ℕ → Message → Bool
+is_of stream function message = (message.stream == stream) && (message.function == function)
+
+-- the S6F11 that were sent
+abbrev pub reports_in : List Happening → List Message
+reports_in [] = []
+reports_in (Happening.EquipmentStarted found base ∷ before) = []
+reports_in (Happening.Sent message ∷ before) =
+    if is_of 6 11 message then message ∷ reports_in before else reports_in before
+reports_in (_ ∷ before) = reports_in before
+
+-- the DATAID of the next event: from 0 on, one after the other, and 0 again behind the last that four bytes hold (this
+-- profile)
+abbrev pub next_dataid : List Happening → ℕ
+next_dataid [] = 0
+next_dataid (Happening.EquipmentStarted found base ∷ before) = 0
+next_dataid (Happening.Event ceid dataid ∷ before) = (dataid + 1) % 2 ^ 32
+next_dataid (_ ∷ before) = next_dataid before
+
+-- ---- texts
+
+-- the text is the shortest spelling of the item, which has one
+pub record IsTextOf (item : Item) (body : List ℕ) : Type 0 where
+  pub spelled : encode_fault item ≡ None
+  pub shortest : body ≡ shortest_spelling item
+
+-- DATAID, CEID and the linked reports, each with the values of its variables at the event (SEMI E5, S6F11)
+abbrev pub item_of : EquipmentPlan → Happened → Item
+item_of plan event = event_item (tables_at plan event.past) event.ceid event.dataid
+
+-- the event was enabled as it happened (SEMI E30, event data collection)
+abbrev pub was_enabled : EquipmentPlan → Happened → Bool
+was_enabled plan event = is_enabled_in (tables_at plan event.past).reports event.ceid
+
+-- it was, and this is its text
+abbrev pub is_reported_by : EquipmentPlan → List ℕ → Happened → Bool
+is_reported_by plan body event =
+    was_enabled plan event
+    && (not (is_some (encode_fault (item_of plan event))) && bytes_eq body (shortest_spelling (item_of plan event)))
+
+-- how many events have this text, and how many S6F11 were sent with it
+abbrev pub count_of_events : EquipmentPlan → List ℕ → List Happening → ℕ
+count_of_events plan body before = length (filter (is_reported_by plan body) (events_in before))
+
+abbrev pub count_of_reports : List ℕ → List Happening → ℕ
+count_of_reports body before = length (filter (λ message. bytes_eq body message.body) (reports_in before))
+
+-- ---- reports
+
+-- an S6F11 tells of an event before it in the same start, one that was enabled, with that event's DATAID and with what
+-- the variables held as it happened; and no more go out with one text than there are events that have it
+pub record IsOfEvent (plan : EquipmentPlan) (message : Message) (before : List Happening) : Type 0 where
+  pub wait : message.wait ≡ true
+  pub event : Happened
+  pub happened : Has (events_in before) event
+  pub enabled : was_enabled plan event ≡ true
+  pub body : IsTextOf (item_of plan event) message.body
+  pub once : count_of_reports message.body before < count_of_events plan message.body before
+
+-- it answers the newest request that counts, a primary of stream 6 with this function that asks for this; and its text
+-- is that of the item
+pub record IsAnswer
+    (function : ℕ) (request : Request) (item : Item) (message : Message) (past : List Past) : Type 0 where
+  pub primary : Message
+  pub earlier : List Past
+  pub newest : past ≡ Past.Asked primary ∷ earlier
+  pub stream : primary.stream ≡ 6
+  pub function_is : primary.function ≡ function
+  pub system : message.system ≡ primary.system
+  pub asks : request_of 6 function primary.body ≡ Some request
+  pub body : IsTextOf item message.body
+
+-- S6F16 and S6F20 hold what the variables hold at the answer (SEMI E5, S6F15 and S6F19)
+abbrev pub AnswersForEvent : EquipmentPlan → Message → List Happening → Type 0
+AnswersForEvent plan message before =
+    (ceid : ℕ)
+    × IsAnswer 15 (request.EventReport ceid) (event_item (tables_in plan before) ceid 0) message (past_in before)
+
+abbrev pub AnswersForReport : EquipmentPlan → Message → List Happening → Type 0
+AnswersForReport plan message before =
+    (rptid : ℕ)
+    × IsAnswer 19 (request.Report rptid) (report_item_of (tables_in plan before) rptid) message (past_in before)
+
+-- a reply that answers a request: any but S1F14, whose request changes no table, and function 0 (SEMI E5, function)
+abbrev pub is_answer : Message → Bool
+is_answer message =
+    (not (message.function % 2 == 1) && not (message.function == 0)) && not (is_of 1 14 message)
+
+-- it answers the newest request that counts. So each request to which the host has an answer counts
+pub record IsReply (message : Message) (past : List Past) : Type 0 where
+  pub primary : Message
+  pub earlier : List Past
+  pub newest : past ≡ Past.Asked primary ∷ earlier
+  pub stream : message.stream ≡ primary.stream
+  pub function : message.function ≡ reply_function primary.function
+  pub system : message.system ≡ primary.system
+
+pub record HoldsItsValues (plan : EquipmentPlan) (message : Message) (before : List Happening) : Type 0 where
+  pub s6f11 : is_of 6 11 message ≡ true → IsOfEvent plan message before
+  pub s6f16 : is_of 6 16 message ≡ true → AnswersForEvent plan message before
+  pub s6f20 : is_of 6 20 message ≡ true → AnswersForReport plan message before
+  pub reply : is_answer message ≡ true → IsReply message (past_in before)
+
+-- an event comes of a command of the tool, and has the next DATAID
+pub record IsNumbered (ceid dataid : ℕ) (before : List Happening) : Type 0 where
+  pub dataid_is : dataid ≡ next_dataid before
+  pub earlier : List Past
+  pub commanded : past_in before ≡ Past.Commanded (tool.Event ceid) ∷ earlier
+
+-- a request counts right behind its delivery; a command of the tool counts as it comes
+abbrev pub IsRecorded : Past → List Happening → Type 0
+IsRecorded (Past.Asked primary) before = (earlier : List Happening) × (before ≡ Happening.Received primary ∷ earlier)
+IsRecorded (Past.Commanded command) before = Unit {0}
+
+abbrev pub IsReported : EquipmentPlan → Happening → List Happening → Type 0
+IsReported plan (Happening.Sent message) before = HoldsItsValues plan message before
+IsReported plan (Happening.Event ceid dataid) before = IsNumbered ceid dataid before
+IsReported plan (Happening.Recorded entry) before = IsRecorded entry before
+IsReported plan _ before = Unit {0}
+
+-- every note agrees with all notes before it (this profile)
+abbrev pub Reported : EquipmentPlan → List Happening → Type 0
+Reported plan [] = Unit {0}
+Reported plan (what ∷ before) = IsReported plan what before × Reported plan before

@@ -1,0 +1,136 @@
+//! What the equipment keeps beside the core of its end.
+
+ghost use Rattle.std.specs.Prelude.{◌≡◌, ◌≤◌, ◌++◌, ◌∷◌, [], IfOk, OnOk};
+ghost use Rattle.block_codec.specs.Protocol.{longest_text};
+ghost use Rattle.line_end.specs.Plan.{LinePlanFits};
+ghost use Rattle.equipment_node.specs.Node.{own_of};
+ghost use Rattle.equipment_node.specs.Own.{is_communicating_in, is_enabled_in, is_local_in, is_online_in, with_for_grant};
+ghost use Rattle.equipment_tables.specs.Plan.{EquipmentPlanFits};
+ghost use Rattle.equipment_node.specs.Step.{new_own};
+
+use crate::kind::ForGrant;
+use crate::own::{Own, Planned};
+use equipment_tables::{EquipmentPlan, Tables};
+use gem_states::{Comms, CommsState, Control, ControlState};
+use gl_base::NoMemory;
+use line_end::LinePlan;
+use std::alloc::Global;
+
+impl Planned {
+    /// A plan that fits, by what its caller knows of it.
+    pub(crate) fn of(plan: EquipmentPlan) -> Planned
+        requires { EquipmentPlanFits plan }
+        ensures { result ≡ plan }
+    {
+        Planned { plan }
+    }
+
+    /// The plan.
+    pub(crate) fn get(&self) -> &EquipmentPlan
+        ensures value { result.now ≡ self.now }
+        ensures fits { EquipmentPlanFits self.now }
+    {
+        &self.plan
+    }
+
+    /// The line's part of the plan.
+    pub(crate) fn line(&self) -> LinePlan
+        ensures value { result ≡ self.now.line }
+        ensures fits { LinePlanFits result }
+    {
+        self.plan.line
+    }
+
+    /// Whether the communication is enabled from the start.
+    pub(crate) fn is_enabling(&self) -> bool
+        ensures { result ≡ self.now.enable }
+    {
+        self.plan.enable
+    }
+}
+
+impl Own {
+    /// What is kept at a start.
+    pub(crate) fn new(alloc: Global, plan: EquipmentPlan) -> Result<Own, NoMemory>
+        requires { EquipmentPlanFits plan }
+        ensures { IfOk result (λ own. own_of own ≡ new_own plan) }
+    {
+        let tables = Tables::new(alloc, &plan)?;
+        let control = Control::new(plan.control);
+        Ok(Own {
+            plan: Planned::of(plan),
+            tables,
+            comms: Comms::new(),
+            control,
+            for_grant: Vec::new(alloc),
+            events: 0,
+            has_begun: false,
+        })
+    }
+
+    /// A start anew, as planned.
+    pub(crate) fn renew(&mut self, alloc: Global) -> Result<(), NoMemory>
+        ensures { OnOk result (own_of self.new ≡ new_own self.old.plan) }
+    {
+        let plan = self.plan.get();
+        let control = plan.control;
+        self.tables = Tables::new(alloc, plan)?;
+        self.comms = Comms::new();
+        self.control = Control::new(control);
+        self.for_grant.clear();
+        self.events = 0;
+        self.has_begun = false;
+        Ok(())
+    }
+
+    /// The most bytes of a text.
+    pub(crate) fn max_body(&self) -> u32
+        ensures value { result ≡ self.now.plan.line.max_body }
+        ensures least { 244 ≤ result }
+        ensures most { result ≤ longest_text }
+    {
+        self.plan.line().max_body
+    }
+
+    /// Whether the communication is enabled.
+    pub(crate) fn is_enabled(&self) -> bool
+        ensures { result ≡ is_enabled_in self.now.comms.state }
+    {
+        !matches!(self.comms.state(), CommsState::Disabled)
+    }
+
+    /// Whether the communication is established.
+    pub(crate) fn is_communicating(&self) -> bool
+        ensures { result ≡ is_communicating_in self.now.comms.state }
+    {
+        matches!(self.comms.state(), CommsState::Communicating)
+    }
+
+    /// Whether the equipment is on-line.
+    pub(crate) fn is_online(&self) -> bool
+        ensures { result ≡ is_online_in self.now.control.state }
+    {
+        matches!(
+            self.control.state(),
+            ControlState::Local | ControlState::Remote
+        )
+    }
+
+    /// Whether the operator has the equipment on-line by himself.
+    pub(crate) fn is_local(&self) -> bool
+        ensures { result ≡ is_local_in self.now.control.state }
+    {
+        matches!(self.control.state(), ControlState::Local)
+    }
+
+    /// A report waits for leave to go.
+    pub(crate) fn keep(&mut self, waiting: ForGrant) -> Result<(), NoMemory>
+        ensures { OnOk result (own_of self.new ≡
+            with_for_grant (self.old.for_grant.items ++ waiting ∷ []) (own_of self.old)) }
+    {
+        match self.for_grant.push(waiting) {
+            Ok(()) => Ok(()),
+            Err(_failed) => Err(NoMemory),
+        }
+    }
+}

@@ -1,0 +1,26 @@
+ghost use Rattle.equipment_node.specs.Laws.{EquipmentKeepsItsLaw, ReportsAreOfTheirEvents};
+ghost use Rattle.equipment_node.specs.WorkedReports.{LaterSettingsAreNotReported};
+
+use equipment_tables::tables_are_looked_back_for;
+
+/// Whatever the equipment is told in its steps, it keeps the law of an end, as the host does: what a world of two such
+/// ends delivers is what was sent. Its first step has numbers to draw.
+pub fn equipment_keeps_the_law()
+    ensures { EquipmentKeepsItsLaw }
+{}
+
+/// Each S6F11 that is sent tells of an event before it in the same start, with what the variables held as it happened,
+/// also where it waited for leave to go; no event is told of twice. Each S6F16 and S6F20 holds what the variables hold
+/// at the answer. What the variables hold is looked back for in a history that has exactly the tool's commands, and the
+/// requests that were answered.
+pub fn reports_are_of_their_events()
+    ensures { ReportsAreOfTheirEvents }
+{
+    tables_are_looked_back_for();
+}
+
+/// An example of what is said of reports: where a variable is set between an event and its S6F11, the old value goes
+/// out.
+pub fn later_settings_are_not_reported()
+    ensures { LaterSettingsAreNotReported }
+{}
