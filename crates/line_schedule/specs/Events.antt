@@ -4,7 +4,6 @@ use Rattle.std.specs.Option.{option_map, option_or}
 use Rattle.disk_base.specs.declared.cut.CutChoice.{CutChoice}
 use Rattle.disk_base.specs.declared.cut.CutChoice.TheVariants as choice
 use Rattle.trace_log.specs.Commands.{HostCommandFits, ToolCommandFits}
-use Rattle.trace_log.specs.declared.commands.HostCommand.TheVariants as host
 use Rattle.line_schedule.specs.declared.event.Event.{Event}
 use Rattle.line_schedule.specs.declared.event.Event.TheVariants as event
 use Rattle.line_schedule.specs.Commands.{host_command_in, tool_command_in}
@@ -71,11 +70,8 @@ event_in line = option_or (line_event_in line) (option_or (tool_in line) (host_i
 
 -- ---- what is carried out
 
--- whether the event is carried out by now
+-- whether the event is carried out by now: all but losses of power
 abbrev pub is_carried_out : Event → Bool
-is_carried_out (event.Tool command) = false
-is_carried_out (event.Host host.Enable) = false
-is_carried_out (event.Host host.Disable) = false
 is_carried_out (event.Cut call choice) = false
 is_carried_out _ = true
 

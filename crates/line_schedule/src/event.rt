@@ -50,17 +50,11 @@ impl Event {
         }
     }
 
-    /// Whether the event is carried out by now: all but losses of power, what the tool says, and what switches the
-    /// host's communication.
+    /// Whether the event is carried out by now: all but losses of power.
     pub fn is_carried_out(&self) -> bool
         ensures { result ≡ is_carried_out self.now }
     {
-        !matches!(
-            self,
-            Event::Tool(_)
-                | Event::Host(HostCommand::Enable | HostCommand::Disable)
-                | Event::Cut(_, _)
-        )
+        !matches!(self, Event::Cut(_, _))
     }
 }
 

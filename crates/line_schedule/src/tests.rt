@@ -91,6 +91,21 @@ fn lines_that_are_carried_out(rt: HostRuntime) -> Result<(), Fail> {
         b"host send S1F17 W -",
         b"host send S127F255 -",
         b"host send S01F001  <L>",
+        b"host enable",
+        b"host disable",
+    ];
+    assert!(rt; first_other(rt.alloc(), &lines, Answer::Told).is_none());
+    Ok(())
+}
+
+#[test]
+fn lines_of_the_tool_that_are_carried_out(rt: HostRuntime) -> Result<(), Fail> {
+    let lines = [
+        b"tool set 1 <U4 5>".as_slice(),
+        b"tool event 1",
+        b"tool alarm 7 set",
+        b"tool terminal 255 <A \"\">",
+        b"tool online",
     ];
     assert!(rt; first_other(rt.alloc(), &lines, Answer::Told).is_none());
     Ok(())
@@ -103,12 +118,6 @@ fn lines_that_are_not_carried_out(rt: HostRuntime) -> Result<(), Fail> {
         b"cut 01 new",
         b"cut 4294967295 fill A5",
         b"cut 1 first 0",
-        b"tool set 1 <U4 5>",
-        b"tool event 1",
-        b"tool alarm 7 set",
-        b"tool terminal 255 <A \"\">",
-        b"host enable",
-        b"host disable",
     ];
     assert!(rt; first_other(rt.alloc(), &lines, Answer::NotBuilt).is_none());
     Ok(())
@@ -223,7 +232,7 @@ fn tool_sets_lists(alloc: Global, depth: usize) -> Result<Row<u8>, NoMemory> {
 fn lists_nest_64_deep(rt: HostRuntime) -> Result<(), Fail> {
     let alloc = rt.alloc();
     let deepest = tool_sets_lists(alloc, 64)?;
-    assert!(rt; refuses(alloc, deepest.as_slice(), ScheduleFault::NotBuilt(1)));
+    assert!(rt; tells(alloc, deepest.as_slice(), 1));
     let deeper = tool_sets_lists(alloc, 65)?;
     assert!(rt; refuses(alloc, deeper.as_slice(), ScheduleFault::Line(1)));
     Ok(())
