@@ -10,10 +10,10 @@ use Rattle.std.specs.declared.string.String.{String}
 use Rattle.std.specs.declared.vec.IntoIter.{IntoIter}
 use Rattle.gl_base.specs.Told.{FilesTold, SinkTold, SourceTold}
 use Rattle.spool_show.specs.Told.{DiskTold}
-use Rattle.gemline_app.specs.Gemline.{AreUnread, IsRun, IsUnread, WereSent}
+use Rattle.gemline_app.specs.Gemline.{IsRun, IsUnread, WereSent}
 use Rattle.gemline_app.specs.Outcome.{line_of, status_of}
 use Rattle.gemline_app.specs.Spool.{IsUnused}
-use Rattle.gemline_app.specs.Written.{IsUntouched}
+use Rattle.gemline_app.specs.Written.{AreUnread, IsUntouched}
 use Rattle.gemline_app.specs.declared.outcome.Outcome.{Outcome}
 use Rattle.gemline_app.specs.declared.outcome.Outcome.TheVariants as outcome
 

@@ -27,7 +27,7 @@ use Rattle.gemline_app.specs.Spelling.{text_place}
 use Rattle.gemline_app.specs.Words.{capture_limit, command_of, item_limit, name_in}
 use Rattle.gemline_app.specs.declared.outcome.FileRole.TheVariants as role
 use Rattle.gemline_app.specs.declared.outcome.Outcome.{Outcome}
-use Rattle.gemline_app.specs.declared.outcome.Outcome.TheVariants.{Done, Usage, BadFrame, BadText, BadHex, BadItem, BadLine, Longer, FileLonger, FileFailed, ReadFailed, NoMemory, WriteFailed, TurnsSpent, NumbersSpent, Slip, DiskFailed, NotSpool, PlanNotBuilt, LineNotBuilt}
+use Rattle.gemline_app.specs.declared.outcome.Outcome.TheVariants.{Done, Usage, BadFrame, BadText, BadHex, BadItem, BadLine, Longer, FileLonger, FileFailed, ReadFailed, NoMemory, WriteFailed, TurnsSpent, NumbersSpent, Slip, DiskFailed, NotSpool, BadPlan, LineNotBuilt}
 use Rattle.gemline_app.specs.declared.words.Command.{Command}
 use Rattle.gemline_app.specs.declared.words.Command.TheVariants.{Show, Spell, SpellHex, Replay, Format, Spool}
 use Rattle.gemline_app.proofs.HexLaws.{means_read, one_break}
@@ -66,7 +66,7 @@ written_due source files disk out line NumbersSpent written = absurd written
 written_due source files disk out line DiskFailed written = absurd written
 written_due source files disk out line (NotSpool at) written = absurd written
 written_due source files disk out line Slip written = absurd written
-written_due source files disk out line PlanNotBuilt written = absurd written
+written_due source files disk out line (BadPlan key what) written = absurd written
 written_due source files disk out line (LineNotBuilt number) written = absurd written
 
 -- what a text is refused for
@@ -90,7 +90,7 @@ text_refused text NumbersSpent refuses = absurd refuses
 text_refused text DiskFailed refuses = absurd refuses
 text_refused text (NotSpool at) refuses = absurd refuses
 text_refused text Slip refuses = absurd refuses
-text_refused text PlanNotBuilt refuses = absurd refuses
+text_refused text (BadPlan key what) refuses = absurd refuses
 text_refused text (LineNotBuilt number) refuses = absurd refuses
 
 pub hex_refused : (digits : List ℕ) (refusal : Outcome) → HexRefuses digits refusal →
@@ -113,7 +113,7 @@ hex_refused digits NumbersSpent refuses = absurd refuses
 hex_refused digits DiskFailed refuses = absurd refuses
 hex_refused digits (NotSpool at) refuses = absurd refuses
 hex_refused digits Slip refuses = absurd refuses
-hex_refused digits PlanNotBuilt refuses = absurd refuses
+hex_refused digits (BadPlan key what) refuses = absurd refuses
 hex_refused digits (LineNotBuilt number) refuses = absurd refuses
 
 -- a text asks for one outcome
@@ -207,7 +207,7 @@ unread_due limit Asks source files disk out NumbersSpent due was is_due = absurd
 unread_due limit Asks source files disk out DiskFailed due was is_due = absurd was
 unread_due limit Asks source files disk out (NotSpool at) due was is_due = absurd was
 unread_due limit Asks source files disk out Slip due was is_due = absurd was
-unread_due limit Asks source files disk out PlanNotBuilt due was is_due = absurd was
+unread_due limit Asks source files disk out (BadPlan key what) due was is_due = absurd was
 unread_due limit Asks source files disk out (LineNotBuilt number) due was is_due = absurd was
 
 -- a command over the input, of which it is shown what it does with the whole of it
@@ -281,7 +281,7 @@ module _ (source : SourceTold) (files : FilesTold) (disk : DiskTold) (out : Sink
   unread_ends DiskFailed was = absurd was
   unread_ends (NotSpool at) was = absurd was
   unread_ends Slip was = absurd was
-  unread_ends PlanNotBuilt was = absurd was
+  unread_ends (BadPlan key what) was = absurd was
   unread_ends (LineNotBuilt number) was = absurd was
 
   show_ends : (words : List (List ℕ)) (outcome : Outcome) → ComesFrom (Some Show) words source files disk out outcome → Ends outcome

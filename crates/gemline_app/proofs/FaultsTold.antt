@@ -1,5 +1,8 @@
 -- Each fault of the input, the files, the disk and the output is the outcome.
 use Rattle.std.proofs.Common.{◌≡◌, ℕ, Bool, false, List, Option, Some, None, Result, Ok, Err, refl, sym, ap, subst, inl, inr}
+use Rattle.equipment_tables.specs.declared.plan.Plans.{Plans}
+use Rattle.gem_config.specs.declared.fault.ConfigFault.{ConfigFault}
+use Rattle.gem_config.specs.declared.fault.ConfigFault.TheVariants as plan_fault
 use Rattle.gl_base.specs.Sink.{SinkHealth}
 use Rattle.gl_base.specs.Files.{FilesHealth}
 use Rattle.gl_base.specs.Source.{SourceHealth}
@@ -22,16 +25,16 @@ use Rattle.spool_show.specs.declared.spool_end.SpoolEnd.{SpoolEnd}
 use Rattle.spool_show.specs.declared.spool_end.SpoolEnd.TheVariants as spool
 use Rattle.gemline_app.specs.Spool.{EndedAs, IsUnused, outcome_of_spool}
 use Rattle.gemline_app.proofs.SpoolDue.{rose_of}
-use Rattle.gemline_app.specs.Gemline.{AreUnread, ComesFrom, ComesOnInput, HexRefuses, InputRefuses, IsRun, IsUnread, TextRefuses, WasPrinted, WasShown, WasSpelled, WasWritten}
+use Rattle.gemline_app.specs.Gemline.{ComesFrom, ComesOnInput, HexRefuses, InputRefuses, IsRun, IsUnread, TextRefuses, WasPrinted, WasShown, WasSpelled, WasWritten}
 use Rattle.gemline_app.specs.Laws.{CountsFaults, IsCounted, is_disk_fault, is_file_fault, is_read_fault, is_write_fault}
 use Rattle.gemline_app.specs.Outcome.{outcome_of_show}
-use Rattle.gemline_app.specs.Replay.{FileRefuses, ReplayComes, ScheduleComes, ScheduleRefuses, TextRuns, files_since, outcome_of_end, schedule_refusal}
+use Rattle.gemline_app.specs.Replay.{FileRefuses, FollowsPlan, ReplayComes, ScheduleComes, ScheduleRefuses, TextRuns, files_since, outcome_of_end, plan_refusal, schedule_refusal}
 use Rattle.gemline_app.specs.Words.{capture_limit, command_of, item_limit, name_in, spool_name}
-use Rattle.gemline_app.specs.Written.{IsUntouched}
+use Rattle.gemline_app.specs.Written.{AreUnread, IsUntouched}
 use Rattle.gemline_app.specs.declared.outcome.FileRole.{FileRole}
 use Rattle.gemline_app.specs.declared.outcome.FileRole.TheVariants as role
 use Rattle.gemline_app.specs.declared.outcome.Outcome.{Outcome}
-use Rattle.gemline_app.specs.declared.outcome.Outcome.TheVariants.{Done, Usage, BadFrame, BadText, BadHex, BadItem, BadLine, Longer, FileLonger, FileFailed, ReadFailed, NoMemory, WriteFailed, TurnsSpent, NumbersSpent, Slip, DiskFailed, NotSpool, PlanNotBuilt, LineNotBuilt}
+use Rattle.gemline_app.specs.declared.outcome.Outcome.TheVariants.{Done, Usage, BadFrame, BadText, BadHex, BadItem, BadLine, Longer, FileLonger, FileFailed, ReadFailed, NoMemory, WriteFailed, TurnsSpent, NumbersSpent, Slip, DiskFailed, NotSpool, BadPlan, LineNotBuilt}
 use Rattle.gemline_app.specs.declared.words.Command.{Command}
 use Rattle.gemline_app.specs.declared.words.Command.TheVariants.{Show, Spell, SpellHex, Replay, Format, Spool}
 
@@ -75,7 +78,7 @@ written_counts line out NumbersSpent was = absurd was
 written_counts line out DiskFailed was = absurd was
 written_counts line out (NotSpool at) was = absurd was
 written_counts line out Slip was = absurd was
-written_counts line out PlanNotBuilt was = absurd was
+written_counts line out (BadPlan key what) was = absurd was
 written_counts line out (LineNotBuilt number) was = absurd was
 
 -- a refusal is no fault of an object
@@ -104,7 +107,7 @@ text_plain text NumbersSpent was = absurd was
 text_plain text DiskFailed was = absurd was
 text_plain text (NotSpool at) was = absurd was
 text_plain text Slip was = absurd was
-text_plain text PlanNotBuilt was = absurd was
+text_plain text (BadPlan key what) was = absurd was
 text_plain text (LineNotBuilt number) was = absurd was
 
 hex_plain : (digits : List ℕ) (refusal : Outcome) → HexRefuses digits refusal → IsPlain refusal
@@ -126,7 +129,7 @@ hex_plain digits NumbersSpent was = absurd was
 hex_plain digits DiskFailed was = absurd was
 hex_plain digits (NotSpool at) was = absurd was
 hex_plain digits Slip was = absurd was
-hex_plain digits PlanNotBuilt was = absurd was
+hex_plain digits (BadPlan key what) was = absurd was
 hex_plain digits (LineNotBuilt number) was = absurd was
 
 plain_counts : (out : SinkTold) (outcome : Outcome) → IsPlain outcome → out.health_after.faults ≡ out.health.faults → CountsWrites out outcome
@@ -175,7 +178,7 @@ module _ (source : SourceTold) (files : FilesTold) (disk : DiskTold) (out : Sink
   unread_counts limit stands left DiskFailed was = absurd was
   unread_counts limit stands left (NotSpool at) was = absurd was
   unread_counts limit stands left Slip was = absurd was
-  unread_counts limit stands left PlanNotBuilt was = absurd was
+  unread_counts limit stands left (BadPlan key what) was = absurd was
   unread_counts limit stands left (LineNotBuilt number) was = absurd was
 
   -- the source, the files and the disk stand
@@ -223,7 +226,7 @@ file_refused which name files out left NumbersSpent was = absurd was
 file_refused which name files out left DiskFailed was = absurd was
 file_refused which name files out left (NotSpool at) was = absurd was
 file_refused which name files out left Slip was = absurd was
-file_refused which name files out left PlanNotBuilt was = absurd was
+file_refused which name files out left (BadPlan key what) was = absurd was
 file_refused which name files out left (LineNotBuilt number) was = absurd was
 
 -- the files stand
@@ -254,17 +257,22 @@ schedule_plain (schedule_fault.Line number) = record { read = refl; file = refl;
 schedule_plain (schedule_fault.NotBuilt number) = record { read = refl; file = refl; on_disk = refl; write = refl }
 schedule_plain schedule_fault.NoMemory = record { read = refl; file = refl; on_disk = refl; write = refl }
 
-text_counts : (text : List ℕ) (out : SinkTold) (outcome : Outcome) → TextRuns text out outcome → CountsWrites out outcome
-text_counts text out outcome runs = elim runs.because [
+text_counts :
+    (plans : Plans) (text : List ℕ) (out : SinkTold) (outcome : Outcome)
+    → TextRuns plans text out outcome → CountsWrites out outcome
+text_counts plans text out outcome runs = elim runs.because [
   | inl (schedule, is, was) ↦ subst (CountsWrites out) (sym was.outcome_is) (by_end out _ _ was.ended was.wrote)
   | inr (fault, refuses, is) ↦
       plain_counts out outcome (subst IsPlain (sym is) (schedule_plain fault)) (untouched out (left_of text out fault refuses))
 ]
 
-schedule_counts : (name : List ℕ) (files : FilesTold) (out : SinkTold) (outcome : Outcome) → ScheduleComes name files out outcome → CountsFiles files out outcome
-schedule_counts name files out outcome (inl (refuses, left)) = file_refused role.Schedule name files out (untouched out left) outcome refuses
-schedule_counts name files out outcome (inr (text, was, runs)) =
-    stand_files files out outcome was.cause.same (text_counts text out outcome runs)
+schedule_counts :
+    (plans : Plans) (name : List ℕ) (files : FilesTold) (out : SinkTold) (outcome : Outcome)
+    → ScheduleComes plans name files out outcome → CountsFiles files out outcome
+schedule_counts plans name files out outcome (inl (refuses, left)) =
+    file_refused role.Schedule name files out (untouched out left) outcome refuses
+schedule_counts plans name files out outcome (inr (text, was, runs)) =
+    stand_files files out outcome was.cause.same (text_counts plans text out outcome runs)
 
 -- from a moment before on, up to which the files stood
 since_counts : (files later : FilesTold) (out : SinkTold) (outcome : Outcome) → later.health.faults ≡ files.health.faults →
@@ -277,18 +285,25 @@ since_counts files later out outcome since same counts = record {
   write = counts.write;
 }
 
-not_built : (out : SinkTold) (outcome : Outcome) → outcome ≡ PlanNotBuilt → IsUntouched out → CountsWrites out outcome
-not_built out outcome is left =
-    plain_counts out outcome (subst IsPlain (sym is) (record { read = refl; file = refl; on_disk = refl; write = refl })) (untouched out left)
+-- a plan was read, or refused
+plan_plain : (fault : ConfigFault) → IsPlain (plan_refusal fault)
+plan_plain (plan_fault.Key key what) = record { read = refl; file = refl; on_disk = refl; write = refl }
+plan_plain plan_fault.NoMemory = record { read = refl; file = refl; on_disk = refl; write = refl }
+
+plan_counts :
+    (result : Result Plans ConfigFault) (schedule : List ℕ) (files : FilesTold) (out : SinkTold) (outcome : Outcome)
+    → FollowsPlan result schedule files out outcome → CountsFiles files out outcome
+plan_counts (Ok plans) schedule files out outcome comes = schedule_counts plans schedule files out outcome comes
+plan_counts (Err fault) schedule files out outcome (is, unread, left) =
+    stand_files files out outcome (ap (λ (h : FilesHealth). h.faults) unread.health)
+    (plain_counts out outcome (subst IsPlain (sym is) (plan_plain fault)) (untouched out left))
 
 replay_counts : (plan schedule : List ℕ) (files : FilesTold) (out : SinkTold) (outcome : Outcome) → ReplayComes plan schedule files out outcome
     → CountsFiles files out outcome
 replay_counts plan schedule files out outcome (inl (refuses, left)) = file_refused role.Plan plan files out (untouched out left) outcome refuses
-replay_counts plan schedule files out outcome (inr (inl (bytes, was, some, is, left))) =
-    stand_files files out outcome was.cause.same (not_built out outcome is left)
-replay_counts plan schedule files out outcome (inr (inr over)) =
+replay_counts plan schedule files out outcome (inr over) =
     since_counts files (files_since files over.told over.health) out outcome over.read.cause.same refl
-    (schedule_counts schedule (files_since files over.told over.health) out outcome over.rest)
+    (plan_counts over.rest.result schedule (files_since files over.told over.health) out outcome over.rest.follows)
 
 -- ---- a run
 

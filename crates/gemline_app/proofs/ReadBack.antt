@@ -18,7 +18,7 @@ use Rattle.gemline_app.specs.Words.{command_of, item_limit}
 use Rattle.gemline_app.specs.declared.words.Command.{Command}
 use Rattle.gemline_app.specs.declared.words.Command.TheVariants.{Spell, SpellHex}
 use Rattle.gemline_app.specs.declared.outcome.Outcome.{Outcome}
-use Rattle.gemline_app.specs.declared.outcome.Outcome.TheVariants.{Done, Usage, BadFrame, BadText, BadHex, BadItem, BadLine, Longer, FileLonger, FileFailed, ReadFailed, NoMemory, WriteFailed, TurnsSpent, NumbersSpent, Slip, DiskFailed, NotSpool, PlanNotBuilt, LineNotBuilt}
+use Rattle.gemline_app.specs.declared.outcome.Outcome.TheVariants.{Done, Usage, BadFrame, BadText, BadHex, BadItem, BadLine, Longer, FileLonger, FileFailed, ReadFailed, NoMemory, WriteFailed, TurnsSpent, NumbersSpent, Slip, DiskFailed, NotSpool, BadPlan, LineNotBuilt}
 use Rattle.gemline_app.proofs.Due.{due_outcome, one_bytes, read_of}
 use Rattle.gemline_app.proofs.HexMeaning.{hex_means}
 use Rattle.line_schedule.proofs.SpelledBytes.{spelled_bytes}
@@ -56,7 +56,7 @@ done_is NumbersSpent is = absurd (omega (arith, is))
 done_is DiskFailed is = absurd (omega (arith, is))
 done_is (NotSpool at) is = absurd (omega (arith, is))
 done_is Slip is = absurd (omega (arith, is))
-done_is PlanNotBuilt is = absurd (omega (arith, is))
+done_is (BadPlan key what) is = absurd (omega (arith, is))
 done_is (LineNotBuilt number) is = absurd (omega (arith, is))
 
 -- an output that was empty received this line

@@ -1,5 +1,5 @@
 -- Which outcome of `replay` is due.
-use Rattle.std.proofs.Common.{◌≡◌, ◌⊎◌, ◌<◌, ◌≤◌, ℕ, List, [], length, Option, Some, None, refl, sym, ap, subst, ◌∙◌, inl, inr, arith}
+use Rattle.std.proofs.Common.{◌≡◌, ◌≢◌, ◌⊎◌, ◌<◌, ◌≤◌, ℕ, List, length, Option, Some, None, Result, Ok, Err, refl, sym, ap, subst, ◌∙◌, inl, inr, arith}
 use Rattle.gl_base.specs.Faults.{Rose}
 use Rattle.gl_base.specs.Files.{ReadsFile, ReadsFileOf, told_file}
 use Rattle.gl_base.specs.declared.files.FileAnswer.{FileAnswer}
@@ -12,13 +12,19 @@ use Rattle.end_pair.specs.declared.answers.RunEnd.{RunEnd}
 use Rattle.end_pair.specs.declared.answers.RunEnd.TheVariants as end
 use Rattle.end_pair.specs.declared.answers.WorldStep.{WorldStep}
 use Rattle.line_world.specs.Run.{trace_text, went_of}
-use Rattle.gemline_app.specs.Laws.{Hinders, IsPlanDue, IsScheduleDue, ScheduleAsks, outcome_of_run}
-use Rattle.gemline_app.specs.Replay.{FileRefuses, ReplayComes, ScheduleComes, TextRuns, WasFile, empty_plans, files_since, files_until, outcome_of_end}
+use Rattle.equipment_tables.specs.declared.plan.Plans.{Plans}
+use Rattle.gem_config.specs.Plans.{IsReadAs}
+use Rattle.gem_config.specs.Reading.{Read, refused as is_refused}
+use Rattle.gem_config.specs.declared.fault.ConfigFault.{ConfigFault}
+use Rattle.gem_config.specs.declared.fault.ConfigFault.TheVariants as plan_fault
+use Rattle.gem_config.specs.declared.fault.ConfigWhat.{ConfigWhat}
+use Rattle.gemline_app.specs.Laws.{Hinders, IsPlanDue, IsScheduleDue, PlanAsks, ScheduleAsks, outcome_of_run}
+use Rattle.gemline_app.specs.Replay.{FileRefuses, FollowsPlan, ReplayComes, ScheduleComes, TextRuns, WasFile, files_since, files_until, outcome_of_end, plan_refusal}
 use Rattle.gemline_app.specs.Words.{file_limit}
 use Rattle.gemline_app.specs.declared.outcome.FileRole.{FileRole}
 use Rattle.gemline_app.specs.declared.outcome.FileRole.TheVariants as role
 use Rattle.gemline_app.specs.declared.outcome.Outcome.{Outcome}
-use Rattle.gemline_app.specs.declared.outcome.Outcome.TheVariants.{Done, Usage, BadFrame, BadText, BadHex, BadItem, BadLine, Longer, FileLonger, FileFailed, ReadFailed, NoMemory, WriteFailed, TurnsSpent, NumbersSpent, Slip, DiskFailed, NotSpool, PlanNotBuilt, LineNotBuilt}
+use Rattle.gemline_app.specs.declared.outcome.Outcome.TheVariants.{Done, Usage, BadFrame, BadText, BadHex, BadItem, BadLine, Longer, FileLonger, FileFailed, ReadFailed, NoMemory, WriteFailed, TurnsSpent, NumbersSpent, Slip, DiskFailed, NotSpool, BadPlan, LineNotBuilt}
 
 -- what reading a file came to, where the files tell its bytes
 told_answer : (limit : ℕ) (name bytes : List ℕ) (told : Option (List MemFile)) (answer : FileAnswer) → told_file name told ≡ Some bytes →
@@ -57,7 +63,7 @@ refused which name bytes files NumbersSpent told refuses = absurd refuses
 refused which name bytes files DiskFailed told refuses = absurd refuses
 refused which name bytes files (NotSpool at) told refuses = absurd refuses
 refused which name bytes files Slip told refuses = absurd refuses
-refused which name bytes files PlanNotBuilt told refuses = absurd refuses
+refused which name bytes files (BadPlan key what) told refuses = absurd refuses
 refused which name bytes files (LineNotBuilt number) told refuses = absurd refuses
 
 -- a file that was read whole
@@ -102,78 +108,138 @@ ended_due source files disk out text went end.NoMemory outcome due is part is_du
 ended_due source files disk out text went end.WriteFailed outcome due is short is_due =
     inr (subst (Hinders source files disk out) (sym is) short.fault.rose)
 
-text_due : (source : SourceTold) (files : FilesTold) (disk : DiskTold) (out : SinkTold) (text : List ℕ) (outcome due : Outcome) → TextRuns text out outcome
-    → ScheduleAsks text due →
-    Comes source files disk out outcome due
-text_due source files disk out text outcome due runs (inl (schedule, is, is_due)) = elim (runs.only schedule is) [
-  | inl was ↦ ended_due source files disk out (trace_text empty_plans schedule) (went_of empty_plans schedule) was.ended outcome due was.outcome_is was.wrote is_due
+text_due :
+    (source : SourceTold) (files : FilesTold) (disk : DiskTold) (out : SinkTold) (plans : Plans) (text : List ℕ)
+    (outcome due : Outcome)
+    → TextRuns plans text out outcome → ScheduleAsks plans text due → Comes source files disk out outcome due
+text_due source files disk out plans text outcome due runs (inl (schedule, is, is_due)) = elim (runs.only schedule is) [
+  | inl was ↦
+      ended_due source files disk out (trace_text plans schedule) (went_of plans schedule) was.ended outcome due
+      was.outcome_is was.wrote is_due
   | inr memory ↦ inr (hindered source files disk out outcome memory.0)
 ]
-text_due source files disk out text outcome due runs (inr (inl (number, at, is_due))) = elim (runs.outside number at).0 [
+text_due source files disk out plans text outcome due runs (inr (inl (n, at, is_due))) = elim (runs.outside n at).0 [
   | inl named ↦ inl (named ∙ sym is_due)
   | inr memory ↦ inr (hindered source files disk out outcome memory)
 ]
-text_due source files disk out text outcome due runs (inr (inr (number, at, is_due))) = elim (runs.later number at).0 [
+text_due source files disk out plans text outcome due runs (inr (inr (n, at, is_due))) = elim (runs.later n at).0 [
   | inl named ↦ inl (named ∙ sym is_due)
   | inr memory ↦ inr (hindered source files disk out outcome memory)
 ]
 
 -- ---- both files
 
-schedule_due : (source : SourceTold) (files later : FilesTold) (disk : DiskTold) (out : SinkTold) (name text : List ℕ) (outcome due : Outcome) →
-    later.health.faults ≡ files.health.faults → later.health_after ≡ files.health_after → told_file name later.before ≡ Some text →
-    ScheduleComes name later out outcome → IsScheduleDue text due → Comes source files disk out outcome due
-schedule_due source files later disk out name text outcome due since same told (inl (refuses, untouched)) is_due =
+schedule_due :
+    (source : SourceTold) (files later : FilesTold) (disk : DiskTold) (out : SinkTold) (plans : Plans)
+    (name text : List ℕ) (outcome due : Outcome)
+    → later.health.faults ≡ files.health.faults → later.health_after ≡ files.health_after
+    → told_file name later.before ≡ Some text → ScheduleComes plans name later out outcome
+    → IsScheduleDue plans text due → Comes source files disk out outcome due
+schedule_due source files later disk out plans name text outcome due since same told (inl (refuses, untouched)) is_due =
     go (refused role.Schedule name text later outcome told refuses) is_due
   where
-    go : Refused role.Schedule text later outcome → IsScheduleDue text due → Comes source files disk out outcome due
+    go : Refused role.Schedule text later outcome → IsScheduleDue plans text due
+        → Comes source files disk out outcome due
     go (inl (longer, past)) (inl (also, is)) = inl (longer ∙ sym is)
     go (inl (longer, past)) (inr (within, asks)) = absurd (omega arith)
     go (inr (inl (found, is, rose))) due_is =
         inr (failed source files disk out outcome found is
-        (subst (λ (n : ℕ). Rose n files.health_after.faults) since (subst (λ h. Rose later.health.faults h.faults) same rose)))
+        (subst (λ (n : ℕ). Rose n files.health_after.faults) since
+        (subst (λ h. Rose later.health.faults h.faults) same rose)))
     go (inr (inr memory)) due_is = inr (hindered source files disk out outcome memory)
-schedule_due source files later disk out name text outcome due since same told (inr (whole, was, runs)) is_due = go is_due
+schedule_due source files later disk out plans name text outcome due since same told (inr (whole, was, runs)) is_due =
+    go is_due
   where
     read : (text ≡ whole) × (length text ≤ file_limit role.Schedule)
     read = whole_is role.Schedule name text whole later told was
 
-    go : IsScheduleDue text due → Comes source files disk out outcome due
+    go : IsScheduleDue plans text due → Comes source files disk out outcome due
     go (inl (past, is)) = let within = read.1 in absurd (omega arith)
-    go (inr (within, asks)) = text_due source files disk out text outcome due (subst (λ (t : List ℕ). TextRuns t out outcome) (sym read.0) runs) asks
+    go (inr (within, asks)) =
+        text_due source files disk out plans text outcome due
+        (subst (λ (t : List ℕ). TextRuns plans t out outcome) (sym read.0) runs) asks
 
-pub replay_due : (source : SourceTold) (files : FilesTold) (disk : DiskTold) (out : SinkTold) (plan schedule bytes : List ℕ) (outcome due : Outcome) →
-    told_file plan files.before ≡ Some bytes → ReplayComes plan schedule files out outcome → IsPlanDue schedule files bytes due →
-    Comes source files disk out outcome due
+-- what a plan was read as
+abbrev read_plan : Plans → Read Plans
+read_plan plans = Ok plans
+
+abbrev read_fault : ConfigFault → Read Plans
+read_fault fault = Err fault
+
+no_plans : (plans : Plans) (fault : ConfigFault) → read_plan plans ≡ read_fault fault → ⊥
+no_plans plans fault same = cc
+
+no_fault : (plans : Plans) (fault : ConfigFault) → read_fault fault ≡ read_plan plans → ⊥
+no_fault plans fault same = cc
+
+one_plan : (one other : Plans) → read_plan one ≡ read_plan other → one ≡ other
+one_plan one other same = cc
+
+one_fault : (one other : ConfigFault) → read_fault one ≡ read_fault other → one ≡ other
+one_fault one other same = cc
+
+is_no_memory : (key : List ℕ) (what : ConfigWhat) → plan_fault.Key key what ≢ plan_fault.NoMemory
+is_no_memory key what same = cc
+
+module _ (source : SourceTold) (files later : FilesTold) (disk : DiskTold) (out : SinkTold) (bytes schedule : List ℕ)
+    (outcome due : Outcome) where
+  -- a plan that is refused so, where it asks for this
+  refusal_due :
+      (fault : ConfigFault) → IsReadAs bytes (Err fault) → outcome ≡ plan_refusal fault
+      → PlanAsks schedule files bytes due → Comes source files disk out outcome due
+  refusal_due plan_fault.NoMemory read is asks = inr (hindered source files disk out outcome is)
+  refusal_due (plan_fault.Key key what) read is (inl (k, w, means, is_due)) =
+      let same = one_fault _ _ (read.only (is_refused k w) means (is_no_memory key what)) in
+      inl (is ∙ sym (ap plan_refusal same) ∙ sym is_due)
+  refusal_due (plan_fault.Key key what) read is (inr (plans, text, means, told, rest)) =
+      absurd (no_plans plans _ (read.only (Ok plans) means (is_no_memory key what)))
+
+  -- a plan that means these plans, where it asks for this
+  plans_due :
+      (plans : Plans) → later.health.faults ≡ files.health.faults → later.health_after ≡ files.health_after
+      → later.before ≡ files.before → IsReadAs bytes (Ok plans) → ScheduleComes plans schedule later out outcome
+      → PlanAsks schedule files bytes due → Comes source files disk out outcome due
+  plans_due plans since same before read comes (inl (key, what, means, is_due)) =
+      absurd (no_fault plans _ (read.only (is_refused key what) means))
+  plans_due plans since same before read comes (inr (meant, text, means, told, rest)) =
+      schedule_due source files later disk out plans schedule text outcome due since same
+      (ap (told_file schedule) before ∙ told) comes
+      (subst (λ (p : Plans). IsScheduleDue p text due) (one_plan meant plans (read.only (Ok meant) means)) rest)
+
+  -- from the bytes of the plan on
+  bytes_due :
+      (result : Result Plans ConfigFault) → later.health.faults ≡ files.health.faults
+      → later.health_after ≡ files.health_after → later.before ≡ files.before → IsReadAs bytes result
+      → FollowsPlan result schedule later out outcome → PlanAsks schedule files bytes due
+      → Comes source files disk out outcome due
+  bytes_due (Ok plans) since same before read comes asks = plans_due plans since same before read comes asks
+  bytes_due (Err fault) since same before read (is, unread, left) asks = refusal_due fault read is asks
+
+pub replay_due :
+    (source : SourceTold) (files : FilesTold) (disk : DiskTold) (out : SinkTold) (plan schedule bytes : List ℕ)
+    (outcome due : Outcome)
+    → told_file plan files.before ≡ Some bytes → ReplayComes plan schedule files out outcome
+    → IsPlanDue schedule files bytes due → Comes source files disk out outcome due
 replay_due source files disk out plan schedule bytes outcome due told (inl (refuses, untouched)) is_due =
     go (refused role.Plan plan bytes files outcome told refuses) is_due
   where
-    go : Refused role.Plan bytes files outcome → IsPlanDue schedule files bytes due → Comes source files disk out outcome due
+    go : Refused role.Plan bytes files outcome → IsPlanDue schedule files bytes due
+        → Comes source files disk out outcome due
     go (inl (longer, past)) (inl (_, is)) = inl (longer ∙ sym is)
-    go (inl (longer, past)) (inr (inl (within, some, is))) = absurd (omega arith)
-    go (inl (longer, past)) (inr (inr (empty, text, also, rest))) = let long = ap length empty in absurd (omega arith)
+    go (inl (longer, past)) (inr (within, asks)) = absurd (omega arith)
     go (inr (inl (found, is, rose))) due_is = inr (failed source files disk out outcome found is rose)
     go (inr (inr memory)) due_is = inr (hindered source files disk out outcome memory)
-replay_due source files disk out plan schedule bytes outcome due told (inr (inl (found, was, some, is, untouched))) is_due = go is_due
-  where
-    read : (bytes ≡ found) × (length bytes ≤ file_limit role.Plan)
-    read = whole_is role.Plan plan bytes found files told was
-
-    go : IsPlanDue schedule files bytes due → Comes source files disk out outcome due
-    go (inl (past, is_longer)) = let within = read.1 in absurd (omega arith)
-    go (inr (inl (within, something, is_due'))) = inl (is ∙ sym is_due')
-    go (inr (inr (empty, text, also, rest))) = absurd (some (sym read.0 ∙ empty))
-replay_due source files disk out plan schedule bytes outcome due told (inr (inr over)) is_due = go is_due
+replay_due source files disk out plan schedule bytes outcome due told (inr over) is_due = go is_due
   where
     first : FilesTold
     first = files_until files over.told over.health
 
-    read : (bytes ≡ []) × (length bytes ≤ file_limit role.Plan)
-    read = whole_is role.Plan plan bytes [] first told over.read
+    read : (bytes ≡ over.bytes) × (length bytes ≤ file_limit role.Plan)
+    read = whole_is role.Plan plan bytes over.bytes first told over.read
 
     go : IsPlanDue schedule files bytes due → Comes source files disk out outcome due
     go (inl (past, is_longer)) = let within = read.1 in absurd (omega arith)
-    go (inr (inl (within, something, is_due'))) = absurd (something read.0)
-    go (inr (inr (empty, text, also, rest))) =
-        schedule_due source files (files_since files over.told over.health) disk out schedule text outcome due
-        over.read.cause.same refl (ap (told_file schedule) over.read.same ∙ also) over.rest rest
+    go (inr (within, asks)) =
+        bytes_due source files (files_since files over.told over.health) disk out over.bytes schedule outcome due
+        over.rest.result over.read.cause.same refl over.read.same over.rest.is over.rest.follows
+        (subst (λ (b : List ℕ). PlanAsks schedule files b due) read.0 asks)

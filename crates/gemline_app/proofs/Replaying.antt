@@ -6,14 +6,13 @@ use Rattle.line_schedule.specs.declared.event.Event.{Event}
 use Rattle.line_schedule.specs.declared.schedule.Schedule.{Schedule}
 use Rattle.line_schedule.specs.declared.schedule.ScheduleFault.{ScheduleFault}
 use Rattle.line_schedule.specs.declared.schedule.ScheduleFault.TheVariants as schedule_fault
-use Rattle.line_end.specs.declared.plan.LinePlan.{LinePlan}
+use Rattle.equipment_tables.specs.declared.plan.Plans.{Plans}
 use Rattle.gl_base.specs.Told.{SinkTold}
 use Rattle.end_pair.specs.Run.{Runs}
 use Rattle.end_pair.specs.declared.answers.RunEnd.{RunEnd}
-use Rattle.line_world.specs.Run.{ComesInOrder, log_of, plans_of, trace_text, went_of}
-use Rattle.message_end.specs.Moves.{LinePlans}
+use Rattle.line_world.specs.Run.{ComesInOrder, HoldsReports, log_of, trace_text, went_of}
 use Rattle.trace_log.specs.Delivered.{Delivered}
-use Rattle.gemline_app.specs.Replay.{ComesOnly, ScheduleRefuses, TextRuns, WasReplayed, empty_plan, empty_plans, outcome_of_end, schedule_refusal}
+use Rattle.gemline_app.specs.Replay.{ComesOnly, ScheduleRefuses, TextRuns, WasReplayed, outcome_of_end, schedule_refusal}
 use Rattle.gemline_app.specs.Written.{IsUntouched}
 use Rattle.gemline_app.specs.declared.outcome.Outcome.{Outcome}
 
@@ -25,15 +24,18 @@ pub record ReadsText (text : List ℕ) (result : Result Schedule ScheduleFault) 
   pub outside : (number : ℕ) → OutsideAt text number → RefusesOnly (schedule_fault.Line number) result
   pub later : (number : ℕ) → LaterAt text number → RefusesOnly (schedule_fault.NotBuilt number) result
 
-pub runs_schedule : (text : List ℕ) (out : SinkTold) (schedule : Schedule) (outcome : Outcome) → ReadsText text (Ok schedule) →
-    IsSchedule text schedule.events → WasReplayed schedule out outcome → TextRuns text out outcome
-runs_schedule text out schedule outcome reads is was = record {
+pub runs_schedule :
+    (plans : Plans) (text : List ℕ) (out : SinkTold) (schedule : Schedule) (outcome : Outcome)
+    → ReadsText text (Ok schedule) → IsSchedule text schedule.events → WasReplayed plans schedule out outcome
+    → TextRuns plans text out outcome
+runs_schedule plans text out schedule outcome reads is was = record {
   because = inl (schedule, is, was);
   outside = λ number at. absurd (reads.outside number at);
   later = λ number at. absurd (reads.later number at);
   only = λ other is_other.
       let same : schedule.events ≡ other.events = reads.only other.events is_other in
-      inl (subst (λ (s : Schedule). WasReplayed s out outcome) (ap (λ (events : List Event). record { events = events }) same) was);
+      inl (subst (λ (s : Schedule). WasReplayed plans s out outcome)
+      (ap (λ (events : List Event). record { events = events }) same) was);
 }
 
 refuses : (text : List ℕ) (out : SinkTold) (fault : ScheduleFault) → ReadsText text (Err fault) → IsUntouched out → ScheduleRefuses text out fault
@@ -46,29 +48,28 @@ comes_only : (out : SinkTold) (fault named : ScheduleFault) → RefusesOnly {R =
 comes_only out fault named (inl same) untouched = (inl (ap schedule_refusal same), untouched)
 comes_only out fault named (inr memory) untouched = (inr (ap schedule_refusal memory), untouched)
 
-pub refuses_text : (text : List ℕ) (out : SinkTold) (fault : ScheduleFault) (outcome : Outcome) → ReadsText text (Err fault) → IsUntouched out →
-    outcome ≡ schedule_refusal fault → TextRuns text out outcome
-refuses_text text out fault outcome reads untouched is =
-    subst (TextRuns text out) (sym is) (record {
+pub refuses_text :
+    (plans : Plans) (text : List ℕ) (out : SinkTold) (fault : ScheduleFault) (outcome : Outcome)
+    → ReadsText text (Err fault) → IsUntouched out → outcome ≡ schedule_refusal fault → TextRuns plans text out outcome
+refuses_text plans text out fault outcome reads untouched is =
+    subst (TextRuns plans text out) (sym is) (record {
       because = inr (fault, refuses text out fault reads untouched, refl);
       outside = λ number at. comes_only out fault (schedule_fault.Line number) (reads.outside number at) untouched;
       later = λ number at. comes_only out fault (schedule_fault.NotBuilt number) (reads.later number at) untouched;
       only = λ other is_other. inr (ap schedule_refusal (reads.only other.events is_other), untouched);
     })
 
--- what was carried out over the parameters of an empty plan
+-- what was carried out over these plans
 pub replayed_over :
-    (plans : LinePlans) (schedule : Schedule) (out : SinkTold) (ended : RunEnd) (outcome : Outcome)
-    → plans ≡ empty_plans → outcome ≡ outcome_of_end ended
-    → Runs out (trace_text plans schedule) (went_of plans schedule) ended → Delivered (log_of plans schedule)
-    → ComesInOrder plans (log_of plans schedule) → WasReplayed schedule out outcome
-replayed_over plans schedule out ended outcome same is wrote delivered in_order = record {
+    (plans : Plans) (schedule : Schedule) (out : SinkTold) (ended : RunEnd) (outcome : Outcome)
+    → outcome ≡ outcome_of_end ended → Runs out (trace_text plans schedule) (went_of plans schedule) ended
+    → Delivered (log_of plans schedule) → ComesInOrder plans (log_of plans schedule)
+    → HoldsReports plans (log_of plans schedule) → WasReplayed plans schedule out outcome
+replayed_over plans schedule out ended outcome is wrote delivered in_order reported = record {
   ended = ended;
   outcome_is = is;
-  wrote = subst (λ (p : LinePlans). Runs out (trace_text p schedule) (went_of p schedule) ended) same wrote;
-  delivered = subst (λ (p : LinePlans). Delivered (log_of p schedule)) same delivered;
-  in_order = subst (λ (p : LinePlans). ComesInOrder p (log_of p schedule)) same in_order;
+  wrote = wrote;
+  delivered = delivered;
+  in_order = in_order;
+  reported = reported;
 }
-
-pub both_empty : (plan : LinePlan) → plan ≡ empty_plan → plans_of plan plan ≡ empty_plans
-both_empty plan is = ap (λ (p : LinePlan). plans_of p p) is

@@ -19,12 +19,12 @@ use Rattle.spool_show.specs.Formatting.{FormatsSpool}
 use Rattle.spool_show.specs.Showing.{ShowsSpool}
 use Rattle.spool_show.specs.Told.{DiskTold}
 use Rattle.gemline_app.specs.HexInput.{HexMeans, IsHexBreak}
-use Rattle.gemline_app.specs.Outcome.{file_of, line_of, outcome_of_show, status_of}
+use Rattle.gemline_app.specs.Outcome.{line_of, name_of, outcome_of_show, status_of}
 use Rattle.gemline_app.specs.Spelling.{HexSpells, spelled_line, text_line, text_place}
 use Rattle.gemline_app.specs.Replay.{ReplayComes}
 use Rattle.gemline_app.specs.Spool.{EndedAs, IsUnused}
 use Rattle.gemline_app.specs.Words.{capture_limit, command_of, item_limit, name_in, spool_name}
-use Rattle.gemline_app.specs.Written.{IsUntouched}
+use Rattle.gemline_app.specs.Written.{AreUnread, IsUntouched}
 use Rattle.gemline_app.specs.declared.outcome.FileRole.TheVariants as role
 use Rattle.gemline_app.specs.declared.outcome.Outcome.{Outcome}
 use Rattle.gemline_app.specs.declared.outcome.Outcome.TheVariants.{Done, Usage, BadText, BadHex, BadItem, Longer, ReadFailed, NoMemory, WriteFailed}
@@ -35,10 +35,6 @@ use Rattle.gemline_app.specs.declared.words.Command.TheVariants.{Show, Spell, Sp
 pub record IsUnread (source : SourceTold) : Type 0 where
   pub left : source.after ≡ source.before
   pub health : source.health_after ≡ source.health
-
-pub record AreUnread (files : FilesTold) : Type 0 where
-  pub told : files.after ≡ files.before
-  pub health : files.health_after ≡ files.health
 
 -- reading it to its end within a limit came to this
 pub record WasRead (limit : ℕ) (source : SourceTold) (answer : Input) : Type 0 where
@@ -160,4 +156,4 @@ pub record IsRun (words : List (List ℕ)) (source : SourceTold) (files : FilesT
   pub outcome : Outcome
   pub status_is : status ≡ status_of outcome
   pub comes : ComesFrom (command_of words) words source files disk out outcome
-  pub line : WereSent (line_of (file_of words outcome) outcome) err
+  pub line : WereSent (line_of (name_of words outcome) outcome) err

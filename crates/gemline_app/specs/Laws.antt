@@ -1,5 +1,9 @@
 -- What holds of all runs.
-use Rattle.std.specs.Prelude.{◌≡◌, ◌≢◌, ◌<◌, ◌≤◌, ◌⊎◌, ℕ, Bool, true, false, List, [], length, Option, Some, None, Ok}
+use Rattle.std.specs.Prelude.{◌≡◌, ◌<◌, ◌≤◌, ◌⊎◌, ℕ, Bool, true, false, List, [], length, Option, Some, None, Ok}
+use Rattle.equipment_tables.specs.declared.plan.Plans.{Plans}
+use Rattle.gem_config.specs.Plans.{Means}
+use Rattle.gem_config.specs.Reading.{refused}
+use Rattle.gem_config.specs.declared.fault.ConfigWhat.{ConfigWhat}
 use Rattle.gl_base.specs.Faults.{Rose}
 use Rattle.gl_base.specs.Sink.{with_bytes}
 use Rattle.gl_base.specs.Told.{FilesTold, SinkTold, SourceTold}
@@ -27,11 +31,10 @@ use Rattle.gemline_app.specs.Gemline.{IsRun}
 use Rattle.gemline_app.specs.HexInput.{HexMeans, IsHexBreak}
 use Rattle.gemline_app.specs.Outcome.{outcome_of_show}
 use Rattle.gemline_app.specs.Spelling.{HexSpells, spelled_line, text_line, text_place}
-use Rattle.gemline_app.specs.Replay.{empty_plans}
 use Rattle.gemline_app.specs.Words.{capture_limit, command_of, file_limit, item_limit, name_in}
 use Rattle.gemline_app.specs.declared.outcome.FileRole.TheVariants as role
 use Rattle.gemline_app.specs.declared.outcome.Outcome.{Outcome}
-use Rattle.gemline_app.specs.declared.outcome.Outcome.TheVariants.{Done, Usage, BadText, BadHex, BadItem, BadLine, Longer, FileLonger, FileFailed, ReadFailed, NoMemory, WriteFailed, TurnsSpent, NumbersSpent, Slip, DiskFailed, NotSpool, PlanNotBuilt, LineNotBuilt}
+use Rattle.gemline_app.specs.declared.outcome.Outcome.TheVariants.{Done, Usage, BadText, BadHex, BadItem, BadLine, Longer, FileLonger, FileFailed, ReadFailed, NoMemory, WriteFailed, TurnsSpent, NumbersSpent, Slip, DiskFailed, NotSpool, BadPlan, LineNotBuilt}
 use Rattle.gemline_app.specs.declared.words.Command.{Command}
 use Rattle.gemline_app.specs.declared.words.Command.TheVariants.{Show, Spell, SpellHex, Replay, Format, Spool}
 
@@ -72,25 +75,32 @@ outcome_of_run went.Turns = TurnsSpent
 outcome_of_run went.NumbersSpent = NumbersSpent
 outcome_of_run went.NoMemory = NoMemory
 
-abbrev pub ScheduleAsks : List ℕ → Outcome → Type 0
-ScheduleAsks text due =
+abbrev pub ScheduleAsks : Plans → List ℕ → Outcome → Type 0
+ScheduleAsks plans text due =
     ((schedule : Schedule) × IsSchedule text schedule.events
-    × (due ≡ outcome_of_run (went_of empty_plans schedule)))
+    × (due ≡ outcome_of_run (went_of plans schedule)))
     ⊎ (((number : ℕ) × OutsideAt text number × (due ≡ BadLine number))
     ⊎ ((number : ℕ) × LaterAt text number × (due ≡ LineNotBuilt number)))
 
 -- the outcome that is due of a schedule's text
-abbrev pub IsScheduleDue : List ℕ → Outcome → Type 0
-IsScheduleDue text due =
+abbrev pub IsScheduleDue : Plans → List ℕ → Outcome → Type 0
+IsScheduleDue plans text due =
     ((file_limit role.Schedule < length text) × (due ≡ FileLonger role.Schedule))
-    ⊎ ((length text ≤ file_limit role.Schedule) × ScheduleAsks text due)
+    ⊎ ((length text ≤ file_limit role.Schedule) × ScheduleAsks plans text due)
 
--- the outcome that is due of a plan's text, and of the schedule of this name where the plan is empty
+-- what the text of a plan asks for: its refusal, or what the schedule of this name asks for over the plans that it
+-- means
+abbrev pub PlanAsks : List ℕ → FilesTold → List ℕ → Outcome → Type 0
+PlanAsks schedule files plan due =
+    ((key : List ℕ) × (what : ConfigWhat) × Means plan (refused key what) × (due ≡ BadPlan key what))
+    ⊎ ((plans : Plans) × (text : List ℕ) × Means plan (Ok plans)
+    × (told_file schedule files.before ≡ Some text) × IsScheduleDue plans text due)
+
+-- the outcome that is due of a plan's text
 abbrev pub IsPlanDue : List ℕ → FilesTold → List ℕ → Outcome → Type 0
 IsPlanDue schedule files plan due =
     ((file_limit role.Plan < length plan) × (due ≡ FileLonger role.Plan))
-    ⊎ (((length plan ≤ file_limit role.Plan) × (plan ≢ []) × (due ≡ PlanNotBuilt))
-    ⊎ ((plan ≡ []) × (text : List ℕ) × (told_file schedule files.before ≡ Some text) × IsScheduleDue text due))
+    ⊎ ((length plan ≤ file_limit role.Plan) × PlanAsks schedule files plan due)
 
 -- the outcome that is due of two files, where the plan is told, and the schedule if it is read
 abbrev pub IsReplayDue : List ℕ → List ℕ → FilesTold → Outcome → Type 0

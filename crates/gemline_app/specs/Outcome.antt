@@ -1,6 +1,8 @@
 -- The statuses that the program ends with, and the line that tells of each (this profile).
 use Rattle.std.specs.Prelude.{ℕ, List, [], ◌++◌, codes, decimal, Result, Ok, Err}
 use Rattle.std.specs.Int.{w16, to_be_bytes}
+use Rattle.gem_config.specs.declared.fault.ConfigWhat.{ConfigWhat}
+use Rattle.gem_config.specs.declared.fault.ConfigWhat.TheVariants as what_is
 use Rattle.hex.specs.Hex.{encode_upper}
 use Rattle.line_show.specs.Bodies.{fault_text}
 use Rattle.line_show.specs.declared.capture.Break.{Break}
@@ -11,7 +13,7 @@ use Rattle.line_show.specs.declared.printer.Stop.{Stop}
 use Rattle.line_show.specs.declared.printer.Stop.TheVariants as stop
 use Rattle.gemline_app.specs.Words.{name_in}
 use Rattle.gemline_app.specs.declared.outcome.Outcome.{Outcome}
-use Rattle.gemline_app.specs.declared.outcome.Outcome.TheVariants.{Done, Usage, BadFrame, BadText, BadHex, BadItem, BadLine, Longer, FileLonger, FileFailed, ReadFailed, NoMemory, WriteFailed, TurnsSpent, NumbersSpent, Slip, DiskFailed, NotSpool, PlanNotBuilt, LineNotBuilt}
+use Rattle.gemline_app.specs.declared.outcome.Outcome.TheVariants.{Done, Usage, BadFrame, BadText, BadHex, BadItem, BadLine, Longer, FileLonger, FileFailed, ReadFailed, NoMemory, WriteFailed, TurnsSpent, NumbersSpent, Slip, DiskFailed, NotSpool, BadPlan, LineNotBuilt}
 
 -- what showing a capture came to
 abbrev pub outcome_of_show : Result Ending Stop → Outcome
@@ -27,6 +29,7 @@ status_of (BadFrame named) = 65
 status_of (BadText at) = 65
 status_of (BadHex at) = 65
 status_of (BadItem fault) = 65
+status_of (BadPlan key what) = 65
 status_of (BadLine number) = 65
 status_of Longer = 65
 status_of (FileLonger which) = 65
@@ -39,7 +42,6 @@ status_of Slip = 76
 status_of NumbersSpent = 77
 status_of DiskFailed = 74
 status_of (NotSpool at) = 78
-status_of PlanNotBuilt = 79
 status_of (LineNotBuilt number) = 79
 
 -- a checksum, in four hex digits
@@ -52,13 +54,14 @@ break_text (Length at n) = decimal at ++ codes ": length " ++ decimal n
 break_text (Short at) = decimal at ++ codes ": short"
 break_text (Sum at want found) = decimal at ++ codes ": sum " ++ sum_text want ++ codes " found " ++ sum_text found
 
--- the name of the file that an outcome speaks of, if it speaks of one
-abbrev pub file_of : List (List ℕ) → Outcome → List ℕ
-file_of words (FileLonger which) = name_in words which
-file_of words (FileFailed which) = name_in words which
-file_of words _ = []
+-- the name of the file or of the key that an outcome speaks of, if it speaks of one
+abbrev pub name_of : List (List ℕ) → Outcome → List ℕ
+name_of words (BadPlan key what) = key
+name_of words (FileLonger which) = name_in words which
+name_of words (FileFailed which) = name_in words which
+name_of words _ = []
 
--- what is said before the name of a file, and all where there is none. Nothing is said of work that is done
+-- what is said before that name, and all where there is none. Nothing is said of work that is done
 abbrev pub head_of : Outcome → List ℕ
 head_of Done = []
 head_of Usage = codes "gemline: 64 usage\n"
@@ -66,6 +69,7 @@ head_of (BadFrame named) = codes "gemline: 65 frame at " ++ break_text named ++ 
 head_of (BadText at) = codes "gemline: 65 text at " ++ decimal at ++ codes "\n"
 head_of (BadHex at) = codes "gemline: 65 hex at " ++ decimal at ++ codes "\n"
 head_of (BadItem fault) = codes "gemline: 65 item " ++ fault_text fault ++ codes "\n"
+head_of (BadPlan key what) = codes "gemline: 65 plan "
 head_of (BadLine number) = codes "gemline: 65 schedule line " ++ decimal number ++ codes "\n"
 head_of Longer = codes "gemline: 65 input longer\n"
 head_of (FileLonger which) = codes "gemline: 65 file "
@@ -78,15 +82,24 @@ head_of Slip = codes "gemline: 76 slip\n"
 head_of NumbersSpent = codes "gemline: 77 numbers\n"
 head_of DiskFailed = codes "gemline: 74 disk\n"
 head_of (NotSpool at) = codes "gemline: 78 not a spool at " ++ decimal at ++ codes "\n"
-head_of PlanNotBuilt = codes "gemline: 79 not built in plan\n"
 head_of (LineNotBuilt number) = codes "gemline: 79 not built at line " ++ decimal number ++ codes "\n"
+
+-- what is wrong with a key
+abbrev pub what_text : ConfigWhat → List ℕ
+what_text what_is.Syntax = codes " Syntax\n"
+what_text what_is.Missing = codes " Missing\n"
+what_text what_is.Kind = codes " Kind\n"
+what_text what_is.Range = codes " Range\n"
+what_text what_is.Repeated = codes " Repeated\n"
+what_text what_is.Unknown = codes " Unknown\n"
 
 -- and behind it
 abbrev pub tail_of : Outcome → List ℕ
+tail_of (BadPlan key what) = what_text what
 tail_of (FileLonger which) = codes " longer\n"
 tail_of (FileFailed which) = codes "\n"
 tail_of _ = []
 
--- the line that tells of an outcome, which speaks of the file of this name if of any
+-- the line that tells of an outcome, which speaks of this name if of any
 abbrev pub line_of : List ℕ → Outcome → List ℕ
 line_of name outcome = head_of outcome ++ (name ++ tail_of outcome)

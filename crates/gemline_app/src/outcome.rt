@@ -1,7 +1,9 @@
 ghost use Rattle.std.specs.Prelude.{◌≡◌, ◌+◌, ◌++◌, ◌≤◌, codes, decimal, length};
 ghost use Rattle.arrayvec.specs.ArrayVec.{array_vec_len};
-ghost use Rattle.gemline_app.specs.Outcome.{break_text};
+ghost use Rattle.gemline_app.specs.Outcome.{break_text, what_text};
 
+use gem_config::ConfigWhat;
+use gl_base::Row;
 use line_show::{Break, Line, put_fault};
 use secs_items::ItemFault;
 use short_text::{put, put_hex, put_number};
@@ -14,7 +16,7 @@ pub enum FileRole {
 }
 
 /// What a run of the program came to.
-#[derive(Clone, Copy, Debug, PartialEq, Eq)]
+#[derive(Debug, Drop)]
 pub enum Outcome {
     /// The work is done.
     Done,
@@ -28,6 +30,8 @@ pub enum Outcome {
     BadHex { at: usize },
     /// The bytes spell no item.
     BadItem(ItemFault),
+    /// The plan is refused: this is wrong with this key, the first that is.
+    BadPlan { key: Row<u8>, what: ConfigWhat },
     /// The line of this number, from 1, is none of a schedule.
     BadLine { number: u32 },
     /// The input is longer than its limit.
@@ -52,8 +56,6 @@ pub enum Outcome {
     DiskFailed,
     /// The bytes of the spool file stand for no list. They break there.
     NotSpool { at: u64 },
-    /// The plan has some text, which isn't built yet.
-    PlanNotBuilt,
     /// The line of this number, from 1, is of a kind that isn't built yet.
     LineNotBuilt { number: u32 },
 }
@@ -72,6 +74,7 @@ impl Outcome {
             | Outcome::BadText { .. }
             | Outcome::BadHex { .. }
             | Outcome::BadItem(_)
+            | Outcome::BadPlan { .. }
             | Outcome::BadLine { .. }
             | Outcome::Longer
             | Outcome::FileLonger(_) => 65,
@@ -84,11 +87,11 @@ impl Outcome {
             Outcome::NumbersSpent => 77,
             Outcome::DiskFailed => 74,
             Outcome::NotSpool { .. } => 78,
-            Outcome::PlanNotBuilt | Outcome::LineNotBuilt { .. } => 79,
+            Outcome::LineNotBuilt { .. } => 79,
         }
     }
 
-    /// The line that tells of it, up to the name of a file if it speaks of one: none where the work is done.
+    /// The line that tells of it, up to the name of a file or key if it speaks of one: none where the work is done.
     pub fn head(&self) -> Line
         ensures { result.items ≡ head_of self.now }
     {
@@ -108,6 +111,7 @@ impl Outcome {
                 put_fault(&mut line, *fault);
                 put(&mut line, b"\n");
             }
+            Outcome::BadPlan { .. } => put(&mut line, b"gemline: 65 plan "),
             Outcome::BadLine { number } => {
                 put_place(&mut line, b"gemline: 65 schedule line ", u64::from(*number));
             }
@@ -124,7 +128,6 @@ impl Outcome {
             Outcome::NotSpool { at } => {
                 put_place(&mut line, b"gemline: 78 not a spool at ", *at);
             }
-            Outcome::PlanNotBuilt => put(&mut line, b"gemline: 79 not built in plan\n"),
             Outcome::LineNotBuilt { number } => {
                 put_place(
                     &mut line,
@@ -136,15 +139,30 @@ impl Outcome {
         line
     }
 
-    /// The rest of that line behind the name of a file.
+    /// The rest of that line behind the name.
     pub fn tail(&self) -> &'static [u8]
         ensures { result.now ≡ tail_of self.now }
     {
         match self {
+            Outcome::BadPlan { what, .. } => what_text(*what),
             Outcome::FileLonger(_) => b" longer\n",
             Outcome::FileFailed(_) => b"\n",
             _ => b"",
         }
+    }
+}
+
+// What is wrong with a key.
+fn what_text(what: ConfigWhat) -> &'static [u8]
+    ensures { result.now ≡ what_text what }
+{
+    match what {
+        ConfigWhat::Syntax => b" Syntax\n",
+        ConfigWhat::Missing => b" Missing\n",
+        ConfigWhat::Kind => b" Kind\n",
+        ConfigWhat::Range => b" Range\n",
+        ConfigWhat::Repeated => b" Repeated\n",
+        ConfigWhat::Unknown => b" Unknown\n",
     }
 }
 

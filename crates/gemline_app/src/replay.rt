@@ -1,19 +1,20 @@
-//! A schedule carried out over two talkers and the line between them.
+//! A schedule carried out over a tool and its host, as a plan says.
 
 ghost use Rattle.std.specs.Prelude.{◌≡◌, List, Ok};
-ghost use Rattle.gemline_app.specs.Replay.{FileAnswers, ReplayComes, ScheduleComes, TextRuns, empty_plan};
-ghost use Rattle.gemline_app.specs.Replay.{outcome_of_end, schedule_refusal};
+ghost use Rattle.equipment_tables.specs.Plan.{PlansFit};
+ghost use Rattle.gemline_app.specs.Replay.{FileAnswers, PlanComes, ReplayComes, ScheduleComes, TextRuns};
+ghost use Rattle.gemline_app.specs.Replay.{outcome_of_end, plan_refusal, schedule_refusal};
 ghost use Rattle.gemline_app.specs.Words.{file_limit};
 ghost use Rattle.gl_base.specs.Told.{files_told, sink_told};
 
 use crate::outcome::{FileRole, Outcome};
+use gem_config::{ConfigFault, read_plans};
 use gl_base::{FileAnswer, Files, Row, Sink};
-use line_end::{LinePlan, Times};
 use line_schedule::{ScheduleFault, read_schedule};
-use line_world::{RunEnd, run};
+use line_world::{Plans, RunEnd, run};
 use std::alloc::Global;
 
-/// Writes the trace of a schedule, over the parameters of an empty plan, which is all that a plan may be yet.
+/// Writes the trace of a schedule over a plan.
 pub(crate) fn replay<F: Files, W: Sink>(
     alloc: Global,
     plan: &str,
@@ -27,31 +28,46 @@ pub(crate) fn replay<F: Files, W: Sink>(
         result }
 {
     match whole_file(alloc, FileRole::Plan, plan, files) {
-        Ok(bytes) => {
-            if bytes.is_empty() {
-                replay_over_empty(alloc, schedule, files, out)
-            } else {
-                Outcome::PlanNotBuilt
-            }
-        }
+        Ok(bytes) => replay_bytes(alloc, bytes.as_slice(), schedule, files, out),
         Err(refusal) => refusal,
     }
 }
 
-// Writes the trace of a schedule over the parameters of an empty plan.
-fn replay_over_empty<F: Files, W: Sink>(
+// Writes the trace of a schedule over the plan that these bytes mean.
+fn replay_bytes<F: Files, W: Sink>(
     alloc: Global,
+    bytes: &[u8],
     schedule: &str,
     files: &mut F,
     out: &mut W,
 ) -> Outcome
-    ensures { ScheduleComes schedule.now
+    ensures { PlanComes bytes.now schedule.now
+        (files_told F.Files files.old files.new)
+        (sink_told W.Sink out.old out.new)
+        result }
+{
+    match read_plans(alloc, bytes) {
+        Ok(plans) => replay_over(alloc, &plans, schedule, files, out),
+        Err(fault) => plan_refusal(fault),
+    }
+}
+
+// Writes the trace of a schedule over these plans.
+fn replay_over<F: Files, W: Sink>(
+    alloc: Global,
+    plans: &Plans,
+    schedule: &str,
+    files: &mut F,
+    out: &mut W,
+) -> Outcome
+    requires { PlansFit plans.now }
+    ensures { ScheduleComes plans.now schedule.now
         (files_told F.Files files.old files.new)
         (sink_told W.Sink out.old out.new)
         result }
 {
     match whole_file(alloc, FileRole::Schedule, schedule, files) {
-        Ok(text) => run_text(alloc, text.as_slice(), out),
+        Ok(text) => run_text(alloc, plans, text.as_slice(), out),
         Err(refusal) => refusal,
     }
 }
@@ -86,35 +102,18 @@ fn file_limit(which: FileRole) -> usize
 }
 
 // Writes the trace of the schedule that a text means.
-fn run_text<W: Sink>(alloc: Global, text: &[u8], out: &mut W) -> Outcome
-    ensures { TextRuns text.now
+fn run_text<W: Sink>(alloc: Global, plans: &Plans, text: &[u8], out: &mut W) -> Outcome
+    requires { PlansFit plans.now }
+    ensures { TextRuns plans.now text.now
         (sink_told W.Sink out.old out.new)
         result }
 {
     match read_schedule(alloc, text) {
         Ok(schedule) => {
-            let plan = empty_plan();
-            let (end, _world) = run(alloc, &plan, &plan, &schedule, out);
+            let (end, _world) = run(alloc, plans, &schedule, out);
             outcome_of_end(end)
         }
         Err(fault) => schedule_refusal(fault),
-    }
-}
-
-// The parameters of an empty plan.
-fn empty_plan() -> LinePlan
-    ensures { result ≡ empty_plan }
-{
-    LinePlan {
-        device: 0,
-        times: Times {
-            t1: 500,
-            t2: 10_000,
-            rty: 3,
-        },
-        t3: 45_000,
-        t4: 45_000,
-        max_body: 1_048_576,
     }
 }
 
@@ -128,6 +127,16 @@ fn outcome_of_end(end: RunEnd) -> Outcome
         RunEnd::NumbersSpent => Outcome::NumbersSpent,
         RunEnd::NoMemory => Outcome::NoMemory,
         RunEnd::WriteFailed => Outcome::WriteFailed,
+    }
+}
+
+// The refusal of a plan.
+fn plan_refusal(fault: ConfigFault) -> Outcome
+    ensures { result ≡ plan_refusal fault }
+{
+    match fault {
+        ConfigFault::Key { key, what } => Outcome::BadPlan { key, what },
+        ConfigFault::NoMemory => Outcome::NoMemory,
     }
 }
 

@@ -1,7 +1,7 @@
 ghost use Rattle.std.specs.Prelude.{◌≡◌, ◌++◌, ◌≤◌, map, string_bytes};
 ghost use Rattle.gemline_app.specs.Gemline.{ComesFrom, ComesOnInput, InputAnswers, IsRun, WasPrinted, WasShown};
 ghost use Rattle.gemline_app.specs.Gemline.{WasSpelled, WereSent};
-ghost use Rattle.gemline_app.specs.Outcome.{file_of, line_of, outcome_of_show, status_of};
+ghost use Rattle.gemline_app.specs.Outcome.{line_of, name_of, outcome_of_show, status_of};
 ghost use Rattle.gemline_app.specs.Replay.{ReplayComes};
 ghost use Rattle.gemline_app.specs.Spool.{EndedAs, outcome_of_spool};
 ghost use Rattle.gemline_app.specs.Words.{capture_limit, command_of, item_limit, name_in, spool_name};
@@ -60,12 +60,12 @@ pub fn gemline<F: Files, R: Source, W: Sink, E: Sink, D: Disk>(
 /// Tells of an outcome on `err`, and answers its status.
 pub fn report<E: Sink>(outcome: &Outcome, words: &[String], err: &mut E) -> u8
     ensures status { result ≡ status_of outcome.now }
-    ensures line { WereSent (line_of (file_of (map string_bytes words.now) outcome.now) outcome.now)
+    ensures line { WereSent (line_of (name_of (map string_bytes words.now) outcome.now) outcome.now)
         (sink_told E.Sink err.old err.new) }
 {
     send(
         &outcome.head(),
-        file_of(words, outcome),
+        name_of(words, outcome),
         outcome.tail(),
         err,
     );
@@ -100,11 +100,12 @@ fn send_one<E: Sink>(bytes: &[u8], err: &mut E)
     let _ = copy_out(err, bytes);
 }
 
-// The name of the file that an outcome speaks of, if it speaks of one.
-fn file_of<'a>(words: &'a [String], outcome: &Outcome) -> &'a [u8]
-    ensures { result.now ≡ file_of (map string_bytes words.now) outcome.now }
+// The name of the file or of the key that an outcome speaks of, if it speaks of one.
+fn name_of<'a>(words: &'a [String], outcome: &'a Outcome) -> &'a [u8]
+    ensures { result.now ≡ name_of (map string_bytes words.now) outcome.now }
 {
     match outcome {
+        Outcome::BadPlan { key, .. } => key.as_slice(),
         Outcome::FileLonger(which) | Outcome::FileFailed(which) => {
             name_in(words, *which).as_bytes()
         }

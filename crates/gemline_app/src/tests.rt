@@ -308,7 +308,7 @@ static FAULTS: [Case; 7] = [
     ),
 ];
 
-/// `replay` of a schedule over an empty plan.
+/// `replay` of a schedule over the empty plan.
 static SCHEDULES: [Case; 7] = [
     ((b"", b"settle\n", 1, b""), (0, FIRST_MESSAGE, "")),
     ((b"", b"# all\n\nsettle", 1, b""), (0, FIRST_MESSAGE, "")),
@@ -318,7 +318,7 @@ static SCHEDULES: [Case; 7] = [
         (65, "", "gemline: 65 schedule line 2\n"),
     ),
     (
-        (b"", b"wait 1\ntool online", 1, b""),
+        (b"", b"wait 1\ncut 1 old", 1, b""),
         (79, "", "gemline: 79 not built at line 2\n"),
     ),
     (
@@ -340,7 +340,7 @@ static LISTS: [Case; 2] = [
             64,
             b">>>>>>>>>>>>>>>>>>>>>>>>>>>>>>>>>>>>>>>>>>>>>>>>>>>>>>>>>>>>>>>>",
         ),
-        (79, "", "gemline: 79 not built at line 1\n"),
+        (0, REFUSED, ""),
     ),
     (
         (b"tool set 1 ", b"<L ", 65, LISTS_END),
@@ -348,19 +348,67 @@ static LISTS: [Case; 2] = [
     ),
 ];
 
-/// A plan that is not empty, and a schedule outside of the grammar.
-static PLANS: [Case; 3] = [
+/// Plans, and a schedule outside of the grammar.
+static PLANS: [Case; 8] = [
     (
         (b"", b" ", 1, b""),
-        (79, "", "gemline: 79 not built in plan\n"),
+        (65, "", "gemline: 65 schedule line 1\n"),
     ),
     (
         (b"", b"                ", 65_536, b""),
-        (79, "", "gemline: 79 not built in plan\n"),
+        (65, "", "gemline: 65 schedule line 1\n"),
     ),
     (
         (b"", b"                ", 65_536, b" "),
         (65, "", "gemline: 65 file plan longer\n"),
+    ),
+    (
+        (b"[line", b"", 1, b""),
+        (65, "", "gemline: 65 plan  Syntax\n"),
+    ),
+    (
+        (b"[line]\nrty = ", b"32", 1, b""),
+        (65, "", "gemline: 65 plan line.rty Range\n"),
+    ),
+    (
+        (b"[line]\nrty = ", b"true", 1, b""),
+        (65, "", "gemline: 65 plan line.rty Kind\n"),
+    ),
+    (
+        (b"", b"[[event]]\n", 1, b"name = \"Done\""),
+        (65, "", "gemline: 65 plan event.ceid Missing\n"),
+    ),
+    (
+        (b"", b"[[event]]\nceid = 1\n", 2, b""),
+        (65, "", "gemline: 65 plan event.ceid Repeated\n"),
+    ),
+];
+
+/// A key that has no meaning.
+static OTHER_PLANS: [Case; 1] = [(
+    (b"[host]\nenable = false\nslots = 1", b"", 1, b""),
+    (65, "", "gemline: 65 plan host.slots Unknown\n"),
+)];
+
+/// Plans, and the schedule `settle`.
+static SETTLED: [Case; 2] = [
+    (
+        (
+            b"[equipment]\nenable = false\n[line]\ndevice = 1\n",
+            b"",
+            1,
+            b"",
+        ),
+        (0, "0 E start len=0 base=0\n0 H start\n0 end\n", ""),
+    ),
+    (
+        (
+            b"[equipment]\nsoftrev = \"2\"\n[host]\nenable = false\n",
+            b"",
+            1,
+            b"",
+        ),
+        (0, DROPPED, ""),
     ),
 ];
 
@@ -451,17 +499,28 @@ static SPOOL_WORDS: [&'static [&'static str]; 7] = [
     &["format", "SPOOL", "+3"],
 ];
 
-const FIRST_MESSAGE: &str = "0 E start len=0 base=0\n0 H start\n\
+const FIRST_MESSAGE: &str = "0 E start len=0 base=0\n0 H start\n0 E comms WAIT-CRA\n\
     0 E sent S1F13 W 00000000 0102410747454D4C494E45410131\n0 E tx 05\n0 H tx 04\n\
     0 E tx 188000810D8001000000000102410747454D4C494E45410131044E\n\
-    0 H rx S1F13 W 00000000 0102410747454D4C494E45410131\n\
-    0 H sent S1F14 00000000 0102410747454D4C494E45410131\n0 H tx 0605\n0 E tx 04\n\
-    0 H tx 180000010E8001000000000102410747454D4C494E45410131034F\n\
-    0 E rx S1F14 00000000 0102410747454D4C494E45410131\n0 E tx 06\n0 end\n";
+    0 H rx S1F13 W 00000000 0102410747454D4C494E45410131\n0 H comms COMMUNICATING\n\
+    0 H sent S1F14 00000000 01022101000100\n0 H tx 0605\n0 E tx 04\n\
+    0 H tx 110000010E8001000000000102210100010000B6\n\
+    0 E rx S1F14 00000000 01022101000100\n0 E comms COMMUNICATING\n0 E tx 06\n0 end\n";
 
-const NO_ANSWER: &str = "0 E start len=0 base=0\n0 H start\n\
+/// The same with another SOFTREV, to a host that isn't enabled.
+const DROPPED: &str = "0 E start len=0 base=0\n0 H start\n0 E comms WAIT-CRA\n\
+    0 E sent S1F13 W 00000000 0102410747454D4C494E45410132\n0 E tx 05\n0 H tx 04\n\
+    0 E tx 188000810D8001000000000102410747454D4C494E45410132044F\n\
+    0 H rx S1F13 W 00000000 0102410747454D4C494E45410132\n0 H dropped S1F13 W\n0 H tx 06\n0 end\n";
+
+const NO_ANSWER: &str = "0 E start len=0 base=0\n0 H start\n0 E comms WAIT-CRA\n\
     0 E sent S1F13 W 00000000 0102410747454D4C494E45410131\n0 E tx 05\n\
-    10000 E tx 05\n20000 E tx 05\n30000 E tx 05\n40000 E failed S1F13 W 00000000\n40000 end\n";
+    10000 E tx 05\n20000 E tx 05\n30000 E tx 05\n40000 E failed S1F13 W 00000000\n\
+    40000 E comms WAIT-DELAY\n40000 end\n";
+
+/// No variable is planned.
+const REFUSED: &str = "0 E start len=0 base=0\n0 H start\n0 E comms WAIT-CRA\n\
+    0 E sent S1F13 W 00000000 0102410747454D4C494E45410131\n0 E tx 05\n0 E refused\n0 end\n";
 
 /// The ends of 65 lists.
 const LISTS_END: &[u8] = b">>>>>>>>>>>>>>>>>>>>>>>>>>>>>>>>>>>>>>>>>>>>>>>>>>>>>>>>>>>>>>>>>";
@@ -590,16 +649,16 @@ fn are_schedules(alloc: Global, words: &[String], cases: &[Case]) -> bool {
     true
 }
 
-fn is_plan(alloc: Global, words: &[String], case: &Case) -> bool {
+fn is_plan(alloc: Global, words: &[String], schedule: &[u8], case: &Case) -> bool {
     match pieces_of(alloc, &case.0) {
-        Ok(plan) => is_replayed(alloc, words, plan.as_slice(), b"jump", &case.1),
+        Ok(plan) => is_replayed(alloc, words, plan.as_slice(), schedule, &case.1),
         Err(NoMemory) => false,
     }
 }
 
-fn are_plans(alloc: Global, words: &[String], cases: &[Case]) -> bool {
+fn are_plans(alloc: Global, words: &[String], schedule: &[u8], cases: &[Case]) -> bool {
     for case in cases {
-        if !is_plan(alloc, words, case) {
+        if !is_plan(alloc, words, schedule, case) {
             return false;
         }
     }
@@ -610,7 +669,9 @@ fn are_plans(alloc: Global, words: &[String], cases: &[Case]) -> bool {
 fn are_answered(alloc: Global, words: &[String]) -> bool {
     are_schedules(alloc, words, &SCHEDULES)
         && are_schedules(alloc, words, &LISTS)
-        && are_plans(alloc, words, &PLANS)
+        && are_plans(alloc, words, b"jump", &PLANS)
+        && are_plans(alloc, words, b"jump", &OTHER_PLANS)
+        && are_plans(alloc, words, b"settle", &SETTLED)
 }
 
 #[test]
@@ -894,25 +955,23 @@ fn pages_and_pieces(rt: HostRuntime) -> Result<(), Fail> {
     Ok(())
 }
 
-/// What no test's run comes to, and its line.
-static REPORTS: [(Outcome, u8, &str); 5] = [
-    (Outcome::Done, 0, ""),
-    (Outcome::NoMemory, 71, "gemline: 71 memory\n"),
-    (Outcome::TurnsSpent, 75, "gemline: 75 turns\n"),
-    (Outcome::Slip, 76, "gemline: 76 slip\n"),
-    (Outcome::NumbersSpent, 77, "gemline: 77 numbers\n"),
-];
-
 /// Whether an outcome is told with this status and this line.
-fn is_reported(alloc: Global, case: &(Outcome, u8, &str)) -> bool {
+fn is_reported(alloc: Global, outcome: Outcome, status: u8, line: &str) -> bool {
     let mut err = output(alloc, 100, 0);
-    report(&case.0, &[], &mut err) == case.1 && err.bytes.as_slice() == case.2.as_bytes()
+    report(&outcome, &[], &mut err) == status && err.bytes.as_slice() == line.as_bytes()
+}
+
+/// Whether what no test's run comes to is told so.
+fn are_reported(alloc: Global) -> bool {
+    is_reported(alloc, Outcome::Done, 0, "")
+        && is_reported(alloc, Outcome::NoMemory, 71, "gemline: 71 memory\n")
+        && is_reported(alloc, Outcome::TurnsSpent, 75, "gemline: 75 turns\n")
+        && is_reported(alloc, Outcome::Slip, 76, "gemline: 76 slip\n")
+        && is_reported(alloc, Outcome::NumbersSpent, 77, "gemline: 77 numbers\n")
 }
 
 #[test]
 fn reports_outcomes(rt: HostRuntime) -> Result<(), Fail> {
-    for case in &REPORTS {
-        assert!(rt; is_reported(rt.alloc(), case));
-    }
+    assert!(rt; are_reported(rt.alloc()));
     Ok(())
 }

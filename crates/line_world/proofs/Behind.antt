@@ -1,15 +1,15 @@
--- A run over two talkers is one of moves that deliver.
+-- A run over a tool and its host is one of moves that deliver.
 use Rattle.std.proofs.Common.{List, [], ◌∷◌, ◌++◌, sym, subst}
 use Rattle.delivery.specs.Laws.{Deliver, EndsDeliver}
 use Rattle.end_pair.specs.Laws.{AreNoNotes, IsOfMoves}
-use Rattle.line_end.specs.Plan.{LinePlanFits}
+use Rattle.equipment_node.specs.Laws.{DidOf}
+use Rattle.equipment_tables.specs.Plan.{PlansFit}
+use Rattle.equipment_tables.specs.declared.plan.Plans.{Plans}
 use Rattle.message_end.specs.Log as moves
-use Rattle.message_end.specs.Moves.{LinePlans}
-use Rattle.talker.specs.Talker.{Did, equipment_plan, host_plan}
 use Rattle.trace_log.specs.Delivered.{Delivered}
 use Rattle.trace_log.specs.Log.{Entry}
 use Rattle.trace_log.specs.Log.Entry.{Ended, Noted, Slipped}
-use Rattle.line_world.specs.Run.{ComesInOrder}
+use Rattle.line_world.specs.Run.{ComesInOrder, HostDid, plans_of}
 
 -- what no end has noted changes nothing of what is said of messages
 delivered-behind : (last log : List Entry) → AreNoNotes last → Delivered log → Delivered (last ++ log)
@@ -18,11 +18,10 @@ delivered-behind (Noted moment side what ∷ last) log none is = absurd none.0
 delivered-behind (Slipped moment side frame characters ∷ last) log none is = (tt, delivered-behind last log none.1 is)
 delivered-behind (Ended moment ∷ last) log none is = (tt, delivered-behind last log none.1 is)
 
-module _ (plans : LinePlans) (equipment : LinePlanFits plans.equipment) (host : LinePlanFits plans.host)
-    (deliver : EndsDeliver) (log : List Entry)
-    (moved : IsOfMoves (Did (equipment_plan plans.equipment)) (Did (host_plan plans.host)) plans log) where
-  delivers : Deliver plans moved.moves
-  delivers = deliver plans moved.moves equipment.times host.times moved.no_slip moved.keep
+module _ (plans : Plans) (fit : PlansFit plans) (deliver : EndsDeliver) (log : List Entry)
+    (moved : IsOfMoves (DidOf plans.equipment) (HostDid plans.host) (plans_of plans) log) where
+  delivers : Deliver (plans_of plans) moved.moves
+  delivers = deliver (plans_of plans) moved.moves fit.equipment.line.times fit.host.line.times moved.no_slip moved.keep
 
   pub is-delivered : Delivered log
   is-delivered =

@@ -1,28 +1,27 @@
--- Events that fit may happen to two talkers, and bring bytes.
+-- Events that fit may happen to a tool and its host, and bring bytes.
 use Rattle.std.proofs.Common.{List}
 use Rattle.std.specs.Prelude.{All}
 use Rattle.std.proofs.lemmas.List.Elements.{All-weaker}
 use Rattle.line_schedule.specs.declared.event.Event.{Event}
 use Rattle.line_schedule.specs.declared.event.Event.TheVariants as event
 use Rattle.line_schedule.specs.Events.{EventFits}
-use Rattle.trace_log.specs.Commands.{HostCommandFits}
+use Rattle.trace_log.specs.Commands.{HostCommandFits, ToolCommandFits}
 use Rattle.end_pair.specs.Kept.{MayHappen}
 use Rattle.end_pair.specs.Laws.{HasBytes}
-use Rattle.talker.specs.Talker.{EquipmentTakes}
 
-happens : (one : Event) → EventFits one → MayHappen EquipmentTakes HostCommandFits one
+happens : (one : Event) → EventFits one → MayHappen ToolCommandFits HostCommandFits one
 happens (event.To side n) fits = tt
 happens (event.Lose side n) fits = tt
 happens (event.Change side place byte) fits = tt
 happens (event.Add side byte) fits = tt
 happens event.Settle fits = tt
 happens (event.Wait ms) fits = fits
-happens (event.Tool command) fits = tt
+happens (event.Tool command) fits = fits
 happens (event.Host command) fits = fits
 happens (event.Cut call choice) fits = tt
 
-pub all-happen : (events : List Event) → All EventFits events → All (MayHappen EquipmentTakes HostCommandFits) events
-all-happen events fits = All-weaker EventFits (MayHappen EquipmentTakes HostCommandFits) happens events fits
+pub all-happen : (events : List Event) → All EventFits events → All (MayHappen ToolCommandFits HostCommandFits) events
+all-happen events fits = All-weaker EventFits (MayHappen ToolCommandFits HostCommandFits) happens events fits
 
 has : (one : Event) → EventFits one → HasBytes one
 has (event.To side n) fits = tt

@@ -1,4 +1,4 @@
-//! The worlds that run: two talkers on one line, by a schedule, whose trace is written.
+//! The world that runs: a tool and its host on one line, by a schedule, whose trace is written.
 #![tactic(auto)]
 
 mod running;
@@ -6,4 +6,5 @@ mod running;
 mod tests;
 
 pub use end_pair::{RunEnd, World, WorldFault, WorldStep};
+pub use equipment_tables::Plans;
 pub use running::run;

@@ -1,13 +1,18 @@
 use super::*;
-use gl_base::MemSink;
+use equipment_node::Equipment;
+use equipment_tables::{EquipmentPlan, HostPlan};
+use gem_remote::RemotePlan;
+use gem_states::ControlState;
+use gem_vars::VarsPlan;
+use gl_base::{MemSink, Row};
+use host_node::Host;
 use line_end::{LinePlan, Phase, Times};
 use line_schedule::read_schedule;
 use message_end::End;
 use std::alloc::Global;
-use talker::{EquipmentTalker, HostTalker};
 
-/// A plan with this device, T2 and RTY.
-fn plan(device: u16, t2: u32, rty: u8) -> LinePlan {
+/// A line with this device, T2 and RTY.
+fn line(device: u16, t2: u32, rty: u8) -> LinePlan {
     LinePlan {
         device,
         times: Times { t1: 500, t2, rty },
@@ -17,85 +22,128 @@ fn plan(device: u16, t2: u32, rty: u8) -> LinePlan {
     }
 }
 
-/// How a run of a schedule ended, where both plans and the schedule are good ones, and whether it handed back a world
-/// both of whose ends are idle.
+/// A tool without data at its end of a line, and a host at an end of this other line.
+fn plans(alloc: Global, line: LinePlan, host: LinePlan) -> Option<Plans> {
+    Some(Plans {
+        equipment: EquipmentPlan {
+            line,
+            mdln: Row::of(alloc, b"GEMLINE").ok()?,
+            softrev: Row::of(alloc, b"1").ok()?,
+            enable: true,
+            control: ControlState::Remote,
+            spooled: Row::new(alloc),
+            vars: VarsPlan {
+                variables: Row::new(alloc),
+                constants: Row::new(alloc),
+                built_in: [10, 1, 1, 0],
+            },
+            events: Row::new(alloc),
+            alarms: Row::new(alloc),
+            remote: RemotePlan {
+                commands: Row::new(alloc),
+                terminals: 1,
+            },
+        },
+        host: HostPlan {
+            line: host,
+            enable: true,
+        },
+        slots: 16,
+    })
+}
+
+/// What is left at the end of a run: no world, or what the equipment's line is about and when the equipment acts next,
+/// and the same of the host.
+type Left = Option<(Phase, Option<u64>, Phase, Option<u64>)>;
+
+fn left_of(world: &Option<World<Equipment, Host>>) -> Left {
+    match world {
+        Some(world) => Some((
+            world.equipment().phase(),
+            world.equipment().deadline(),
+            world.host().phase(),
+            world.host().deadline(),
+        )),
+        None => None,
+    }
+}
+
+/// How a run of a schedule ended, where the plans and the schedule are good ones, and what is left.
 fn end_of_run(
     alloc: Global,
-    equipment: &LinePlan,
-    host: &LinePlan,
+    plans: &Plans,
     schedule: &[u8],
     out: &mut MemSink,
-) -> Option<(RunEnd, bool)> {
-    if !equipment.fits() || !host.fits() {
+) -> Option<(RunEnd, Left)> {
+    if !plans.fits() {
         return None;
     }
     let Ok(schedule) = read_schedule(alloc, schedule) else {
         return None;
     };
-    let (end, world) = run(alloc, equipment, host, &schedule, out);
-    Some((end, is_idle(&world)))
+    let (end, world) = run(alloc, plans, &schedule, out);
+    Some((end, left_of(&world)))
 }
 
-/// Whether there is a world, and both of its ends are idle.
-fn is_idle(world: &Option<World<EquipmentTalker, HostTalker>>) -> bool {
-    match world {
-        Some(world) => {
-            world.equipment().phase() == Phase::Idle && world.host().phase() == Phase::Idle
-        }
-        None => false,
-    }
-}
+/// A schedule, how its run ends, what is left, and the trace.
+type Case = (&'static [u8], RunEnd, Left, &'static [u8]);
 
-/// A schedule, how its run ends, whether with two idle ends, and the trace.
-type Case = (&'static [u8], RunEnd, bool, &'static [u8]);
-
-/// Whether a schedule is carried out so over these plans, into a sink with so much room.
-fn goes(alloc: Global, equipment: &LinePlan, host: &LinePlan, room: usize, case: &Case) -> bool {
-    match MemSink::new(alloc, room) {
-        Ok(mut out) => {
-            end_of_run(alloc, equipment, host, case.0, &mut out) == Some((case.1, case.2))
+/// Whether a schedule is carried out so over these lines, into a sink with so much room.
+fn goes(alloc: Global, equipment: LinePlan, host: LinePlan, room: usize, case: &Case) -> bool {
+    match (plans(alloc, equipment, host), MemSink::new(alloc, room)) {
+        (Some(plans), Ok(mut out)) => {
+            end_of_run(alloc, &plans, case.0, &mut out) == Some((case.1, case.2))
                 && out.bytes() == case.3
         }
-        Err(_) => false,
+        _ => false,
     }
 }
 
-/// The equipment opens the talk, and the host asks.
-static QUESTION: Case = (
-    b"settle\nhost send S1F3 W <L>\nsettle",
+/// Neither end has anything to do.
+const BOTH_IDLE: Left = Some((Phase::Idle, None, Phase::Idle, None));
+
+/// The equipment establishes the communication.
+static ESTABLISHED: Case = (
+    b"settle",
     RunEnd::Whole,
-    true,
+    BOTH_IDLE,
     b"0 E start len=0 base=0\n\
         0 H start\n\
+        0 E comms WAIT-CRA\n\
         0 E sent S1F13 W 00000000 0102410747454D4C494E45410131\n\
         0 E tx 05\n\
         0 H tx 04\n\
         0 E tx 188000810D8001000000000102410747454D4C494E45410131044E\n\
         0 H rx S1F13 W 00000000 0102410747454D4C494E45410131\n\
-        0 H sent S1F14 00000000 0102410747454D4C494E45410131\n\
+        0 H comms COMMUNICATING\n\
+        0 H sent S1F14 00000000 01022101000100\n\
         0 H tx 0605\n\
         0 E tx 04\n\
-        0 H tx 180000010E8001000000000102410747454D4C494E45410131034F\n\
-        0 E rx S1F14 00000000 0102410747454D4C494E45410131\n\
+        0 H tx 110000010E8001000000000102210100010000B6\n\
+        0 E rx S1F14 00000000 01022101000100\n\
+        0 E comms COMMUNICATING\n\
         0 E tx 06\n\
-        0 H sent S1F3 W 00000000 0100\n\
-        0 H tx 05\n\
-        0 E tx 04\n\
-        0 H tx 0C0000810380010000000001000106\n\
-        0 E rx S1F3 W 00000000 0100\n\
-        0 E sent S1F4 00000000 0100\n\
-        0 E tx 0605\n\
-        0 H tx 04\n\
-        0 E tx 0C8000010480010000000001000107\n\
-        0 H rx S1F4 00000000 0100\n\
-        0 H tx 06\n\
+        0 end\n",
+);
+
+/// Nothing befalls them, so the equipment waits for leave to send.
+static NOTHING: Case = (
+    b"",
+    RunEnd::Whole,
+    Some((Phase::AwaitEot, Some(10_000), Phase::Idle, None)),
+    b"0 E start len=0 base=0\n\
+        0 H start\n\
+        0 E comms WAIT-CRA\n\
+        0 E sent S1F13 W 00000000 0102410747454D4C494E45410131\n\
+        0 E tx 05\n\
         0 end\n",
 );
 
 #[test]
-fn carries_a_question(rt: HostRuntime) {
-    let plan = plan(0, 10_000, 3);
-    assert!(rt; goes(rt.alloc(), &plan, &plan, 10_000, &QUESTION));
+fn communication_is_established(rt: HostRuntime) {
+    let line = line(0, 10_000, 3);
+    assert!(rt; goes(rt.alloc(), line, line, 10_000, &ESTABLISHED));
+    assert!(rt; goes(rt.alloc(), line, line, 10_000, &NOTHING));
 }
 
 /// After these the host takes an ENQ inside a frame, whose sum begins so, as the equipment's asking, and the rest of
@@ -111,29 +159,30 @@ const SLIP: &[u8] =
     B1FE810D8001000000000102410747454D4C494E45410131057D0518B1FE810D8001000000000102410747454D4C494E4541\
     0131057D0518B1FE810D8001000000000102410747454D4C494E45410131057D0518B1\n";
 
-/// Whether a run ends at a slip, and its trace with it.
-fn ends_at_the_slip(alloc: Global, plan: &LinePlan) -> bool {
-    match MemSink::new(alloc, 10_000) {
-        Ok(mut out) => {
-            end_of_run(alloc, plan, plan, SLIPPED, &mut out) == Some((RunEnd::Slip, false))
+/// Whether a run ends at the slip, and its trace with it.
+fn ends_at_the_slip(alloc: Global, line: LinePlan) -> bool {
+    match (plans(alloc, line, line), MemSink::new(alloc, 10_000)) {
+        (Some(plans), Ok(mut out)) => {
+            end_of_run(alloc, &plans, SLIPPED, &mut out) == Some((RunEnd::Slip, None))
                 && out.bytes().ends_with(SLIP)
         }
-        Err(_) => false,
+        _ => false,
     }
 }
 
 #[test]
 fn a_slip_ends_the_trace(rt: HostRuntime) {
-    assert!(rt; ends_at_the_slip(rt.alloc(), &plan(0x31FE, 200, 31)));
+    assert!(rt; ends_at_the_slip(rt.alloc(), line(0x31FE, 200, 31)));
 }
 
 /// The host is of another device, so that no block is one for it.
 static FOREIGN: Case = (
     b"settle",
     RunEnd::Whole,
-    true,
+    Some((Phase::Idle, Some(45_000), Phase::Idle, None)),
     b"0 E start len=0 base=0\n\
         0 H start\n\
+        0 E comms WAIT-CRA\n\
         0 E sent S1F13 W 00000000 0102410747454D4C494E45410131\n\
         0 E tx 05\n\
         0 H tx 04\n\
@@ -144,24 +193,16 @@ static FOREIGN: Case = (
 );
 
 #[test]
-fn ends_of_two_plans(rt: HostRuntime) {
-    let equipment = plan(0, 10_000, 3);
-    assert!(rt;
-        goes(
-            rt.alloc(),
-            &equipment,
-            &plan(1, 10_000, 3),
-            10_000,
-            &FOREIGN
-        )
-    );
+fn ends_of_two_lines(rt: HostRuntime) {
+    let equipment = line(0, 10_000, 3);
+    assert!(rt; goes(rt.alloc(), equipment, line(1, 10_000, 3), 10_000, &FOREIGN));
 }
 
 /// Nothing has gone out where there is no room.
-static NO_ROOM: Case = (b"settle", RunEnd::WriteFailed, false, b"");
+static NO_ROOM: Case = (b"settle", RunEnd::WriteFailed, None, b"");
 
 #[test]
 fn a_sink_without_room_ends_the_run(rt: HostRuntime) {
-    let plan = plan(0, 10_000, 3);
-    assert!(rt; goes(rt.alloc(), &plan, &plan, 10, &NO_ROOM));
+    let line = line(0, 10_000, 3);
+    assert!(rt; goes(rt.alloc(), line, line, 10, &NO_ROOM));
 }

@@ -1,4 +1,4 @@
-//! The core of every end of the link: talker, host and equipment.
+//! The core of both ends of the link, equipment and host.
 #![tactic(auto)]
 
 mod end;

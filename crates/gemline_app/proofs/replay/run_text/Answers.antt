@@ -1,19 +1,31 @@
 use Rattle.std.proofs.Common.{refl}
-use Rattle.gemline_app.proofs.Replaying.{both_empty, refuses_text, replayed_over, runs_schedule}
+use Rattle.gemline_app.proofs.Replaying.{refuses_text, replayed_over, runs_schedule}
 use Rattle.gemline_app.proofs.replay.run_text.Goals as goal
 
 pub returns-in-Ok : goal.returns-in-Ok
 returns-in-Ok g c =
     let reads = c.in-Ok.ensures in
     let run = c.run-end.ensures in
-    let empty = both_empty c.empty_plan-plan.result c.empty_plan-plan.ensures in
-    runs_schedule _ _ c.in-Ok.schedule _
-    (record { only = reads.only; line = reads.line; not_built = reads.not_built; outside = reads.outside; later = reads.later }) reads.found
-    (replayed_over _ c.in-Ok.schedule _ c.run-end.result.0 _ empty c.outcome_of_end.ensures run.text run.delivered run.in_order)
+    runs_schedule _ _ _ c.in-Ok.schedule _
+    (record {
+      only = reads.only;
+      line = reads.line;
+      not_built = reads.not_built;
+      outside = reads.outside;
+      later = reads.later;
+    }) reads.found
+    (replayed_over _ c.in-Ok.schedule _ c.run-end.result.0 _ c.outcome_of_end.ensures run.text run.delivered
+    run.in_order run.reported)
 
 pub returns-in-Err : goal.returns-in-Err
 returns-in-Err g c =
     let reads = c.in-Err.ensures in
-    refuses_text _ _ c.in-Err.fault _
-    (record { only = reads.only; line = reads.line; not_built = reads.not_built; outside = reads.outside; later = reads.later })
+    refuses_text _ _ _ c.in-Err.fault _
+    (record {
+      only = reads.only;
+      line = reads.line;
+      not_built = reads.not_built;
+      outside = reads.outside;
+      later = reads.later;
+    })
     (record { received = refl; health = refl }) c.schedule_refusal.ensures

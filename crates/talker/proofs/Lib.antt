@@ -1,3 +1,0 @@
-mod Due
-mod Leaving
-mod Parts
