@@ -1,0 +1,4 @@
+mod Covering
+pub mod Lists
+pub mod Purging
+pub mod Putting

@@ -1,0 +1,7 @@
+use Rattle.gem_spool.proofs.Lists.{look_list}
+use Rattle.gem_spool.proofs.spool.GemSpool.oldest.Goals as goal
+
+pub returns-clause-list : goal.returns-clause-list
+returns-clause-list g c = λ list has.
+    look_list g.D.Disk c.args.self.now.spool c.oldest.new.self c.args.self.now.spool.first c.args.into.now
+    c.oldest.new.into c.oldest.result c.oldest.ensures list has

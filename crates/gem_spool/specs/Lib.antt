@@ -1,0 +1,4 @@
+pub mod Laws
+pub mod Reply
+pub mod Rule
+pub mod Spool

@@ -1,0 +1,7 @@
+ghost use Rattle.gem_spool.specs.Laws.{RuleIsLookedBackFor};
+
+/// After each history of S2F43 the rule covers what is looked back for: what the newest one names that was accepted,
+/// and otherwise what the plan names.
+pub fn the_rule_is_looked_back_for()
+    ensures { RuleIsLookedBackFor }
+{}

@@ -1,0 +1,259 @@
+ghost use Rattle.std.specs.Prelude.{◌≡◌, ◌+◌, ◌^◌, ◌<◌, ◌≤◌, ◌%◌, nat_lt, [], List, length, IfOk, Some};
+ghost use Rattle.disk_base.specs.Story.{Story};
+ghost use Rattle.gem_spool.specs.Spool.{Confirms, HasList, Purges, PurgesAll, Puts, ReservesMore};
+ghost use Rattle.gem_spool.specs.Spool.{list_after_confirm, list_after_put, numbered, room_for};
+ghost use Rattle.gem_spool.specs.declared.spool.Room.TheVariants.{Fits};
+ghost use Rattle.spool_slots.specs.Changes.{Looks};
+ghost use Rattle.spool_slots.specs.Slot.{Message};
+ghost use Rattle.spool_slots.specs.Spool.{Rests, next_of};
+
+use disk_base::{Disk, MemDisk};
+use spool_slots::{Dropping, OldestAnswer, Reserving, Spent, Spool, Staging, Stored};
+
+// How many bytes a body has at most.
+const BODY_MOST: usize = 4081;
+
+// The number that no message gets any more.
+const NUMBERS: u64 = 1 << 63;
+
+/// The spool of the equipment: a list of messages with their numbers, which a power loss leaves whole, and whether it
+/// is active.
+#[derive(Debug, Drop)]
+pub struct GemSpool<D: Disk> {
+    spool: Spool<D>,
+    active: bool,
+}
+
+/// Whether there is room for a message.
+#[derive(Clone, Copy, Debug, PartialEq, Eq)]
+pub enum Room {
+    Fits,
+    /// Each slot holds a message.
+    Full,
+    /// The body has more than 4,081 bytes.
+    TooLong,
+    /// The next number would be 2^63.
+    NumbersSpent,
+}
+
+/// What a put came to.
+#[derive(Clone, Copy, Debug, PartialEq, Eq)]
+pub enum PutAnswer {
+    /// It is the last of the list, with this number.
+    Stored(u64),
+    Full,
+    TooLong,
+    NumbersSpent,
+}
+
+impl<D: Disk> GemSpool<D> {
+    /// Takes a spool up. It is active where its list isn't empty.
+    pub fn new(spool: Spool<D>) -> GemSpool<D>
+        ensures { result ≡ record { spool = spool; active = nat_lt 0 spool.len } }
+    {
+        let active = spool.len() > 0;
+        GemSpool { spool, active }
+    }
+
+    /// Whether it is active.
+    pub fn active(&self) -> bool
+        ensures { result ≡ self.now.active }
+    {
+        self.active
+    }
+
+    /// Makes it active, or not. The list stays.
+    pub fn set_active(&mut self, on: bool)
+        ensures { self.new ≡ record { spool = self.old.spool; active = on } }
+    {
+        self.active = on;
+    }
+
+    /// The number that the next message gets.
+    pub fn next(&self) -> u64
+        ensures { result ≡ next_of self.now.spool }
+    {
+        self.spool.first() + u64::from(self.spool.len())
+    }
+
+    /// Whether there is room for a body of this length: the first limit that it passes, of its length, of the numbers
+    /// and of the slots. It asks nothing of the disk.
+    pub fn room(&self, length: usize) -> Room
+        ensures { result ≡ room_for self.now.spool length }
+    {
+        if length > BODY_MOST {
+            return Room::TooLong;
+        }
+        if self.next() >= NUMBERS {
+            return Room::NumbersSpent;
+        }
+        if self.spool.len() == self.spool.slots() {
+            return Room::Full;
+        }
+        Room::Fits
+    }
+
+    /// Puts a message at the end of the list, with the next number. It is stored exactly where there is room for it;
+    /// elsewhere the answer is that of `room`, and nothing is asked of the disk. A crash finds the list without the
+    /// message or with it at the end, also where the device is handed back, since a call of it failed.
+    pub fn put(self, message: &Stored<'_>) -> Result<(GemSpool<D>, PutAnswer), Spent<D>>
+        requires function { message.now.function % 2 ≡ 1 }
+        requires stream { message.now.stream < 128 }
+        ensures put { Puts D.Disk self message.now.stream message.now.function message.now.body.now result }
+        ensures list { (list : List Message) → HasList D.Disk self.spool list →
+            IfOk result (λ r. HasList D.Disk r.0.spool (list_after_put r.1
+            (numbered self.spool message.now.stream message.now.function message.now.body.now)
+            list)) }
+    {
+        match self.room(message.body.len()) {
+            Room::Fits => self.store(message),
+            Room::Full => Ok((self, PutAnswer::Full)),
+            Room::TooLong => Ok((self, PutAnswer::TooLong)),
+            Room::NumbersSpent => Ok((self, PutAnswer::NumbersSpent)),
+        }
+    }
+
+    /// Takes the oldest message off the list, and answers true, exactly where it has this number. A crash finds the
+    /// list with it or without it.
+    pub fn confirm(self, number: u64) -> Result<(GemSpool<D>, bool), Spent<D>>
+        ensures confirm { Confirms D.Disk self number result }
+        ensures list { (list : List Message) → HasList D.Disk self.spool list →
+            IfOk result (λ r. HasList D.Disk r.0.spool (list_after_confirm r.1 list)) }
+    {
+        if self.spool.first() != number {
+            return Ok((self, false));
+        }
+        let active = self.active;
+        match self.spool.drop_oldest() {
+            Ok(spool) => Ok((GemSpool { spool, active }, true)),
+            Err(Dropping::Empty(spool)) => Ok((GemSpool { spool, active }, false)),
+            Err(Dropping::Failed(spent)) => Err(spent),
+        }
+    }
+
+    /// Takes all messages off the list, the oldest first. A crash finds the list with some first messages gone.
+    pub fn purge(self) -> Result<GemSpool<D>, Spent<D>>
+        ensures purge { PurgesAll D.Disk self result }
+        ensures list { IfOk result (λ h. HasList D.Disk h.spool []) }
+    {
+        let active = self.active;
+        match emptied(self.spool) {
+            Ok(spool) => Ok(GemSpool { spool, active }),
+            Err(spent) => Err(spent),
+        }
+    }
+
+    /// Moves the mark on by 4,096, and answers where it was; `None` exactly where it can't be moved on. At every moment
+    /// the list stands, with the old mark or the new one.
+    pub fn reserve(self) -> Result<(GemSpool<D>, Option<u32>), Spent<D>>
+        ensures reserve { ReservesMore D.Disk self result }
+        ensures list { (list : List Message) → HasList D.Disk self.spool list →
+            IfOk result (λ r. HasList D.Disk r.0.spool list) }
+    {
+        let active = self.active;
+        match self.spool.reserve() {
+            Ok((spool, base)) => Ok((GemSpool { spool, active }, Some(base))),
+            Err(Reserving::NumbersSpent(spool)) => Ok((GemSpool { spool, active }, None)),
+            Err(Reserving::Failed(spent)) => Err(spent),
+        }
+    }
+
+    /// Looks at the oldest message. Where it is `Found` the buffer has its slot, in which the body begins at place 15.
+    pub fn oldest(&mut self, into: &mut [u8; 4096]) -> OldestAnswer
+        ensures looks { Looks D.Disk self.old.spool self.new.spool self.old.spool.first into.old into.new result }
+        ensures active { self.new.active ≡ self.old.active }
+        ensures list { (list : List Message) → HasList D.Disk self.old.spool list →
+            HasList D.Disk self.new.spool list }
+    {
+        self.spool.oldest(into)
+    }
+
+    /// How many messages there are.
+    pub fn len(&self) -> u32
+        ensures len { result ≡ self.now.spool.len }
+        ensures range { result ≤ self.now.spool.slots }
+        ensures rests { (s : Story) → D.told self.now.spool.disk ≡ Some s →
+            Rests s self.now.spool.slots self.now.spool.first self.now.spool.len self.now.spool.mark }
+    {
+        self.spool.len()
+    }
+
+    /// The number of the oldest message; of an empty spool, the one that its next message gets.
+    pub fn first(&self) -> u64
+        ensures first { result ≡ self.now.spool.first }
+        ensures bound { self.now.spool.first + self.now.spool.len ≤ 2 ^ 63 + 65535 }
+    {
+        self.spool.first()
+    }
+
+    /// Gives the device back as it is.
+    pub fn retire(self) -> Spent<D>
+        ensures disk { result.disk ≡ self.spool.disk }
+        ensures rests { (s : Story) → D.told self.spool.disk ≡ Some s →
+            Rests s self.spool.slots self.spool.first self.spool.len self.spool.mark }
+    {
+        self.spool.retire()
+    }
+
+    // Puts a message for which there is room.
+    fn store(self, message: &Stored<'_>) -> Result<(GemSpool<D>, PutAnswer), Spent<D>>
+        requires function { message.now.function % 2 ≡ 1 }
+        requires stream { message.now.stream < 128 }
+        requires fits { room_for self.spool (length message.now.body.now) ≡ Fits }
+        ensures put { Puts D.Disk self message.now.stream message.now.function message.now.body.now result }
+        ensures list { (list : List Message) → HasList D.Disk self.spool list →
+            IfOk result (λ r. HasList D.Disk r.0.spool (list_after_put r.1
+            (numbered self.spool message.now.stream message.now.function message.now.body.now)
+            list)) }
+    {
+        let active = self.active;
+        match self.spool.stage(message) {
+            Ok(staged) => {
+                let number = staged.number();
+                match staged.seal() {
+                    Ok(spool) => Ok((GemSpool { spool, active }, PutAnswer::Stored(number))),
+                    Err(spent) => Err(spent),
+                }
+            }
+            Err(Staging::Full(spool)) => Ok((GemSpool { spool, active }, PutAnswer::Full)),
+            Err(Staging::TooLong(spool)) => Ok((GemSpool { spool, active }, PutAnswer::TooLong)),
+            Err(Staging::NumbersSpent(spool)) => {
+                Ok((GemSpool { spool, active }, PutAnswer::NumbersSpent))
+            }
+            Err(Staging::Failed(spent)) => Err(spent),
+        }
+    }
+}
+
+impl GemSpool<MemDisk> {
+    /// Plans that the disk stops at a call, the next one for 1, and at none for 0.
+    pub fn arm(&mut self, call: u32)
+        ensures { self.new ≡ record {
+          spool = record self.old.spool {
+            disk = record self.old.spool.disk {
+              plan = record self.old.spool.disk.plan {
+                stop_in = call;
+              };
+            };
+          };
+          active = self.old.active;
+        } }
+    {
+        self.spool.arm(call);
+    }
+}
+
+// Takes all messages off, the oldest first.
+fn emptied<D: Disk>(spool: Spool<D>) -> Result<Spool<D>, Spent<D>>
+    ensures { Purges D.Disk spool result }
+{
+    let mut spool = spool;
+    'drops: for _ in 0..spool.len() {
+        match spool.drop_oldest() {
+            Ok(less) => spool = less,
+            Err(Dropping::Empty(same)) => return Ok(same),
+            Err(Dropping::Failed(spent)) => return Err(spent),
+        }
+    }
+    Ok(spool)
+}
