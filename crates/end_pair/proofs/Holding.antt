@@ -17,7 +17,7 @@ use Rattle.message_end.specs.Doings.{Doing}
 use Rattle.message_end.specs.Ends.{Input, KeepsLaw, Machine, MayTake}
 use Rattle.message_end.specs.Ends.Input.{Char, Command, Time}
 use Rattle.message_end.specs.Log.{log_of, start_of}
-use Rattle.message_end.specs.Moves.{IsNextByte, KeepLaws, Kind, LinePlans, Move, deeds_of, line_of_moves, plan_at, seen_at}
+use Rattle.message_end.specs.Moves.{AreTimely, IsNextByte, KeepLaws, Kind, LinePlans, Move, deeds_of, line_of_moves, plan_at, seen_at}
 use Rattle.message_end.specs.Moves.Kind.{Added, Changed, Did, Lost, Started}
 use Rattle.trace_log.specs.Laws.{log_with}
 use Rattle.trace_log.specs.Log.{Entry, Happening}
@@ -46,6 +46,7 @@ module _ {S T : Type 0}
   -- lawful moves, step by step, have left the ends in these states
   pub record AreMade (moves : List Move) (s : S) (t : T) : Type 0 where
     pub keep : KeepLaws plans moves
+    pub timely : AreTimely moves
     pub clean : HasNoSlip (new_line plans.equipment.times plans.host.times) (deeds_of moves)
     pub equipment : IsAt did_e Equipment plans moves s
     pub host : IsAt did_h Host plans moves t
@@ -68,10 +69,12 @@ module _ {S T : Type 0}
   -- one step more
   made-more :
       (moves step before : List Move) (s : S) (t : T) → moves ≡ step ++ before → AreSteps did_e did_h plans before
-      → KeepLaws plans moves → HasNoSlip (new_line plans.equipment.times plans.host.times) (deeds_of moves)
+      → KeepLaws plans moves → AreTimely moves
+      → HasNoSlip (new_line plans.equipment.times plans.host.times) (deeds_of moves)
       → IsAt did_e Equipment plans moves s → IsAt did_h Host plans moves t → AreMade moves s t
-  made-more moves step before s t is steps keep clean equipment host = record {
+  made-more moves step before s t is steps keep timely clean equipment host = record {
     keep = keep;
+    timely = timely;
     clean = clean;
     equipment = equipment;
     host = host;
@@ -87,6 +90,7 @@ module _ {S T : Type 0}
   with_last moves s t last log made few no_notes is = record {
     moves = moves;
     keep = made.keep;
+    timely = made.timely;
     no_slip = made.clean;
     steps = made.steps;
     last = last;
@@ -101,6 +105,7 @@ module _ {S T : Type 0}
   same_moves log other same of = record {
     moves = of.moves;
     keep = of.keep;
+    timely = of.timely;
     no_slip = of.no_slip;
     steps = of.steps;
     last = of.last;
@@ -175,7 +180,8 @@ module _ {S T : Type 0}
       made : AreMade later s t
       made =
           made-more later (moves_with side world.moment is.done []) moves s t
-          (moves-split side world.moment is.done moves) holds.made.steps is.are.keep is.are.no_slip equipment host
+          (moves-split side world.moment is.done moves) holds.made.steps is.are.keep is.are.timely is.are.no_slip
+          equipment host
 
       log : step.entries ++ log_of moves ≡ is.last ++ log_of later
       log =
@@ -206,7 +212,7 @@ module _ {S T : Type 0}
   equipment-keeps input may world moves holds next =
       let is =
       has-stepped did_e tool first_e e Equipment plans law_e world.moment moves world.equipment input world.ways may
-      holds.made.keep holds.made.clean holds.made.equipment next holds.stands holds.bytes
+      holds.made.keep holds.made.timely holds.made.clean holds.made.equipment next holds.stands holds.bytes
       in
       step-keeps did_e Equipment (stepped e Equipment world.moment input world.equipment world.ways) world moves _
       world.host holds is is.are.at (other-is did_h Equipment plans world.moment is.done moves world.host holds.made.host)
@@ -218,7 +224,7 @@ module _ {S T : Type 0}
   host-keeps input may world moves holds next =
       let is =
       has-stepped did_h user first_h h Host plans law_h world.moment moves world.host input world.ways may
-      holds.made.keep holds.made.clean holds.made.host next holds.stands holds.bytes
+      holds.made.keep holds.made.timely holds.made.clean holds.made.host next holds.stands holds.bytes
       in
       step-keeps did_h Host (stepped h Host world.moment input world.host world.ways) world moves world.equipment _
       holds is (other-is did_e Host plans world.moment is.done moves world.equipment holds.made.equipment) is.are.at
@@ -289,9 +295,9 @@ module _ {S T : Type 0}
   fate-made side (Did doing) now moves s t is made = absurd is
   fate-made side (Started found base) now moves s t is made = absurd is
   fate-made Equipment kind now moves s t is made =
-      made-more _ (_ ∷ []) moves s t refl made.steps (tt, made.keep) (refl, made.clean) made.equipment made.host
+      made-more _ (_ ∷ []) moves s t refl made.steps (tt, made.keep) (tt, made.timely) (refl, made.clean) made.equipment made.host
   fate-made Host kind now moves s t is made =
-      made-more _ (_ ∷ []) moves s t refl made.steps (tt, made.keep) (refl, made.clean) made.equipment made.host
+      made-more _ (_ ∷ []) moves s t refl made.steps (tt, made.keep) (tt, made.timely) (refl, made.clean) made.equipment made.host
 
   lost-once : (side : Side) (world : World S T) (moves : List Move) → Holds world moves
       → Holds (lost_from 1 side world) (record { side = side; moment = world.moment; kind = Lost } ∷ moves)
@@ -375,7 +381,7 @@ module _ {S T : Type 0}
         made-more started started [] first_e.next first_h.next (sym (append-nil started)) no_moves (
           record { least = omega arith; above = λ drawn has. absurd has },
           (record { least = omega arith; above = λ drawn has. absurd has }, tt),
-        ) (refl, (refl, tt)) (record { is = law_e.starts.is; state = refl })
+        ) (tt, (tt, tt)) (refl, (refl, tt)) (record { is = law_e.starts.is; state = refl })
         (record { is = law_h.starts.is; state = refl });
     stands = new-stands plans.equipment.times plans.host.times law_e.fits.times law_h.fits.times;
     bytes = (tt, tt);

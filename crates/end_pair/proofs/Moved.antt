@@ -20,12 +20,13 @@ use Rattle.message_end.specs.Core.{Step, Went}
 use Rattle.message_end.specs.Core.Went.{Goes, Spent}
 use Rattle.message_end.specs.Doings.{AreLawful, Doing, IsLawful, line_of}
 use Rattle.message_end.specs.Doings.Doing.{Calls, Does, Gives, Says}
+use Rattle.message_end.specs.Drops.{AreDroppedAt}
 use Rattle.message_end.specs.Ends.{AreBegunOf, AreOfStep, DoesMore, DoesStep, Input, KeepsLaw, Machine, MayTake, taking_calls}
 use Rattle.message_end.specs.Ends.Input.{Char, Command, Time}
 use Rattle.message_end.specs.History.{noted_in, notes_of_own, written_in}
 use Rattle.message_end.specs.Log.{log_of, noted_of_own, with_note}
 use Rattle.message_end.specs.LineCalls.{calls_in}
-use Rattle.message_end.specs.Moves.{IsOnWay, KeepLaws, LinePlans, Move, act_of_call, deeds_of, Run, line_of_moves, plan_at, run_at, seen_at}
+use Rattle.message_end.specs.Moves.{AreTimely, IsOnWay, KeepLaws, LinePlans, Move, act_of_call, deeds_of, Run, line_of_moves, plan_at, run_at, seen_at}
 use Rattle.message_end.specs.Moves.Kind.{Did}
 use Rattle.message_end.specs.Own.{Own}
 use Rattle.message_end.specs.Own.Own.{DrewNumber, DroppedMessage, GaveBlock, HeardBlock, ReceivedMessage, SentMessage, WroteFrame}
@@ -128,6 +129,17 @@ keep-done side plans now (doing ∷ before) moves lawful on keep =
     on_before (Says what) on = on
     on_before (Gives place number block at) on = on.1
     on_before (Calls call) on = on.1
+
+-- what T4 drops in a step is dropped at the moment of its moves
+timely-done :
+    (side : Side) (now : ℕ) (done : List Doing) (moves : List Move) → AreDroppedAt now done → AreTimely moves
+    → AreTimely (moves_with side now done moves)
+timely-done side now [] moves drops timely = timely
+timely-done side now (Does own ∷ before) moves drops timely = (drops.0, timely-done side now before moves drops.1 timely)
+timely-done side now (Gives place number block at ∷ before) moves drops timely =
+    (tt, timely-done side now before moves drops timely)
+timely-done side now (Calls call ∷ before) moves drops timely = (tt, timely-done side now before moves drops timely)
+timely-done side now (Says what ∷ before) moves drops timely = (tt, timely-done side now before moves drops timely)
 
 -- ---- the log
 
@@ -254,6 +266,7 @@ pub record AreMoves {S : Type 0}
     (did : ℕ → List Doing → S → Type 0) (side : Side) (plans : LinePlans) (now : ℕ) (moves : List Move) (next : S)
     (noted : List Happening) (done : List Doing) : Type 0 where
   pub keep : KeepLaws plans (moves_with side now done moves)
+  pub timely : AreTimely (moves_with side now done moves)
   pub no_slip : HasNoSlip (new_line plans.equipment.times plans.host.times) (deeds_of (moves_with side now done moves))
   pub at : IsAt did side plans (moves_with side now done moves) next
   pub log : log_of (moves_with side now done moves) ≡ entries_of side now noted ++ log_of moves
@@ -277,13 +290,16 @@ module _ {S C : Type 0} (did : ℕ → List Doing → S → Type 0) (takes : C �
     (side : Side) (plans : LinePlans) (law : KeepsLaw (plan_at side plans) did takes first machine) where
   are-moves :
       (now : ℕ) (moves : List Move) (next : S) (done : List Doing) (noted : List Happening)
-      → KeepLaws plans moves → HasNoSlip (new_line plans.equipment.times plans.host.times) (deeds_of moves)
+      → KeepLaws plans moves → AreTimely moves
+      → HasNoSlip (new_line plans.equipment.times plans.host.times) (deeds_of moves)
       → did (run_at side plans moves).base (done ++ (run_at side plans moves).doings) next
+      → AreDroppedAt now done
       → AreDone (plan_at side plans) side (line_of_moves plans moves) (run_at side plans moves).doings done
       → AreOnWay side (line_of_moves plans moves) (calls_in done)
       → HasNoSlip (line_of_moves plans moves) (deeds_by side (calls_in done)) → noted_in done ≡ noted
       → AreMoves did side plans now moves next noted done
-  are-moves now moves next done noted keep clean is are on quiet same = record {
+  are-moves now moves next done noted keep timely clean is drops are on quiet same = record {
+    timely = timely-done side now done moves drops timely;
     keep =
         keep-done side plans now done moves
         (law.keeps (run_at side plans moves).base (done ++ (run_at side plans moves).doings) next is).lawful on keep;
@@ -315,12 +331,12 @@ module _ {S C : Type 0} (did : ℕ → List Doing → S → Type 0) (takes : C �
     written : way.written_in line (deeds_by side (calls_in done)) ≡ step.written
 
   is-stepping :
-      (base : ℕ) (line : Line) (doings : List Doing) (Such : List LineCall → Type 0) (step : Step S Happening)
-      (more : DoesMore (plan_at side plans) did base doings Such step)
+      (base now : ℕ) (line : Line) (doings : List Doing) (Such : List LineCall → Type 0) (step : Step S Happening)
+      (more : DoesMore (plan_at side plans) did base doings now Such step)
       → (seen_from side line).here.state ≡ line_of (plan_at side plans) doings
       → AreOnWay side line (calls_in more.done) → HasNoSlip line (deeds_by side (calls_in more.done))
       → IsStepping line doings more.done step
-  is-stepping base line doings Such step more state on quiet = record {
+  is-stepping base now line doings Such step more state on quiet = record {
     are = are;
     on = on;
     quiet = quiet;
@@ -356,6 +372,11 @@ module _ {S C : Type 0} (did : ℕ → List Doing → S → Type 0) (takes : C �
   wrote-calls [] done = refl
   wrote-calls (byte ∷ bytes) done = refl
 
+  wrote-dropped : (now : ℕ) (written : List ℕ) (done : List Doing) → AreDroppedAt now done
+      → AreDroppedAt now (with_wrote written done)
+  wrote-dropped now [] done drops = drops
+  wrote-dropped now (byte ∷ bytes) done drops = drops
+
   wrote-noted : (written : List ℕ) (done : List Doing) → noted_in (with_wrote written done) ≡ noted_in done ++ wrote written
   wrote-noted [] done = sym (append-nil (noted_in done))
   wrote-noted (byte ∷ bytes) done = refl
@@ -372,20 +393,20 @@ module _ {S C : Type 0} (did : ℕ → List Doing → S → Type 0) (takes : C �
 
   -- a step in which the numbers are spent
   spent-moves :
-      (now : ℕ) (moves : List Move) (s : S) (input : Input C) (step : Step S Happening) → KeepLaws plans moves
+      (now : ℕ) (moves : List Move) (s : S) (input : Input C) (step : Step S Happening) → KeepLaws plans moves → AreTimely moves
       → HasNoSlip (new_line plans.equipment.times plans.host.times) (deeds_of moves) → IsAt did side plans moves s
       → IsNext (seen_at side plans moves).there.under_way input → NoSlipIn side now (line_of_moves plans moves) input
-      → (more : DoesMore (plan_at side plans) did (run_at side plans moves).base (run_at side plans moves).doings (AreBegunOf input now) step)
+      → (more : DoesMore (plan_at side plans) did (run_at side plans moves).base (run_at side plans moves).doings now (AreBegunOf input now) step)
       → AreMoves did side plans now moves step.next step.notes more.done
-  spent-moves now moves s input step keep clean at next quiet more =
-      are-moves now moves step.next more.done step.notes keep clean more.is are.are are.on are.quiet are.noted
+  spent-moves now moves s input step keep timely clean at next quiet more =
+      are-moves now moves step.next more.done step.notes keep timely clean more.is more.drops are.are are.on are.quiet are.noted
     where
       line : Line
       line = line_of_moves plans moves
 
       are : IsStepping line (run_at side plans moves).doings more.done step
       are =
-          is-stepping (run_at side plans moves).base line (run_at side plans moves).doings (AreBegunOf input now) step more at.state
+          is-stepping (run_at side plans moves).base now line (run_at side plans moves).doings (AreBegunOf input now) step more at.state
           (on-way-first side line more.calls.later (calls_in more.done) (calls-on now line input (more.calls.later ++ calls_in more.done) more.calls.whole next))
           (no-slip-first side line more.calls.later (calls_in more.done) (calls-quiet now line input (more.calls.later ++ calls_in more.done) more.calls.whole quiet))
 
@@ -400,16 +421,17 @@ module _ {S C : Type 0} (did : ℕ → List Doing → S → Type 0) (takes : C �
 
   goes-moves :
       (now : ℕ) (moves : List Move) (s : S) (input : Input C) (ways : Ways) (step : Step S Happening) → KeepLaws plans moves
-      → HasNoSlip (new_line plans.equipment.times plans.host.times) (deeds_of moves) → IsAt did side plans moves s
+      → AreTimely moves → HasNoSlip (new_line plans.equipment.times plans.host.times) (deeds_of moves) → IsAt did side plans moves s
       → IsNext (seen_at side plans moves).there.under_way input → NoSlipIn side now (line_of_moves plans moves) input
       → StandsFor ways (line_of_moves plans moves)
-      → DoesMore (plan_at side plans) did (run_at side plans moves).base (run_at side plans moves).doings (AreOfStep input now) step
+      → DoesMore (plan_at side plans) did (run_at side plans moves).base (run_at side plans moves).doings now (AreOfStep input now) step
       → HasMoved now moves input ways step
-  goes-moves now moves s input ways step keep clean at next quiet stands more = record {
+  goes-moves now moves s input ways step keep timely clean at next quiet stands more = record {
     done = all;
     are =
-        are-moves now moves step.next all (step.notes ++ wrote step.written) keep clean
-        (wrote-did step.written run.base more.done run.doings step.next more.is) (wrote-done step.written line run.doings more.done are.are)
+        are-moves now moves step.next all (step.notes ++ wrote step.written) keep timely clean
+        (wrote-did step.written run.base more.done run.doings step.next more.is)
+        (wrote-dropped now step.written more.done more.drops) (wrote-done step.written line run.doings more.done are.are)
         (subst (AreOnWay side line) (sym (wrote-calls step.written more.done)) are.on)
         (subst (λ (cs : List LineCall). HasNoSlip line (deeds_by side cs)) (sym (wrote-calls step.written more.done)) are.quiet)
         (wrote-noted step.written more.done ∙ ap (λ (ns : List Happening). ns ++ wrote step.written) are.noted);
@@ -443,7 +465,7 @@ module _ {S C : Type 0} (did : ℕ → List Doing → S → Type 0) (takes : C �
 
       are : IsStepping line run.doings more.done step
       are =
-          is-stepping run.base line run.doings (AreOfStep input now) step more at.state
+          is-stepping run.base now line run.doings (AreOfStep input now) step more at.state
           (calls-on now line input (calls_in more.done) more.calls next) (calls-quiet now line input (calls_in more.done) more.calls quiet)
 
       deeds :
@@ -474,10 +496,10 @@ module _ {S C : Type 0} (did : ℕ → List Doing → S → Type 0) (takes : C �
   -- a slip, found before it, leaves all as it was
   pub has-stepped :
       (now : ℕ) (moves : List Move) (s : S) (input : Input C) (ways : Ways) → MayTake takes input → KeepLaws plans moves
-      → HasNoSlip (new_line plans.equipment.times plans.host.times) (deeds_of moves) → IsAt did side plans moves s
+      → AreTimely moves → HasNoSlip (new_line plans.equipment.times plans.host.times) (deeds_of moves) → IsAt did side plans moves s
       → IsNext (seen_at side plans moves).there.under_way input → StandsFor ways (line_of_moves plans moves)
       → AreByteWays ways → HasStepped did side plans now moves (stepped machine side now input s ways)
-  has-stepped now moves s input ways may keep clean at next stands bytes =
+  has-stepped now moves s input ways may keep timely clean at next stands bytes =
       by_slip (slips machine side now input s ways) refl
     where
       run : Run
@@ -487,7 +509,7 @@ module _ {S C : Type 0} (did : ℕ → List Doing → S → Type 0) (takes : C �
           → DoesStep (plan_at side plans) did run.base run.doings input now went
           → HasStepped did side plans now moves (made machine side now input ways went)
       by_went quiet (Goes step) more =
-          let moved = goes-moves now moves s input ways step keep clean at next quiet stands more in
+          let moved = goes-moves now moves s input ways step keep timely clean at next quiet stands more in
           record {
             done = moved.done;
             noted = step.notes ++ wrote step.written;
@@ -505,7 +527,7 @@ module _ {S C : Type 0} (did : ℕ → List Doing → S → Type 0) (takes : C �
       by_went quiet (Spent step) more = record {
         done = more.done;
         noted = step.notes;
-        are = spent-moves now moves s input step keep clean at next quiet more;
+        are = spent-moves now moves s input step keep timely clean at next quiet more;
         last = [];
         few = omega arith;
         no_notes = tt;
@@ -519,7 +541,7 @@ module _ {S C : Type 0} (did : ℕ → List Doing → S → Type 0) (takes : C �
       by_slip true is = record {
         done = [];
         noted = [];
-        are = record { keep = keep; no_slip = clean; at = at; log = refl };
+        are = record { keep = keep; timely = timely; no_slip = clean; at = at; log = refl };
         last = slip_of side now ways ∷ [];
         few = omega arith;
         no_notes = (tt, tt);

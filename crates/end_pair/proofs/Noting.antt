@@ -5,26 +5,25 @@ use Rattle.gl_base.specs.declared.side.Side.TheVariants.{Equipment, Host}
 use Rattle.gl_base.specs.Side.{is_same_side}
 use Rattle.line_schedule.specs.declared.event.Event.{Event}
 use Rattle.line_schedule.specs.declared.event.Event.TheVariants as event
-use Rattle.line_way.specs.Kept.{ways_after}
 use Rattle.line_way.specs.Ways.{Ways, characters_of, is_under_way, next_byte}
 use Rattle.message_end.specs.Core.{Step, Went}
 use Rattle.message_end.specs.Core.Went.{Goes, Spent}
 use Rattle.message_end.specs.Course.{Course, Meeting, course_of, noted_behind, notes_of, went_on, with_meeting}
-use Rattle.message_end.specs.Course.Course.{Reached, Stopped}
+use Rattle.message_end.specs.Course.Course.{Reached}
 use Rattle.message_end.specs.Course.Meeting.{Acts, Writes}
 use Rattle.message_end.specs.Ends.{Input, Machine}
 use Rattle.message_end.specs.Ends.Input.{Char, Command, Time}
 use Rattle.trace_log.specs.Laws.{log_with}
 use Rattle.trace_log.specs.Log.{Entry, Happening}
-use Rattle.trace_log.specs.Log.Entry.{Ended, Noted}
+use Rattle.trace_log.specs.Log.Entry.{Noted}
 use Rattle.trace_log.specs.declared.commands.HostCommand.{HostCommand}
 use Rattle.trace_log.specs.declared.commands.ToolCommand.{ToolCommand}
 use Rattle.end_pair.specs.declared.answers.WorldStep.{WorldStep}
 use Rattle.end_pair.specs.declared.answers.WorldStep.TheVariants as answer
 use Rattle.end_pair.specs.Noted.{AreOfCourses, noted_by}
-use Rattle.end_pair.specs.Run.{closing, log_of, piece_of, whole_log}
-use Rattle.end_pair.specs.Steps.{Stepped, entries_of, gives, made, slip_of, slipped, slips, stepped, wrote}
-use Rattle.end_pair.specs.World.{Piece, World, added_to, after_event, after_events, and_more, and_on, at_start, begun, both_stepped, changed_at, equipment_stepped, given, given_next, given_times, given_to, host_stepped, later, lost_from, most_settled, most_steps, settled, settled_times, still, turned_out, way_to}
+use Rattle.end_pair.specs.Run.{closing, log_of, piece_of}
+use Rattle.end_pair.specs.Steps.{Stepped, entries_of, made, slipped, slips, stepped, wrote}
+use Rattle.end_pair.specs.World.{Piece, World, added_to, after_event, after_events, and_more, and_on, at_start, begun, both_stepped, changed_at, equipment_stepped, given, given_next, given_times, host_stepped, later, lost_from, most_steps, settled, settled_times, still, turned_out, way_to}
 
 -- ---- notes as entries
 

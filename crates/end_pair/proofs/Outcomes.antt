@@ -65,6 +65,7 @@ log-is {S} {T} did_e did_h tool user first_e first_h e h plans law_e law_h event
     go answer.Went is = record {
       moves = of.moves;
       keep = of.keep;
+      timely = of.timely;
       no_slip = of.no_slip;
       steps = of.steps;
       at_most_one = omega arith;

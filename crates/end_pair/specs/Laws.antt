@@ -12,7 +12,7 @@ use Rattle.message_end.specs.Core.Went.{Spent}
 use Rattle.message_end.specs.Doings.{Doing}
 use Rattle.message_end.specs.Ends.{Input, Machine}
 use Rattle.message_end.specs.Log.{log_of}
-use Rattle.message_end.specs.Moves.{KeepLaws, LinePlans, Move, deeds_of, plan_at, run_at}
+use Rattle.message_end.specs.Moves.{AreTimely, KeepLaws, LinePlans, Move, deeds_of, plan_at, run_at}
 use Rattle.message_end.specs.Plan.{EndPlan}
 use Rattle.trace_log.specs.Log.{Entry, Happening}
 use Rattle.trace_log.specs.Log.Entry.{Ended, Noted, Slipped}
@@ -76,13 +76,14 @@ pub data AreSteps {S T : Type 0}
       (moves step before : List Move) → moves ≡ step ++ before → AreAtStates equipment host plans moves
       → AreSteps equipment host plans before → AreSteps equipment host plans moves
 
--- the log is that of moves of which each end keeps the law, none of them a slip, and at most one entry behind them,
--- that of a slip or of the end
+-- the log is that of moves of which each end keeps the law, none of them a slip and each T4 drop at its moment, and at
+-- most one entry behind them, that of a slip or of the end
 pub record IsOfMoves {S T : Type 0}
     (equipment : ℕ → List Doing → S → Type 0) (host : ℕ → List Doing → T → Type 0) (plans : LinePlans)
     (log : List Entry) : Type 0 where
   pub moves : List Move
   pub keep : KeepLaws plans moves
+  pub timely : AreTimely moves
   pub no_slip : HasNoSlip (new_line plans.equipment.times plans.host.times) (deeds_of moves)
   pub steps : AreSteps equipment host plans moves
   pub last : List Entry

@@ -1,5 +1,5 @@
 -- What each end has noted of a log, as what its own course has brought.
-use Rattle.std.specs.Prelude.{◌≡◌, ℕ, List, [], ◌∷◌, if◌then◌else◌}
+use Rattle.std.specs.Prelude.{◌≡◌, List, [], ◌∷◌, if◌then◌else◌}
 use Rattle.gl_base.specs.declared.side.Side.{Side}
 use Rattle.gl_base.specs.declared.side.Side.TheVariants.{Equipment, Host}
 use Rattle.gl_base.specs.Side.{is_same_side}

@@ -11,12 +11,13 @@ use Rattle.message_end.specs.Core.{Command, EndView, Step, Went, and_then, carri
 use Rattle.message_end.specs.Core.Went.{Goes, Spent}
 use Rattle.message_end.specs.Duties.{Duty, all_done}
 use Rattle.message_end.specs.Parts.{ComesTo, Takes, TakesAll, after_parts, after_turn, core_after, fixed_turn, leads, next_of, on_the_way, went_with}
+use Rattle.message_end.proofs.Carrying.{carried_append, done_append}
 use Rattle.message_end.proofs.Parts.{leads-behind}
 use Rattle.equipment_node.specs.declared.kind.Kind.{Kind}
 use Rattle.equipment_node.specs.Own.{OwnView, ToolPart, ToolTurn, turn_of}
 use Rattle.equipment_node.specs.Replies.{told_turn}
 use Rattle.equipment_node.specs.Sent.{error_duty}
-use Rattle.equipment_node.proofs.Turned.{HasTaken, ToolNode, behind, carried_both, done_both}
+use Rattle.equipment_node.proofs.Turned.{HasTaken, ToolNode, behind}
 
 -- ---- turns
 
@@ -33,7 +34,7 @@ pub commands_then :
 commands_then own first second old middle new out out_middle out_new result first_is is =
     subst (λ (w : Went (EndView Kind) Note). ComesTo (went_with own (and_then w (all_done printed_note [])))
     new out_new result)
-    (sym (carried_both first second (on_the_way old.core out)
+    (sym (carried_append printed_note first second (on_the_way old.core out)
     ∙ ap (λ (w : Went (EndView Kind) Note). and_then w (carried printed_note second)) first_is))
     is
 
@@ -45,7 +46,8 @@ pub duties_end :
     → Takes {A = B} (record { own = own; duties = first ++ second }) old out new out_new (Err end)
 duties_end A B own first second old new out out_new stop.NoMemory is = tt
 duties_end A B own first second old new out out_new stop.NumbersSpent is =
-    ap (λ (w : Went (EndView Kind) Note). went_with own w) (done_both first second (on_the_way old.core out))
+    ap (λ (w : Went (EndView Kind) Note). went_with own w)
+    (done_append printed_note first second (on_the_way old.core out))
     ∙ go (all_done printed_note first (on_the_way old.core out)) is
   where
     go : (went : Went (EndView Kind) Note) → went_with own went ≡ Spent (on_the_way new out_new)

@@ -9,13 +9,14 @@ use Rattle.trace_log.specs.Log.{Happening, Past}
 use Rattle.trace_log.specs.Log.Happening.{Recorded}
 use Rattle.trace_log.specs.Text.{note_of, printed_note}
 use Rattle.message_end.specs.declared.end.Stop.{Stop}
-use Rattle.message_end.specs.Core.{EndView, Step, Went, and_then, carried, carry}
+use Rattle.message_end.specs.Core.{EndView, Went, and_then}
 use Rattle.message_end.specs.Core.Command.{Note as NoteThis}
 use Rattle.message_end.specs.Core.Went.{Goes, Spent}
 use Rattle.message_end.specs.Duties.{all_done}
 use Rattle.message_end.specs.Parts.{ComesTo, Node, Takes, after_turn, core_step, led_turn, on_the_way, went_with}
+use Rattle.message_end.proofs.Carrying.{done_append}
 use Rattle.equipment_node.specs.declared.kind.Kind.{Kind}
-use Rattle.equipment_node.specs.Own.{OwnView, ToolCommands, ToolDuty, ToolTurn, turn_of}
+use Rattle.equipment_node.specs.Own.{OwnView, ToolTurn, turn_of}
 use Rattle.equipment_node.specs.Sent.{abort_duty, long_duties, reply_name}
 
 abbrev pub ToolNode : Type 0
@@ -36,40 +37,6 @@ unfolding core_went
 went-core own (Goes step) = refl
 went-core own (Spent step) = refl
 
-pub done_both :
-    (first second : List ToolDuty) (step : Step (EndView Kind) Note)
-    → all_done printed_note (first ++ second) step
-    ≡ and_then (all_done printed_note first step) (all_done printed_note second)
-done_both [] second step = refl
-done_both (duty ∷ first) second step =
-    go (carried printed_note (duty step.next) step) (λ next. done_both first second next)
-  where
-    go : (went : Went (EndView Kind) Note)
-        → ((next : Step (EndView Kind) Note)
-        → all_done printed_note (first ++ second) next
-        ≡ and_then (all_done printed_note first next) (all_done printed_note second))
-        → and_then went (all_done printed_note (first ++ second))
-        ≡ and_then (and_then went (all_done printed_note first)) (all_done printed_note second)
-    go (Goes next) more = more next
-    go (Spent next) more = refl
-
-pub carried_both :
-    (first second : ToolCommands) (step : Step (EndView Kind) Note)
-    → carried printed_note (first ++ second) step
-    ≡ and_then (carried printed_note first step) (carried printed_note second)
-carried_both [] second step = refl
-carried_both (command ∷ first) second step =
-    go (carry printed_note command step) (λ next. carried_both first second next)
-  where
-    go : (went : Went (EndView Kind) Note)
-        → ((next : Step (EndView Kind) Note)
-        → carried printed_note (first ++ second) next
-        ≡ and_then (carried printed_note first next) (carried printed_note second))
-        → and_then went (carried printed_note (first ++ second))
-        ≡ and_then (and_then went (carried printed_note first)) (carried printed_note second)
-    go (Goes next) more = more next
-    go (Spent next) more = refl
-
 -- what the core did in a turn that was taken
 taken-core :
     (turn : ToolTurn) (old new : ToolNode) (out_old out_new : StepOut) → HasTaken turn old out_old new out_new
@@ -88,7 +55,7 @@ pub behind :
 behind first second old middle new out_old out_middle out_new result taken is =
     subst (λ (w : Went ToolNode Note). ComesTo w new out_new result)
     (sym (ap (λ (w : Went (EndView Kind) Note). went_with second.own w)
-    (done_both first.duties second.duties (core_step (on_the_way old out_old))
+    (done_append printed_note first.duties second.duties (core_step (on_the_way old out_old))
     ∙ ap (λ (w : Went (EndView Kind) Note). and_then w (all_done printed_note second.duties))
     (taken-core first old middle out_old out_middle taken))))
     is

@@ -1,25 +1,14 @@
 -- What the code of the equipment says of what its core does, where memory alone may be wanting.
-use Rattle.std.specs.Prelude.{◌≡◌, List}
+use Rattle.std.specs.Prelude.{◌≡◌}
 use Rattle.gem_states.specs.Control.{ControlView, control_next}
 use Rattle.gem_states.specs.declared.control.ControlIn.TheVariants.{AttemptFailed}
 use Rattle.gem_states.specs.declared.control.ControlState.{ControlState}
 use Rattle.message_flow.specs.declared.step.StepOut.{StepOut}
 use Rattle.trace_log.specs.Text.{printed_note}
-use Rattle.message_end.specs.Core.{Command, EndView, carried}
 use Rattle.message_end.specs.Core.Went.{Goes}
-use Rattle.message_end.specs.Duties.{Duty, all_done}
 use Rattle.message_end.specs.Parts.{Node, after_turn, on_the_way}
 use Rattle.equipment_node.specs.declared.kind.Kind.{Kind}
 use Rattle.equipment_node.specs.Own.{OwnView, ToolTurn}
-
--- the commands are carried out, and the duties done
-abbrev pub AreCarried : List (Command Kind) → EndView Kind → StepOut → EndView Kind → StepOut → Type 0
-AreCarried commands old out_old new out_new =
-    carried printed_note commands (on_the_way old out_old) ≡ Goes (on_the_way new out_new)
-
-abbrev pub AreDone : List (Duty Kind) → EndView Kind → StepOut → EndView Kind → StepOut → Type 0
-AreDone duties old out_old new out_new =
-    all_done printed_note duties (on_the_way old out_old) ≡ Goes (on_the_way new out_new)
 
 -- the turn is taken
 abbrev pub IsTaken : ToolTurn → Node OwnView Kind → StepOut → Node OwnView Kind → StepOut → Type 0

@@ -64,7 +64,7 @@ use Rattle.message_end.specs.Ends.{Input, KeepsLaw, MayTake}
 use Rattle.message_end.specs.Ends.Input.{Char, Command as Told, Time}
 use Rattle.message_end.specs.Parts.{Did, Node, after_parts, after_turn, core_after, fixed_turn, led_turn, started}
 use Rattle.message_end.proofs.Lower.{lower}
-use Rattle.message_end.proofs.Parts.{AreQuietDuties, AreQuietParts, IsCoreOf, IsInputPart, IsQuiet, IsQuietPart, IsQuietTurn, IsStepOf, led-turn, node-lawful}
+use Rattle.message_end.proofs.Parts.{AreDueParts, AreQuietDuties, IsCoreOf, IsDuePart, IsDueTurn, IsInputPart, IsQuiet, IsQuietPart, IsQuietTurn, IsStepOf, led-due, led-turn, node-lawful, part-due}
 use Rattle.equipment_tables.specs.declared.answers.Answer.{Answer as Text}
 use Rattle.equipment_tables.specs.declared.answers.Answer.TheVariants as text
 use Rattle.equipment_node.specs.Grants.{GrantView}
@@ -937,10 +937,13 @@ module _ (plan : EquipmentPlan) (base : ℕ) (fits : EquipmentPlanFits plan) whe
       go true = nothing-quiet (begun own) started-sound
       go false = comms-quiet comms_in.Enable now (begun own) started-sound
 
-  t4-quiet : (now : ℕ) (own : OwnView) (e : EndView Kind) → IsSound plan own → Quiet (block_timer now own e)
-  t4-quiet now own e sound =
-      led-quiet (DropDue now) (given_up_by_t4 now (dropped_now e now) own (core_after (DropDue now) e))
-      (record { calls = (tt, tt); may = (tt, tt) })
+  t4-due :
+      (now : ℕ) (own : OwnView) (e : EndView Kind) → IsSound plan own
+      → IsDueTurn {K = Kind} (end_plan plan) base (IsSound plan) now (block_timer now own e)
+  t4-due now own e sound =
+      led-due (end_plan plan) base (IsSound plan) now (DropDue now)
+      (given_up_by_t4 now (dropped_now e now) own (core_after (DropDue now) e))
+      (record { calls = (tt, tt); drops = (refl, tt); may = (tt, tt) })
       (by-t4-quiet now (dropped_now e now) own (core_after (DropDue now) e) sound)
 
   t3-quiet : (now : ℕ) (own : OwnView) (e : EndView Kind) → IsSound plan own → Quiet (reply_timer now own e)
@@ -949,24 +952,32 @@ module _ (plan : EquipmentPlan) (base : ℕ) (fits : EquipmentPlanFits plan) whe
       (record { calls = (tt, tt); may = (tt, tt) })
       (timeout-quiet now (due_now e now) own (core_after (Expire now) e) sound)
 
-  abbrev AreQuietIn : List ToolPart → Type 0
-  AreQuietIn parts = AreQuietParts {K = Kind} (end_plan plan) base (IsSound plan) parts
+  abbrev AreDueIn : ℕ → List ToolPart → Type 0
+  AreDueIn now parts = AreDueParts {K = Kind} (end_plan plan) base (IsSound plan) now parts
 
-  many-quiet : (n : ℕ) (part : ToolPart) → IsQuietPart {K = Kind} (end_plan plan) base (IsSound plan) part
-      → AreQuietIn (replicate n part)
-  many-quiet zero part one = tt
-  many-quiet (suc n) part one = (one, many-quiet n part one)
+  many-due : (now n : ℕ) (part : ToolPart) → IsDuePart {K = Kind} (end_plan plan) base (IsSound plan) now part
+      → AreDueIn now (replicate n part)
+  many-due now zero part one = tt
+  many-due now (suc n) part one = (one, many-due now n part one)
 
-  parts-quiet : (first second : List ToolPart) → AreQuietIn first → AreQuietIn second → AreQuietIn (first ++ second)
-  parts-quiet [] second one two = two
-  parts-quiet (part ∷ first) second one two = (one.0, parts-quiet first second one.1 two)
+  both-due :
+      (now : ℕ) (first second : List ToolPart) → AreDueIn now first → AreDueIn now second
+      → AreDueIn now (first ++ second)
+  both-due now [] second one two = two
+  both-due now (part ∷ first) second one two = (one.0, both-due now first second one.1 two)
 
-  late-quiet : (now : ℕ) → AreQuietIn (late_parts now)
+  -- what is quiet is due
+  due-of : (now : ℕ) (part : ToolPart) → IsQuietPart {K = Kind} (end_plan plan) base (IsSound plan) part
+      → IsDuePart {K = Kind} (end_plan plan) base (IsSound plan) now part
+  due-of now part quiet = part-due (end_plan plan) base (IsSound plan) now part quiet
+
+  late-due : (now : ℕ) → AreDueIn now (late_parts now)
   unfolding late_parts
-  late-quiet now =
-      parts-quiet (replicate 16 (block_timer now)) (replicate 64 (reply_timer now))
-      (many-quiet 16 (block_timer now) (λ own e sound core. t4-quiet now own e sound))
-      (many-quiet 64 (reply_timer now) (λ own e sound core. t3-quiet now own e sound))
+  late-due now =
+      both-due now (replicate 16 (block_timer now)) (replicate 64 (reply_timer now))
+      (many-due now 16 (block_timer now) (λ own e sound core. t4-due now own e sound))
+      (many-due now 64 (reply_timer now)
+      (due-of now (reply_timer now) (λ own e sound core. t3-quiet now own e sound)))
 
   input-is :
       (input : Input ToolCommand) (now : ℕ) → MayTake ToolCommandFits input
@@ -997,8 +1008,8 @@ module _ (plan : EquipmentPlan) (base : ℕ) (fits : EquipmentPlanFits plan) whe
         led-turn (end_plan plan) base (IsSound plan) (Tick now)
         (failed_turn now (failed_at e now) own (core_after (Tick now) e))
         (failed-is-quiet now (failed_at e now) own (core_after (Tick now) e) sound);
-    due_is = parts-quiet (late_parts now) (delay_timer now ∷ []) (late-quiet now)
-        ((λ own e sound core. comms-quiet comms_in.Time now own sound), tt);
+    due_is = both-due now (late_parts now) (delay_timer now ∷ []) (late-due now)
+        (due-of now (delay_timer now) (λ own e sound core. comms-quiet comms_in.Time now own sound), tt);
     given_is = input-is input now may;
     later_is = tt;
     offer_is = λ own e sound core.

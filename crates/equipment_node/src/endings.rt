@@ -4,10 +4,10 @@ ghost use Rattle.std.specs.Prelude.{◌≡◌, ◌<◌, ◌^◌, IfOk, if◌then
 ghost use Rattle.gem_states.specs.Control.{ControlView, control_next};
 ghost use Rattle.gem_states.specs.declared.control.ControlIn.TheVariants.{AttemptFailed};
 ghost use Rattle.message_end.specs.Core.{EndView};
-ghost use Rattle.message_end.specs.Endings.{ends_begun, ends_failed, ends_open, ends_waiting};
-ghost use Rattle.message_end.specs.Parts.{Takes};
+ghost use Rattle.message_end.specs.Endings.{ends_begun, ends_open};
+ghost use Rattle.message_end.specs.Parts.{AreCarried, AreDone, Takes};
 ghost use Rattle.equipment_node.specs.declared.kind.Kind.{Kind};
-ghost use Rattle.equipment_node.specs.Carried.{AreCarried, AreDone, FailsAlike};
+ghost use Rattle.equipment_node.specs.Carried.{FailsAlike};
 ghost use Rattle.equipment_node.specs.Node.{node_of, own_of};
 ghost use Rattle.equipment_node.specs.States.{control_after_loss, is_attempt_kind, leaving_turn, loss_commands, without_open};
 
@@ -20,7 +20,7 @@ use gl_base::NoMemory;
 use message_end::{MessageEnd, Stop};
 use message_flow::StepOut;
 use std::alloc::Global;
-use trace_log::{Name, Title, dropped_note, failed_note};
+use trace_log::{Name, dropped_note};
 
 /// The name of an event's report.
 pub(crate) const EVENT_NAME: Name = Name {
@@ -93,12 +93,12 @@ fn end_all(
 {
     let Some(header) = failed else {
         end_begun(alloc, core, control, out)?;
-        return end_waiting(alloc, core, out);
+        return core.end_waiting(alloc, out);
     };
     let was_open = core.is_of_open(&header);
     end_begun(alloc, core, control, out)?;
-    end_failed(alloc, core, was_open, &header, out)?;
-    end_waiting(alloc, core, out)
+    core.end_failed(alloc, was_open, &header, out)?;
+    core.end_waiting(alloc, out)
 }
 
 // Ends the messages whose transactions are open, in the order in which these began, with what is lost by each.
@@ -115,11 +115,7 @@ fn end_begun(
     ensures line { out.new.line ≡ out.old.line }
 {
     let first = control.state();
-    'transactions: while let Some((header, kind)) = core.first() {
-        core.end(header.system);
-        core.remove(true, header.system);
-        out.notes
-            .push(failed_note(alloc, Title::of_block(&header))?)?;
+    'transactions: while let Some(kind) = core.end_first(alloc, out)? {
         lose(alloc, kind, first, control, out)?;
     }
     Ok(())
@@ -152,41 +148,4 @@ fn lose(
             Ok(())
         }
     }
-}
-
-// Ends the message whose block with this header failed, unless it has ended with its transaction.
-fn end_failed(
-    alloc: Global,
-    core: &mut MessageEnd<Kind>,
-    was_open: bool,
-    header: &Header,
-    out: &mut StepOut,
-) -> Result<(), NoMemory>
-    ensures does { IfOk result
-        (λ done. AreCarried (ends_failed was_open header.now core.old) core.old out.old core.new out.new) }
-    ensures line { out.new.line ≡ out.old.line }
-{
-    if was_open {
-        return Ok(());
-    }
-    core.recall(header);
-    out.notes
-        .push(failed_note(alloc, Title::of_block(header))?)?;
-    Ok(())
-}
-
-// Ends the messages that wait, in their order.
-fn end_waiting(
-    alloc: Global,
-    core: &mut MessageEnd<Kind>,
-    out: &mut StepOut,
-) -> Result<(), NoMemory>
-    ensures does { IfOk result (λ done. AreCarried (ends_waiting core.old) core.old out.old core.new out.new) }
-    ensures line { out.new.line ≡ out.old.line }
-{
-    'messages: while let Some(header) = core.drop_front() {
-        out.notes
-            .push(failed_note(alloc, Title::of_block(&header))?)?;
-    }
-    Ok(())
 }

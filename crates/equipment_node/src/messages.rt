@@ -2,12 +2,11 @@
 
 ghost use Rattle.std.specs.Prelude.{IfOk, ◌≡◌, ◌<◌, ◌^◌, ◌∷◌, [], ◌++◌};
 ghost use Rattle.block_codec.specs.Header.{Fits};
-ghost use Rattle.message_end.specs.Parts.{Takes, after_turn, on_the_way};
+ghost use Rattle.message_end.specs.Parts.{AreCarried, Takes, after_turn, on_the_way};
 ghost use Rattle.message_end.specs.Core.Went.{Goes};
 ghost use Rattle.trace_log.specs.Text.{printed_note};
 ghost use Rattle.equipment_node.specs.Node.{node_of, own_of};
 ghost use Rattle.equipment_node.specs.Own.{turn_of};
-ghost use Rattle.equipment_node.specs.Carried.{AreCarried};
 ghost use Rattle.equipment_node.specs.Judged.{IsShort};
 ghost use Rattle.equipment_node.specs.Sent.{answer_duties};
 ghost use Rattle.equipment_node.specs.Messages.{answer_turn, control_request_turn, dropped_turn, established_duties, established_turn, is_establish_request, is_online_request, known_turn, message_turn, offline_turn, own_request_commands, own_request_duty, primary_turn, request_turn, stray_turn};

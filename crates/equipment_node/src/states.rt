@@ -3,9 +3,8 @@
 ghost use Rattle.std.specs.Prelude.{IfOk, ◌≡◌, ◌<◌, ◌^◌, ◌++◌};
 ghost use Rattle.gem_states.specs.Control.{control_step};
 ghost use Rattle.message_end.specs.Core.{EndView};
-ghost use Rattle.message_end.specs.Parts.{Takes, fixed_turn};
+ghost use Rattle.message_end.specs.Parts.{AreCarried, Takes, fixed_turn};
 ghost use Rattle.equipment_node.specs.declared.kind.Kind.{Kind};
-ghost use Rattle.equipment_node.specs.Carried.{AreCarried};
 ghost use Rattle.equipment_node.specs.Node.{node_of, own_of};
 ghost use Rattle.equipment_node.specs.Sent.{establish_commands};
 ghost use Rattle.equipment_node.specs.States.{comms_lines, comms_named, comms_turn, control_lines, control_named, control_turn, is_same_comms, is_same_control, request_commands};

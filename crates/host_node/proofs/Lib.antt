@@ -1,4 +1,3 @@
-mod Ended
 mod Overdue
 mod Reading
 mod Texts

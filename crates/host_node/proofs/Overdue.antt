@@ -1,5 +1,5 @@
 -- Duties that come many times in a step.
-use Rattle.std.proofs.Common.{◌≡◌, refl, sym, ap, subst, ◌∙◌, ℕ, zero, suc, List, [], ◌∷◌, ◌++◌, replicate, Option, Some, None}
+use Rattle.std.proofs.Common.{◌≡◌, refl, sym, ap, subst, ◌∙◌, ℕ, zero, suc, List, [], ◌++◌, replicate, Option, Some, None}
 use Rattle.std.specs.Prelude.{Result, Err}
 use Rattle.std.specs.List.{find}
 use Rattle.std.specs.Option.{option_map}
@@ -19,23 +19,10 @@ use Rattle.message_end.specs.Core as core
 use Rattle.message_end.specs.Core.{EndView, Step, Went, and_then, carried, times_out}
 use Rattle.message_end.specs.Core.Went.{Goes, Spent}
 use Rattle.message_end.specs.Duties.{Duty, all_done}
+use Rattle.message_end.proofs.Carrying.{done_append}
 use Rattle.host_node.specs.Host.{Kind, drops, expires, gives_up}
 
 module _ {N : Type 0} (say : Happening → Option N) where
-  pub done_both :
-      (first second : List (Duty Kind)) (step : Step (EndView Kind) N)
-      → all_done say (first ++ second) step ≡ and_then (all_done say first step) (all_done say second)
-  done_both [] second step = refl
-  done_both (duty ∷ first) second step = go (carried say (duty step.next) step) (λ next. done_both first second next)
-    where
-      go : (went : Went (EndView Kind) N)
-          → ((next : Step (EndView Kind) N)
-          → all_done say (first ++ second) next ≡ and_then (all_done say first next) (all_done say second))
-          → and_then went (all_done say (first ++ second))
-          ≡ and_then (and_then went (all_done say first)) (all_done say second)
-      go (Goes next) more = more next
-      go (Spent next) more = refl
-
   -- where one has nothing to do, none has
   pub done_none :
       (n : ℕ) (duty : Duty Kind) (step : Step (EndView Kind) N) → carried say (duty step.next) step ≡ Goes step
@@ -74,7 +61,7 @@ pub both_ok :
     → ComesTo (all_done printed_note (first ++ second) step) new out_new result
 both_ok first second step middle new out_middle out_new result first_is second_is =
     subst (λ (w : Went (EndView Kind) Note). ComesTo w new out_new result)
-    (sym (done_both printed_note first second step
+    (sym (done_append printed_note first second step
     ∙ ap (λ (w : Went (EndView Kind) Note). and_then w (all_done printed_note second)) first_is))
     second_is
 
@@ -85,6 +72,6 @@ pub both_err :
     → ComesTo {A = Unit {0}} (all_done printed_note first step) new out (Err end)
     → ComesTo {A = Unit {0}} (all_done printed_note (first ++ second) step) new out (Err end)
 both_err first second step new out stop.NumbersSpent is =
-    done_both printed_note first second step
+    done_append printed_note first second step
     ∙ ap (λ (w : Went (EndView Kind) Note). and_then w (all_done printed_note second)) is
 both_err first second step new out stop.NoMemory is = tt

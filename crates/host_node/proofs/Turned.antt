@@ -8,12 +8,11 @@ use Rattle.message_end.specs.declared.end.Stop.{Stop}
 use Rattle.message_end.specs.Core.{Command, EndView, Went, and_then, carry}
 use Rattle.message_end.specs.Core.Went.{Goes}
 use Rattle.message_end.specs.Duties.{Duty, all_done}
-use Rattle.message_end.specs.Parts.{ComesTo, Node, Takes, core_after, leads, on_the_way, went_with}
+use Rattle.message_end.specs.Parts.{AreDone, ComesTo, Node, Takes, core_after, leads, on_the_way, went_with}
+use Rattle.message_end.proofs.Carrying.{done_append}
 use Rattle.message_end.proofs.Parts.{leads-behind}
 use Rattle.host_node.specs.declared.comms.HostComms.{HostComms}
-use Rattle.host_node.specs.Calls.{AreDone}
 use Rattle.host_node.specs.Host.{HostOwn, HostTurn, Kind, ends_in, enters, notes_comms}
-use Rattle.host_node.proofs.Overdue.{done_both}
 
 abbrev pub HostNode : Type 0
 HostNode = Node HostOwn Kind
@@ -48,5 +47,5 @@ ends_so own next first old middle out out_middle new out_new result done is =
     went_with (record own { comms = next }) (and_then w (all_done printed_note (notes_comms own.comms next ∷ []))))
     (sym done)
     ∙ ap (λ (w : Went (EndView Kind) Note). went_with (record own { comms = next }) w)
-    (sym (done_both printed_note first (notes_comms own.comms next ∷ []) (on_the_way old out))))
+    (sym (done_append printed_note first (notes_comms own.comms next ∷ []) (on_the_way old out))))
     is

@@ -34,7 +34,7 @@ use Rattle.message_end.specs.Ends.{Input, KeepsLaw, MayTake}
 use Rattle.message_end.specs.Ends.Input.{Char, Command as Told, Time}
 use Rattle.message_end.specs.Parts.{Did, Node, core_after, fixed_turn, started}
 use Rattle.message_end.proofs.Lower.{lower}
-use Rattle.message_end.proofs.Parts.{AreQuietDuties, IsInputPart, IsQuiet, IsQuietTurn, IsStepOf, led-turn, node-lawful}
+use Rattle.message_end.proofs.Parts.{AreDueDuties, AreQuietDuties, IsDue, IsInputPart, IsQuiet, IsQuietTurn, IsStepOf, led-turn, node-lawful}
 use Rattle.host_node.specs.declared.comms.HostComms.{HostComms}
 use Rattle.host_node.specs.declared.comms.HostComms.TheVariants as comms
 use Rattle.host_node.specs.Host.{HasPlan, HostOwn, HostTurn, Kind, breaks, brings, drops, ends_all, ends_in, ends_late, enabled_comms, end_plan, enters, expires, failed_comms, first_own, follows, function_with, given, gives_up, heeds, heeds_primary, heeds_secondary, host_design, host_machine, is_accepted, is_disabled, is_full, judges, late_duties, name_of, notes_comms, obeys, offers, parts, replies, sends, sends_reply, ticks, unsent_of}
@@ -74,9 +74,10 @@ comms-quiet comms.NotCommunicating comms.Communicating e = record { calls = (tt,
 comms-quiet comms.Communicating comms.Disabled e = record { calls = (tt, tt); may = (tt, tt) }
 comms-quiet comms.Communicating comms.NotCommunicating e = record { calls = (tt, tt); may = (tt, tt) }
 
-drops-quiet : (now : ℕ) (dropped : Option Header) → IsQuiet {K = Kind} (DropDue now ∷ gives_up dropped)
-drops-quiet now None = record { calls = (tt, tt); may = (tt, tt) }
-drops-quiet now (Some header) = record { calls = (tt, (tt, tt)); may = (tt, (tt, tt)) }
+drops-due : (now : ℕ) (dropped : Option Header) → IsDue {K = Kind} now (DropDue now ∷ gives_up dropped)
+drops-due now None = record { calls = (tt, tt); drops = (refl, tt); may = (tt, tt) }
+drops-due now (Some header) =
+    record { calls = (tt, (tt, tt)); drops = (refl, (tt, tt)); may = (tt, (tt, tt)) }
 
 -- the replies are short, and of bytes
 text-code : IsText (shortest_spelling (code_item 0))
@@ -138,13 +139,21 @@ module _ (plan : HostPlan) (base : ℕ) where
       (fixed_turn own commands)
   fixed-quiet own commands sound is = record { quiet = ((λ e core. is), tt); sound = sound }
 
+  abbrev AreDue : ℕ → List (Duty Kind) → Type 0
+  AreDue now duties = AreDueDuties {S = HostOwn} (end_plan plan) base (HasPlan plan) now duties
+
+  both-due :
+      (now : ℕ) (first second : List (Duty Kind)) → AreDue now first → AreDue now second → AreDue now (first ++ second)
+  both-due now [] second one two = two
+  both-due now (duty ∷ first) second one two = (one.0, both-due now first second one.1 two)
+
+  many-due : (now n : ℕ) (duty : Duty Kind) → ((e : EndView Kind) → IsDue now (duty e)) → AreDue now (replicate n duty)
+  many-due now zero duty one = tt
+  many-due now (suc n) duty one = ((λ e core. one e), many-due now n duty one)
+
   both-quiet : (first second : List (Duty Kind)) → AreQuiet first → AreQuiet second → AreQuiet (first ++ second)
   both-quiet [] second one two = two
   both-quiet (duty ∷ first) second one two = (one.0, both-quiet first second one.1 two)
-
-  many-quiet : (n : ℕ) (duty : Duty Kind) → ((e : EndView Kind) → IsQuiet (duty e)) → AreQuiet (replicate n duty)
-  many-quiet zero duty one = tt
-  many-quiet (suc n) duty one = ((λ e core. one e), many-quiet n duty one)
 
   all-quiet : (e : EndView Kind) (failed : Option Header) → AreQuiet (ends_all e failed)
   all-quiet e None = ((λ f core. ones-quiet f.transactions.begun), ((λ f core. fronts-quiet f.outgoing.waiting), tt))
@@ -176,12 +185,12 @@ module _ (plan : HostPlan) (base : ℕ) where
   breaks-quiet own e (Some header) sound =
       ends-quiet own (failed_comms own.comms) (ends_all e (Some header)) sound (all-quiet e (Some header))
 
-  late-quiet : (now : ℕ) → AreQuiet (late_duties now)
+  late-due : (now : ℕ) → AreDue now (late_duties now)
   unfolding late_duties
-  late-quiet now =
-      both-quiet (replicate 16 (drops now)) (replicate 64 (expires now))
-      (many-quiet 16 (drops now) (λ e. drops-quiet now (dropped_now e now)))
-      (many-quiet 64 (expires now) (λ e. record { calls = (tt, tt); may = (tt, tt) }))
+  late-due now =
+      both-due now (replicate 16 (drops now)) (replicate 64 (expires now))
+      (many-due now 16 (drops now) (λ e. drops-due now (dropped_now e now)))
+      (many-due now 64 (expires now) (λ e. record { calls = (tt, tt); drops = (tt, tt); may = (tt, tt) }))
 
   -- ---- what came
 
@@ -318,7 +327,7 @@ module _ (plan : HostPlan) (base : ℕ) where
         led-turn (end_plan plan) base (HasPlan plan) (Tick now)
         (breaks own (core_after (Tick now) e) (failed_at e now))
         (breaks-quiet own (core_after (Tick now) e) (failed_at e now) sound);
-    due_is = ((λ own e sound core. record { quiet = late-quiet now; sound = sound }), tt);
+    due_is = ((λ own e sound core. record { due = late-due now; sound = sound }), tt);
     given_is = input-is input now fits may;
     later_is = tt;
     offer_is = λ own e sound core.

@@ -1,4 +1,3 @@
-pub mod Calls
 pub mod Host
 pub mod Lawful
 pub mod Replies

@@ -1,6 +1,6 @@
 ghost use Rattle.std.specs.Prelude.{◌≡◌, IfOk};
 ghost use Rattle.message_end.specs.Core.{EndView};
-ghost use Rattle.host_node.specs.Calls.{AreCarried};
+ghost use Rattle.message_end.specs.Parts.{AreCarried};
 ghost use Rattle.host_node.specs.Host.{Kind, comms_name, enabled_comms, failed_comms, first_comms, is_disabled, notes_comms};
 
 use gl_base::NoMemory;

@@ -1,9 +1,8 @@
 //! What comes too late.
 
 ghost use Rattle.std.specs.Prelude.{◌≡◌, replicate, false, IfOk};
-ghost use Rattle.host_node.specs.Calls.{AreCarried};
 ghost use Rattle.host_node.specs.Host.{drops, expires, late_duties};
-ghost use Rattle.message_end.specs.Parts.{CarriesAll, DoesAll};
+ghost use Rattle.message_end.specs.Parts.{AreCarried, CarriesAll, DoesAll};
 
 use message_end::{MessageEnd, Stop};
 use message_flow::StepOut;

@@ -55,6 +55,7 @@ continues {K} laws plan base doings e commands fits is may =
     carries-on laws plan base fits doings commands (at_first e) may (record {
       done = [];
       called = refl;
+      drops = tt;
       course = record {
         lawful = is.lawful;
         line = is.line;

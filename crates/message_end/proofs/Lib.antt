@@ -1,6 +1,7 @@
 pub mod Carrying
 pub mod Courses
 pub mod Duties
+pub mod Ended
 mod Keeps
 pub mod Lawful
 pub mod Leaving

@@ -16,6 +16,7 @@ use Rattle.message_end.specs.Core.{Command, EndView, MayCarryAll, Step, Went, ac
 use Rattle.message_end.specs.Core.Went.{Goes, Spent}
 use Rattle.message_end.specs.Doings.{Doing, IsPlain, own_of}
 use Rattle.message_end.specs.Doings.Doing.{Says}
+use Rattle.message_end.specs.Drops.{AllDropAt, Drops}
 use Rattle.message_end.specs.Duties.{Duty, all_done}
 use Rattle.message_end.specs.Ends.{AreBegunOf, AreDecidedAt, AreOfStep, DoesMore, DoesStep, HasRestarted, HasStarted, Input, IsOfWorld, KeepsLaw, MayTake, OnRestart, taking_calls}
 use Rattle.message_end.specs.Ends.Input.{Char, Command as Told, Time}
@@ -25,14 +26,32 @@ use Rattle.message_end.specs.Parts.{Design, Did, Node, Part, Turn, after_parts, 
 use Rattle.message_end.specs.Plan.{EndPlan}
 use Rattle.message_end.proofs.Courses.{in-turn}
 use Rattle.message_end.proofs.Lawful as core
-use Rattle.message_end.proofs.Steps.{AllCallNone, IsAt, Laws, OnWent, at-carried, goes-on}
+use Rattle.message_end.proofs.Steps.{AllCallNone, CallsNone, IsAt, Laws, OnWent, at-carried}
 use Rattle.message_end.proofs.Such.{at-offers, at-takes, at-tick}
 
 -- ---- what a node shows of its parts
 
--- commands that call no line, and may be carried out
+-- a command that calls no line, and drops no message
+abbrev pub StaysOff : {K : Type 0} → Command K → Type 0
+StaysOff (Command.Tick now) = ⊥
+StaysOff (Command.Take byte now) = ⊥
+StaysOff (Command.Offer now) = ⊥
+StaysOff (Command.DropDue now) = ⊥
+StaysOff _ = Unit {0}
+
+abbrev pub AllStayOff : {K : Type 0} → List (Command K) → Type 0
+AllStayOff [] = Unit {0}
+AllStayOff (one ∷ commands) = StaysOff one × AllStayOff commands
+
+-- commands that do neither, and may be carried out
 pub record IsQuiet {K : Type 0} (commands : List (Command K)) : Type 0 where
+  pub calls : AllStayOff commands
+  pub may : MayCarryAll commands
+
+-- commands that call no line, drop messages at this moment alone, and may be carried out
+pub record IsDue {K : Type 0} (now : ℕ) (commands : List (Command K)) : Type 0 where
   pub calls : AllCallNone commands
+  pub drops : AllDropAt now commands
   pub may : MayCarryAll commands
 
 -- the core is what some history has made of it
@@ -74,6 +93,25 @@ module _ {S K : Type 0} (plan : EndPlan) (base : ℕ) (Sound : S → Type 0) whe
   AreQuietParts [] = Unit {0}
   AreQuietParts (part ∷ parts) = IsQuietPart part × AreQuietParts parts
 
+  -- the same, where messages may be dropped at a moment
+  abbrev pub IsDueDuty : ℕ → Duty K → Type 0
+  IsDueDuty now duty = (e : EndView K) → IsCoreOf plan base e → IsDue now (duty e)
+
+  abbrev pub AreDueDuties : ℕ → List (Duty K) → Type 0
+  AreDueDuties now [] = Unit {0}
+  AreDueDuties now (duty ∷ duties) = IsDueDuty now duty × AreDueDuties now duties
+
+  pub record IsDueTurn (now : ℕ) (turn : Turn S K) : Type 0 where
+    pub due : AreDueDuties now turn.duties
+    pub sound : Sound turn.own
+
+  abbrev pub IsDuePart : ℕ → Part S K → Type 0
+  IsDuePart now part = (own : S) (e : EndView K) → Sound own → IsCoreOf plan base e → IsDueTurn now (part own e)
+
+  abbrev pub AreDueParts : ℕ → List (Part S K) → Type 0
+  AreDueParts now [] = Unit {0}
+  AreDueParts now (part ∷ parts) = IsDuePart now part × AreDueParts now parts
+
   abbrev pub IsLedPart : Command K → Part S K → Type 0
   IsLedPart lead part = (own : S) (e : EndView K) → Sound own → IsCoreOf plan base e → IsLedTurn lead (part own e)
 
@@ -83,7 +121,8 @@ module _ {S K : Type 0} (plan : EndPlan) (base : ℕ) (Sound : S → Type 0) whe
   IsInputPart Time now part = IsQuietPart part
   IsInputPart (Told command) now part = IsQuietPart part
 
-  -- a step: parts without the line, its timer, parts without it, the input, parts without it, and its turn
+  -- a step: parts without the line, its timer, parts without it that may drop messages, the input, parts without the
+  -- line, and its turn
   pub record IsStepOf {C : Type 0} (input : Input C) (now : ℕ) (parts : List (Part S K)) : Type 0 where
     pub first : List (Part S K)
     pub tick : Part S K
@@ -94,10 +133,69 @@ module _ {S K : Type 0} (plan : EndPlan) (base : ℕ) (Sound : S → Type 0) whe
     pub are : parts ≡ first ++ tick ∷ (due ++ given ∷ (later ++ offer ∷ []))
     pub first_is : AreQuietParts first
     pub tick_is : IsLedPart (Command.Tick now) tick
-    pub due_is : AreQuietParts due
+    pub due_is : AreDueParts now due
     pub given_is : IsInputPart input now given
     pub later_is : AreQuietParts later
     pub offer_is : IsLedPart (Command.Offer now) offer
+
+-- what is quiet drops at no other moment
+off-calls-none : {K : Type 0} (now : ℕ) (one : Command K) → StaysOff one → CallsNone one × Drops (λ at. at ≡ now) one
+off-calls-none now (Command.Note what) off = (tt, tt)
+off-calls-none now (Command.Primary unsent) off = (tt, tt)
+off-calls-none now Command.Draw off = (tt, tt)
+off-calls-none now (Command.DrawnPrimary unsent) off = (tt, tt)
+off-calls-none now (Command.More count) off = (tt, tt)
+off-calls-none now (Command.Reply body) off = (tt, tt)
+off-calls-none now Command.Abort off = (tt, tt)
+off-calls-none now (Command.Tick at) off = absurd off
+off-calls-none now (Command.Take byte at) off = absurd off
+off-calls-none now (Command.Offer at) off = absurd off
+off-calls-none now (Command.DropDue at) off = absurd off
+off-calls-none now (Command.Expire at) off = (tt, tt)
+off-calls-none now (Command.Answer header) off = (tt, tt)
+off-calls-none now (Command.GiveUp header) off = (tt, tt)
+off-calls-none now (Command.End system) off = (tt, tt)
+off-calls-none now (Command.Recall header) off = (tt, tt)
+off-calls-none now (Command.Remove odd system) off = (tt, tt)
+off-calls-none now Command.DropFront off = (tt, tt)
+
+all-off : {K : Type 0} (now : ℕ) (commands : List (Command K)) → AllStayOff commands
+    → AllCallNone commands × AllDropAt now commands
+all-off now [] off = (tt, tt)
+all-off now (one ∷ commands) off =
+    let first = off-calls-none now one off.0 in
+    let rest = all-off now commands off.1 in
+    ((first.0, rest.0), (first.1, rest.1))
+
+pub commands-due : {K : Type 0} (now : ℕ) (commands : List (Command K)) → IsQuiet commands → IsDue now commands
+commands-due now commands is =
+    let off = all-off now commands is.calls in
+    record { calls = off.0; drops = off.1; may = is.may }
+
+module _ {S K : Type 0} (plan : EndPlan) (base : ℕ) (Sound : S → Type 0) (now : ℕ) where
+  pub duties-due :
+      (duties : List (Duty K)) → AreQuietDuties plan base Sound duties → AreDueDuties plan base Sound now duties
+  duties-due [] quiet = tt
+  duties-due (duty ∷ duties) quiet =
+      ((λ e core. commands-due now (duty e) (quiet.0 e core)), duties-due duties quiet.1)
+
+  pub turn-due : (turn : Turn S K) → IsQuietTurn plan base Sound turn → IsDueTurn plan base Sound now turn
+  turn-due turn is = record { due = duties-due turn.duties is.quiet; sound = is.sound }
+
+  pub part-due : (part : Part S K) → IsQuietPart plan base Sound part → IsDuePart plan base Sound now part
+  part-due part is = λ own e sound core. turn-due (part own e) (is own e sound core)
+
+  pub parts-due :
+      (parts : List (Part S K)) → AreQuietParts plan base Sound parts → AreDueParts plan base Sound now parts
+  parts-due [] quiet = tt
+  parts-due (part ∷ parts) quiet = (part-due part quiet.0, parts-due parts quiet.1)
+
+  -- a turn behind a command that may drop
+  pub led-due :
+      (lead : Command K) (turn : Turn S K) → IsDue now (lead ∷ []) → IsQuietTurn plan base Sound turn
+      → IsDueTurn plan base Sound now (led_turn lead turn)
+  led-due lead turn due is =
+      record { due = ((λ e core. due), duties-due turn.duties is.quiet); sound = is.sound }
 
 -- a part that is led by a command
 pub led-turn :
@@ -256,13 +354,13 @@ decided-both now (call ∷ one) two first second = (first.0, decided-both now on
 
 module _
     {S K : Type 0} (laws : Laws) (plan : EndPlan) (base : ℕ) (fits : LinePlanFits plan.line) (Sound : S → Type 0)
-    (doings : List Doing) where
+    (doings : List Doing) (now : ℕ) where
   abbrev CoreAt : (List LineCall → Type 0) → Step (EndView K) Happening → Type 0
-  CoreAt Called step = IsAt plan base doings Called step
+  CoreAt Called step = IsAt plan base doings (λ at. at ≡ now) Called step
 
   -- the law is kept so far, with such calls, and what the end keeps beside its core is sound
   pub record NodeAt (Called : List LineCall → Type 0) (step : Step (Node S K) Happening) : Type 0 where
-    pub core : IsAt plan base doings Called (core_step step)
+    pub core : CoreAt Called (core_step step)
     pub sound : Sound step.next.own
 
   core-of : {Called : List LineCall → Type 0} (step : Step (EndView K) Happening) → CoreAt Called step
@@ -275,6 +373,7 @@ module _
   at-less step less is = record {
     done = is.done;
     called = less (calls_in is.done) is.called;
+    drops = is.drops;
     course = is.course;
     received = is.received;
     core = is.core;
@@ -282,18 +381,19 @@ module _
 
   -- ---- duties
 
-  at-quiet-duties :
+  at-due-duties :
       (Called : List LineCall → Type 0) (duties : List (Duty K)) (step : Step (EndView K) Happening)
-      → AreQuietDuties plan base Sound duties → CoreAt Called step
+      → AreDueDuties plan base Sound now duties → CoreAt Called step
       → OnEither (CoreAt Called) (CoreAt Called) (all_done Some duties step)
-  at-quiet-duties Called [] step quiet is = is
-  at-quiet-duties Called (duty ∷ duties) step quiet is =
-      let one = quiet.0 step.next (core-of step is) in
+  at-due-duties Called [] step due is = is
+  at-due-duties Called (duty ∷ duties) step due is =
+      let one = due.0 step.next (core-of step is) in
       either-then (CoreAt Called) (CoreAt Called) (CoreAt Called) (carried Some (duty step.next) step)
       (all_done Some duties)
       (of-either (CoreAt Called) (carried Some (duty step.next) step)
-      (at-carried laws plan base fits doings Called (duty step.next) step one.calls one.may is))
-      (λ next at. at-quiet-duties Called duties next quiet.1 at)
+      (at-carried laws plan base fits doings (λ at. at ≡ now) Called (duty step.next) step one.calls one.drops one.may
+      is))
+      (λ next at. at-due-duties Called duties next due.1 at)
 
   at-led :
       {Called Other : List LineCall → Type 0} (lead : Command K) (turn : Turn S K)
@@ -304,14 +404,18 @@ module _
       subst (λ (duties : List (Duty K)). OnEither (CoreAt Other) (CoreAt Other) (all_done Some duties step))
       (sym led.are)
       (either-then (CoreAt Other) (CoreAt Other) (CoreAt Other) (carried Some (led.first step.next) step)
-      (all_done Some led.others) first (λ last so. at-quiet-duties Other led.others last led.quiet so))
+      (all_done Some led.others) first
+      (λ last so. at-due-duties Other led.others last (duties-due plan base Sound now led.others led.quiet) so))
     where
       one : IsLedBy plan base Sound lead (led.first step.next)
       one = led.led step.next (core-of step is)
 
+      due : IsDue now one.rest
+      due = commands-due now one.rest one.quiet
+
       rest : OnEither (CoreAt Other) (CoreAt Other) (carried Some one.rest next)
       rest = of-either (CoreAt Other) (carried Some one.rest next)
-          (at-carried laws plan base fits doings Other one.rest next one.quiet.calls one.quiet.may at)
+          (at-carried laws plan base fits doings (λ at. at ≡ now) Other one.rest next due.calls due.drops due.may at)
 
       first : OnEither (CoreAt Other) (CoreAt Other) (carried Some (led.first step.next) step)
       first =
@@ -330,34 +434,34 @@ module _
   at-turn Called own (Goes step) sound is = record { core = is; sound = sound }
   at-turn Called own (Spent step) sound is = record { core = is; sound = sound }
 
-  at-quiet-turn :
+  at-due-turn :
       (Called : List LineCall → Type 0) (turn : Turn S K) (step : Step (Node S K) Happening)
-      → IsQuietTurn plan base Sound turn → NodeAt Called step
+      → IsDueTurn plan base Sound now turn → NodeAt Called step
       → OnEither (NodeAt Called) (NodeAt Called) (after_turn Some turn step)
-  at-quiet-turn Called turn step quiet is =
-      at-turn Called turn.own (all_done Some turn.duties (core_step step)) quiet.sound
-      (at-quiet-duties Called turn.duties (core_step step) quiet.quiet is.core)
+  at-due-turn Called turn step due is =
+      at-turn Called turn.own (all_done Some turn.duties (core_step step)) due.sound
+      (at-due-duties Called turn.duties (core_step step) due.due is.core)
 
   -- parts that don't call the line, and others behind them
-  at-quiet-parts :
+  at-due-parts :
       (Called : List LineCall → Type 0) (P Q : Step (Node S K) Happening → Type 0) (parts rest : List (Part S K))
       (step : Step (Node S K) Happening)
-      → AreQuietParts plan base Sound parts → NodeAt Called step
+      → AreDueParts plan base Sound now parts → NodeAt Called step
       → ((last : Step (Node S K) Happening) → NodeAt Called last → Q last)
       → ((last : Step (Node S K) Happening) → NodeAt Called last → OnEither P Q (after_parts Some rest last))
       → OnEither P Q (after_parts Some (parts ++ rest) step)
-  at-quiet-parts Called P Q [] rest step quiet is spent more = more step is
-  at-quiet-parts Called P Q (part ∷ parts) rest step quiet is spent more =
+  at-due-parts Called P Q [] rest step due is spent more = more step is
+  at-due-parts Called P Q (part ∷ parts) rest step due is spent more =
       let turn = part step.next.own step.next.core in
-      let so = quiet.0 step.next.own step.next.core is.sound (core-of (core_step step) is.core) in
+      let so = due.0 step.next.own step.next.core is.sound (core-of (core_step step) is.core) in
       either-then (NodeAt Called) Q P (after_turn Some turn step) (after_parts Some (parts ++ rest))
       (either-less (NodeAt Called) (NodeAt Called) (NodeAt Called) Q (after_turn Some turn step)
-      (at-quiet-turn Called turn step so is) (λ last at. at) spent)
-      (λ last at. at-quiet-parts Called P Q parts rest last quiet.1 at spent more)
+      (at-due-turn Called turn step so is) (λ last at. at) spent)
+      (λ last at. at-due-parts Called P Q parts rest last due.1 at spent more)
 
   -- ---- a step
 
-  module _ {C : Type 0} (input : Input C) (now : ℕ) where
+  module _ {C : Type 0} (input : Input C) where
     abbrev Begun : Step (Node S K) Happening → Type 0
     Begun step = NodeAt (AreBegunOf input now) step
 
@@ -391,7 +495,7 @@ module _
 
         offered : CoreAt (AreOfStep input now) next
         offered =
-            at-offers laws plan base fits doings (AreOfStep input now) now (core_step step) step.next.core.line.phase
+            at-offers laws plan base fits doings (λ at. at ≡ now) (AreOfStep input now) now (core_step step) step.next.core.line.phase
             step.next.core.line.held refl refl is.core
             (λ decided are. record {
               decided = decided ++ is.core.called.decided;
@@ -405,7 +509,7 @@ module _
         → AreQuietParts plan base Sound later → IsLedPart plan base Sound (Command.Offer now) offer → Stepped step
         → OnEither Stepped Begun (after_parts Some (later ++ offer ∷ []) step)
     at-later later offer step quiet led is =
-        at-quiet-parts (AreOfStep input now) Stepped Begun later (offer ∷ []) step quiet is
+        at-due-parts (AreOfStep input now) Stepped Begun later (offer ∷ []) step (parts-due plan base Sound now later quiet) is
         (λ last at. node-less last (begun-stepped input now) at) (λ last at. at-offer offer last led at)
 
     at-quiet-input :
@@ -414,8 +518,8 @@ module _
         → OnEither Stepped Begun (after_turn Some (given step.next.own step.next.core) step)
     at-quiet-input given step none quiet is =
         either-less Stepped Stepped Stepped Begun (after_turn Some turn step)
-        (at-quiet-turn (AreOfStep input now) turn step
-        (quiet step.next.own step.next.core is.sound (core-of (core_step step) is.core))
+        (at-due-turn (AreOfStep input now) turn step
+        (turn-due plan base Sound now turn (quiet step.next.own step.next.core is.sound (core-of (core_step step) is.core)))
         (node-less step (λ made ticked. stepped-quiet input now made none ticked) is))
         (λ last at. at) (λ last at. node-less last (begun-stepped input now) at)
       where
@@ -441,7 +545,7 @@ module _
 
         taken : CoreAt (AreOfStep input now) (takes Some byte now (core_step step))
         taken =
-            at-takes laws plan base fits doings (AreOfStep input now) byte now (core_step step) below is.core
+            at-takes laws plan base fits doings (λ at. at ≡ now) (AreOfStep input now) byte now (core_step step) below is.core
             (λ decided are. record {
               decided = decided;
               are = ap (λ (cs : List LineCall). decided ++ LineCall.Take byte now ∷ cs) is.core.called
@@ -493,7 +597,7 @@ module _
 
         ticked : CoreAt (IsTicked now) (calls (LineCall.Tick now) (core_step step))
         ticked =
-            at-tick laws plan base fits doings (IsTicked now) now (core_step step) is.core
+            at-tick laws plan base fits doings (λ at. at ≡ now) (IsTicked now) now (core_step step) is.core
             (ap (λ (cs : List LineCall). LineCall.Tick now ∷ cs) is.core.called)
 
     at-step :
@@ -502,13 +606,13 @@ module _
         → OnEither Stepped Begun (after_parts Some parts step)
     at-step parts step so is =
         subst (λ (all : List (Part S K)). OnEither Stepped Begun (after_parts Some all step)) (sym so.are)
-        (at-quiet-parts IsNone Stepped Begun so.first
+        (at-due-parts IsNone Stepped Begun so.first
         (so.tick ∷ (so.due ++ so.given ∷ (so.later ++ so.offer ∷ []))) step
-        so.first_is is (λ last at. node-less last (begun-none input now) at)
+        (parts-due plan base Sound now so.first so.first_is) is (λ last at. node-less last (begun-none input now) at)
         (λ last at.
         at-tick-part so.tick (so.due ++ so.given ∷ (so.later ++ so.offer ∷ [])) last so.tick_is at
         (λ next ticked.
-        at-quiet-parts (IsTicked now) Stepped Begun so.due
+        at-due-parts (IsTicked now) Stepped Begun so.due
         (so.given ∷ (so.later ++ so.offer ∷ [])) next so.due_is ticked
         (λ end ended. node-less end (begun-ticked input now) ended)
         (λ end ended. at-given so.given so.offer so.later end so.given_is so.later_is so.offer_is ended))))
@@ -563,13 +667,14 @@ module _
       → DoesStep plan (Did Sound plan) base doings input now ((machine_of design).act s input now)
   does-step base doings s input now of_step did =
       go (after_parts Some (design.parts input now) (at_first s))
-      (at-step laws plan base fits Sound doings input now (design.parts input now) (at_first s) of_step first)
+      (at-step laws plan base fits Sound doings now input (design.parts input now) (at_first s) of_step first)
     where
-      first : NodeAt laws plan base fits Sound doings (λ (made : List LineCall). made ≡ []) (at_first s)
+      first : NodeAt laws plan base fits Sound doings now (λ (made : List LineCall). made ≡ []) (at_first s)
       first = record {
         core = record {
           done = [];
           called = refl;
+          drops = tt;
           received = did.is.received;
           course = record {
             lawful = did.is.lawful;
@@ -584,21 +689,31 @@ module _
 
       more :
           (Such : List LineCall → Type 0) (step : Step (Node S K) Happening)
-          → NodeAt laws plan base fits Sound doings Such step → DoesMore plan (Did Sound plan) base doings Such step
+          → NodeAt laws plan base fits Sound doings now Such step
+          → DoesMore plan (Did Sound plan) base doings now Such step
       more Such step at =
-          let gone = goes-on plan base doings Such (core_step step) at.core in
+          let so = at.core in
           record {
-            done = gone.done;
-            is = record { sound = at.sound; is = gone.is };
-            notes = gone.notes;
-            written = gone.written;
-            calls = gone.calls;
+            done = so.done;
+            is = record {
+              sound = at.sound;
+              is = record {
+                lawful = so.course.lawful;
+                received = so.received;
+                line = so.course.line;
+                core = so.core;
+              };
+            };
+            notes = so.course.notes;
+            written = so.course.written;
+            calls = so.called;
+            drops = so.drops;
           }
 
       go :
           (went : Went (Node S K) Happening)
-          → OnEither (Stepped laws plan base fits Sound doings input now)
-          (Begun laws plan base fits Sound doings input now) went
+          → OnEither (Stepped laws plan base fits Sound doings now input)
+          (Begun laws plan base fits Sound doings now input) went
           → DoesStep plan (Did Sound plan) base doings input now went
       go (Goes step) at = more (AreOfStep input now) step at
       go (Spent step) at = more (AreBegunOf input now) step at

@@ -49,15 +49,16 @@ use Rattle.transact.specs.Numbers.{after_draw, next_number, with_more}
 use Rattle.transact.specs.Transactions as transactions
 use Rattle.transact.specs.Transactions.{TransactionsView, has_system, is_answered_by}
 use Rattle.message_end.specs.declared.unsent.Unsent.{Unsent}
-use Rattle.message_end.specs.Core.{EndView, Command, Step, Went, and_then, noted, with_end, with_line, with_outgoing, with_assembly, with_transactions, with_asked, with_numbers, calls, unsent_name, primary_of, is_crowded_out, last_header_of, queues, sends, draws, keeps_drawn, primary, drawn_primary, reply_function, reply_of, reply_text, reply, replies, is_held_answered, is_waiting_answered, waiting_primary, without_answered, cancels, starts_t3, takes_back, asked_by, judges, hears, held_header, tells, takes, gives, offers, drops, without_begun, times_out, answers, waits, carry, carried, IsText, IsUnsent, MayCarry, MayCarryAll}
+use Rattle.message_end.specs.Core.{EndView, Command, Step, Went, and_then, noted, with_end, with_line, with_outgoing, with_assembly, with_transactions, with_asked, with_numbers, calls, unsent_name, primary_of, is_crowded_out, last_header_of, queues, sends, draws, keeps_drawn, primary, drawn_primary, reply_function, reply_of, reply_text, replies, is_held_answered, is_waiting_answered, waiting_primary, without_answered, cancels, starts_t3, takes_back, asked_by, judges, hears, held_header, tells, takes, gives, offers, drops, without_begun, times_out, answers, waits, carry, carried, IsText, IsUnsent, MayCarry, MayCarryAll}
 use Rattle.message_end.specs.Core.Went.{Goes, Spent}
 use Rattle.message_end.specs.Doings.{Doing, IsInTurn, IsNoSend, IsPlain, line_of, moment_of, own_of, with_call, with_frame, with_hearing}
 use Rattle.message_end.specs.Doings.Doing.{Calls, Does, Gives, Says}
+use Rattle.message_end.specs.Drops.{AllDrop, AllDropAt, AreDropped, Drops, IsDropped}
 use Rattle.message_end.specs.History.{AreTransactionsOf, AskedIs, AreWaiting, Folds, HeldIs, IsAskedOf, IsCore, IsHeldOf, IsLine, IsMet, IsOutgoingOf, IsSpare, folds_of}
 use Rattle.message_end.specs.Laws.{CarriesOn, GoesOn}
 use Rattle.message_end.specs.LineCalls.{AreCallsOf, AreCallsOfAll, AreCallsOfFront, calls_in}
 use Rattle.message_end.specs.Own.{Has, IsReplyTo, Own, asked_after, asked_in, drawn_in, entries_in, sent_in, whole_in, whole_of}
-use Rattle.message_end.specs.Own.Own.{DrewNumber, DroppedMessage, ReceivedMessage, SentMessage}
+use Rattle.message_end.specs.Own.Own.{DrewNumber, DroppedMessage, GaveBlock, HeardBlock, ReceivedMessage, SentMessage, WroteFrame}
 use Rattle.message_end.specs.Plan.{EndPlan, receiver_of}
 use Rattle.message_end.proofs.Courses.{IsCourse, course-called, course-cancelled, course-changed, course-did, course-gave, course-said, folds-call, folds-frame, folds_told, heard_more, in-turn, may-call, whole-call}
 use Rattle.message_end.proofs.Keeps.{IsDrawn, IsNext, held-answered, held-call, held-none, held-sent, numbers-drawn, numbers-more, numbers-replied, numbers-sent, spare-drawn, spare-more, spare-none, spare-sent, waiting-answered, waiting-cut, waiting-gave, waiting-less, waiting-sent}
@@ -72,13 +73,15 @@ pub record Laws : Type 0 where
   pub whole : WholeMessagesFit
   pub in_blocks : MessagesGoInBlocks
 
--- the law is kept so far, the end is what its doings have made of it, and the calls of its line were so
+-- the law is kept so far, the end is what its doings have made of it, T4 dropped messages at such moments alone, and
+-- the calls of its line were so
 pub record IsAt
-    {K : Type 0} (plan : EndPlan) (base : ℕ) (doings : List Doing) (Called : List LineCall → Type 0)
+    {K : Type 0} (plan : EndPlan) (base : ℕ) (doings : List Doing) (At : ℕ → Type 0) (Called : List LineCall → Type 0)
     (step : Step (EndView K) Happening)
     : Type 0 where
   pub done : List Doing
   pub called : Called (calls_in done)
+  pub drops : AreDropped At done
   pub course : IsCourse plan base doings done step
   pub received : whole_in (own_of plan (done ++ doings)) ≡ None
   pub core : IsCore plan base (folds_of (own_of plan (done ++ doings))) step.next
@@ -93,18 +96,30 @@ abbrev pub Exactly : List LineCall → List LineCall → Type 0
 Exactly made calls = calls ≡ made
 
 pub at-such :
-    {K : Type 0} {plan : EndPlan} {base : ℕ} {doings : List Doing} (Called : List LineCall → Type 0) (made : List LineCall)
-    (step : Step (EndView K) Happening)
-    → Called made → IsAt plan base doings (Exactly made) step → IsAt plan base doings Called step
-at-such Called made step so is =
-    record { done = is.done; called = subst Called (sym is.called) so; course = is.course; received = is.received; core = is.core }
+    {K : Type 0} {plan : EndPlan} {base : ℕ} {doings : List Doing} {At : ℕ → Type 0} (Called : List LineCall → Type 0)
+    (made : List LineCall) (step : Step (EndView K) Happening)
+    → Called made → IsAt plan base doings At (Exactly made) step → IsAt plan base doings At Called step
+at-such Called made step so is = record {
+  done = is.done;
+  called = subst Called (sym is.called) so;
+  drops = is.drops;
+  course = is.course;
+  received = is.received;
+  core = is.core;
+}
 
 pub at-exactly :
-    {K : Type 0} {plan : EndPlan} {base : ℕ} {doings : List Doing} {Called : List LineCall → Type 0}
+    {K : Type 0} {plan : EndPlan} {base : ℕ} {doings : List Doing} {At : ℕ → Type 0} {Called : List LineCall → Type 0}
     (step : Step (EndView K) Happening)
-    (is : IsAt plan base doings Called step) → IsAt plan base doings (Exactly (calls_in is.done)) step
-at-exactly step is =
-    record { done = is.done; called = refl; course = is.course; received = is.received; core = is.core }
+    (is : IsAt plan base doings At Called step) → IsAt plan base doings At (Exactly (calls_in is.done)) step
+at-exactly step is = record {
+  done = is.done;
+  called = refl;
+  drops = is.drops;
+  course = is.course;
+  received = is.received;
+  core = is.core;
+}
 
 -- it calls no line
 abbrev pub CallsNone : {K : Type 0} → Command K → Type 0
@@ -160,6 +175,62 @@ none-called (Command.Recall header) none = refl
 none-called (Command.Remove odd system) none = refl
 none-called Command.DropFront none = refl
 
+-- ---- when T4 drops
+
+-- a moment is the one at which all of these commands drop, where there is such a one
+abbrev pub IsTheMoment : {K : Type 0} → List (Command K) → ℕ → Type 0
+IsTheMoment commands at = (now : ℕ) → AllDropAt now commands → at ≡ now
+
+own-dropped : {At Other : ℕ → Type 0} → ((at : ℕ) → At at → Other at) → (own : Own) → IsDropped At own → IsDropped Other own
+own-dropped less (DrewNumber number) is = tt
+own-dropped less (SentMessage message) is = tt
+own-dropped less (ReceivedMessage message) is = tt
+own-dropped less (DroppedMessage header now) is = less now is
+own-dropped less (GaveBlock place number) is = tt
+own-dropped less (WroteFrame place number) is = tt
+own-dropped less (HeardBlock block now flow) is = tt
+
+pub dropped-less :
+    {At Other : ℕ → Type 0} → ((at : ℕ) → At at → Other at) → (done : List Doing) → AreDropped At done
+    → AreDropped Other done
+dropped-less less [] is = is
+dropped-less less (Does own ∷ before) is = (own-dropped less own is.0, dropped-less less before is.1)
+dropped-less less (Gives place number block now ∷ before) is = dropped-less less before is
+dropped-less less (Calls call ∷ before) is = dropped-less less before is
+dropped-less less (Says what ∷ before) is = dropped-less less before is
+
+-- one of these commands drops at their moment
+at-moment :
+    {K : Type 0} (all : List (Command K)) (one : Command K)
+    → ((now : ℕ) → AllDropAt now all → Drops (λ at. at ≡ now) one) → Drops (IsTheMoment all) one
+at-moment all (Command.Note what) is = tt
+at-moment all (Command.Primary unsent) is = tt
+at-moment all Command.Draw is = tt
+at-moment all (Command.DrawnPrimary unsent) is = tt
+at-moment all (Command.More count) is = tt
+at-moment all (Command.Reply body) is = tt
+at-moment all Command.Abort is = tt
+at-moment all (Command.Tick now) is = tt
+at-moment all (Command.Take byte now) is = tt
+at-moment all (Command.Offer now) is = tt
+at-moment all (Command.DropDue now) is = is
+at-moment all (Command.Expire now) is = tt
+at-moment all (Command.Answer header) is = tt
+at-moment all (Command.GiveUp header) is = tt
+at-moment all (Command.End system) is = tt
+at-moment all (Command.Recall header) is = tt
+at-moment all (Command.Remove odd system) is = tt
+at-moment all Command.DropFront is = tt
+
+pub all-at-moment :
+    {K : Type 0} (all commands : List (Command K)) → ((now : ℕ) → AllDropAt now all → AllDropAt now commands)
+    → AllDrop (IsTheMoment all) commands
+all-at-moment all [] is = tt
+all-at-moment all (one ∷ commands) is = (
+  at-moment all one (λ now drop. (is now drop).0),
+  all-at-moment all commands (λ now drop. (is now drop).1),
+)
+
 -- it goes on from a step that has gone on
 pub at-then :
     {K : Type 0} (P : Step (EndView K) Happening → Type 0) (went : Went (EndView K) Happening)
@@ -169,16 +240,18 @@ pub at-then :
 at-then P (Goes step) next at more = more step at
 at-then P (Spent step) next at more = at
 
+-- T4 dropped at the moment of these commands, where they have one alone
 pub goes-on :
-    {K : Type 0} (plan : EndPlan) (base : ℕ) (doings : List Doing) (Called : List LineCall → Type 0)
-    (step : Step (EndView K) Happening)
-    → IsAt plan base doings Called step → GoesOn plan base doings Called step
-goes-on plan base doings Called step is = record {
+    {K : Type 0} (plan : EndPlan) (base : ℕ) (doings : List Doing) (commands : List (Command K))
+    (Called : List LineCall → Type 0) (step : Step (EndView K) Happening)
+    → IsAt plan base doings (IsTheMoment commands) Called step → GoesOn plan base doings commands Called step
+goes-on plan base doings commands Called step is = record {
   done = is.done;
   is = record { lawful = is.course.lawful; received = is.received; line = is.course.line; core = is.core };
   notes = is.course.notes;
   written = is.course.written;
   calls = is.called;
+  drops = λ now all. dropped-less (λ at the. the now all) is.done is.drops;
 }
 
 -- a function that a reply may have
@@ -261,9 +334,9 @@ met-given standing plan entries a block now is_block is = record {
 -- ---- commands that call no line
 
 module _ {K : Type 0} (laws : Laws) (plan : EndPlan) (base : ℕ) (fits : LinePlanFits plan.line) (doings : List Doing)
-    (Called : List LineCall → Type 0) where
+    (Moment : ℕ → Type 0) (Called : List LineCall → Type 0) where
   abbrev At : Step (EndView K) Happening → Type 0
-  At step = IsAt plan base doings Called step
+  At step = IsAt plan base doings Moment Called step
 
   abbrev own-of : {step : Step (EndView K) Happening} → At step → List Own
   own-of is = own_of plan (is.done ++ doings)
@@ -277,6 +350,7 @@ module _ {K : Type 0} (laws : Laws) (plan : EndPlan) (base : ℕ) (fits : LinePl
     received = is.received;
     core = is.core;
     called = is.called;
+    drops = is.drops;
   }
 
   abbrev at-changed :
@@ -289,6 +363,7 @@ module _ {K : Type 0} (laws : Laws) (plan : EndPlan) (base : ℕ) (fits : LinePl
     received = is.received;
     core = core;
     called = is.called;
+    drops = is.drops;
   }
 
   at-transactions :
@@ -349,6 +424,7 @@ module _ {K : Type 0} (laws : Laws) (plan : EndPlan) (base : ℕ) (fits : LinePl
       course = course-changed plan base doings _ _ (with_numbers (after_draw step.next.numbers) step.next) refl did;
       received = is.received;
       called = is.called;
+      drops = (tt, is.drops);
       core = record {
         line = is.core.line;
         numbers = new.after;
@@ -408,6 +484,7 @@ module _ {K : Type 0} (laws : Laws) (plan : EndPlan) (base : ℕ) (fits : LinePl
         refl);
     received = is.received;
     called = is.called;
+    drops = (tt, is.drops);
     core = record {
       line = is.core.line;
       numbers = numbers-sent base (drawn_in own) (sent_in own) step.next.numbers message ready.below
@@ -604,6 +681,7 @@ module _ {K : Type 0} (laws : Laws) (plan : EndPlan) (base : ℕ) (fits : LinePl
                 refl);
             received = is.received;
             called = is.called;
+            drops = (tt, is.drops);
             core = record {
               line = is.core.line;
               numbers = numbers-replied base (drawn_in own) (sent_in own) step.next.numbers message secondary is.core.numbers;
@@ -626,16 +704,17 @@ module _ {K : Type 0} (laws : Laws) (plan : EndPlan) (base : ℕ) (fits : LinePl
 
   at-drops :
       (now : ℕ) (step : Step (EndView K) Happening) (found : Option Header)
-      → header_so_far (find (assembly.is_due now) step.next.assembly.partials) ≡ found → At step
+      → header_so_far (find (assembly.is_due now) step.next.assembly.partials) ≡ found → Moment now → At step
       → At (drops Some found now step)
-  at-drops now step None e is = is
-  at-drops now step (Some header) e is = at-said _ (Happening.DroppedByT4 header) tt (record {
+  at-drops now step None e at is = is
+  at-drops now step (Some header) e at is = at-said _ (Happening.DroppedByT4 header) tt (record {
     done = Does (DroppedMessage header now) ∷ is.done;
     course = course-changed plan base doings _ _ (with_assembly (without_due now step.next.assembly) step.next) refl
         (course-did plan base doings is.done step (DroppedMessage header now) step.notes is.course
         (in-turn own (Does (DroppedMessage header now)) is.received) due (sym (append-nil step.notes)));
     received = is.received;
     called = is.called;
+    drops = (at, is.drops);
     core = record {
       line = is.core.line;
       numbers = is.core.numbers;
@@ -683,50 +762,51 @@ module _ {K : Type 0} (laws : Laws) (plan : EndPlan) (base : ℕ) (fits : LinePl
   -- ---- all commands that call no line
 
   pub at-carry :
-      (one : Command K) (step : Step (EndView K) Happening) → CallsNone one → MayCarry one → At step
+      (one : Command K) (step : Step (EndView K) Happening) → CallsNone one → Drops Moment one → MayCarry one → At step
       → OnWent At (carry Some one step)
-  at-carry (Command.Note what) step none may is = at-said step what may is
-  at-carry (Command.Primary unsent) step none may is = at-primary unsent step may is
-  at-carry Command.Draw step none may is = at-draw step is
-  at-carry (Command.DrawnPrimary unsent) step none may is = at-drawn-primary unsent step may is
-  at-carry (Command.More count) step none may is = at-more count step is
-  at-carry (Command.Reply body) step none may is = at-replies reply_function body step reply-next may is
-  at-carry Command.Abort step none may is =
+  at-carry (Command.Note what) step none at may is = at-said step what may is
+  at-carry (Command.Primary unsent) step none at may is = at-primary unsent step may is
+  at-carry Command.Draw step none at may is = at-draw step is
+  at-carry (Command.DrawnPrimary unsent) step none at may is = at-drawn-primary unsent step may is
+  at-carry (Command.More count) step none at may is = at-more count step is
+  at-carry (Command.Reply body) step none at may is = at-replies reply_function body step reply-next may is
+  at-carry Command.Abort step none at may is =
       at-replies (λ function. 0) [] step (λ asked odd below. reply-abort asked)
       (record { short = omega arith; bytes = All-nil (λ byte. byte < 256) }) is
-  at-carry (Command.Tick now) step none may is = absurd none
-  at-carry (Command.Take byte now) step none may is = absurd none
-  at-carry (Command.Offer now) step none may is = absurd none
-  at-carry (Command.DropDue now) step none may is = at-drops now step _ refl is
-  at-carry (Command.Expire now) step none may is = at-times-out (transactions.is_due now) _ step is
-  at-carry (Command.Answer header) step none may is = at-answers header _ step is
-  at-carry (Command.GiveUp header) step none may is = at-times-out (is_answered_by header) _ step is
-  at-carry (Command.End system) step none may is =
+  at-carry (Command.Tick now) step none at may is = absurd none
+  at-carry (Command.Take byte now) step none at may is = absurd none
+  at-carry (Command.Offer now) step none at may is = absurd none
+  at-carry (Command.DropDue now) step none at may is = at-drops now step _ refl at is
+  at-carry (Command.Expire now) step none at may is = at-times-out (transactions.is_due now) _ step is
+  at-carry (Command.Answer header) step none at may is = at-answers header _ step is
+  at-carry (Command.GiveUp header) step none at may is = at-times-out (is_answered_by header) _ step is
+  at-carry (Command.End system) step none at may is =
       at-transactions step _ is
       (open-less plan (sent_in (own-of is)) (has_system system) step.next.transactions is.core.transactions)
-  at-carry (Command.Recall header) step none may is =
+  at-carry (Command.Recall header) step none at may is =
       let test = is_source_of step.next.outgoing header in
       let xs = step.next.outgoing.waiting in
       let s = suffix_len (λ w. not (test w)) xs in
       at-waits step _ is (waiting-cut _ _ _ xs (length xs - s - 1) (length xs - s) (omega arith) is.core.waiting)
-  at-carry (Command.Remove primary system) step none may is =
+  at-carry (Command.Remove primary system) step none at may is =
       at-waits step _ is (waiting-less _ _ _ step.next.outgoing.waiting (is_named primary system) is.core.waiting)
-  at-carry Command.DropFront step none may is =
+  at-carry Command.DropFront step none at may is =
       at-waits step _ is (waiting-cut _ _ _ step.next.outgoing.waiting 0 1 (omega arith) is.core.waiting)
 
   pub at-carried :
-      (commands : List (Command K)) (step : Step (EndView K) Happening) → AllCallNone commands → MayCarryAll commands → At step
-      → OnWent At (carried Some commands step)
-  at-carried [] step none may is = is
-  at-carried (one ∷ commands) step none may is =
-      at-then At (carry Some one step) (carried Some commands) (at-carry one step none.0 may.0 is)
-      (λ next at. at-carried commands next none.1 may.1 at)
+      (commands : List (Command K)) (step : Step (EndView K) Happening) → AllCallNone commands → AllDrop Moment commands
+      → MayCarryAll commands → At step → OnWent At (carried Some commands step)
+  at-carried [] step none moments may is = is
+  at-carried (one ∷ commands) step none moments may is =
+      at-then At (carry Some one step) (carried Some commands) (at-carry one step none.0 moments.0 may.0 is)
+      (λ next at. at-carried commands next none.1 moments.1 may.1 at)
 
 -- ---- calls of the line
 
-module _ {K : Type 0} (laws : Laws) (plan : EndPlan) (base : ℕ) (fits : LinePlanFits plan.line) (doings : List Doing) where
+module _ {K : Type 0} (laws : Laws) (plan : EndPlan) (base : ℕ) (fits : LinePlanFits plan.line) (doings : List Doing)
+    (Moment : ℕ → Type 0) where
   abbrev AtMade : List LineCall → Step (EndView K) Happening → Type 0
-  AtMade made step = IsAt plan base doings (Exactly made) step
+  AtMade made step = IsAt plan base doings Moment (Exactly made) step
 
   abbrev own-in : {made : List LineCall} {step : Step (EndView K) Happening} → AtMade made step → List Own
   own-in is = own_of plan (is.done ++ doings)
@@ -766,6 +846,7 @@ module _ {K : Type 0} (laws : Laws) (plan : EndPlan) (base : ℕ) (fits : LinePl
     course = called made call step no_send can is;
     received = whole-call (receiver_of plan) call before own none_told ∙ is.received;
     called = ap (λ (calls : List LineCall). call ∷ calls) is.called;
+    drops = is.drops;
     core =
         let same : folds_of (with_call (receiver_of plan) call before own) ≡ folds_of own =
         folds-call (receiver_of plan) call before own ∙ quiet (line_step before call).event _ (folds_of own) none_told in
@@ -821,7 +902,7 @@ module _ {K : Type 0} (laws : Laws) (plan : EndPlan) (base : ℕ) (fits : LinePl
       go : (waiting : List Waiting) → AreWaiting plan.side f.sents f.gave f.heard waiting
           → IsDone made (Command.Offer now) (gives (next_block_of out.side out.device waiting).0 now
           (with_end (turned (next_block_of out.side out.device waiting).1) step))
-      go [] are = record { newer = []; are = tt; at = at-waits laws plan base fits doings (Exactly made) step [] is are }
+      go [] are = record { newer = []; are = tt; at = at-waits laws plan base fits doings Moment (Exactly made) step [] is are }
       go (first ∷ rest) are = record {
         newer = Send block now ∷ [];
         are = refl;
@@ -849,6 +930,7 @@ module _ {K : Type 0} (laws : Laws) (plan : EndPlan) (base : ℕ) (fits : LinePl
               });
           received = is.received;
           called = ap (λ (calls : List LineCall). Send block now ∷ calls) is.called;
+          drops = is.drops;
           core = record {
             line = line-call laws.small laws.kept step.next.line (Send block now) is.core.line can
                 (All-nil (λ byte. byte < 256));
@@ -914,11 +996,12 @@ module _ {K : Type 0} (laws : Laws) (plan : EndPlan) (base : ℕ) (fits : LinePl
     whole_is : whole_in (own_of plan (done ++ doings)) ≡ whole
     core : IsCore plan base (folds_of (own_of plan (done ++ doings))) step.next
     called : calls_in done ≡ made
+    drops : AreDropped Moment done
 
   -- no message is whole
   abbrev at-no-whole : (made : List LineCall) (step : Step (EndView K) Happening) → IsHeard made step None → AtMade made step
   at-no-whole made step is =
-      record { done = is.done; course = is.course; received = is.whole_is; core = is.core; called = is.called }
+      record { done = is.done; course = is.course; received = is.whole_is; core = is.core; called = is.called; drops = is.drops }
 
   record IsHeardBy
       (made : List LineCall) (byte now : ℕ) (step : Step (EndView K) Happening) (whole : Option Message) : Type 0 where
@@ -1019,6 +1102,7 @@ module _ {K : Type 0} (laws : Laws) (plan : EndPlan) (base : ℕ) (fits : LinePl
         heard = record {
           done = Calls call ∷ is.done;
           called = ap (λ (calls : List LineCall). call ∷ calls) is.called;
+          drops = is.drops;
           whole_is = whole_is;
           course = course-changed plan base doings _ taken (back false) refl course;
           core = subst (λ (g : Folds). IsCore plan base g (back false)) (sym folds_are)
@@ -1031,6 +1115,7 @@ module _ {K : Type 0} (laws : Laws) (plan : EndPlan) (base : ℕ) (fits : LinePl
         heard = record {
           done = Calls Cancel ∷ Calls call ∷ is.done;
           called = ap (λ (calls : List LineCall). Cancel ∷ call ∷ calls) is.called;
+          drops = is.drops;
           whole_is = whole_is;
           course = course-cancelled plan base doings _ taken (cancels true (back true)) refl course can;
           core = subst (λ (g : Folds). IsCore plan base g (with_line (line_step taken.next.line Cancel).next (back true)))
@@ -1052,7 +1137,7 @@ module _ {K : Type 0} (laws : Laws) (plan : EndPlan) (base : ℕ) (fits : LinePl
       → AtMade made (judges Some header flow step)
   at-judges made header Part step whole is =
       let at = at-no-whole made step is in
-      at-transactions laws plan base fits doings (Exactly made) step _ at
+      at-transactions laws plan base fits doings Moment (Exactly made) step _ at
       (open-timed plan (sent_in (own_of plan (is.done ++ doings))) (is_answered_by header) None step.next.transactions is.core.transactions)
   at-judges made header (Whole message) step whole is = record {
     done = Does (ReceivedMessage message) ∷ is.done;
@@ -1061,6 +1146,7 @@ module _ {K : Type 0} (laws : Laws) (plan : EndPlan) (base : ℕ) (fits : LinePl
         (subst (λ (o : Option Message). IsInTurn o (Does (ReceivedMessage message))) (sym is.whole_is) tt) is.whole_is refl);
     received = refl;
     called = is.called;
+    drops = (tt, is.drops);
     core = record {
       line = is.core.line;
       numbers = is.core.numbers;
@@ -1082,15 +1168,15 @@ module _ {K : Type 0} (laws : Laws) (plan : EndPlan) (base : ℕ) (fits : LinePl
       asks true true odd waits title e =
           record { message = message; is = refl; primary = odd; wait = waits; title = sym (same_Some _ _ e); fits = whole message refl }
   at-judges made header Duplicate step whole is =
-      at-said laws plan base fits doings (Exactly made) step (Happening.Duplicate header) tt (at-no-whole made step is)
+      at-said laws plan base fits doings Moment (Exactly made) step (Happening.Duplicate header) tt (at-no-whole made step is)
   at-judges made header (Foreign address) step whole is =
-      at-said laws plan base fits doings (Exactly made) step (Happening.Foreign header) tt (at-no-whole made step is)
+      at-said laws plan base fits doings Moment (Exactly made) step (Happening.Foreign header) tt (at-no-whole made step is)
   at-judges made header Unexpected step whole is =
-      at-said laws plan base fits doings (Exactly made) step (Happening.Unexpected header) tt (at-no-whole made step is)
+      at-said laws plan base fits doings Moment (Exactly made) step (Happening.Unexpected header) tt (at-no-whole made step is)
   at-judges made header TooLong step whole is =
-      at-said laws plan base fits doings (Exactly made) step (Happening.TooLongBlock header) tt (at-no-whole made step is)
+      at-said laws plan base fits doings Moment (Exactly made) step (Happening.TooLongBlock header) tt (at-no-whole made step is)
   at-judges made header Crowded step whole is =
-      at-said laws plan base fits doings (Exactly made) step (Happening.Crowded header) tt (at-no-whole made step is)
+      at-said laws plan base fits doings Moment (Exactly made) step (Happening.Crowded header) tt (at-no-whole made step is)
 
   at-hears :
       (made : List LineCall) (byte now : ℕ) (step : Step (EndView K) Happening) (block : BlockView) → byte < 256
@@ -1149,7 +1235,7 @@ module _ {K : Type 0} (laws : Laws) (plan : EndPlan) (base : ℕ) (fits : LinePl
       go (Arrived block) e = at-hears made byte now step block below e is
       go Sent e =
           let at = taken (λ block told. let w = sym e ∙ told in absurd (cc)) in
-          done (at-transactions laws plan base fits doings (Exactly (LineCall.Take byte now ∷ made)) (calls (LineCall.Take byte now) step) _ at
+          done (at-transactions laws plan base fits doings Moment (Exactly (LineCall.Take byte now ∷ made)) (calls (LineCall.Take byte now) step) _ at
           (open-acknowledged plan (sent_in (own-in at)) (held_header step.next.line.held) now step.next.transactions at.core.transactions))
       go Nothing e = done (taken (λ block told. let w = sym e ∙ told in absurd (cc)))
       go Failed e = done (taken (λ block told. let w = sym e ∙ told in absurd (cc)))
@@ -1167,15 +1253,16 @@ module _ {K : Type 0} (laws : Laws) (plan : EndPlan) (base : ℕ) (fits : LinePl
   uncalled made command (Spent step) none at = at
 
   carry-made :
-      (made : List LineCall) (one : Command K) (step : Step (EndView K) Happening) → MayCarry one → AtMade made step
-      → OnDone made one (carry Some one step)
-  carry-made made one step may is = by-call (λ (c : Command K). MayCarry c → OnDone made c (carry Some c step))
-      (λ c none may. uncalled made c (carry Some c step) (none-called c none)
-      (at-carry laws plan base fits doings (Exactly made) c step none may is))
-      (λ now may. record { newer = LineCall.Tick now ∷ []; are = refl; at = tick-made made now step is })
-      (λ byte now may. take-made made byte now step may is)
-      (λ now may. offer-made made now step step.next.line.phase step.next.line.held refl refl is)
-      one may
+      (made : List LineCall) (one : Command K) (step : Step (EndView K) Happening) → Drops Moment one → MayCarry one
+      → AtMade made step → OnDone made one (carry Some one step)
+  carry-made made one step moment may is =
+      by-call (λ (c : Command K). Drops Moment c → MayCarry c → OnDone made c (carry Some c step))
+      (λ c none moment may. uncalled made c (carry Some c step) (none-called c none)
+      (at-carry laws plan base fits doings Moment (Exactly made) c step none moment may is))
+      (λ now moment may. record { newer = LineCall.Tick now ∷ []; are = refl; at = tick-made made now step is })
+      (λ byte now moment may. take-made made byte now step may is)
+      (λ now moment may. offer-made made now step step.next.line.phase step.next.line.held refl refl is)
+      one moment may
 
   -- these commands have made the newer calls
   record IsBehind (made : List LineCall) (Such : List LineCall → Type 0) (step : Step (EndView K) Happening) : Type 0 where
@@ -1201,12 +1288,13 @@ module _ {K : Type 0} (laws : Laws) (plan : EndPlan) (base : ℕ) (fits : LinePl
   }
 
   carried-made :
-      (made : List LineCall) (commands : List (Command K)) (step : Step (EndView K) Happening) → MayCarryAll commands
-      → AtMade made step
+      (made : List LineCall) (commands : List (Command K)) (step : Step (EndView K) Happening)
+      → AllDrop Moment commands → MayCarryAll commands → AtMade made step
       → OnBehind made commands (carried Some commands step)
-  carried-made made [] step may is = record { newer = []; are = refl; at = is }
-  carried-made made (one ∷ commands) step may is =
-      go (carry Some one step) (carry-made made one step may.0 is) (λ more next at. carried-made more commands next may.1 at)
+  carried-made made [] step moments may is = record { newer = []; are = refl; at = is }
+  carried-made made (one ∷ commands) step moments may is =
+      go (carry Some one step) (carry-made made one step moments.0 may.0 is)
+      (λ more next at. carried-made more commands next moments.1 may.1 at)
     where
       joins : (rest : List (Command K)) (first newer : List LineCall) → AreCallsOf one first → AreCallsOfAll rest newer
           → AreCallsOfAll (one ∷ rest) (newer ++ first)
@@ -1240,18 +1328,29 @@ module _ {K : Type 0} (laws : Laws) (plan : EndPlan) (base : ℕ) (fits : LinePl
         at = at;
       }
 
-  pub carries-on :
-      (commands : List (Command K)) (step : Step (EndView K) Happening) → MayCarryAll commands → AtMade [] step
-      → CarriesOn plan base doings commands (carried Some commands step)
-  carries-on commands step may is = go (carried Some commands step) (carried-made [] commands step may is)
-    where
-      such : (Such : List LineCall → Type 0) (next : Step (EndView K) Happening) → IsBehind [] Such next
-          → GoesOn plan base doings Such next
-      such Such next behind =
-          goes-on plan base doings Such next
-          (at-such Such (behind.newer ++ []) next
-          (subst (λ (calls : List LineCall). Such calls) (sym (append-nil behind.newer)) behind.are) behind.at)
+-- a list of commands, from nothing called
+pub carries-on :
+    {K : Type 0} (laws : Laws) (plan : EndPlan) (base : ℕ) (fits : LinePlanFits plan.line) (doings : List Doing)
+    (commands : List (Command K)) (step : Step (EndView K) Happening)
+    → MayCarryAll commands → IsAt plan base doings (IsTheMoment commands) (Exactly []) step
+    → CarriesOn plan base doings commands (carried Some commands step)
+carries-on {K} laws plan base fits doings commands step may is =
+    go (carried Some commands step)
+    (carried-made laws plan base fits doings (IsTheMoment commands) [] commands step
+    (all-at-moment commands commands (λ now all. all)) may is)
+  where
+    such :
+        (Such : List LineCall → Type 0) (next : Step (EndView K) Happening)
+        → IsBehind laws plan base fits doings (IsTheMoment commands) [] Such next
+        → GoesOn plan base doings commands Such next
+    such Such next behind =
+        goes-on plan base doings commands Such next
+        (at-such Such (behind.newer ++ []) next
+        (subst (λ (calls : List LineCall). Such calls) (sym (append-nil behind.newer)) behind.are) behind.at)
 
-      go : (went : Went (EndView K) Happening) → OnBehind [] commands went → CarriesOn plan base doings commands went
-      go (Goes next) behind = such (AreCallsOfAll commands) next behind
-      go (Spent next) behind = such (AreCallsOfFront commands) next behind
+    go :
+        (went : Went (EndView K) Happening)
+        → OnBehind laws plan base fits doings (IsTheMoment commands) [] commands went
+        → CarriesOn plan base doings commands went
+    go (Goes next) behind = such (AreCallsOfAll commands) next behind
+    go (Spent next) behind = such (AreCallsOfFront commands) next behind

@@ -1,7 +1,8 @@
 -- How all open messages of an end fail together.
-use Rattle.std.specs.Prelude.{Bool, ◌%◌, ◌==◌, ◌&&◌, true, false, List, [], ◌∷◌, flat_map, Option, Some, None, if◌then◌else◌}
+use Rattle.std.specs.Prelude.{◌≡◌, Bool, ◌%◌, ◌==◌, ◌&&◌, true, false, List, [], ◌∷◌, flat_map, Option, Some, None}
 use Rattle.std.specs.List.{list_any}
 use Rattle.block_codec.specs.declared.header.Header.{Header}
+use Rattle.message_flow.specs.declared.step.StepOut.{StepOut}
 use Rattle.message_flow.specs.declared.waiting.Waiting.{Waiting}
 use Rattle.trace_log.specs.Log.{Happening}
 use Rattle.trace_log.specs.Names.{header_title, title_of}
@@ -10,6 +11,7 @@ use Rattle.transact.specs.Transactions.{has_system, system_of}
 use Rattle.message_end.specs.Core.{Command, EndView}
 use Rattle.message_end.specs.Core.Command.{DropFront, End, Note, Recall, Remove}
 use Rattle.message_end.specs.Duties.{Duty}
+use Rattle.message_end.specs.Parts.{AreCarried}
 
 -- a transaction ends, and its primary waits no longer. Its end may bring more
 abbrev pub ends_one : {K : Type 0} → (K → List (Command K)) → Begun K → List (Command K)
@@ -43,3 +45,29 @@ abbrev pub ends_open : {K : Type 0} → (K → List (Command K)) → EndView K �
 ends_open brings e None = ends_begun brings ∷ ends_waiting ∷ []
 ends_open brings e (Some header) =
     ends_begun brings ∷ ends_failed (is_of_open e header) header ∷ ends_waiting ∷ []
+
+-- ---- what the code says of the first one
+
+-- the transaction that began first has ended, and what its end brings is still to be done
+pub record IsFirstEnded {K : Type 0}
+    (kind : K) (old : EndView K) (out_old : StepOut) (new : EndView K) (out_new : StepOut)
+    : Type 0 where
+  pub first : Begun K
+  pub rest : List (Begun K)
+  pub begun : old.transactions.begun ≡ first ∷ rest
+  pub left : new.transactions.begun ≡ rest
+  pub kind_is : first.kind ≡ kind
+  pub ended : AreCarried (ends_one (λ kind. []) first) old out_old new out_new
+
+-- none is open, and all is as it was
+pub record IsNoneOpen {K : Type 0}
+    (old : EndView K) (out_old : StepOut) (new : EndView K) (out_new : StepOut)
+    : Type 0 where
+  pub none : old.transactions.begun ≡ []
+  pub same : new ≡ old
+  pub quiet : out_new ≡ out_old
+
+-- one of this kind has ended, or there is none
+abbrev pub EndsFirst : {K : Type 0} → Option K → EndView K → StepOut → EndView K → StepOut → Type 0
+EndsFirst (Some kind) old out_old new out_new = IsFirstEnded kind old out_old new out_new
+EndsFirst None old out_old new out_new = IsNoneOpen old out_old new out_new

@@ -20,6 +20,7 @@ use Rattle.message_end.specs.Core.{Step, Went}
 use Rattle.message_end.specs.Core.Went.{Goes, Spent}
 use Rattle.message_end.specs.Doings.{AreLawful, Doing, line_of, own_of}
 use Rattle.message_end.specs.Doings.Doing.{Says}
+use Rattle.message_end.specs.Drops.{AreDroppedAt}
 use Rattle.message_end.specs.History.{noted_in, written_in}
 use Rattle.message_end.specs.LineCalls.{calls_in}
 use Rattle.message_end.specs.Log.{start_of}
@@ -112,22 +113,23 @@ pub record AreBegunOf {C : Type 0} (input : Input C) (now : ℕ) (calls : List L
   pub later : List LineCall
   pub whole : AreOfStep input now (later ++ calls)
 
--- an end that these doings have made what it is does some more, with calls of the line that are such
+-- an end that these doings have made what it is does some more at a moment, with calls of the line that are such
 pub record DoesMore {S : Type 0}
-    (plan : EndPlan) (did : ℕ → List Doing → S → Type 0) (base : ℕ) (doings : List Doing)
+    (plan : EndPlan) (did : ℕ → List Doing → S → Type 0) (base : ℕ) (doings : List Doing) (now : ℕ)
     (Such : List LineCall → Type 0) (step : Step S Happening) : Type 0 where
   pub done : List Doing
   pub is : did base (done ++ doings) step.next
   pub notes : noted_in (done ++ doings) ≡ noted_in doings ++ step.notes
   pub written : written_in plan (done ++ doings) ≡ written_in plan doings ++ step.written
   pub calls : Such (calls_in done)
+  pub drops : AreDroppedAt now done
 
 -- all of a step, or what was done until the numbers were spent
 abbrev pub DoesStep :
     {S C : Type 0} → EndPlan → (ℕ → List Doing → S → Type 0) → ℕ → List Doing → Input C → ℕ
     → Went S Happening → Type 0
-DoesStep plan did base doings input now (Goes step) = DoesMore plan did base doings (AreOfStep input now) step
-DoesStep plan did base doings input now (Spent step) = DoesMore plan did base doings (AreBegunOf input now) step
+DoesStep plan did base doings input now (Goes step) = DoesMore plan did base doings now (AreOfStep input now) step
+DoesStep plan did base doings input now (Spent step) = DoesMore plan did base doings now (AreBegunOf input now) step
 
 -- a start: the end has done nothing yet, may draw numbers from a base on, and notes the start alone
 pub record HasStarted {S : Type 0}

@@ -1,5 +1,5 @@
 -- What holds of every end, whatever it is told to do.
-use Rattle.std.specs.Prelude.{◌≡◌, ◌≢◌, ◌+◌, ◌<◌, ℕ, true, List, [], ◌++◌, length, Option, None, Some}
+use Rattle.std.specs.Prelude.{◌≡◌, ◌≢◌, ◌<◌, ℕ, true, List, [], ◌++◌, length, Option, None, Some}
 use Rattle.std.specs.List.{filter_map}
 use Rattle.block_codec.specs.declared.header.Header.{Header}
 use Rattle.line_end.specs.Plan.{LinePlanFits}
@@ -12,6 +12,7 @@ use Rattle.transact.specs.Transactions.{refusal_of}
 use Rattle.message_end.specs.Core.{Command, EndView, MayCarryAll, Step, Went, at_first, carried}
 use Rattle.message_end.specs.Core.Went.{Goes, Spent}
 use Rattle.message_end.specs.Doings.{Doing, own_of}
+use Rattle.message_end.specs.Drops.{AllDropAt, AreDroppedAt}
 use Rattle.message_end.specs.History.{IsHistoryOf, noted_in, written_in}
 use Rattle.message_end.specs.LineCalls.{AreCallsOfAll, AreCallsOfFront, calls_in}
 use Rattle.message_end.specs.Own.{Has, sent_in}
@@ -30,21 +31,22 @@ new_end plan numbers = record {
 }
 
 -- some doings more keep the law and have made of the end what it is then. What was noted and written in the step is
--- theirs, and with them the line was called so
+-- theirs, and with them the line was called so; T4 dropped messages at a moment of these commands alone
 pub record GoesOn
-    {K : Type 0} (plan : EndPlan) (base : ℕ) (doings : List Doing) (AreCalls : List LineCall → Type 0)
-    (step : Step (EndView K) Happening)
+    {K : Type 0} (plan : EndPlan) (base : ℕ) (doings : List Doing) (commands : List (Command K))
+    (AreCalls : List LineCall → Type 0) (step : Step (EndView K) Happening)
     : Type 0 where
   pub done : List Doing
   pub is : IsHistoryOf plan base (done ++ doings) step.next
   pub notes : noted_in (done ++ doings) ≡ noted_in doings ++ step.notes
   pub written : written_in plan (done ++ doings) ≡ written_in plan doings ++ step.written
   pub calls : AreCalls (calls_in done)
+  pub drops : (now : ℕ) → AllDropAt now commands → AreDroppedAt now done
 
 -- also where the numbers are spent on the way: what was done until then
 abbrev pub CarriesOn : {K : Type 0} → EndPlan → ℕ → List Doing → List (Command K) → Went (EndView K) Happening → Type 0
-CarriesOn plan base doings commands (Goes step) = GoesOn plan base doings (AreCallsOfAll commands) step
-CarriesOn plan base doings commands (Spent step) = GoesOn plan base doings (AreCallsOfFront commands) step
+CarriesOn plan base doings commands (Goes step) = GoesOn plan base doings commands (AreCallsOfAll commands) step
+CarriesOn plan base doings commands (Spent step) = GoesOn plan base doings commands (AreCallsOfFront commands) step
 
 -- no primary has these system bytes
 abbrev pub HasNoPrimary : ℕ → List Message → Type 0

@@ -2,6 +2,7 @@ pub mod Calls
 pub mod Core
 pub mod Course
 pub mod Doings
+pub mod Drops
 pub mod Duties
 pub mod Endings
 pub mod Ends

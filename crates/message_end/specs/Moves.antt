@@ -12,6 +12,7 @@ use Rattle.line_order.specs.Characters.{Character}
 use Rattle.line_order.specs.Line.{Arrival, Line, View, new_line, seen_from}
 use Rattle.message_end.specs.Doings.{Doing, IsLawful, own_of}
 use Rattle.message_end.specs.Doings.Doing.{Calls, Does, Gives, Says}
+use Rattle.message_end.specs.Drops.{IsDropped}
 use Rattle.message_end.specs.Own.{Giving, Has, Own, drawn_in, given_in, sent_in}
 use Rattle.message_end.specs.Own.Own.{ReceivedMessage}
 use Rattle.message_end.specs.Plan.{EndPlan}
@@ -180,3 +181,21 @@ KeepLaws plans (move ∷ before) =
     MayMove (plan_at move.side plans) (seen_at move.side plans before).there.under_way (run_at move.side plans before)
     move.kind
     × KeepLaws plans before
+
+-- a message that T4 drops is dropped at the moment of its move
+abbrev pub IsTimelyDoing : ℕ → Doing → Type 0
+IsTimelyDoing moment (Does own) = IsDropped (λ at. at ≡ moment) own
+IsTimelyDoing moment (Gives place number block now) = Unit {0}
+IsTimelyDoing moment (Calls call) = Unit {0}
+IsTimelyDoing moment (Says what) = Unit {0}
+
+abbrev pub IsTimely : ℕ → Kind → Type 0
+IsTimely moment (Did doing) = IsTimelyDoing moment doing
+IsTimely moment (Started found base) = Unit {0}
+IsTimely moment Lost = Unit {0}
+IsTimely moment (Changed place byte) = Unit {0}
+IsTimely moment (Added byte) = Unit {0}
+
+abbrev pub AreTimely : List Move → Type 0
+AreTimely [] = Unit {0}
+AreTimely (move ∷ before) = IsTimely move.moment move.kind × AreTimely before

@@ -133,6 +133,15 @@ abbrev pub DoesAll :
 DoesAll duties old out_old new out_new result =
     ComesTo (all_done printed_note duties (on_the_way old out_old)) new out_new result
 
+-- by calls for which memory alone may be wanting
+abbrev pub AreCarried : {K : Type 0} → List (Command K) → EndView K → StepOut → EndView K → StepOut → Type 0
+AreCarried commands old out_old new out_new =
+    carried printed_note commands (on_the_way old out_old) ≡ Goes (on_the_way new out_new)
+
+abbrev pub AreDone : {K : Type 0} → List (Duty K) → EndView K → StepOut → EndView K → StepOut → Type 0
+AreDone duties old out_old new out_new =
+    all_done printed_note duties (on_the_way old out_old) ≡ Goes (on_the_way new out_new)
+
 -- the turn is taken
 abbrev pub Takes :
     {A S K : Type 0} → Turn S K → Node S K → StepOut → Node S K → StepOut → Result A Stop → Type 0

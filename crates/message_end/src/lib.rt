@@ -2,6 +2,7 @@
 #![tactic(auto)]
 
 mod end;
+mod endings;
 mod ends;
 mod laws;
 #[cfg(test)]

@@ -1,6 +1,6 @@
 use Rattle.std.proofs.Common.{subst}
 use Rattle.gem_states.specs.declared.comms.CommsState.{CommsState}
-use Rattle.equipment_node.specs.Carried.{AreCarried}
+use Rattle.message_end.specs.Parts.{AreCarried}
 use Rattle.equipment_node.specs.Node.{node_of}
 use Rattle.equipment_node.specs.States.{comms_lines, request_commands}
 use Rattle.equipment_node.proofs.Taking.{commands_then}

@@ -1,24 +1,24 @@
 use Rattle.std.proofs.Common.{rules, sym, ◌∙◌}
-use Rattle.host_node.proofs.Ended.{no_waiting, one_waiting}
-use Rattle.host_node.proofs.endings.end_waiting.Goals as goal
+use Rattle.message_end.proofs.Ended.{no_waiting, one_waiting}
+use Rattle.message_end.proofs.end.MessageEnd.end_waiting.Goals as goal
 
 pub messages-smaller : goal.messages-smaller
-messages-smaller c =
+messages-smaller g c =
     let one =
-    one_waiting c.in-Some.header c.messages.core c.drop_front.new.self c.messages.out c.push.new.self
+    one_waiting c.in-Some.header c.messages.self c.drop_front.new.self c.messages.out c.push.new.self
     (sym c.drop_front.ensures.header ∙ c.in-Some.is) (c.drop_front.ensures.carries c.messages.out) (search rules) in
     one.fewer
 
 pub messages-preserved : goal.messages-preserved
-messages-preserved c =
+messages-preserved g c =
     let one =
-    one_waiting c.in-Some.header c.messages.core c.drop_front.new.self c.messages.out c.push.new.self
+    one_waiting c.in-Some.header c.messages.self c.drop_front.new.self c.messages.out c.push.new.self
     (sym c.drop_front.ensures.header ∙ c.in-Some.is) (c.drop_front.ensures.carries c.messages.out) (search rules) in
     record { done = one.same ∙ c.messages.invariant.done; line = c.messages.invariant.line }
 
-pub returns-clause-does : goal.returns-clause-does
-returns-clause-does c =
+pub returns-clause-carries : goal.returns-clause-carries
+returns-clause-carries g c =
     sym c.messages.invariant.done
-    ∙ no_waiting c.messages.core c.drop_front.new.self c.messages.out
+    ∙ no_waiting c.messages.self c.drop_front.new.self c.messages.out
     (sym c.drop_front.ensures.header ∙ c.in_default.is)
     (c.drop_front.ensures.carries c.messages.out)
