@@ -9,7 +9,7 @@ use Rattle.secs_items.specs.declared.item.Item.{Item}
 use Rattle.secs_items.specs.declared.encode_fault.EncodeFault.{EncodeFault}
 use Rattle.secs_items.specs.Encoding.{encode_fault}
 use Rattle.secs_items.specs.Spelling.{shortest_spelling}
-use Rattle.gem_reports.specs.Reporting.{is_enabled_in}
+use Rattle.gem_reports.specs.Reporting.{is_enabled_in, is_planned}
 use Rattle.trace_log.specs.declared.commands.ToolCommand.{ToolCommand}
 use Rattle.trace_log.specs.declared.commands.ToolCommand.TheVariants as tool
 use Rattle.trace_log.specs.declared.names.Title.{Title}
@@ -30,11 +30,11 @@ use Rattle.equipment_node.specs.Grants.{GrantView}
 use Rattle.equipment_node.specs.declared.kind.Kind.{Kind}
 use Rattle.equipment_node.specs.Own.{OwnView, ToolTurn, is_granted_by, without_grant}
 use Rattle.equipment_node.specs.Replies.{granted_duty, granted_turn}
-use Rattle.equipment_node.specs.Reported.{commands_in, Happened, IsOfEvent, Reported, count_of_events, count_of_reports, events_in, is_reported_by, item_of, next_dataid, past_in, reports_in, tables_in, was_enabled}
+use Rattle.equipment_node.specs.Reported.{Happened, IsOfEvent, IsReported, brought_by, commands_in, count_of_events, count_of_reports, due_behind, events_in, is_brought, is_reported_by, item_of, next_dataid, past_in, reports_in, tables_in, was_enabled}
 use Rattle.equipment_node.specs.Sent as sent
 use Rattle.equipment_node.specs.Tool.{with_event}
 use Rattle.equipment_node.proofs.PlainTurns.{IsNoMore, IsPlain, count_waiting, ungranted}
-use Rattle.equipment_node.proofs.QuietNotes.{IsAsBefore, counted, counted-last, one, one-behind, quiet-note, some-passes}
+use Rattle.equipment_node.proofs.QuietNotes.{AreSettled, IsAsBefore, counted, counted-last, one, one-behind, quiet-note, settled-more, some-passes}
 use Rattle.equipment_node.proofs.SilentCommands.{CoreStep, IsQuietly, IsSilent, OnEither, carried-quietly, done-quietly, either-less, either-then}
 
 -- what the equipment keeps is that of its notes, in which the tool has said this, and there are events for all that it
@@ -48,7 +48,12 @@ pub record Holds (plan : EquipmentPlan) (said : List ToolCommand) (own : OwnView
   pub waits :
       (body : List ℕ)
       → count_of_reports body notes + count_waiting body own.for_grant ≤ count_of_events plan body notes
-  pub reported : Reported plan notes
+  pub settled : AreSettled plan notes
+
+-- an event that happens by its command behind these notes
+abbrev pub happening : ℕ → ℕ → List Happening → Happened
+happening ceid dataid notes =
+    record { ceid = ceid; dataid = dataid; past = Past.Commanded (tool.Event ceid) ∷ past_in notes }
 
 -- an event more than those is there for one more report with this text
 abbrev pub HasSpare : EquipmentPlan → OwnView → List Happening → List ℕ → Type 0
@@ -66,8 +71,26 @@ holds-less plan said own other notes holds less = record {
   events_are = less.events_are ∙ holds.events_are;
   commanded = holds.commanded;
   waits = λ body. let most = holds.waits body in let fewer = less.fewer body in omega (arith, most, fewer);
-  reported = holds.reported;
+  settled = holds.settled;
 }
+
+-- as many reports that were sent or wait, for as many events
+pub waits-as :
+    (plan : EquipmentPlan) (waiting : List GrantView) (old new : List Happening) → reports_in new ≡ reports_in old
+    → events_in new ≡ events_in old
+    → ((body : List ℕ)
+    → count_of_reports body old + count_waiting body waiting ≤ count_of_events plan body old)
+    → (body : List ℕ) → count_of_reports body new + count_waiting body waiting ≤ count_of_events plan body new
+waits-as plan waiting old new reports events most body =
+    subst
+    (λ (sent : List Message).
+    length (filter (λ message. bytes_eq body message.body) sent) + count_waiting body waiting
+    ≤ count_of_events plan body new)
+    (sym reports)
+    (subst
+    (λ (happened : List Happened).
+    count_of_reports body old + count_waiting body waiting ≤ length (filter (is_reported_by plan body) happened))
+    (sym events) (most body))
 
 pub holds-as :
     (plan : EquipmentPlan) (said : List ToolCommand) (own : OwnView) (old new : List Happening)
@@ -77,18 +100,8 @@ holds-as plan said own old new holds same = record {
   tables_are = holds.tables_are ∙ ap (λ (past : List Past). tables_at plan past) (sym same.past);
   events_are = holds.events_are ∙ sym same.next;
   commanded = ap commands_in same.past ∙ holds.commanded;
-  waits = λ body.
-      subst
-      (λ (sent : List Message).
-      length (filter (λ message. bytes_eq body message.body) sent) + count_waiting body own.for_grant
-      ≤ count_of_events plan body new)
-      (sym same.reports)
-      (subst
-      (λ (events : List Happened).
-      count_of_reports body old + count_waiting body own.for_grant
-      ≤ length (filter (is_reported_by plan body) events))
-      (sym same.events) (holds.waits body));
-  reported = same.keeps plan holds.reported;
+  waits = waits-as plan own.for_grant old new same.reports same.events holds.waits;
+  settled = same.keeps plan holds.settled;
 }
 
 -- ---- texts
@@ -162,37 +175,66 @@ report-sent plan said own notes text system holds spare = record {
       let more = counted (λ (message : Message). bytes_eq body message.body)
       (primary_of (sent.event_report text) system) (reports_in notes) in
       omega (arith, most, more);
+  settled =
+      settled-more plan (Happening.Sent (primary_of (sent.event_report text) system)) notes refl
+      (record {
+        s6f11 = λ is.
+            of-event plan (primary_of (sent.event_report text) system) notes refl
+            (let most = spare text in let same = ap one (equal-bytes text) in omega (arith, most, same));
+        s6f16 = λ is. absurd (cc);
+        s6f20 = λ is. absurd (cc);
+        reply = λ is. absurd (cc);
+      })
+      refl holds.settled;
+}
+
+-- what is due behind a command is what it brings by the tables that are kept
+pub due-of :
+    (plan : EquipmentPlan) (said : List ToolCommand) (own : OwnView) (command : ToolCommand) (notes : List Happening)
+    → Holds plan said own notes
+    → due_behind plan (Happening.Recorded (Past.Commanded command) ∷ notes)
+    ≡ brought_by own.tables own.events command
+due-of plan said own command notes holds =
+    ap (λ (t : TablesState). brought_by t (next_dataid notes) command) (sym holds.tables_are)
+    ∙ ap (λ (dataid : ℕ). brought_by own.tables dataid command) (sym holds.events_are)
+
+-- a command and the note that it brings
+pub brought-settled :
+    (plan : EquipmentPlan) (said : List ToolCommand) (own : OwnView) (command : ToolCommand) (what : Happening)
+    (notes : List Happening)
+    → Holds plan said own notes → brought_by own.tables own.events command ≡ Some what → is_brought what ≡ true
+    → IsReported plan what (Happening.Recorded (Past.Commanded command) ∷ notes)
+    → due_behind plan (what ∷ Happening.Recorded (Past.Commanded command) ∷ notes) ≡ None
+    → AreSettled plan (what ∷ Happening.Recorded (Past.Commanded command) ∷ notes)
+brought-settled plan said own command what notes holds brings kind right none = record {
   reported = (
-    record {
-      s6f11 = λ is.
-          of-event plan (primary_of (sent.event_report text) system) notes refl
-          (let most = spare text in let same = ap one (equal-bytes text) in omega (arith, most, same));
-      s6f16 = λ is. absurd (cc);
-      s6f20 = λ is. absurd (cc);
-      reply = λ is. absurd (cc);
-    },
-    holds.reported,
+    ap (λ (b : Bool). if b then Some what else None) kind ∙ sym brings
+        ∙ sym (due-of plan said own command notes holds),
+    right,
+    (sym holds.settled.none_due, tt, holds.settled.reported),
   );
+  none_due = none;
 }
 
 -- an event happens
 pub event-noted :
     (plan : EquipmentPlan) (said : List ToolCommand) (own : OwnView) (ceid : ℕ) (notes : List Happening)
-    (earlier : List Past)
-    → Holds plan said own notes → past_in notes ≡ Past.Commanded (tool.Event ceid) ∷ earlier
-    → Holds plan said (with_event own) (Happening.Event ceid own.events ∷ notes)
-event-noted plan said own ceid notes earlier holds commanded = record {
+    → Holds plan said own notes → is_planned own.tables.reports ceid ≡ true
+    → Holds plan (tool.Event ceid ∷ said) (with_event own)
+    (Happening.Event ceid own.events ∷ Happening.Recorded (Past.Commanded (tool.Event ceid)) ∷ notes)
+event-noted plan said own ceid notes holds planned = record {
   plan_is = holds.plan_is;
   tables_are = holds.tables_are;
   events_are = refl;
-  commanded = holds.commanded;
+  commanded = ap (λ (commands : List ToolCommand). tool.Event ceid ∷ commands) holds.commanded;
   waits = λ body.
       let most = holds.waits body in
-      let more = counted (is_reported_by plan body)
-      (record { ceid = ceid; dataid = own.events; past = past_in notes }) (events_in notes) in
+      let more = counted (is_reported_by plan body) (happening ceid own.events notes) (events_in notes) in
       omega (arith, most, more);
-  reported =
-      (record { dataid_is = holds.events_are; earlier = earlier; commanded = commanded }, holds.reported);
+  settled =
+      brought-settled plan said own (tool.Event ceid) (Happening.Event ceid own.events) notes holds
+      (ap (λ (b : Bool). Some (if b then Happening.Event ceid own.events else Happening.Refused)) planned) refl tt
+      refl;
 }
 
 -- where it is enabled and has a text, it may be reported
@@ -201,7 +243,8 @@ pub event-spare :
     (notes : List Happening)
     → Holds plan said own notes → is_enabled_in own.tables.reports ceid ≡ true
     → spelled_body max (event_item own.tables ceid own.events) ≡ answer.Body text
-    → HasSpare plan (with_event own) (Happening.Event ceid own.events ∷ notes) text
+    → HasSpare plan (with_event own)
+    (Happening.Event ceid own.events ∷ Happening.Recorded (Past.Commanded (tool.Event ceid)) ∷ notes) text
 event-spare plan said own ceid max text notes holds enabled is body =
     let most = holds.waits body in
     let more = counted (is_reported_by plan body) event (events_in notes) in
@@ -209,7 +252,7 @@ event-spare plan said own ceid max text notes holds enabled is body =
     omega (arith, most, more, same)
   where
     event : Happened
-    event = record { ceid = ceid; dataid = own.events; past = past_in notes }
+    event = happening ceid own.events notes
 
     so : IsSpelledSo (event_item own.tables ceid own.events) text
     so = spelled-so max (event_item own.tables ceid own.events) text is
@@ -249,7 +292,7 @@ with-waiting plan said own notes text (Some system) holds spare = record {
       let more = counted-last (λ (one : GrantView). bytes_eq body one.body) own.for_grant
       (record { system = system; body = text }) in
       omega (arith, most, more);
-  reported = holds.reported;
+  settled = holds.settled;
 }
 
 -- one that waits no longer, for it has leave
@@ -312,9 +355,9 @@ module _ (plan : EquipmentPlan) (said : List ToolCommand) (before : List Happeni
   abbrev pub so_far : CoreStep → List Happening
   so_far step = noted_behind step.notes before
 
-  -- it holds still, or all that was noted until the numbers were spent is right
+  -- it holds still, or the numbers are spent and all that was noted until then is right
   abbrev pub Ends : OwnView → Went (EndView Kind) Happening → Type 0
-  Ends own went = OnEither (λ step. Holds plan said own (so_far step)) (λ step. Reported plan (so_far step)) went
+  Ends own went = OnEither (λ step. Holds plan said own (so_far step)) (λ step. AreSettled plan (so_far step)) went
 
   abbrev pub KeepsAt : OwnView → ToolTurn → CoreStep → Type 0
   KeepsAt own turn step = Holds plan said own (so_far step) → Ends turn.own (all_done Some turn.duties step)
@@ -334,13 +377,13 @@ module _ (plan : EquipmentPlan) (said : List ToolCommand) (before : List Happeni
       → IsPlain Asks none Fact lasts own turn → Asks step.next.asked → Fact (so_far step) → KeepsAt own turn step
   plain-at Asks none Fact lasts own turn step plain asks fact holds =
       either-less (IsQuietly Asks none Fact lasts before step) (IsQuietly Asks none Fact lasts before step)
-      (λ next. Holds plan said turn.own (so_far next)) (λ next. Reported plan (so_far next))
+      (λ next. Holds plan said turn.own (so_far next)) (λ next. AreSettled plan (so_far next))
       (all_done Some turn.duties step)
       (done-quietly Asks none Fact lasts before turn.duties step plain.silent asks fact)
       (λ next quiet.
       holds-less plan said own turn.own (so_far next)
       (holds-as plan said own (so_far step) (so_far next) holds quiet.notes) plain.less)
-      (λ next quiet. quiet.notes.keeps plan holds.reported)
+      (λ next quiet. quiet.notes.keeps plan holds.settled)
 
   pub plain : (own : OwnView) (turn : ToolTurn) → IsPlain Free tt Any any-lasts own turn → Keeps own turn
   plain own turn is step holds = plain-at Free tt Any any-lasts own turn step is tt tt holds
@@ -350,13 +393,14 @@ module _ (plan : EquipmentPlan) (said : List ToolCommand) (before : List Happeni
       (lead : Command Kind) (own : OwnView) (turn : ToolTurn) (step : CoreStep) → IsSilent Free tt Any any-lasts lead
       → Keeps own turn → KeepsAt own (led_turn lead turn) step
   led-at lead own turn step silent keeps holds =
-      either-then (λ next. Holds plan said own (so_far next)) (λ next. Reported plan (so_far next))
+      either-then (λ next. Holds plan said own (so_far next)) (λ next. AreSettled plan (so_far next))
       (λ next. Holds plan said turn.own (so_far next)) (carried Some (lead ∷ []) step) (all_done Some turn.duties)
       (either-less (IsQuietly Free tt Any any-lasts before step) (IsQuietly Free tt Any any-lasts before step)
-      (λ next. Holds plan said own (so_far next)) (λ next. Reported plan (so_far next)) (carried Some (lead ∷ []) step)
+      (λ next. Holds plan said own (so_far next)) (λ next. AreSettled plan (so_far next))
+      (carried Some (lead ∷ []) step)
       (carried-quietly Free tt Any any-lasts before (lead ∷ []) step (silent, tt) tt tt)
       (λ next quiet. holds-as plan said own (so_far step) (so_far next) holds quiet.notes)
-      (λ next quiet. quiet.notes.keeps plan holds.reported))
+      (λ next quiet. quiet.notes.keeps plan holds.settled))
       (λ next at. keeps next at)
 
   -- an S6F11 goes, if there is room and a number for it
@@ -365,12 +409,12 @@ module _ (plan : EquipmentPlan) (said : List ToolCommand) (before : List Happeni
       → HasSpare plan own (so_far step) text
       → Ends own (carried Some (Primary (sent.event_report text) ∷ []) step)
   report-at own text step holds spare =
-      either-then (λ next. Holds plan said own (so_far next)) (λ next. Reported plan (so_far next))
+      either-then (λ next. Holds plan said own (so_far next)) (λ next. AreSettled plan (so_far next))
       (λ next. Holds plan said own (so_far next)) (carry Some (Primary (sent.event_report text)) step) (carried Some [])
       (go (is_crowded_out true step.next)) (λ next at. at)
     where
       drawn : (number : Option ℕ) → Ends own (draws number (sends Some (sent.event_report text)) step)
-      drawn None = holds.reported
+      drawn None = holds.settled
       drawn (Some number) =
           subst (λ (notes : List Happening). Holds plan said own notes)
           (sym (one-behind step.notes (Happening.Sent (primary_of (sent.event_report text) number)) before))
@@ -392,7 +436,7 @@ module _ (plan : EquipmentPlan) (said : List ToolCommand) (before : List Happeni
       → HasSpare plan own (so_far step) text
       → Ends own (all_done Some (fixed_turn own (Primary (sent.event_report text) ∷ [])).duties step)
   reports-at own text step holds spare =
-      either-then (λ next. Holds plan said own (so_far next)) (λ next. Reported plan (so_far next))
+      either-then (λ next. Holds plan said own (so_far next)) (λ next. AreSettled plan (so_far next))
       (λ next. Holds plan said own (so_far next)) (carried Some (Primary (sent.event_report text) ∷ []) step)
       (all_done Some []) (report-at own text step holds spare) (λ next at. at)
 

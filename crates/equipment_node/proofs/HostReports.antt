@@ -51,19 +51,20 @@ use Rattle.equipment_node.specs.Codes.{is_accepted_in, is_granted_in}
 use Rattle.equipment_node.specs.Messages.{answer_turn, control_answer_duties, control_request_turn, dropped_turn, error_turn, established_duties, established_turn, is_establish_request, is_online_request, known_turn, message_turn, offline_turn, primary_turn, read_turn, request_turn, stray_turn}
 use Rattle.equipment_node.specs.Own.{OwnView, ToolCommands, ToolDuty, ToolTurn, is_communicating, is_enabled_in as is_comms_enabled, is_local, is_online, with_tables}
 use Rattle.equipment_node.specs.Replies.{denied_turn, granted_turn, loss_turn, matched_turn, reply_turn, secondary_turn}
-use Rattle.equipment_node.specs.Reported.{HoldsItsValues, IsTextOf, Reported, count_of_events, is_of, past_in, reports_in, tables_in}
+use Rattle.equipment_node.specs.Reported.{HoldsItsValues, IsTextOf, count_of_events, is_of, past_in, reports_in, tables_in}
 use Rattle.equipment_node.specs.Sent as sent
 use Rattle.equipment_node.specs.States as states
 use Rattle.equipment_node.proofs.HeldReports.{Any, any-lasts, Ends, Free, Holds, IsSpelledSo, Keeps, KeepsAt, granted-keeps, holds-as, led-at, noted-so, plain, plain-at, so_far, spelled-so}
 use Rattle.equipment_node.proofs.PlainTurns.{IsPlain, count_waiting, answers-silent, abort-silent, comms-plain, control-lines, control-plain, denied-plain, dropped-plain, error-plain, itself, long-silent, loss-plain, nothing-plain, offline-plain, own-request-silent, stray-plain}
-use Rattle.equipment_node.proofs.QuietNotes.{IsAsBefore, IsNone, none-of, none-sent, IsQuietNote, is_report, one-behind, quiet-note}
+use Rattle.equipment_node.proofs.QuietNotes.{AreSettled, IsAsBefore, IsNone, none-of, none-sent, IsQuietNote, is_report, one-behind, quiet-note, settled-more}
 use Rattle.equipment_node.proofs.SilentCommands.{AreSilent, AreSilentDuties, CoreStep, both-duties, either-then}
 
 -- ---- who asks
 
--- the newest primary is this one, if any asks still
+-- the newest primary is this one, if any asks still, and it awaits a reply
 abbrev pub AsksOf : Message → Option Title → Type 0
-AsksOf message asked = (title : Title) → asked ≡ Some title → title ≡ title_of message
+AsksOf message asked =
+    (title : Title) → asked ≡ Some title → (title ≡ title_of message) × (message.wait ≡ true)
 
 pub asks-none : (message : Message) → AsksOf message None
 asks-none message title is = absurd (cc)
@@ -72,10 +73,10 @@ asks-none message title is = absurd (cc)
 abbrev pub IsOther : Message → Type 0
 IsOther message = is_report message.stream (reply_function message.function) ≡ false
 
--- behind notes of which this holds a reply to the message, whatever its text, leaves all as it is
+-- behind notes of which this holds a reply to the message, which has W, leaves all as it is, whatever its text
 abbrev pub MayReply : (List Happening → Type 0) → Message → Type 0
 MayReply Fact message =
-    (body : List ℕ) (notes : List Happening) → Fact notes
+    (body : List ℕ) (notes : List Happening) → message.wait ≡ true → Fact notes
     → IsAsBefore notes (Happening.Sent (reply_of (title_of message) (reply_function message.function) body) ∷ notes)
 
 other-silent :
@@ -88,7 +89,7 @@ other-silent message Fact lasts may body = (
       subst
       (λ (t : Title).
       IsAsBefore notes (Happening.Sent (reply_of t (reply_function t.name.function) body) ∷ notes))
-      (sym (asks title refl)) (may body notes fact),
+      (sym (asks title refl).0) (may body notes (asks title refl).1 fact),
   tt,
 )
 
@@ -101,27 +102,29 @@ pub newest-lasts : (message : Message) (old new : List Happening) → IsAsBefore
 newest-lasts message old new same fact = (fact.0, same.past ∙ fact.1)
 
 may-behind : (message : Message) → IsOther message → MayReply (IsNewest message) message
-may-behind message other body notes fact = record {
+may-behind message other body notes waits fact = record {
   past = refl;
   events = refl;
   reports = ap (λ (b : Bool). if b then out ∷ reports_in notes else reports_in notes) none.s6f11;
   next = refl;
-  keeps = λ plan so. (
-    record {
-      s6f11 = λ is. let e = none.s6f11 in absurd (cc);
-      s6f16 = λ is. let e = none.s6f16 in absurd (cc);
-      s6f20 = λ is. let e = none.s6f20 in absurd (cc);
-      reply = λ is. record {
-        primary = message;
-        earlier = fact.0;
-        newest = fact.1;
-        stream = refl;
-        function = refl;
-        system = refl;
-      };
-    },
-    so,
-  );
+  keeps = λ plan so.
+      settled-more plan (Happening.Sent out) notes refl
+      (record {
+        s6f11 = λ is. let e = none.s6f11 in absurd (cc);
+        s6f16 = λ is. let e = none.s6f16 in absurd (cc);
+        s6f20 = λ is. let e = none.s6f20 in absurd (cc);
+        reply = λ is. record {
+          primary = message;
+          earlier = fact.0;
+          newest = fact.1;
+          awaited = waits;
+          stream = refl;
+          function = refl;
+          wait = refl;
+          system = refl;
+        };
+      })
+      refl so;
 }
   where
     out : Message
@@ -131,7 +134,7 @@ may-behind message other body notes fact = record {
     none = none-of out other
 
 may-establish : (message : Message) → is_establish_request message ≡ true → MayReply Any message
-may-establish message is body notes any =
+may-establish message is body notes waits any =
     go (message.stream == 1) (message.function == 13) refl refl is
   where
     out : Message
@@ -297,7 +300,8 @@ module _
     events_are = holds.events_are;
     commanded = holds.commanded;
     waits = holds.waits;
-    reported = ((earlier, newest), holds.reported);
+    settled =
+        settled-more plan (Happening.Recorded (Past.Asked message)) notes refl (earlier, newest) refl holds.settled;
   }
 
   -- ---- requests of which nothing is said
@@ -430,7 +434,10 @@ module _
         else reports_in notes))
         + count_waiting body own.for_grant ≤ count_of_events plan body notes)
         (sym may.no_event) (holds.waits body);
-    reported = (may.values, holds.reported);
+    settled =
+        settled-more plan
+        (Happening.Sent (reply_of (title_of message) (reply_function message.function) text)) notes refl may.values
+        refl holds.settled;
   }
 
   reply-at :
@@ -464,12 +471,13 @@ module _
       go : (asked : Option Title) → AsksOf message asked
           → Holds plan said own (so_far plan said before (replies Some asked reply_function text step))
       go None it = holds
-      go (Some title) it = room title (it title refl) (nat_le 128 (length step.next.outgoing.waiting))
+      go (Some title) it = room title (it title refl).0 (nat_le 128 (length step.next.outgoing.waiting))
 
   answered-at :
       (message : Message) (text : Text) (own : OwnView) (step : CoreStep) → AsksOf message step.next.asked
       → Holds plan said own (so_far plan said before step)
-      → ((body : List ℕ) → text ≡ answer.Body body → MayAnswer message body (so_far plan said before step))
+      → ((body : List ℕ) → text ≡ answer.Body body → message.wait ≡ true
+      → MayAnswer message body (so_far plan said before step))
       → Ends plan said before own (all_done Some (sent.answer_duties text message) step)
   answered-at message text own step asks holds may = by_text text refl
     where
@@ -485,23 +493,23 @@ module _
       commands_by body wait room =
           if wait then if room then Reply body ∷ [] else Note (Happening.Full (sent.reply_name message)) ∷ [] else []
 
-      loud : (body : List ℕ) → text ≡ answer.Body body → (wait room : Bool)
+      loud : (body : List ℕ) → text ≡ answer.Body body → (wait room : Bool) → message.wait ≡ wait
           → Ends plan said before own (carried Some (commands_by body wait room) step)
-      loud body is true true = reply-at message body own step asks holds (may body is)
-      loud body is true false =
+      loud body is true true waits = reply-at message body own step asks holds (may body is waits)
+      loud body is true false waits =
           noted-so plan said before own (Happening.Full (sent.reply_name message)) step
           (holds-as plan said own (so_far plan said before step)
           (Happening.Full (sent.reply_name message) ∷ so_far plan said before step) holds
           (quiet-note (Happening.Full (sent.reply_name message)) tt (so_far plan said before step)))
-      loud body is false room = holds
+      loud body is false room waits = holds
 
       by_text : (t : Text) → text ≡ t → Ends plan said before own (all_done Some (sent.answer_duties t message) step)
       by_text (answer.Body body) is =
           either-then (λ next. Holds plan said own (so_far plan said before next))
-          (λ next. Reported plan (so_far plan said before next))
+          (λ next. AreSettled plan (so_far plan said before next))
           (λ next. Holds plan said own (so_far plan said before next))
           (carried Some (sent.body_duty body message step.next) step) (all_done Some [])
-          (loud body is message.wait (sent.has_room step.next)) (λ next at. at)
+          (loud body is message.wait (sent.has_room step.next) refl) (λ next at. at)
       by_text answer.TooLong is =
           silent (sent.long_duties message)
           (long-silent (AsksOf message) (asks-none message) Any any-lasts message)
@@ -515,9 +523,9 @@ module _
       Past)
       → IsNamed primary.S6F15 message
       → asked_by (shape_of primary.S6F15) message.body ≡ Some (request.EventReport ceid)
-      → own.tables ≡ tables_in plan notes → past_in notes ≡ Past.Asked message ∷ earlier
+      → own.tables ≡ tables_in plan notes → past_in notes ≡ Past.Asked message ∷ earlier → message.wait ≡ true
       → spelled_body max (event_item own.tables ceid 0) ≡ answer.Body text → MayAnswer message text notes
-  event-answer ceid max message own text notes earlier is asks tables newest spelled = record {
+  event-answer ceid max message own text notes earlier is asks tables newest waits spelled = record {
     no_event = named_so 11;
     values = record {
       s6f11 = λ e. let f = named_so 11 in absurd (cc);
@@ -541,8 +549,10 @@ module _
         primary = message;
         earlier = earlier;
         newest = newest;
+        awaited = waits;
         stream = refl;
         function = refl;
+        wait = refl;
         system = refl;
       };
     };
@@ -566,9 +576,9 @@ module _
       (rptid max : ℕ) (message : Message) (own : OwnView) (text : List ℕ) (notes : List Happening) (earlier : List
       Past)
       → IsNamed primary.S6F19 message → asked_by (shape_of primary.S6F19) message.body ≡ Some (request.Report rptid)
-      → own.tables ≡ tables_in plan notes → past_in notes ≡ Past.Asked message ∷ earlier
+      → own.tables ≡ tables_in plan notes → past_in notes ≡ Past.Asked message ∷ earlier → message.wait ≡ true
       → spelled_body max (report_item_of own.tables rptid) ≡ answer.Body text → MayAnswer message text notes
-  report-answer rptid max message own text notes earlier is asks tables newest spelled = record {
+  report-answer rptid max message own text notes earlier is asks tables newest waits spelled = record {
     no_event = named_so 11;
     values = record {
       s6f11 = λ e. let f = named_so 11 in absurd (cc);
@@ -592,8 +602,10 @@ module _
         primary = message;
         earlier = earlier;
         newest = newest;
+        awaited = waits;
         stream = refl;
         function = refl;
+        wait = refl;
         system = refl;
       };
     };
@@ -674,10 +686,10 @@ module _
         by_ceid (Some ceid) is =
             answered-at message (spelled_body own.plan.line.max_body (event_item own.tables ceid 0))
             (requested (request.EventReport ceid) own) next it (next-holds (request.EventReport ceid) (found ∙ is))
-            (λ body spelled.
+            (λ body spelled waits.
             event-answer ceid own.plan.line.max_body message own body (so_far plan said before next)
             (past_in (so_far plan said before step)) (named primary.S6F15 message with_p) is
-            (next-holds (request.EventReport ceid) (found ∙ is)).tables_are next-past spelled)
+            (next-holds (request.EventReport ceid) (found ∙ is)).tables_are next-past waits spelled)
 
         by_item : (o : Option Item) → item_in message.body ≡ o
             → KeptBy (read_by (option_and_then (λ item. option_map request.EventReport (identifier item)) o) header)
@@ -704,10 +716,10 @@ module _
         by_rptid (Some rptid) is =
             answered-at message (spelled_body own.plan.line.max_body (report_item_of own.tables rptid))
             (requested (request.Report rptid) own) next it (next-holds (request.Report rptid) (found ∙ is))
-            (λ body spelled.
+            (λ body spelled waits.
             report-answer rptid own.plan.line.max_body message own body (so_far plan said before next)
             (past_in (so_far plan said before step)) (named primary.S6F19 message with_p) is
-            (next-holds (request.Report rptid) (found ∙ is)).tables_are next-past spelled)
+            (next-holds (request.Report rptid) (found ∙ is)).tables_are next-past waits spelled)
 
         by_item : (o : Option Item) → item_in message.body ≡ o
             → KeptBy (read_by (option_and_then (λ item. option_map request.Report (identifier item)) o) header)

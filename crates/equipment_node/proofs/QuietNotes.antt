@@ -1,12 +1,12 @@
 -- Notes of which nothing is said where reports are spoken of, and what follows behind others.
-use Rattle.std.proofs.Common.{◌≡◌, refl, sym, ap, subst, ◌∙◌, inl, inr, ◌⊎◌, ◌<◌, ◌+◌, arith, Bool, true, false, ℕ, ◌==◌, ◌&&◌, ◌||◌, List, [], ◌∷◌, ◌++◌, length, cond, if◌then◌else◌}
+use Rattle.std.proofs.Common.{◌≡◌, refl, sym, ap, subst, ◌∙◌, inl, inr, ◌⊎◌, ◌<◌, ◌+◌, arith, Bool, true, false, ℕ, ◌==◌, ◌&&◌, ◌||◌, List, [], ◌∷◌, ◌++◌, length, Some, None, cond, if◌then◌else◌}
 use Rattle.std.specs.Prelude.{filter}
 use Rattle.message_flow.specs.declared.message.Message.{Message}
 use Rattle.trace_log.specs.Log.{Happening}
 use Rattle.message_end.specs.Course.{noted_behind}
 use Rattle.message_end.specs.Own.{Has}
 use Rattle.equipment_tables.specs.declared.plan.EquipmentPlan.{EquipmentPlan}
-use Rattle.equipment_node.specs.Reported.{is_answer, HoldsItsValues, Reported, events_in, is_of, next_dataid, past_in, reports_in}
+use Rattle.equipment_node.specs.Reported.{HoldsItsValues, IsReported, Reported, due_behind, events_in, is_answer, is_brought, is_of, next_dataid, past_in, reports_in}
 
 -- ---- the messages of which something is said
 
@@ -52,14 +52,32 @@ nothing-said plan message before none answer = record {
 
 -- ---- quiet notes
 
--- nothing is read off such a note
+-- nothing is read off such a note, and no command brings it
 abbrev pub IsQuietNote : Happening → Type 0
 IsQuietNote (Happening.EquipmentStarted found base) = ⊥
+IsQuietNote (Happening.Set vid) = ⊥
 IsQuietNote (Happening.Event ceid dataid) = ⊥
+IsQuietNote (Happening.Alarm alid is_set) = ⊥
+IsQuietNote Happening.Refused = ⊥
 IsQuietNote (Happening.Recorded entry) = ⊥
 IsQuietNote (Happening.Sent message) =
     (is_report message.stream message.function ≡ false) × (is_answer message ≡ false)
 IsQuietNote _ = Unit {0}
+
+-- each note is right, and no command still waits for the note that it brings
+pub record AreSettled (plan : EquipmentPlan) (notes : List Happening) : Type 0 where
+  pub reported : Reported plan notes
+  pub none_due : due_behind plan notes ≡ None
+
+-- a note more that no command brings, and which is none
+pub settled-more :
+    (plan : EquipmentPlan) (what : Happening) (notes : List Happening) → is_brought what ≡ false
+    → IsReported plan what notes → due_behind plan (what ∷ notes) ≡ None → AreSettled plan notes
+    → AreSettled plan (what ∷ notes)
+settled-more plan what notes other right none so = record {
+  reported = (ap (λ (b : Bool). if b then Some what else None) other ∙ sym so.none_due, right, so.reported);
+  none_due = none;
+}
 
 -- all that is read off the notes is as it was, and what was said of them is said still
 pub record IsAsBefore (old new : List Happening) : Type 0 where
@@ -67,7 +85,7 @@ pub record IsAsBefore (old new : List Happening) : Type 0 where
   pub events : events_in new ≡ events_in old
   pub reports : reports_in new ≡ reports_in old
   pub next : next_dataid new ≡ next_dataid old
-  pub keeps : (plan : EquipmentPlan) → Reported plan old → Reported plan new
+  pub keeps : (plan : EquipmentPlan) → AreSettled plan old → AreSettled plan new
 
 pub as-it-was : (notes : List Happening) → IsAsBefore notes notes
 as-it-was notes = record { past = refl; events = refl; reports = refl; next = refl; keeps = λ plan so. so }
@@ -89,77 +107,90 @@ none-sent message none answer notes = record {
   events = refl;
   reports = ap (λ (b : Bool). if b then message ∷ reports_in notes else reports_in notes) none.s6f11;
   next = refl;
-  keeps = λ plan so. (nothing-said plan message notes none answer, so);
+  keeps = λ plan so.
+      settled-more plan (Happening.Sent message) notes refl (nothing-said plan message notes none answer) refl so;
+}
+
+-- a note of which nothing is said
+quietly :
+    (what : Happening) (notes : List Happening) → past_in (what ∷ notes) ≡ past_in notes
+    → events_in (what ∷ notes) ≡ events_in notes → reports_in (what ∷ notes) ≡ reports_in notes
+    → next_dataid (what ∷ notes) ≡ next_dataid notes → is_brought what ≡ false
+    → ((plan : EquipmentPlan) → IsReported plan what notes)
+    → ((plan : EquipmentPlan) → due_behind plan (what ∷ notes) ≡ None) → IsAsBefore notes (what ∷ notes)
+quietly what notes past events reports next other right none = record {
+  past = past;
+  events = events;
+  reports = reports;
+  next = next;
+  keeps = λ plan so. settled-more plan what notes other (right plan) (none plan) so;
 }
 
 pub quiet-note : (what : Happening) → IsQuietNote what → (notes : List Happening) → IsAsBefore notes (what ∷ notes)
 quiet-note (Happening.EquipmentStarted found base) quiet notes = absurd quiet
 quiet-note Happening.HostStarted quiet notes =
-    record { past = refl; events = refl; reports = refl; next = refl; keeps = λ plan so. (tt, so) }
+    quietly Happening.HostStarted notes refl refl refl refl refl (λ plan. tt) (λ plan. refl)
 quiet-note Happening.Power quiet notes =
-    record { past = refl; events = refl; reports = refl; next = refl; keeps = λ plan so. (tt, so) }
+    quietly Happening.Power notes refl refl refl refl refl (λ plan. tt) (λ plan. refl)
 quiet-note Happening.Closed quiet notes =
-    record { past = refl; events = refl; reports = refl; next = refl; keeps = λ plan so. (tt, so) }
+    quietly Happening.Closed notes refl refl refl refl refl (λ plan. tt) (λ plan. refl)
 quiet-note (Happening.Sent message) quiet notes = none-sent message (none-of message quiet.0) quiet.1 notes
 quiet-note (Happening.Received message) quiet notes =
-    record { past = refl; events = refl; reports = refl; next = refl; keeps = λ plan so. (tt, so) }
+    quietly (Happening.Received message) notes refl refl refl refl refl (λ plan. tt) (λ plan. refl)
 quiet-note (Happening.Wrote characters) quiet notes =
-    record { past = refl; events = refl; reports = refl; next = refl; keeps = λ plan so. (tt, so) }
+    quietly (Happening.Wrote characters) notes refl refl refl refl refl (λ plan. tt) (λ plan. refl)
 quiet-note (Happening.Comms state) quiet notes =
-    record { past = refl; events = refl; reports = refl; next = refl; keeps = λ plan so. (tt, so) }
+    quietly (Happening.Comms state) notes refl refl refl refl refl (λ plan. tt) (λ plan. refl)
 quiet-note (Happening.Control state) quiet notes =
-    record { past = refl; events = refl; reports = refl; next = refl; keeps = λ plan so. (tt, so) }
+    quietly (Happening.Control state) notes refl refl refl refl refl (λ plan. tt) (λ plan. refl)
 quiet-note (Happening.Spool active) quiet notes =
-    record { past = refl; events = refl; reports = refl; next = refl; keeps = λ plan so. (tt, so) }
-quiet-note (Happening.Set vid) quiet notes =
-    record { past = refl; events = refl; reports = refl; next = refl; keeps = λ plan so. (tt, so) }
+    quietly (Happening.Spool active) notes refl refl refl refl refl (λ plan. tt) (λ plan. refl)
+quiet-note (Happening.Set vid) quiet notes = absurd quiet
 quiet-note (Happening.Event ceid dataid) quiet notes = absurd quiet
-quiet-note (Happening.Alarm alid set) quiet notes =
-    record { past = refl; events = refl; reports = refl; next = refl; keeps = λ plan so. (tt, so) }
+quiet-note (Happening.Alarm alid set) quiet notes = absurd quiet
 quiet-note (Happening.Carried rcmd) quiet notes =
-    record { past = refl; events = refl; reports = refl; next = refl; keeps = λ plan so. (tt, so) }
+    quietly (Happening.Carried rcmd) notes refl refl refl refl refl (λ plan. tt) (λ plan. refl)
 quiet-note (Happening.Display tid text) quiet notes =
-    record { past = refl; events = refl; reports = refl; next = refl; keeps = λ plan so. (tt, so) }
-quiet-note Happening.Refused quiet notes =
-    record { past = refl; events = refl; reports = refl; next = refl; keeps = λ plan so. (tt, so) }
+    quietly (Happening.Display tid text) notes refl refl refl refl refl (λ plan. tt) (λ plan. refl)
+quiet-note Happening.Refused quiet notes = absurd quiet
 quiet-note (Happening.Storing number message) quiet notes =
-    record { past = refl; events = refl; reports = refl; next = refl; keeps = λ plan so. (tt, so) }
+    quietly (Happening.Storing number message) notes refl refl refl refl refl (λ plan. tt) (λ plan. refl)
 quiet-note (Happening.Stored number) quiet notes =
-    record { past = refl; events = refl; reports = refl; next = refl; keeps = λ plan so. (tt, so) }
+    quietly (Happening.Stored number) notes refl refl refl refl refl (λ plan. tt) (λ plan. refl)
 quiet-note (Happening.Leaving number cause) quiet notes =
-    record { past = refl; events = refl; reports = refl; next = refl; keeps = λ plan so. (tt, so) }
+    quietly (Happening.Leaving number cause) notes refl refl refl refl refl (λ plan. tt) (λ plan. refl)
 quiet-note (Happening.Gone number) quiet notes =
-    record { past = refl; events = refl; reports = refl; next = refl; keeps = λ plan so. (tt, so) }
+    quietly (Happening.Gone number) notes refl refl refl refl refl (λ plan. tt) (λ plan. refl)
 quiet-note (Happening.Try number system) quiet notes =
-    record { past = refl; events = refl; reports = refl; next = refl; keeps = λ plan so. (tt, so) }
+    quietly (Happening.Try number system) notes refl refl refl refl refl (λ plan. tt) (λ plan. refl)
 quiet-note (Happening.Duplicate header) quiet notes =
-    record { past = refl; events = refl; reports = refl; next = refl; keeps = λ plan so. (tt, so) }
+    quietly (Happening.Duplicate header) notes refl refl refl refl refl (λ plan. tt) (λ plan. refl)
 quiet-note (Happening.Unexpected header) quiet notes =
-    record { past = refl; events = refl; reports = refl; next = refl; keeps = λ plan so. (tt, so) }
+    quietly (Happening.Unexpected header) notes refl refl refl refl refl (λ plan. tt) (λ plan. refl)
 quiet-note (Happening.Foreign header) quiet notes =
-    record { past = refl; events = refl; reports = refl; next = refl; keeps = λ plan so. (tt, so) }
+    quietly (Happening.Foreign header) notes refl refl refl refl refl (λ plan. tt) (λ plan. refl)
 quiet-note (Happening.TooLongBlock header) quiet notes =
-    record { past = refl; events = refl; reports = refl; next = refl; keeps = λ plan so. (tt, so) }
+    quietly (Happening.TooLongBlock header) notes refl refl refl refl refl (λ plan. tt) (λ plan. refl)
 quiet-note (Happening.Crowded header) quiet notes =
-    record { past = refl; events = refl; reports = refl; next = refl; keeps = λ plan so. (tt, so) }
+    quietly (Happening.Crowded header) notes refl refl refl refl refl (λ plan. tt) (λ plan. refl)
 quiet-note (Happening.DroppedByT4 header) quiet notes =
-    record { past = refl; events = refl; reports = refl; next = refl; keeps = λ plan so. (tt, so) }
+    quietly (Happening.DroppedByT4 header) notes refl refl refl refl refl (λ plan. tt) (λ plan. refl)
 quiet-note (Happening.Failed title) quiet notes =
-    record { past = refl; events = refl; reports = refl; next = refl; keeps = λ plan so. (tt, so) }
+    quietly (Happening.Failed title) notes refl refl refl refl refl (λ plan. tt) (λ plan. refl)
 quiet-note (Happening.TimedOut title) quiet notes =
-    record { past = refl; events = refl; reports = refl; next = refl; keeps = λ plan so. (tt, so) }
+    quietly (Happening.TimedOut title) notes refl refl refl refl refl (λ plan. tt) (λ plan. refl)
 quiet-note (Happening.Stranger title) quiet notes =
-    record { past = refl; events = refl; reports = refl; next = refl; keeps = λ plan so. (tt, so) }
+    quietly (Happening.Stranger title) notes refl refl refl refl refl (λ plan. tt) (λ plan. refl)
 quiet-note (Happening.Dropped name) quiet notes =
-    record { past = refl; events = refl; reports = refl; next = refl; keeps = λ plan so. (tt, so) }
+    quietly (Happening.Dropped name) notes refl refl refl refl refl (λ plan. tt) (λ plan. refl)
 quiet-note (Happening.Denied name) quiet notes =
-    record { past = refl; events = refl; reports = refl; next = refl; keeps = λ plan so. (tt, so) }
+    quietly (Happening.Denied name) notes refl refl refl refl refl (λ plan. tt) (λ plan. refl)
 quiet-note (Happening.Discarded name) quiet notes =
-    record { past = refl; events = refl; reports = refl; next = refl; keeps = λ plan so. (tt, so) }
+    quietly (Happening.Discarded name) notes refl refl refl refl refl (λ plan. tt) (λ plan. refl)
 quiet-note (Happening.TooLong name) quiet notes =
-    record { past = refl; events = refl; reports = refl; next = refl; keeps = λ plan so. (tt, so) }
+    quietly (Happening.TooLong name) notes refl refl refl refl refl (λ plan. tt) (λ plan. refl)
 quiet-note (Happening.Full name) quiet notes =
-    record { past = refl; events = refl; reports = refl; next = refl; keeps = λ plan so. (tt, so) }
+    quietly (Happening.Full name) notes refl refl refl refl refl (λ plan. tt) (λ plan. refl)
 quiet-note (Happening.Recorded past) quiet notes = absurd quiet
 
 -- ---- notes behind notes

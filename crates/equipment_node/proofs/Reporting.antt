@@ -31,7 +31,6 @@ use Rattle.equipment_node.specs.declared.kind.Kind.{Kind}
 use Rattle.equipment_node.specs.Own.{OwnView, ToolPart, ToolTurn, quiet_turn, turn_of}
 use Rattle.equipment_node.specs.Replies.{block_timer, given_up_by_t4, given_up_turn, reply_timer, timeout_turn}
 use Rattle.equipment_node.specs.Histories.{ReportsHold, commands_met, with_command}
-use Rattle.equipment_node.specs.Reported.{Reported}
 use Rattle.equipment_node.specs.Sent as sent
 use Rattle.equipment_node.specs.States as states
 use Rattle.equipment_node.specs.Step.{EquipmentView, begun, beginning, character, delay_timer, failed_turn, flow_turn, input_part, late_parts, line_timer, machine, new_own, offer, start, took_turn}
@@ -40,15 +39,17 @@ use Rattle.equipment_node.proofs.HostReports.{AsksOf, message-keeps}
 use Rattle.equipment_node.proofs.ToolReports.{told-keeps}
 use Rattle.equipment_node.proofs.HeldReports.{Any, any-lasts, Ends, Free, Holds, KeepsAt, holds-as, plain, so_far}
 use Rattle.equipment_node.proofs.PlainTurns.{IsPlain, by-t4-plain, comms-plain, error-plain, errors-silent, fixed-plain, given-up-plain, itself, leaving-plain, led-plain, nothing-plain, timeout-plain}
-use Rattle.equipment_node.proofs.QuietNotes.{adds-quiet, one-behind, quiet-note}
+use Rattle.equipment_node.proofs.QuietNotes.{AreSettled, adds-quiet, one-behind, quiet-note, settled-more}
 use Rattle.equipment_node.proofs.SilentCommands.{CoreStep, OnEither, either-then, told-quiet}
 
 asks-newest : (message : Message) → AsksOf message (asked_by message)
-asks-newest message = go (is_primary message && message.wait)
+asks-newest message = go (is_primary message) message.wait refl
   where
-    go : (b : Bool) → AsksOf message (if b then Some (title_of message) else None)
-    go true title is = cc
-    go false title is = absurd (cc)
+    go : (odd wait : Bool) → message.wait ≡ wait
+        → AsksOf message (if odd && wait then Some (title_of message) else None)
+    go true true waits title is = (cc, waits)
+    go true false waits title is = absurd (cc)
+    go false wait waits title is = absurd (cc)
 
 abbrev NodeStep : Type 0
 NodeStep = Step (Node OwnView Kind) Happening
@@ -59,7 +60,7 @@ module _ (plan : EquipmentPlan) (fits : EquipmentPlanFits plan) (looked : Tables
     HoldsStep step = Holds plan said step.next.own (noted_behind step.notes before)
 
     abbrev IsRight : NodeStep → Type 0
-    IsRight step = Reported plan (noted_behind step.notes before)
+    IsRight step = AreSettled plan (noted_behind step.notes before)
 
     abbrev NodeEnds : Went (Node OwnView Kind) Happening → Type 0
     NodeEnds went = OnEither HoldsStep IsRight went
@@ -308,9 +309,9 @@ module _ (plan : EquipmentPlan) (fits : EquipmentPlanFits plan) (looked : Tables
 
   -- ---- over all starts
 
-  starts-so : (other : EquipmentPlan) (base : ℕ) (notes : List Happening) → other ≡ plan → Reported plan notes
+  starts-so : (other : EquipmentPlan) (base : ℕ) (notes : List Happening) → other ≡ plan → AreSettled plan notes
       → Holds plan [] (new_own other) (Happening.EquipmentStarted [] base ∷ notes)
-  starts-so other base notes same reported =
+  starts-so other base notes same so =
       subst (λ (p : EquipmentPlan). Holds plan [] (new_own p) (Happening.EquipmentStarted [] base ∷ notes)) (sym same)
       (record {
         plan_is = refl;
@@ -318,12 +319,12 @@ module _ (plan : EquipmentPlan) (fits : EquipmentPlanFits plan) (looked : Tables
         events_are = refl;
         commanded = refl;
         waits = λ body. omega arith;
-        reported = (tt, reported);
+        settled = settled-more plan (Happening.EquipmentStarted [] base) notes refl tt refl so;
       })
 
   abbrev IsCourseSo : List ToolCommand → Course EquipmentView → Type 0
   IsCourseSo said (Reached s notes) = Holds plan said s.own notes
-  IsCourseSo said (Stopped notes) = Reported plan notes
+  IsCourseSo said (Stopped notes) = AreSettled plan notes
 
   went-so : (said : List ToolCommand) (before : List Happening) (went : Went EquipmentView Happening)
       → NodeEnds said before went → IsCourseSo said (went_on went before)
@@ -339,7 +340,7 @@ module _ (plan : EquipmentPlan) (fits : EquipmentPlanFits plan) (looked : Tables
       went-so (with_command input (commands_met meetings)) notes (machine.act s input now)
       (step-keeps (commands_met meetings) notes input now s so)
   meeting-keeps (Restarts now) meetings (Reached s notes) so =
-      starts-so s.own.plan s.core.numbers.next notes so.plan_is so.reported
+      starts-so s.own.plan s.core.numbers.next notes so.plan_is so.settled
   meeting-keeps (Writes characters) meetings (Reached s notes) so =
       holds-as plan (commands_met meetings) s.own notes (Happening.Wrote characters ∷ notes) so
       (quiet-note (Happening.Wrote characters) tt notes)
@@ -349,7 +350,7 @@ module _ (plan : EquipmentPlan) (fits : EquipmentPlanFits plan) (looked : Tables
 
   course-so : (meetings : List (Meeting ToolCommand))
       → IsCourseSo (commands_met meetings) (course_of (start plan) machine meetings)
-  course-so [] = starts-so plan 0 [] refl tt
+  course-so [] = starts-so plan 0 [] refl (record { reported = tt; none_due = refl })
   course-so (meeting ∷ meetings) =
       meeting-keeps meeting meetings (course_of (start plan) machine meetings) (course-so meetings)
 
@@ -359,5 +360,9 @@ module _ (plan : EquipmentPlan) (fits : EquipmentPlanFits plan) (looked : Tables
     where
       go : (course : Course EquipmentView) → IsCourseSo (commands_met meetings) course
           → ReportsHold plan course (commands_met meetings)
-      go (Reached s notes) so = record { reported = so.reported; counted = so.commanded }
-      go (Stopped notes) so = record { reported = so; counted = tt }
+      go (Reached s notes) so = record {
+        reported = so.settled.reported;
+        counted = so.commanded;
+        done = so.settled.none_due;
+      }
+      go (Stopped notes) so = record { reported = so.reported; counted = tt; done = so.none_due }

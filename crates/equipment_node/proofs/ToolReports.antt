@@ -3,11 +3,12 @@ use Rattle.std.proofs.Common.{◌≡◌, refl, sym, ap, subst, ◌∙◌, Bool, 
 use Rattle.std.specs.Bool.{beq}
 use Rattle.std.specs.Map.{lookup, set_value}
 use Rattle.std.specs.Option.{option_map_or}
+use Rattle.std.specs.Prelude.{is_some}
 use Rattle.std.proofs.lemmas.Map.Steps.{set_value_same}
 use Rattle.gem_alarms.specs.declared.alarm.Alarm.{Alarm}
 use Rattle.gem_alarms.specs.declared.alarms.AlarmStep.{AlarmStep}
 use Rattle.gem_alarms.specs.declared.alarms.AlarmStep.TheVariants as alarm_step
-use Rattle.gem_alarms.specs.Alarms.{AlarmTable, step_for, step_of, with_set}
+use Rattle.gem_alarms.specs.Alarms.{AlarmTable, alarm_in, step_for, step_of, with_set}
 use Rattle.gem_reports.specs.Reporting.{is_enabled_in, is_planned}
 use Rattle.gem_states.specs.Control.{control_next, control_step}
 use Rattle.gem_states.specs.declared.comms.CommsIn.TheVariants as comms_in
@@ -27,23 +28,24 @@ use Rattle.transact.specs.Numbers.{next_number}
 use Rattle.message_end.specs.Core.{EndView, is_crowded_out, noted}
 use Rattle.message_end.specs.Core.Command.{Note, Primary}
 use Rattle.message_end.specs.Duties.{all_done}
-use Rattle.message_end.specs.Parts.{fixed_turn}
+use Rattle.message_end.specs.Parts.{fixed_turn, led_turn}
 use Rattle.equipment_tables.specs.declared.answers.Answer.{Answer as Text}
 use Rattle.equipment_tables.specs.declared.answers.Answer.TheVariants as answer
 use Rattle.equipment_tables.specs.declared.plan.EquipmentPlan.{EquipmentPlan}
 use Rattle.equipment_tables.specs.Answers.{alarm_item_of, event_item}
 use Rattle.equipment_tables.specs.Laws.{TablesAreLookedBackFor}
+use Rattle.equipment_tables.specs.Past.{tables_at}
 use Rattle.equipment_tables.specs.Plan.{EquipmentPlanFits}
-use Rattle.equipment_tables.specs.Tables.{TablesState, after_command, alarm_after, set_after, set_by}
+use Rattle.equipment_tables.specs.Tables.{TablesState, after_command, alarm_after, set_by}
 use Rattle.equipment_node.specs.declared.kind.Kind.{Kind}
 use Rattle.equipment_node.specs.Own.{OwnView, ToolTurn, is_communicating, is_online, quiet_turn, with_control, with_tables}
-use Rattle.equipment_node.specs.Reported.{past_in}
+use Rattle.equipment_node.specs.Reported.{IsReported, brought_by, commands_in, due_behind, events_in, is_brought, next_dataid, past_in, reports_in, tables_in}
 use Rattle.equipment_node.specs.Sent as sent
 use Rattle.equipment_node.specs.States as states
-use Rattle.equipment_node.specs.Tool.{alarm_line, alarm_report_turn, alarm_turn, attempt_turn, attempted_turn, command_turn, enabled_turn, known_event_turn, online_turn, set_turn, told_turn, with_event}
-use Rattle.equipment_node.proofs.HeldReports.{Any, any-lasts, Ends, Free, HasSpare, Holds, event-noted, event-spare, noted-so, plain, reports-at, so_far, with-waiting}
-use Rattle.equipment_node.proofs.PlainTurns.{IsPlain, comms-plain, control-lines, control-plain, fixed-plain, itself, leaving-plain, led-plain, note-plain, nothing-plain, report-plain}
-use Rattle.equipment_node.proofs.QuietNotes.{one-behind}
+use Rattle.equipment_node.specs.Tool.{alarm_report_turn, alarm_turn, attempt_turn, attempted_turn, command_turn, enabled_turn, known_event_turn, online_turn, refused_turn, set_turn, told_turn, with_event}
+use Rattle.equipment_node.proofs.HeldReports.{Any, any-lasts, Ends, Free, HasSpare, Holds, brought-settled, due-of, event-noted, event-spare, holds-less, noted-so, plain, reports-at, so_far, waits-as, with-waiting}
+use Rattle.equipment_node.proofs.PlainTurns.{IsPlain, at-most, comms-plain, control-lines, control-plain, count_waiting, fixed-plain, itself, leaving-plain, note-plain, nothing-plain, report-plain}
+use Rattle.equipment_node.proofs.QuietNotes.{one-behind, settled-more}
 use Rattle.equipment_node.proofs.SilentCommands.{CoreStep}
 
 -- ---- an alarm that doesn't change
@@ -75,68 +77,85 @@ alarm-stays table alid is_set step is no_change = go (lookup (nat_eq alid) table
     go None at e = refl
     go (Some alarm) at e = found alarm at (beq alarm.is_set is_set) refl e
 
+-- ---- an alarm that is there
+
+abbrev is_known : AlarmStep → Bool
+is_known alarm_step.Unknown = false
+is_known alarm_step.Same = true
+is_known (alarm_step.Changed enabled) = true
+
+is-there :
+    (table : AlarmTable) (alid : ℕ) (is_set : Bool) (step : AlarmStep) → step_of table alid is_set ≡ step
+    → is_some (alarm_in table alid) ≡ is_known step
+is-there table alid is_set step is = go (alarm_in table alid) is
+  where
+    known : (alarm : Alarm) (same : Bool)
+        → (if same then alarm_step.Same else alarm_step.Changed alarm.is_enabled) ≡ step → true ≡ is_known step
+    known alarm true e = ap is_known e
+    known alarm false e = ap is_known e
+
+    go : (o : Option Alarm) → option_map_or (step_for is_set) o alarm_step.Unknown ≡ step → is_some o ≡ is_known step
+    go None e = ap is_known e
+    go (Some alarm) e = known alarm (beq alarm.is_set is_set) e
+
+-- ---- notes that commands bring
+
+-- one of which nothing is read, where no event happens
+record IsOutcome (what : Happening) : Type 0 where
+  past : (notes : List Happening) → past_in (what ∷ notes) ≡ past_in notes
+  events : (notes : List Happening) → events_in (what ∷ notes) ≡ events_in notes
+  reports : (notes : List Happening) → reports_in (what ∷ notes) ≡ reports_in notes
+  next : (notes : List Happening) → next_dataid (what ∷ notes) ≡ next_dataid notes
+  kind : is_brought what ≡ true
+  right : (plan : EquipmentPlan) (notes : List Happening) → IsReported plan what notes
+  none : (plan : EquipmentPlan) (notes : List Happening) → due_behind plan (what ∷ notes) ≡ None
+
+set-outcome : (vid : ℕ) → IsOutcome (Happening.Set vid)
+set-outcome vid = record {
+  past = λ notes. refl;
+  events = λ notes. refl;
+  reports = λ notes. refl;
+  next = λ notes. refl;
+  kind = refl;
+  right = λ plan notes. tt;
+  none = λ plan notes. refl;
+}
+
+alarm-outcome : (alid : ℕ) (is_set : Bool) → IsOutcome (Happening.Alarm alid is_set)
+alarm-outcome alid is_set = record {
+  past = λ notes. refl;
+  events = λ notes. refl;
+  reports = λ notes. refl;
+  next = λ notes. refl;
+  kind = refl;
+  right = λ plan notes. tt;
+  none = λ plan notes. refl;
+}
+
+refused-outcome : IsOutcome Happening.Refused
+refused-outcome = record {
+  past = λ notes. refl;
+  events = λ notes. refl;
+  reports = λ notes. refl;
+  next = λ notes. refl;
+  kind = refl;
+  right = λ plan notes. tt;
+  none = λ plan notes. refl;
+}
+
 -- ---- commands
 
 -- with the tables as a command leaves them
 abbrev pub commanded : ToolCommand → OwnView → OwnView
 commanded command own = with_tables (after_command command own.tables) own
 
+-- as it is noted
+abbrev recorded : ToolCommand → Happening
+recorded command = Happening.Recorded (Past.Commanded command)
+
 module _
     (plan : EquipmentPlan) (fits : EquipmentPlanFits plan) (looked : TablesAreLookedBackFor)
     (said : List ToolCommand) (before : List Happening) where
-  -- ---- commands of which nothing is said
-
-  -- the tables are these, as they were
-  as-tables : (own : OwnView) (tables : TablesState) (turn : ToolTurn) → tables ≡ own.tables
-      → IsPlain Free tt Any any-lasts own turn → IsPlain Free tt Any any-lasts (with_tables tables own) turn
-  as-tables own tables turn same is = record {
-    silent = is.silent;
-    less = record {
-      plan_is = is.less.plan_is;
-      tables_are = is.less.tables_are ∙ sym same;
-      events_are = is.less.events_are;
-      fewer = is.less.fewer;
-    };
-  }
-
-  set-plain :
-      (refusal : Option Setting) (vid : ℕ) (value : Item) (own : OwnView)
-      → refusal_of own.tables.vars vid value ≡ refusal
-      → IsPlain Free tt Any any-lasts (commanded (tool.Set vid value) own) (set_turn refusal vid value own)
-  set-plain (Some refusal) vid value own is =
-      as-tables own (set_after vid value own.tables) (set_turn (Some refusal) vid value own)
-      (ap (λ (r : Option Setting). set_by r vid value own.tables) is)
-      (note-plain Free tt Any any-lasts own Happening.Refused tt)
-  set-plain None vid value own is =
-      note-plain Free tt Any any-lasts (with_tables (set_after vid value own.tables) own) (Happening.Set vid) tt
-
-  alarm-plain :
-      (step : AlarmStep) (alid : ℕ) (is_set : Bool) (own : OwnView) → step_of own.tables.alarms alid is_set ≡ step
-      → IsPlain Free tt Any any-lasts (commanded (tool.Alarm alid is_set) own) (alarm_turn step alid is_set own)
-  alarm-plain alarm_step.Unknown alid is_set own is =
-      as-tables own (alarm_after alid is_set own.tables) (alarm_turn alarm_step.Unknown alid is_set own)
-      (ap (λ (alarms : AlarmTable). record own.tables { alarms = alarms })
-      (alarm-stays own.tables.alarms alid is_set alarm_step.Unknown is tt))
-      (note-plain Free tt Any any-lasts own Happening.Refused tt)
-  alarm-plain alarm_step.Same alid is_set own is =
-      as-tables own (alarm_after alid is_set own.tables) (alarm_turn alarm_step.Same alid is_set own)
-      (ap (λ (alarms : AlarmTable). record own.tables { alarms = alarms })
-      (alarm-stays own.tables.alarms alid is_set alarm_step.Same is tt))
-      (note-plain Free tt Any any-lasts own (Happening.Alarm alid is_set) tt)
-  alarm-plain (alarm_step.Changed enabled) alid is_set own is =
-      led-plain Free tt Any any-lasts changed (alarm_line alid is_set) (alarm_report_turn enabled alid changed)
-      (tt, tt) (go
-      enabled)
-    where
-      changed : OwnView
-      changed = with_tables (alarm_after alid is_set own.tables) own
-
-      go : (enabled : Bool) → IsPlain Free tt Any any-lasts changed (alarm_report_turn enabled alid changed)
-      go true =
-          report-plain Free tt Any any-lasts sent.alarm_report (λ body. (refl, refl))
-          (sent.text_of changed (alarm_item_of changed.tables alid)) changed
-      go false = nothing-plain Free tt Any any-lasts changed
-
   attempt-plain : (own : OwnView) (e : EndView Kind) → IsPlain Free tt Any any-lasts own (attempt_turn own e)
   attempt-plain own e = go (is_crowded_out true e)
     where
@@ -276,117 +295,245 @@ module _
           plain plan said before own (sent.unreported_turn states.event_name own)
           (note-plain Free tt Any any-lasts own (Happening.Dropped states.event_name) tt) step holds
 
-  -- behind the command, which is the newest entry of the history
-  happened-keeps :
-      (known : Bool) (ceid : ℕ) (own : OwnView) (e : EndView Kind) (earlier : List Past) (step : CoreStep)
-      → past_in (so_far plan said before step) ≡ Past.Commanded (tool.Event ceid) ∷ earlier
-      → Holds plan said own (so_far plan said before step)
-      → Ends plan said before (known_event_turn known ceid own e).own
-      (all_done Some (known_event_turn known ceid own e).duties step)
-  happened-keeps false ceid own e earlier step newest holds =
-      plain plan said before own (known_event_turn false ceid own e)
-      (note-plain Free tt Any any-lasts own Happening.Refused tt) step
-      holds
-  happened-keeps true ceid own e earlier step newest holds =
-      go (is_enabled_in own.tables.reports ceid) refl
-    where
-      notes : List Happening
-      notes = Happening.Event ceid own.events ∷ so_far plan said before step
-
-      next : CoreStep
-      next = noted Some (Happening.Event ceid own.events) step
-
-      same : so_far plan said before next ≡ notes
-      same = one-behind step.notes (Happening.Event ceid own.events) before
-
-      noted_event : Holds plan said (with_event own) (so_far plan said before next)
-      noted_event =
-          noted-so plan said before (with_event own) (Happening.Event ceid own.events) step
-          (event-noted plan said own ceid (so_far plan said before step) earlier holds newest)
-
-      go : (enabled : Bool) → is_enabled_in own.tables.reports ceid ≡ enabled
-          → Ends plan said before (enabled_turn enabled ceid own.events (with_event own) e).own
-          (all_done Some (enabled_turn enabled ceid own.events (with_event own) e).duties next)
-      go true is =
-          text-keeps own.events (sent.text_of own (event_item own.tables ceid own.events)) (with_event own) e next
-          noted_event
-          (λ body text.
-          subst (λ (ns : List Happening). HasSpare plan (with_event own) ns body) (sym same)
-          (event-spare plan said own ceid own.plan.line.max_body body (so_far plan said before step) holds is text))
-      go false is =
-          plain plan said before (with_event own) (quiet_turn (with_event own))
-          (nothing-plain Free tt Any any-lasts (with_event own))
-          next
-          noted_event
-
-  -- ---- all of them
-
-  command-keeps :
-      (command : ToolCommand) (now : ℕ) (own : OwnView) (e : EndView Kind) (earlier : List Past) (step : CoreStep)
-      → past_in (so_far plan said before step) ≡ Past.Commanded command ∷ earlier
-      → Holds plan said (commanded command own) (so_far plan said before step)
-      → Ends plan said before (command_turn command now own e).own
-      (all_done Some (command_turn command now own e).duties step)
-  command-keeps (tool.Set vid value) now own e earlier step newest holds =
-      plain plan said before (commanded (tool.Set vid value) own) (command_turn (tool.Set vid value) now own e)
-      (set-plain (refusal_of own.tables.vars vid value) vid value own refl) step holds
-  command-keeps (tool.Event ceid) now own e earlier step newest holds =
-      happened-keeps (is_planned own.tables.reports ceid) ceid own e earlier step newest holds
-  command-keeps (tool.Alarm alid is_set) now own e earlier step newest holds =
-      plain plan said before (commanded (tool.Alarm alid is_set) own) (command_turn (tool.Alarm alid is_set) now own e)
-      (alarm-plain (step_of own.tables.alarms alid is_set) alid is_set own refl) step holds
-  command-keeps tool.Enable now own e earlier step newest holds =
-      plain plan said before own (command_turn tool.Enable now own e)
-      (comms-plain Free tt Any any-lasts comms_in.Enable now own) step
-      holds
-  command-keeps tool.Disable now own e earlier step newest holds =
-      plain plan said before own (command_turn tool.Disable now own e)
-      (leaving-plain Free tt Any any-lasts comms_in.Disable None now own e) step holds
-  command-keeps tool.Online now own e earlier step newest holds =
-      plain plan said before own (command_turn tool.Online now own e) (online-plain own e) step holds
-  command-keeps tool.Offline now own e earlier step newest holds =
-      plain plan said before own (command_turn tool.Offline now own e)
-      (control-plain Free tt Any any-lasts control_in.Offline own)
-      step holds
-  command-keeps tool.Local now own e earlier step newest holds =
-      plain plan said before own (command_turn tool.Local now own e)
-      (control-plain Free tt Any any-lasts control_in.ToLocal own) step
-      holds
-  command-keeps tool.Remote now own e earlier step newest holds =
-      plain plan said before own (command_turn tool.Remote now own e)
-      (control-plain Free tt Any any-lasts control_in.ToRemote own)
-      step holds
-  command-keeps (tool.Terminal tid text) now own e earlier step newest holds =
-      plain plan said before own (command_turn (tool.Terminal tid text) now own e)
-      (report-plain Free tt Any any-lasts sent.terminal_report (λ body. (refl, refl))
-      (sent.text_of own (sent.terminal_item tid text)) own)
-      step holds
+-- ---- a command as it is noted, in a step before which the tool has said this
 
 module _
     (plan : EquipmentPlan) (fits : EquipmentPlanFits plan) (looked : TablesAreLookedBackFor)
     (said : List ToolCommand) (before : List Happening) where
-  recorded :
+  -- the tables as the command leaves them are those that are looked back for
+  told-tables :
       (command : ToolCommand) (own : OwnView) (notes : List Happening) → Holds plan said own notes
-      → Holds plan (command ∷ said) (commanded command own) (Happening.Recorded (Past.Commanded command) ∷ notes)
-  recorded command own notes holds = record {
+      → after_command command own.tables ≡ tables_in plan (recorded command ∷ notes)
+  told-tables command own notes holds =
+      ap (λ (t : TablesState). after_command command t) holds.tables_are
+      ∙ sym (looked.next plan (past_in notes) (Past.Commanded command) fits)
+
+  -- behind the command and the note that it brings
+  abbrev behind : ToolCommand → Happening → CoreStep → CoreStep
+  behind command what step = noted Some what (noted Some (recorded command) step)
+
+  behind-is :
+      (command : ToolCommand) (what : Happening) (step : CoreStep)
+      → so_far plan said before (behind command what step)
+      ≡ what ∷ recorded command ∷ so_far plan said before step
+  behind-is command what step =
+      one-behind (noted Some (recorded command) step).notes what before
+      ∙ ap (λ (notes : List Happening). what ∷ notes) (one-behind step.notes (recorded command) before)
+
+  behind-so :
+      (command : ToolCommand) (what : Happening) (own : OwnView) (step : CoreStep)
+      → Holds plan (command ∷ said) own (what ∷ recorded command ∷ so_far plan said before step)
+      → Holds plan (command ∷ said) own (so_far plan said before (behind command what step))
+  behind-so command what own step holds =
+      subst (λ (notes : List Happening). Holds plan (command ∷ said) own notes)
+      (sym (behind-is command what step)) holds
+
+  -- ---- a command that brings none of these notes
+
+  other-noted :
+      (command : ToolCommand) (own : OwnView) (notes : List Happening)
+      → brought_by own.tables own.events command ≡ None → after_command command own.tables ≡ own.tables
+      → Holds plan said own notes → Holds plan (command ∷ said) own (recorded command ∷ notes)
+  other-noted command own notes none same holds = record {
     plan_is = holds.plan_is;
-    tables_are =
-        ap (λ (t : TablesState). after_command command t) holds.tables_are
-        ∙ sym (looked.next plan (past_in notes) (Past.Commanded command) fits);
+    tables_are = sym same ∙ told-tables command own notes holds;
     events_are = holds.events_are;
     commanded = ap (λ (cs : List ToolCommand). command ∷ cs) holds.commanded;
     waits = holds.waits;
-    reported = (tt, holds.reported);
+    settled =
+        settled-more plan (recorded command) notes refl tt (due-of plan said own command notes holds ∙ none)
+        holds.settled;
   }
+
+  other-keeps :
+      (command : ToolCommand) (own : OwnView) (turn : ToolTurn) (step : CoreStep)
+      → brought_by own.tables own.events command ≡ None → after_command command own.tables ≡ own.tables
+      → IsPlain Free tt Any any-lasts own turn → Holds plan said own (so_far plan said before step)
+      → Ends plan (command ∷ said) before turn.own
+      (all_done Some (led_turn (Note (recorded command)) turn).duties step)
+  other-keeps command own turn step none same is holds =
+      plain plan (command ∷ said) before own turn is (noted Some (recorded command) step)
+      (noted-so plan (command ∷ said) before own (recorded command) step
+      (other-noted command own (so_far plan said before step) none same holds))
+
+  -- ---- a command with what came of it, where no event happens
+
+  outcome-noted :
+      (command : ToolCommand) (what : Happening) (own : OwnView) (notes : List Happening) → IsOutcome what
+      → brought_by own.tables own.events command ≡ Some what → Holds plan said own notes
+      → Holds plan (command ∷ said) (commanded command own) (what ∷ recorded command ∷ notes)
+  outcome-noted command what own notes is brings holds = record {
+    plan_is = holds.plan_is;
+    tables_are =
+        told-tables command own notes holds
+        ∙ ap (λ (past : List Past). tables_at plan past) (sym (is.past (recorded command ∷ notes)));
+    events_are = holds.events_are ∙ sym (is.next (recorded command ∷ notes));
+    commanded =
+        ap commands_in (is.past (recorded command ∷ notes))
+        ∙ ap (λ (cs : List ToolCommand). command ∷ cs) holds.commanded;
+    waits =
+        waits-as plan own.for_grant notes (what ∷ recorded command ∷ notes) (is.reports (recorded command ∷ notes))
+        (is.events (recorded command ∷ notes)) holds.waits;
+    settled =
+        brought-settled plan said own command what notes holds brings is.kind
+        (is.right plan (recorded command ∷ notes)) (is.none plan (recorded command ∷ notes));
+  }
+
+  -- the tables stay as they were
+  unchanged-noted :
+      (command : ToolCommand) (what : Happening) (own : OwnView) (notes : List Happening) → IsOutcome what
+      → brought_by own.tables own.events command ≡ Some what → after_command command own.tables ≡ own.tables
+      → Holds plan said own notes → Holds plan (command ∷ said) own (what ∷ recorded command ∷ notes)
+  unchanged-noted command what own notes is brings same holds =
+      holds-less plan (command ∷ said) (commanded command own) own (what ∷ recorded command ∷ notes)
+      (outcome-noted command what own notes is brings holds)
+      (record {
+        plan_is = refl;
+        tables_are = sym same;
+        events_are = refl;
+        fewer = λ body. at-most (count_waiting body own.for_grant);
+      })
+
+  refused-keeps :
+      (command : ToolCommand) (own : OwnView) (step : CoreStep)
+      → brought_by own.tables own.events command ≡ Some Happening.Refused
+      → after_command command own.tables ≡ own.tables → Holds plan said own (so_far plan said before step)
+      → Ends plan (command ∷ said) before own
+      (all_done Some (led_turn (Note (recorded command)) (refused_turn own)).duties step)
+  refused-keeps command own step brings same holds =
+      behind-so command Happening.Refused own step
+      (unchanged-noted command Happening.Refused own (so_far plan said before step) refused-outcome brings same holds)
+
+  -- ---- variables
+
+  set-keeps :
+      (refusal : Option Setting) (vid : ℕ) (value : Item) (own : OwnView) (step : CoreStep)
+      → refusal_of own.tables.vars vid value ≡ refusal → Holds plan said own (so_far plan said before step)
+      → Ends plan (tool.Set vid value ∷ said) before (set_turn refusal vid value own).own
+      (all_done Some
+      (led_turn (Note (recorded (tool.Set vid value))) (set_turn refusal vid value own)).duties step)
+  set-keeps (Some refusal) vid value own step is holds =
+      refused-keeps (tool.Set vid value) own step
+      (ap (λ (r : Option Setting). Some (if is_some r then Happening.Refused else Happening.Set vid)) is)
+      (ap (λ (r : Option Setting). set_by r vid value own.tables) is) holds
+  set-keeps None vid value own step is holds =
+      behind-so (tool.Set vid value) (Happening.Set vid) (commanded (tool.Set vid value) own) step
+      (outcome-noted (tool.Set vid value) (Happening.Set vid) own (so_far plan said before step) (set-outcome vid)
+      (ap (λ (r : Option Setting). Some (if is_some r then Happening.Refused else Happening.Set vid)) is) holds)
+
+  -- ---- alarms
+
+  alarm-brings :
+      (found : AlarmStep) (alid : ℕ) (is_set : Bool) (own : OwnView) → step_of own.tables.alarms alid is_set ≡ found
+      → brought_by own.tables own.events (tool.Alarm alid is_set)
+      ≡ Some (if is_known found then Happening.Alarm alid is_set else Happening.Refused)
+  alarm-brings found alid is_set own is =
+      ap (λ (b : Bool). Some (if b then Happening.Alarm alid is_set else Happening.Refused))
+      (is-there own.tables.alarms alid is_set found is)
+
+  alarm-same :
+      (found : AlarmStep) (alid : ℕ) (is_set : Bool) (own : OwnView) → step_of own.tables.alarms alid is_set ≡ found
+      → IsNoChange found → after_command (tool.Alarm alid is_set) own.tables ≡ own.tables
+  alarm-same found alid is_set own is no_change =
+      ap (λ (alarms : AlarmTable). record own.tables { alarms = alarms })
+      (alarm-stays own.tables.alarms alid is_set found is no_change)
+
+  alarm-keeps :
+      (found : AlarmStep) (alid : ℕ) (is_set : Bool) (own : OwnView) (step : CoreStep)
+      → step_of own.tables.alarms alid is_set ≡ found → Holds plan said own (so_far plan said before step)
+      → Ends plan (tool.Alarm alid is_set ∷ said) before (alarm_turn found alid is_set own).own
+      (all_done Some
+      (led_turn (Note (recorded (tool.Alarm alid is_set))) (alarm_turn found alid is_set own)).duties step)
+  alarm-keeps alarm_step.Unknown alid is_set own step is holds =
+      refused-keeps (tool.Alarm alid is_set) own step (alarm-brings alarm_step.Unknown alid is_set own is)
+      (alarm-same alarm_step.Unknown alid is_set own is tt) holds
+  alarm-keeps alarm_step.Same alid is_set own step is holds =
+      behind-so (tool.Alarm alid is_set) (Happening.Alarm alid is_set) own step
+      (unchanged-noted (tool.Alarm alid is_set) (Happening.Alarm alid is_set) own (so_far plan said before step)
+      (alarm-outcome alid is_set) (alarm-brings alarm_step.Same alid is_set own is)
+      (alarm-same alarm_step.Same alid is_set own is tt) holds)
+  alarm-keeps (alarm_step.Changed enabled) alid is_set own step is holds =
+      plain plan (tool.Alarm alid is_set ∷ said) before changed (alarm_report_turn enabled alid changed) (go enabled)
+      (behind (tool.Alarm alid is_set) (Happening.Alarm alid is_set) step)
+      (behind-so (tool.Alarm alid is_set) (Happening.Alarm alid is_set) changed step
+      (outcome-noted (tool.Alarm alid is_set) (Happening.Alarm alid is_set) own (so_far plan said before step)
+      (alarm-outcome alid is_set) (alarm-brings (alarm_step.Changed enabled) alid is_set own is) holds))
+    where
+      changed : OwnView
+      changed = with_tables (alarm_after alid is_set own.tables) own
+
+      go : (enabled : Bool) → IsPlain Free tt Any any-lasts changed (alarm_report_turn enabled alid changed)
+      go true =
+          report-plain Free tt Any any-lasts sent.alarm_report (λ body. (refl, refl))
+          (sent.text_of changed (alarm_item_of changed.tables alid)) changed
+      go false = nothing-plain Free tt Any any-lasts changed
+
+  -- ---- events
+
+  happened-keeps :
+      (known : Bool) (ceid : ℕ) (own : OwnView) (e : EndView Kind) (step : CoreStep)
+      → is_planned own.tables.reports ceid ≡ known → Holds plan said own (so_far plan said before step)
+      → Ends plan (tool.Event ceid ∷ said) before (known_event_turn known ceid own e).own
+      (all_done Some (led_turn (Note (recorded (tool.Event ceid))) (known_event_turn known ceid own e)).duties step)
+  happened-keeps false ceid own e step is holds =
+      refused-keeps (tool.Event ceid) own step
+      (ap (λ (b : Bool). Some (if b then Happening.Event ceid own.events else Happening.Refused)) is) refl holds
+  happened-keeps true ceid own e step planned holds = go (is_enabled_in own.tables.reports ceid) refl
+    where
+      next : CoreStep
+      next = behind (tool.Event ceid) (Happening.Event ceid own.events) step
+
+      noted_event : Holds plan (tool.Event ceid ∷ said) (with_event own) (so_far plan said before next)
+      noted_event =
+          behind-so (tool.Event ceid) (Happening.Event ceid own.events) (with_event own) step
+          (event-noted plan said own ceid (so_far plan said before step) holds planned)
+
+      go : (enabled : Bool) → is_enabled_in own.tables.reports ceid ≡ enabled
+          → Ends plan (tool.Event ceid ∷ said) before (enabled_turn enabled ceid own.events (with_event own) e).own
+          (all_done Some (enabled_turn enabled ceid own.events (with_event own) e).duties next)
+      go true is =
+          text-keeps plan fits looked (tool.Event ceid ∷ said) before own.events
+          (sent.text_of own (event_item own.tables ceid own.events)) (with_event own) e next noted_event
+          (λ body text.
+          subst (λ (ns : List Happening). HasSpare plan (with_event own) ns body)
+          (sym (behind-is (tool.Event ceid) (Happening.Event ceid own.events) step))
+          (event-spare plan said own ceid own.plan.line.max_body body (so_far plan said before step) holds is text))
+      go false is =
+          plain plan (tool.Event ceid ∷ said) before (with_event own) (quiet_turn (with_event own))
+          (nothing-plain Free tt Any any-lasts (with_event own)) next noted_event
+
+  -- ---- all of them
 
   pub told-keeps :
       (command : ToolCommand) (now : ℕ) (own : OwnView) (e : EndView Kind) (step : CoreStep)
       → Holds plan said own (so_far plan said before step)
       → Ends plan (command ∷ said) before (told_turn command now own e).own
       (all_done Some (told_turn command now own e).duties step)
-  told-keeps command now own e step holds =
-      command-keeps plan fits looked (command ∷ said) before command now own e (past_in (so_far plan said before step))
-      (noted Some (Happening.Recorded (Past.Commanded command)) step)
-      (ap past_in (one-behind step.notes (Happening.Recorded (Past.Commanded command)) before))
-      (noted-so plan (command ∷ said) before (commanded command own) (Happening.Recorded (Past.Commanded command)) step
-      (recorded command own (so_far plan said before step) holds))
+  told-keeps (tool.Set vid value) now own e step holds =
+      set-keeps (refusal_of own.tables.vars vid value) vid value own step refl holds
+  told-keeps (tool.Event ceid) now own e step holds =
+      happened-keeps (is_planned own.tables.reports ceid) ceid own e step refl holds
+  told-keeps (tool.Alarm alid is_set) now own e step holds =
+      alarm-keeps (step_of own.tables.alarms alid is_set) alid is_set own step refl holds
+  told-keeps tool.Enable now own e step holds =
+      other-keeps tool.Enable own (command_turn tool.Enable now own e) step refl refl
+      (comms-plain Free tt Any any-lasts comms_in.Enable now own) holds
+  told-keeps tool.Disable now own e step holds =
+      other-keeps tool.Disable own (command_turn tool.Disable now own e) step refl refl
+      (leaving-plain Free tt Any any-lasts comms_in.Disable None now own e) holds
+  told-keeps tool.Online now own e step holds =
+      other-keeps tool.Online own (command_turn tool.Online now own e) step refl refl
+      (online-plain plan fits looked said before own e) holds
+  told-keeps tool.Offline now own e step holds =
+      other-keeps tool.Offline own (command_turn tool.Offline now own e) step refl refl
+      (control-plain Free tt Any any-lasts control_in.Offline own) holds
+  told-keeps tool.Local now own e step holds =
+      other-keeps tool.Local own (command_turn tool.Local now own e) step refl refl
+      (control-plain Free tt Any any-lasts control_in.ToLocal own) holds
+  told-keeps tool.Remote now own e step holds =
+      other-keeps tool.Remote own (command_turn tool.Remote now own e) step refl refl
+      (control-plain Free tt Any any-lasts control_in.ToRemote own) holds
+  told-keeps (tool.Terminal tid text) now own e step holds =
+      other-keeps (tool.Terminal tid text) own (command_turn (tool.Terminal tid text) now own e) step refl refl
+      (report-plain Free tt Any any-lasts sent.terminal_report (λ body. (refl, refl))
+      (sent.text_of own (sent.terminal_item tid text)) own) holds

@@ -1,10 +1,12 @@
 -- What is said of the reports among all that the equipment has noted: each holds what its variables held as its event
--- happened, or as it was asked for (SEMI E30, event data collection). The newest comes first: what was noted before is
--- the rest of the list.
-use Rattle.std.specs.Prelude.{◌≡◌, ◌<◌, ◌^◌, ◌%◌, ◌+◌, ◌==◌, ◌&&◌, ℕ, Bool, true, not, List, [], ◌∷◌, length, filter, bytes_eq, Some, None, is_some, if◌then◌else◌}
-use Rattle.gem_reports.specs.Reporting.{is_enabled_in}
+-- happened, or as it was asked for (SEMI E30, event data collection); and each event, like each setting, is of its
+-- command. The newest comes first: what was noted before is the rest of the list.
+use Rattle.std.specs.Prelude.{◌≡◌, ◌<◌, ◌^◌, ◌%◌, ◌+◌, ◌==◌, ◌&&◌, ℕ, Bool, true, false, not, List, [], ◌∷◌, length, filter, bytes_eq, Option, Some, None, is_some, if◌then◌else◌}
+use Rattle.gem_alarms.specs.Alarms.{alarm_in}
+use Rattle.gem_reports.specs.Reporting.{is_enabled_in, is_planned}
 use Rattle.gem_shapes.specs.declared.request.Request.{Request}
 use Rattle.gem_shapes.specs.declared.request.Request.TheVariants as request
+use Rattle.gem_vars.specs.Settings.{refusal_of}
 use Rattle.message_flow.specs.declared.message.Message.{Message}
 use Rattle.secs_items.specs.declared.item.Item.{Item}
 use Rattle.secs_items.specs.Encoding.{encode_fault}
@@ -141,13 +143,16 @@ abbrev pub is_answer : Message → Bool
 is_answer message =
     (not (message.function % 2 == 1) && not (message.function == 0)) && not (is_of 1 14 message)
 
--- it answers the newest request that counts. So each request to which the host has an answer counts
+-- it answers the newest request that counts, which has W, and has none itself; S6F16 and S6F20 are such replies, too.
+-- So each request to which the host has an answer counts
 pub record IsReply (message : Message) (past : List Past) : Type 0 where
   pub primary : Message
   pub earlier : List Past
   pub newest : past ≡ Past.Asked primary ∷ earlier
+  pub awaited : primary.wait ≡ true
   pub stream : message.stream ≡ primary.stream
   pub function : message.function ≡ reply_function primary.function
+  pub wait : message.wait ≡ false
   pub system : message.system ≡ primary.system
 
 pub record HoldsItsValues (plan : EquipmentPlan) (message : Message) (before : List Happening) : Type 0 where
@@ -156,24 +161,54 @@ pub record HoldsItsValues (plan : EquipmentPlan) (message : Message) (before : L
   pub s6f20 : is_of 6 20 message ≡ true → AnswersForReport plan message before
   pub reply : is_answer message ≡ true → IsReply message (past_in before)
 
--- an event comes of a command of the tool, and has the next DATAID
-pub record IsNumbered (ceid dataid : ℕ) (before : List Happening) : Type 0 where
-  pub dataid_is : dataid ≡ next_dataid before
-  pub earlier : List Past
-  pub commanded : past_in before ≡ Past.Commanded (tool.Event ceid) ∷ earlier
+-- ---- commands of the tool
+
+-- the note that a command brings, by the tables before it and the DATAID of the next event: that it is carried out, or
+-- that it is refused, where its setting is, or where there is no such event or alarm. Other commands bring none of
+-- these (this profile)
+abbrev pub brought_by : TablesState → ℕ → ToolCommand → Option Happening
+brought_by tables dataid (tool.Set vid value) =
+    Some (if is_some (refusal_of tables.vars vid value) then Happening.Refused else Happening.Set vid)
+brought_by tables dataid (tool.Event ceid) =
+    Some (if is_planned tables.reports ceid then Happening.Event ceid dataid else Happening.Refused)
+brought_by tables dataid (tool.Alarm alid is_set) =
+    Some (if is_some (alarm_in tables.alarms alid) then Happening.Alarm alid is_set else Happening.Refused)
+brought_by tables dataid _ = None
+
+-- the note that is due right behind these: the one that the newest of them brings, if that is a command
+abbrev pub due_behind : EquipmentPlan → List Happening → Option Happening
+due_behind plan [] = None
+due_behind plan (Happening.Recorded (Past.Commanded command) ∷ before) =
+    brought_by (tables_in plan before) (next_dataid before) command
+due_behind plan (_ ∷ before) = None
+
+-- a note of a kind that commands bring
+abbrev pub is_brought : Happening → Bool
+is_brought (Happening.Set vid) = true
+is_brought (Happening.Event ceid dataid) = true
+is_brought (Happening.Alarm alid is_set) = true
+is_brought Happening.Refused = true
+is_brought _ = false
+
+-- such a note stands right behind the command that brings it and nowhere else, and no other note stands there. So there
+-- is one event for each command that brings one
+abbrev pub IsBrought : EquipmentPlan → Happening → List Happening → Type 0
+IsBrought plan what before = (if is_brought what then Some what else None) ≡ due_behind plan before
+
+-- ---- all notes
 
 -- a request counts right behind its delivery; a command of the tool counts as it comes
 abbrev pub IsRecorded : Past → List Happening → Type 0
 IsRecorded (Past.Asked primary) before = (earlier : List Happening) × (before ≡ Happening.Received primary ∷ earlier)
 IsRecorded (Past.Commanded command) before = Unit {0}
 
+-- what is said of a note by its kind
 abbrev pub IsReported : EquipmentPlan → Happening → List Happening → Type 0
 IsReported plan (Happening.Sent message) before = HoldsItsValues plan message before
-IsReported plan (Happening.Event ceid dataid) before = IsNumbered ceid dataid before
 IsReported plan (Happening.Recorded entry) before = IsRecorded entry before
 IsReported plan _ before = Unit {0}
 
 -- every note agrees with all notes before it (this profile)
 abbrev pub Reported : EquipmentPlan → List Happening → Type 0
 Reported plan [] = Unit {0}
-Reported plan (what ∷ before) = IsReported plan what before × Reported plan before
+Reported plan (what ∷ before) = IsBrought plan what before × IsReported plan what before × Reported plan before

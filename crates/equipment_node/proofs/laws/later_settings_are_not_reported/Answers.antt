@@ -19,5 +19,5 @@ of-planned plan ceid event body (inr none) text = absurd none
 
 pub returns : goal.returns
 returns c = λ plan ceid vid value message is reported.
-    let of = reported.0.s6f11 is in
+    let of = reported.1.s6f11 is in
     of-planned plan ceid of.event message.body of.happened of.body
