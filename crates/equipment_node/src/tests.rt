@@ -38,6 +38,12 @@ enum Given {
     Local,
     // The host sends a message of one block: stream, function, W, system bytes and text.
     Sent(u8, u8, bool, u32, &'static [u8]),
+    // A block of the host: stream, function and W; system bytes; its number, and whether it is the last one; text.
+    Part((u8, u8, bool), u32, (u16, bool), &'static [u8]),
+    // S1F1 of another side or device: whether from the equipment, device, system bytes.
+    Foreign(bool, u16, u32),
+    // The host begins so many messages, each of two blocks at least.
+    Begin(u32),
     // S2F33 of the host, which defines a report of so many times variable 1.
     Define(u8),
     // Nothing: it acts next at this moment.
@@ -325,6 +331,474 @@ static ENDS: [Case; 4] = [
     },
 ];
 
+// S1F13 is refused: by another COMMACK, a text of another shape, and an abort. It is sent again when the delay is
+// over, or when a message comes that is no reply.
+static REFUSES: [Case; 8] = [
+    Case {
+        now: 0,
+        given: Given::Time,
+        text: Text::Whole(b"comms WAIT-CRA\nsent S1F13 W 00000000 0102410747454D4C494E45410131\n"),
+    },
+    Case {
+        now: 0,
+        given: Given::Sent(1, 14, false, 0, &[0x01, 0x02, 0x21, 0x01, 0x01, 0x01, 0x00]),
+        text: Text::Whole(b"rx S1F14 00000000 01022101010100\ncomms WAIT-DELAY\n"),
+    },
+    Case {
+        now: 0,
+        given: Given::Sent(1, 2, false, 99, &[]),
+        text: Text::Whole(b"rx S1F2 00000063 -\nstranger S1F2 00000063\n"),
+    },
+    Case {
+        now: 10_000,
+        given: Given::Time,
+        text: Text::Whole(b"comms WAIT-CRA\nsent S1F13 W 00000001 0102410747454D4C494E45410131\n"),
+    },
+    Case {
+        now: 10_000,
+        given: Given::Sent(1, 14, false, 1, &[0x21, 0x01, 0x00]),
+        text: Text::Whole(b"rx S1F14 00000001 210100\ncomms WAIT-DELAY\n"),
+    },
+    Case {
+        now: 20_000,
+        given: Given::Time,
+        text: Text::Whole(b"comms WAIT-CRA\nsent S1F13 W 00000002 0102410747454D4C494E45410131\n"),
+    },
+    Case {
+        now: 20_000,
+        given: Given::Sent(1, 0, false, 2, &[]),
+        text: Text::Whole(b"rx S1F0 00000002 -\ncomms WAIT-DELAY\n"),
+    },
+    Case {
+        now: 20_000,
+        given: Given::Sent(2, 41, false, 77, &[]),
+        text: Text::Whole(
+            b"rx S2F41 0000004D -\ndropped S2F41\ncomms WAIT-CRA\nsent S1F13 W 00000003 0102410747454D4C494E45410131\n",
+        ),
+    },
+];
+
+// COMMACK is one byte 00 of kind B, in a list of two.
+static REFUSES_ON: [Case; 8] = [
+    Case {
+        now: 20_000,
+        given: Given::Sent(
+            1,
+            14,
+            false,
+            3,
+            &[0x01, 0x03, 0x21, 0x01, 0x00, 0x01, 0x00, 0x01, 0x00],
+        ),
+        text: Text::Whole(b"rx S1F14 00000003 010321010001000100\ncomms WAIT-DELAY\n"),
+    },
+    Case {
+        now: 30_000,
+        given: Given::Time,
+        text: Text::Whole(b"comms WAIT-CRA\nsent S1F13 W 00000004 0102410747454D4C494E45410131\n"),
+    },
+    Case {
+        now: 30_000,
+        given: Given::Sent(
+            1,
+            14,
+            false,
+            4,
+            &[0x01, 0x02, 0x21, 0x02, 0x00, 0x00, 0x01, 0x00],
+        ),
+        text: Text::Whole(b"rx S1F14 00000004 0102210200000100\ncomms WAIT-DELAY\n"),
+    },
+    Case {
+        now: 40_000,
+        given: Given::Time,
+        text: Text::Whole(b"comms WAIT-CRA\nsent S1F13 W 00000005 0102410747454D4C494E45410131\n"),
+    },
+    Case {
+        now: 40_000,
+        given: Given::Sent(1, 14, false, 5, &[0x01, 0x02, 0xA5, 0x01, 0x00, 0x01, 0x00]),
+        text: Text::Whole(b"rx S1F14 00000005 0102A501000100\ncomms WAIT-DELAY\n"),
+    },
+    Case {
+        now: 50_000,
+        given: Given::Time,
+        text: Text::Whole(b"comms WAIT-CRA\nsent S1F13 W 00000006 0102410747454D4C494E45410131\n"),
+    },
+    Case {
+        now: 50_000,
+        given: Given::Sent(1, 14, false, 6, &[]),
+        text: Text::Whole(b"rx S1F14 00000006 -\ncomms WAIT-DELAY\n"),
+    },
+    Case {
+        now: 60_000,
+        given: Given::Time,
+        text: Text::Whole(b"comms WAIT-CRA\nsent S1F13 W 00000007 0102410747454D4C494E45410131\n"),
+    },
+];
+
+const LONG: &[u8] = &[0; 244];
+
+// A reply to S1F13 that is no good ends it as T3 does: its first block is missing, it is too long, it breaks off. The
+// host is told of nothing, since the communication is not established.
+static LOSES: [Case; 8] = [
+    Case {
+        now: 60_000,
+        given: Given::Part((1, 14, false), 7, (2, true), &[0x00]),
+        text: Text::Whole(
+            b"unexpected 0000010E800200000007\nt3 S1F13 W 00000007\ncomms WAIT-DELAY\n",
+        ),
+    },
+    Case {
+        now: 70_000,
+        given: Given::Time,
+        text: Text::Whole(b"comms WAIT-CRA\nsent S1F13 W 00000008 0102410747454D4C494E45410131\n"),
+    },
+    Case {
+        now: 70_000,
+        given: Given::Part((1, 14, false), 8, (1, false), LONG),
+        text: Text::Whole(b""),
+    },
+    Case {
+        now: 70_000,
+        given: Given::Part((1, 14, false), 8, (2, true), LONG),
+        text: Text::Whole(b"toolong 0000010E800200000008\nt3 S1F13 W 00000008\ncomms WAIT-DELAY\n"),
+    },
+    Case {
+        now: 80_000,
+        given: Given::Time,
+        text: Text::Whole(b"comms WAIT-CRA\nsent S1F13 W 00000009 0102410747454D4C494E45410131\n"),
+    },
+    Case {
+        now: 81_000,
+        given: Given::Part((1, 14, false), 9, (1, false), &[]),
+        text: Text::Whole(b""),
+    },
+    Case {
+        now: 125_999,
+        given: Given::Time,
+        text: Text::Whole(b""),
+    },
+    Case {
+        now: 126_000,
+        given: Given::Time,
+        text: Text::Whole(b"t4 0000010E000100000009\nt3 S1F13 W 00000009\ncomms WAIT-DELAY\n"),
+    },
+];
+
+// In WAIT DELAY a block of another device is dropped, and S1F13 of the host establishes the communication, whatever its
+// text; without W it gets no answer.
+static IS_ASKED: [Case; 4] = [
+    Case {
+        now: 126_000,
+        given: Given::Foreign(false, 1, 5),
+        text: Text::Whole(b"foreign 00018101800100000005\n"),
+    },
+    Case {
+        now: 126_000,
+        given: Given::Sent(1, 13, false, 500, &[0xFF]),
+        text: Text::Whole(b"rx S1F13 000001F4 FF\ncomms COMMUNICATING\n"),
+    },
+    Case {
+        now: 136_000,
+        given: Given::Time,
+        text: Text::Whole(b""),
+    },
+    Case {
+        now: 136_000,
+        given: Given::Sent(1, 13, true, 501, &[0xFF]),
+        text: Text::Whole(
+            b"rx S1F13 W 000001F5 FF\nsent S1F14 000001F5 01022101000102410747454D4C494E45410131\n",
+        ),
+    },
+];
+
+// Blocks that are no good: of another device, of another side, and that one again; of a message that is too long, or
+// whose first block is missing. A number of 0 is good for an only block.
+static IS_TOLD: [Case; 8] = [
+    Case {
+        now: 0,
+        given: Given::Foreign(false, 1, 5),
+        text: Text::Whole(
+            b"foreign 00018101800100000005\nsent S9F1 00000001 210A00018101800100000005\n",
+        ),
+    },
+    Case {
+        now: 0,
+        given: Given::Foreign(true, 0, 6),
+        text: Text::Whole(
+            b"foreign 80008101800100000006\nsent S9F1 00000002 210A80008101800100000006\n",
+        ),
+    },
+    Case {
+        now: 0,
+        given: Given::Foreign(true, 0, 6),
+        text: Text::Whole(b"duplicate 80008101800100000006\n"),
+    },
+    Case {
+        now: 0,
+        given: Given::Part((1, 3, true), 7, (1, false), LONG),
+        text: Text::Whole(b""),
+    },
+    Case {
+        now: 0,
+        given: Given::Part((1, 3, true), 7, (2, true), LONG),
+        text: Text::Whole(
+            b"toolong 00008103800200000007\nsent S9F11 00000003 210A00008103800200000007\n",
+        ),
+    },
+    Case {
+        now: 0,
+        given: Given::Part((1, 3, true), 8, (2, true), &[]),
+        text: Text::Whole(b"unexpected 00008103800200000008\n"),
+    },
+    Case {
+        now: 0,
+        given: Given::Part((1, 3, true), 9, (0, false), &[]),
+        text: Text::Whole(b"unexpected 00008103000000000009\n"),
+    },
+    Case {
+        now: 0,
+        given: Given::Part((1, 1, true), 10, (0, true), &[]),
+        text: Text::Whole(b"rx S1F1 W 0000000A -\nsent S1F0 0000000A -\n"),
+    },
+];
+
+// GRANT6 is one byte 00 of kind B: all else denies leave.
+static DENIES: [Case; 8] = [
+    Case {
+        now: 0,
+        given: Given::Event(1),
+        text: Text::Whole(b"event 1 0\nsent S6F5 W 00000001 0102B10400000000B10400000182\n"),
+    },
+    Case {
+        now: 0,
+        given: Given::Sent(6, 6, false, 1, &[0x21, 0x02, 0x00, 0x00]),
+        text: Text::Whole(b"rx S6F6 00000001 21020000\ndenied S6F11 W\n"),
+    },
+    Case {
+        now: 0,
+        given: Given::Event(1),
+        text: Text::Whole(b"event 1 1\nsent S6F5 W 00000002 0102B10400000001B10400000182\n"),
+    },
+    Case {
+        now: 0,
+        given: Given::Sent(6, 6, false, 2, &[0xA5, 0x01, 0x00]),
+        text: Text::Whole(b"rx S6F6 00000002 A50100\ndenied S6F11 W\n"),
+    },
+    Case {
+        now: 0,
+        given: Given::Event(1),
+        text: Text::Whole(b"event 1 2\nsent S6F5 W 00000003 0102B10400000002B10400000182\n"),
+    },
+    Case {
+        now: 0,
+        given: Given::Sent(6, 6, false, 3, &[]),
+        text: Text::Whole(b"rx S6F6 00000003 -\ndenied S6F11 W\n"),
+    },
+    Case {
+        now: 0,
+        given: Given::Event(1),
+        text: Text::Whole(b"event 1 3\nsent S6F5 W 00000004 0102B10400000003B10400000182\n"),
+    },
+    Case {
+        now: 0,
+        given: Given::Sent(6, 6, false, 4, &[0x01, 0x00]),
+        text: Text::Whole(b"rx S6F6 00000004 0100\ndenied S6F11 W\n"),
+    },
+];
+
+// A reply to S6F5 that is no good ends it as T3 does: its first block is missing, it is too long, there is no room for
+// it.
+static GIVES_UP: [Case; 8] = [
+    Case {
+        now: 0,
+        given: Given::Event(1),
+        text: Text::Whole(b"event 1 4\nsent S6F5 W 00000005 0102B10400000004B10400000182\n"),
+    },
+    Case {
+        now: 0,
+        given: Given::Part((6, 6, false), 5, (2, true), &[]),
+        text: Text::Whole(
+            b"unexpected 00000606800200000005\nt3 S6F5 W 00000005\ndenied S6F11 W\n\
+              sent S9F9 00000006 210A80008605800100000005\n",
+        ),
+    },
+    Case {
+        now: 0,
+        given: Given::Event(1),
+        text: Text::Whole(b"event 1 5\nsent S6F5 W 00000007 0102B10400000005B10400000182\n"),
+    },
+    Case {
+        now: 0,
+        given: Given::Part((6, 6, false), 7, (1, false), LONG),
+        text: Text::Whole(b""),
+    },
+    Case {
+        now: 0,
+        given: Given::Part((6, 6, false), 7, (2, true), LONG),
+        text: Text::Whole(
+            b"toolong 00000606800200000007\nsent S9F11 00000008 210A00000606800200000007\n\
+              t3 S6F5 W 00000007\ndenied S6F11 W\n\
+              sent S9F9 00000009 210A80008605800100000007\n",
+        ),
+    },
+    Case {
+        now: 0,
+        given: Given::Event(1),
+        text: Text::Whole(b"event 1 6\nsent S6F5 W 0000000A 0102B10400000006B10400000182\n"),
+    },
+    Case {
+        now: 0,
+        given: Given::Begin(16),
+        text: Text::Whole(b""),
+    },
+    Case {
+        now: 0,
+        given: Given::Part((6, 6, false), 10, (1, false), &[]),
+        text: Text::Whole(
+            b"crowded 0000060600010000000A\nt3 S6F5 W 0000000A\ndenied S6F11 W\n\
+              sent S9F9 0000000B 210A8000860580010000000A\n",
+        ),
+    },
+];
+
+// The first block of a reply stops T3, and T4 ends its transaction then. Another block than the next one ends it at
+// once, and the block that was awaited is a stray one.
+static COMES_LATE: [Case; 8] = [
+    Case {
+        now: 44_000,
+        given: Given::Part((6, 6, false), 1, (1, false), &[0x21]),
+        text: Text::Whole(b""),
+    },
+    Case {
+        now: 45_000,
+        given: Given::Time,
+        text: Text::Whole(b""),
+    },
+    Case {
+        now: 88_999,
+        given: Given::Time,
+        text: Text::Whole(b""),
+    },
+    Case {
+        now: 89_000,
+        given: Given::Time,
+        text: Text::Whole(
+            b"t4 00000606000100000001\nt3 S6F5 W 00000001\ndenied S6F11 W\n\
+              sent S9F9 00000002 210A80008605800100000001\n",
+        ),
+    },
+    Case {
+        now: 89_000,
+        given: Given::Event(1),
+        text: Text::Whole(b"event 1 1\nsent S6F5 W 00000003 0102B10400000001B10400000182\n"),
+    },
+    Case {
+        now: 89_000,
+        given: Given::Part((6, 6, false), 3, (1, false), &[0x21]),
+        text: Text::Whole(b""),
+    },
+    Case {
+        now: 89_000,
+        given: Given::Part((6, 6, false), 3, (3, false), &[0x01]),
+        text: Text::Whole(
+            b"unexpected 00000606000300000003\nt3 S6F5 W 00000003\ndenied S6F11 W\n\
+              sent S9F9 00000004 210A80008605800100000003\n",
+        ),
+    },
+    Case {
+        now: 89_000,
+        given: Given::Part((6, 6, false), 3, (2, true), &[0x01, 0x00]),
+        text: Text::Whole(b"unexpected 00000606800200000003\n"),
+    },
+];
+
+// A report that waits for leave goes though the tool is off-line by then, and draws its number when it goes. A later
+// one is dropped. An abort ends a report, and so does a reply, whatever its text.
+static GOES_AT_LAST: [Case; 8] = [
+    Case {
+        now: 0,
+        given: Given::Alarm,
+        text: Text::Whole(
+            b"alarm 7 set\nsent S5F1 W 00000002 0103210183B1040000000741085052455353555245\n",
+        ),
+    },
+    Case {
+        now: 0,
+        given: Given::Sent(1, 15, true, 20, &[]),
+        text: Text::Whole(
+            b"rx S1F15 W 00000014 -\ncontrol HOST-OFF-LINE\nsent S1F16 00000014 210100\n",
+        ),
+    },
+    Case {
+        now: 0,
+        given: Given::Part((6, 6, false), 1, (1, false), &[0x21]),
+        text: Text::Whole(b""),
+    },
+    Case {
+        now: 0,
+        given: Given::Part((6, 6, false), 1, (2, true), &[0x01, 0x00]),
+        text: Text::Front(
+            b"rx S6F6 00000001 210100\nsent S6F11 W 00000003 0103B10400000000B10400000001",
+        ),
+    },
+    Case {
+        now: 0,
+        given: Given::Event(1),
+        text: Text::Whole(b"event 1 1\ndropped S6F11 W\n"),
+    },
+    Case {
+        now: 0,
+        given: Given::Sent(5, 0, false, 2, &[]),
+        text: Text::Whole(b"rx S5F0 00000002 -\n"),
+    },
+    Case {
+        now: 0,
+        given: Given::Sent(6, 12, false, 3, &[0xFF]),
+        text: Text::Whole(b"rx S6F12 00000003 FF\n"),
+    },
+    Case {
+        now: 90_000,
+        given: Given::Time,
+        text: Text::Whole(b""),
+    },
+];
+
+// The operator asks to be on-line, and gets an abort, a reply that is no good, and S1F2, whatever its text.
+static ATTEMPTS_IN_VAIN: [Case; 6] = [
+    Case {
+        now: 0,
+        given: Given::Online,
+        text: Text::Whole(b"control ATTEMPT-ON-LINE\nsent S1F1 W 00000001 -\n"),
+    },
+    Case {
+        now: 0,
+        given: Given::Sent(1, 0, false, 1, &[]),
+        text: Text::Whole(b"rx S1F0 00000001 -\ncontrol EQUIPMENT-OFF-LINE\n"),
+    },
+    Case {
+        now: 0,
+        given: Given::Online,
+        text: Text::Whole(b"control ATTEMPT-ON-LINE\nsent S1F1 W 00000002 -\n"),
+    },
+    Case {
+        now: 0,
+        given: Given::Part((1, 2, false), 2, (2, true), &[]),
+        text: Text::Whole(
+            b"unexpected 00000102800200000002\nt3 S1F1 W 00000002\ncontrol EQUIPMENT-OFF-LINE\n\
+              sent S9F9 00000003 210A80008101800100000002\n",
+        ),
+    },
+    Case {
+        now: 0,
+        given: Given::Online,
+        text: Text::Whole(b"control ATTEMPT-ON-LINE\nsent S1F1 W 00000004 -\n"),
+    },
+    Case {
+        now: 0,
+        given: Given::Sent(1, 2, false, 4, &[0xFF]),
+        text: Text::Whole(b"rx S1F2 00000004 FF\ncontrol REMOTE\n"),
+    },
+];
+
 fn copied(alloc: Global, text: &[u8]) -> Option<Row<u8>> {
     Row::of(alloc, text).ok()
 }
@@ -375,7 +849,7 @@ fn plan(alloc: Global) -> Option<EquipmentPlan> {
             },
             t3: 45_000,
             t4: 45_000,
-            max_body: 1_048_576,
+            max_body: 400,
         },
         mdln: copied(alloc, b"GEMLINE")?,
         softrev: copied(alloc, b"1")?,
@@ -491,19 +965,37 @@ fn takes(
     last
 }
 
+// The only block of a message.
+const WHOLE: (u16, bool) = (1, true);
+
 // A block of the host.
-fn block(name: (u8, u8, bool), system: u32, body: &[u8]) -> Option<Block> {
+fn block(name: (u8, u8, bool), system: u32, place: (u16, bool), body: &[u8]) -> Option<Block> {
     let header = Header {
         from_equipment: false,
         device: 0,
         wait: name.2,
         stream: name.0,
         function: name.1,
+        last: place.1,
+        number: place.0,
+        system,
+    };
+    Block::new(header, body)
+}
+
+// S1F1 of another side or device.
+fn foreign(from_equipment: bool, device: u16, system: u32) -> Option<Block> {
+    let header = Header {
+        from_equipment,
+        device,
+        wait: true,
+        stream: 1,
+        function: 1,
         last: true,
         number: 1,
         system,
     };
-    Block::new(header, body)
+    Block::new(header, &[])
 }
 
 // The host sends a block, and takes all that it wants to send then.
@@ -583,10 +1075,29 @@ fn defines(
     hears(
         alloc,
         equipment,
-        block((2, 33, true), 1, body.as_slice()),
+        block((2, 33, true), 1, WHOLE, body.as_slice()),
         now,
         text,
     )
+}
+
+// The host begins so many messages.
+fn begins(
+    alloc: Global,
+    equipment: &mut Equipment,
+    count: u32,
+    now: u64,
+    text: &mut Row<u8>,
+) -> bool
+    requires { now < 2 ^ 62 }
+{
+    for system in 0..count {
+        let first = block((1, 3, true), system, (1, false), &[]);
+        if !hears(alloc, equipment, first, now, text) {
+            return false;
+        }
+    }
+    true
 }
 
 fn is_done(
@@ -614,9 +1125,18 @@ fn is_done(
         Given::Online => obeys(alloc, equipment, &ToolCommand::Online, now, text),
         Given::Local => obeys(alloc, equipment, &ToolCommand::Local, now, text),
         Given::Sent(stream, function, wait, system, body) => {
-            let block = block((*stream, *function, *wait), *system, body);
+            let block = block((*stream, *function, *wait), *system, WHOLE, body);
             hears(alloc, equipment, block, now, text)
         }
+        Given::Part(name, system, place, body) => {
+            let block = block(*name, *system, *place, body);
+            hears(alloc, equipment, block, now, text)
+        }
+        Given::Foreign(from_equipment, device, system) => {
+            let block = foreign(*from_equipment, *device, *system);
+            hears(alloc, equipment, block, now, text)
+        }
+        Given::Begin(count) => begins(alloc, equipment, *count, now, text),
         Given::Define(count) => defines(alloc, equipment, *count, now, text),
         Given::ActsAt(at) => equipment.deadline() == Some(*at),
     }
@@ -764,5 +1284,74 @@ fn disabled_all_ends(rt: HostRuntime) -> Result<(), Fail> {
             &[&ESTABLISHES, &GOES_ONLINE, &REPORTS_MANY, &ASKS, &ENDS]
         )
     );
+    Ok(())
+}
+
+#[test]
+fn s1f13_is_refused(rt: HostRuntime) -> Result<(), Fail> {
+    assert!(rt; runs(rt.alloc(), &[&REFUSES, &REFUSES_ON, &LOSES, &IS_ASKED]));
+    Ok(())
+}
+
+#[test]
+fn the_host_is_told_of_bad_blocks(rt: HostRuntime) -> Result<(), Fail> {
+    assert!(rt; runs(rt.alloc(), &[&ESTABLISHES, &IS_TOLD]));
+    Ok(())
+}
+
+#[test]
+fn bad_replies_are_no_leave(rt: HostRuntime) -> Result<(), Fail> {
+    assert!(rt;
+        runs(
+            rt.alloc(),
+            &[
+                &ESTABLISHES,
+                &GOES_ONLINE,
+                &REPORTS_MANY,
+                &DENIES,
+                &GIVES_UP
+            ]
+        )
+    );
+    Ok(())
+}
+
+#[test]
+fn a_reply_comes_in_parts(rt: HostRuntime) -> Result<(), Fail> {
+    assert!(rt;
+        runs(
+            rt.alloc(),
+            &[
+                &ESTABLISHES,
+                &GOES_ONLINE,
+                &REPORTS_MANY,
+                &ASKS,
+                &COMES_LATE
+            ]
+        )
+    );
+    Ok(())
+}
+
+#[test]
+fn a_report_goes_at_last(rt: HostRuntime) -> Result<(), Fail> {
+    assert!(rt;
+        runs(
+            rt.alloc(),
+            &[
+                &ESTABLISHES,
+                &GOES_ONLINE,
+                &REPORTS_MANY,
+                &ASKS,
+                &GOES_AT_LAST
+            ]
+        )
+    );
+    Ok(())
+}
+
+#[test]
+fn attempts_fail(rt: HostRuntime) -> Result<(), Fail> {
+    assert!(rt; runs(rt.alloc(), &[&ESTABLISHES, &IS_OFFLINE, &ATTEMPTS_IN_VAIN]));
     Ok(())
 }

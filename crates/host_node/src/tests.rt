@@ -364,6 +364,154 @@ static ACCEPTS: [Case; 8] = [
     },
 ];
 
+// S1F14 with another COMMACK changes no state, and neither does an abort.
+static REFUSES: [Case; 8] = [
+    Case {
+        now: 0,
+        given: Given::Send(1, 13, true, &[0x01, 0x00]),
+        line: ENQ,
+        notes: &[b"sent S1F13 W 00000000 0100"],
+    },
+    Case {
+        now: 0,
+        given: Given::Chars(EOT),
+        line: &[
+            0x0C, 0x00, 0x00, 0x81, 0x0D, 0x80, 0x01, 0x00, 0x00, 0x00, 0x00, 0x01, 0x00, 0x01,
+            0x10,
+        ],
+        notes: &[],
+    },
+    Case {
+        now: 0,
+        given: Given::Chars(&[0x06, 0x05]),
+        line: EOT,
+        notes: &[],
+    },
+    Case {
+        now: 0,
+        given: Given::Chars(&[
+            0x11, 0x80, 0x00, 0x01, 0x0E, 0x80, 0x01, 0x00, 0x00, 0x00, 0x00, 0x01, 0x02, 0x21,
+            0x01, 0x01, 0x01, 0x00, 0x01, 0x37,
+        ]),
+        line: ACK,
+        notes: &[b"rx S1F14 00000000 01022101010100"],
+    },
+    Case {
+        now: 0,
+        given: Given::Send(1, 13, true, &[0x01, 0x00]),
+        line: ENQ,
+        notes: &[b"sent S1F13 W 00000001 0100"],
+    },
+    Case {
+        now: 0,
+        given: Given::Chars(EOT),
+        line: &[
+            0x0C, 0x00, 0x00, 0x81, 0x0D, 0x80, 0x01, 0x00, 0x00, 0x00, 0x01, 0x01, 0x00, 0x01,
+            0x11,
+        ],
+        notes: &[],
+    },
+    Case {
+        now: 0,
+        given: Given::Chars(&[0x06, 0x05]),
+        line: EOT,
+        notes: &[],
+    },
+    Case {
+        now: 0,
+        given: Given::Chars(&[
+            0x0A, 0x80, 0x00, 0x01, 0x00, 0x80, 0x01, 0x00, 0x00, 0x00, 0x01, 0x01, 0x03,
+        ]),
+        line: ACK,
+        notes: &[b"rx S1F0 00000001 -"],
+    },
+];
+
+// A text of another shape changes nothing, either. A reply whose first block is missing ends its question as T3 does.
+static BREAKS: [Case; 8] = [
+    Case {
+        now: 0,
+        given: Given::Send(1, 13, true, &[0x01, 0x00]),
+        line: ENQ,
+        notes: &[b"sent S1F13 W 00000000 0100"],
+    },
+    Case {
+        now: 0,
+        given: Given::Chars(EOT),
+        line: &[
+            0x0C, 0x00, 0x00, 0x81, 0x0D, 0x80, 0x01, 0x00, 0x00, 0x00, 0x00, 0x01, 0x00, 0x01,
+            0x10,
+        ],
+        notes: &[],
+    },
+    Case {
+        now: 0,
+        given: Given::Chars(&[0x06, 0x05]),
+        line: EOT,
+        notes: &[],
+    },
+    Case {
+        now: 0,
+        given: Given::Chars(&[
+            0x0D, 0x80, 0x00, 0x01, 0x0E, 0x80, 0x01, 0x00, 0x00, 0x00, 0x00, 0x21, 0x01, 0x00,
+            0x01, 0x32,
+        ]),
+        line: ACK,
+        notes: &[b"rx S1F14 00000000 210100"],
+    },
+    Case {
+        now: 0,
+        given: Given::Send(1, 13, true, &[0x01, 0x00]),
+        line: ENQ,
+        notes: &[b"sent S1F13 W 00000001 0100"],
+    },
+    Case {
+        now: 0,
+        given: Given::Chars(EOT),
+        line: &[
+            0x0C, 0x00, 0x00, 0x81, 0x0D, 0x80, 0x01, 0x00, 0x00, 0x00, 0x01, 0x01, 0x00, 0x01,
+            0x11,
+        ],
+        notes: &[],
+    },
+    Case {
+        now: 0,
+        given: Given::Chars(&[0x06, 0x05]),
+        line: EOT,
+        notes: &[],
+    },
+    Case {
+        now: 0,
+        given: Given::Chars(&[
+            0x0A, 0x80, 0x00, 0x01, 0x0E, 0x80, 0x02, 0x00, 0x00, 0x00, 0x01, 0x01, 0x12,
+        ]),
+        line: ACK,
+        notes: &[b"unexpected 8000010E800200000001", b"t3 S1F13 W 00000001"],
+    },
+];
+
+// S1F14 that nobody awaits establishes nothing.
+static IS_STRANGE: [Case; 2] = [
+    Case {
+        now: 0,
+        given: Given::Chars(ENQ),
+        line: EOT,
+        notes: &[],
+    },
+    Case {
+        now: 0,
+        given: Given::Chars(&[
+            0x11, 0x80, 0x00, 0x01, 0x0E, 0x80, 0x01, 0x00, 0x00, 0x00, 0x09, 0x01, 0x02, 0x21,
+            0x01, 0x00, 0x01, 0x00, 0x01, 0x3F,
+        ]),
+        line: ACK,
+        notes: &[
+            b"rx S1F14 00000009 01022101000100",
+            b"stranger S1F14 00000009",
+        ],
+    },
+];
+
 // T3 runs from the acknowledgement on, and changes no state.
 static TIMES_OUT: [Case; 5] = [
     Case {
@@ -545,5 +693,13 @@ fn s1f14_establishes_communication(rt: HostRuntime) -> Result<(), Fail> {
 #[test]
 fn t3_ends_a_transaction(rt: HostRuntime) -> Result<(), Fail> {
     assert!(rt; runs(rt.alloc(), &TIMES_OUT));
+    Ok(())
+}
+
+#[test]
+fn s1f14_refuses(rt: HostRuntime) -> Result<(), Fail> {
+    assert!(rt; runs(rt.alloc(), &REFUSES));
+    assert!(rt; runs(rt.alloc(), &BREAKS));
+    assert!(rt; runs(rt.alloc(), &IS_STRANGE));
     Ok(())
 }
