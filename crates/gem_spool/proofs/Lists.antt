@@ -33,7 +33,7 @@ module _ {D : Type 0} (members : disk.Ghosts D) (v : SpoolView D) where
   settled_before w at bytes settles t told =
       told_before (members.told v.disk) (λ s. with_sync (with_write at bytes s)) (members.told w.disk) t settles told
 
-  drop_told : (w : SpoolView D) → Drops members v (Ok w) → (t : Story) → members.told w.disk ≡ Some t →
+  pub drop_told : (w : SpoolView D) → Drops members v (Ok w) → (t : Story) → members.told w.disk ≡ Some t →
       (s : Story) × (members.told v.disk ≡ Some s)
   drop_told w drops t told = settled_before w (slot_place (first_slot v)) (0 ∷ []) drops.0.disk.told t told
 
@@ -45,7 +45,7 @@ module _ {D : Type 0} (members : disk.Ghosts D) (v : SpoolView D) where
         ∙ ap (λ (l : List Message). drop 1 l) (has.is old.0 old.1);
   }
 
-  reserve_told : (after : D) → HasReserved members v after Done → (t : Story) → members.told after ≡ Some t →
+  pub reserve_told : (after : D) → HasReserved members v after Done → (t : Story) → members.told after ≡ Some t →
       (s : Story) × (members.told v.disk ≡ Some s)
   reserve_told after done t told =
       let on : (members.health v.disk).stopped ≡ false =
@@ -72,21 +72,27 @@ module _ {D : Type 0} (members : disk.Ghosts D) (v : SpoolView D) where
       record { is = λ t told. has.is t (sym looks.0.told ∙ told) }
 
 module _ {D : Type 0} (members : disk.Ghosts D) where
+  pub put_told : (v : SpoolView D) (stream function : ℕ) (body : List ℕ) (u w : SpoolView D) →
+      Stages members v stream function body (Ok u) → Seals members u (Ok w) → (t : Story) →
+      members.told w.disk ≡ Some t → (s : Story) × (members.told v.disk ≡ Some s)
+  put_told v stream function body u w staged sealed t told =
+      let mid = settled_before members u w (slot_place (next_slot u)) (90 ∷ []) sealed.0.disk.told t told in
+      settled_before members v u (slot_place (next_slot v) + 1) (parts_of (next_of v) stream function body)
+      staged.0.disk.told mid.0 mid.1
+
   pub put_list : (v : SpoolView D) (stream function : ℕ) (body : List ℕ) → room_for v (length body) ≡ Fits →
       (u w : SpoolView D) → Stages members v stream function body (Ok u) → Seals members u (Ok w) →
       (list : List Message) → HasList members v list →
       HasList members w (list ++ numbered v stream function body ∷ [])
   put_list v stream function body fits u w staged sealed list has = record {
     is = λ t told.
-        let mid = settled_before members u w (slot_place (next_slot u)) (90 ∷ []) sealed.0.disk.told t told in
-        let old = settled_before members v u (slot_place (next_slot v) + 1) (parts_of (next_of v) stream function body)
-        staged.0.disk.told mid.0 mid.1 in
+        let old = put_told v stream function body u w staged sealed t told in
         sym (ap (λ (f : SpoolFile). f.list)
         (put_ends members v stream function body fits u staged w sealed old.0 t old.1 told).stands.is)
         ∙ ap (λ (l : List Message). l ++ numbered v stream function body ∷ []) (has.is old.0 old.1);
   }
 
-  some_told : (n : ℕ) (v w : SpoolView D) → DropsSome members n v w → (t : Story) → members.told w.disk ≡ Some t →
+  pub some_told : (n : ℕ) (v w : SpoolView D) → DropsSome members n v w → (t : Story) → members.told w.disk ≡ Some t →
       (s : Story) × (members.told v.disk ≡ Some s)
   some_told zero v w is t told = (t, sym (ap (λ (x : SpoolView D). members.told x.disk) is) ∙ told)
   some_told (suc n) v w (u, some, drops) t told =

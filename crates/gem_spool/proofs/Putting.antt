@@ -1,5 +1,6 @@
 -- That a put is a message more, or leaves the list.
 use Rattle.std.proofs.Common.{◌≡◌, ◌==◌, inl, inr, ⊎_elim, ℕ, ◌+◌, ◌<◌, List, length, Option, Some, Ok, Err, refl, sym, ap, subst, ◌∙◌, arith}
+use Rattle.std.proofs.lemmas.Bool.Decides.{nat_tests}
 use Rattle.disk_base.specs.Cut.{image_of}
 use Rattle.disk_base.specs.Faults.{IsUsed}
 use Rattle.disk_base.specs.Story.{Story}
@@ -20,6 +21,10 @@ use Rattle.spool_slots.specs.declared.states.Staging.TheVariants as staging
 
 length-parts : (n s f : ℕ) (b : List ℕ) → length (parts_of n s f b) ≡ 14 + length b
 length-parts n s f b = omega arith
+
+-- where there is room, a slot is free
+pub not_full : {D : Type 0} (v : SpoolView D) (body : List ℕ) → room_for v (length body) ≡ Fits → v.len ≡ v.slots → ⊥
+not_full v body fits full = grind (arith, nat_tests, fits, full)
 
 module _ {D : Type 0} (members : disk.Ghosts D) (v : SpoolView D) (stream function : ℕ) (body : List ℕ)
     (fits : room_for v (length body) ≡ Fits) where

@@ -2,3 +2,6 @@ pub mod Laws
 pub mod Reply
 pub mod Rule
 pub mod Spool
+pub mod Standing
+pub mod Works
+pub mod Oldest

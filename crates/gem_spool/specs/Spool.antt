@@ -8,6 +8,8 @@ use Rattle.disk_base.specs.declared.cut.CutChoice.{CutChoice}
 use Rattle.disk_base.specs.declared.disk.Disk as disk
 use Rattle.disk_base.specs.declared.disk.DiskAnswer.{DiskAnswer}
 use Rattle.disk_base.specs.declared.disk.DiskAnswer.TheVariants.{Done, Failed}
+use Rattle.gem_spool.specs.declared.count.Count.{Count}
+use Rattle.gem_spool.specs.Standing.{count_of}
 use Rattle.gem_spool.specs.declared.spool.GemSpool.{GemSpool}
 use Rattle.gem_spool.specs.declared.spool.PutAnswer.{PutAnswer}
 use Rattle.gem_spool.specs.declared.spool.PutAnswer.TheVariants as answer
@@ -24,12 +26,15 @@ use Rattle.spool_slots.specs.declared.states.Spent.{Spent}
 use Rattle.spool_slots.specs.declared.states.Staging.TheVariants as staging
 
 -- what there is room for: the first of three limits that a body of this length passes, or none
-abbrev pub room_for : {D : Type 0} → SpoolView D → ℕ → Room
-room_for v long =
+abbrev pub room_in : Count → ℕ → Room
+room_in c long =
     if nat_lt 4081 long then room.TooLong
-    else (if nat_le (2 ^ 63) (next_of v) then room.NumbersSpent
-    else (if v.len == v.slots then room.Full
+    else (if nat_le (2 ^ 63) c.next then room.NumbersSpent
+    else (if c.len == c.slots then room.Full
     else room.Fits))
+
+abbrev pub room_for : {D : Type 0} → SpoolView D → ℕ → Room
+room_for v long = room_in (count_of v) long
 
 -- the messages in hand, where the disk tells its bytes
 pub record HasList {D : Type 0} (members : disk.Ghosts D) (v : SpoolView D) (list : List Message) : Type 0 where
@@ -112,6 +117,12 @@ Puts members g stream function body (Err spent) =
     × StagesAndSeals members g.spool stream function body (Err spent)
     × (IsSure (members.health g.spool.disk) 4 (length body + 15) →
     HasLostPut members g.spool stream function body spent.disk)
+
+-- a message that fits was put, and has the next number; or the disk failed
+abbrev pub Stores : {D : Type 0} → disk.Ghosts D → GemSpool D → ℕ → ℕ → List ℕ → Result (GemSpool D) (Spent D) → Type 0
+Stores members g stream function body (Ok h) =
+    PutsInto members g stream function body h (answer.Stored (next_of g.spool))
+Stores members g stream function body (Err spent) = Puts members g stream function body (Err spent)
 
 -- ---- confirm
 

@@ -2,6 +2,8 @@
 //! and the spool that keeps them.
 #![tactic(auto)]
 
+mod count;
+mod kept;
 mod laws;
 mod reply;
 mod rule;
@@ -10,8 +12,14 @@ mod rule_tests;
 mod spool;
 #[cfg(test)]
 mod spool_tests;
+mod works;
+#[cfg(test)]
+mod works_tests;
 
+pub use count::Count;
 pub use gem_shapes::RuleEntry;
+pub use kept::{Kept, Unread};
 pub use laws::the_rule_is_looked_back_for;
 pub use rule::{RuleAnswer, RuleFault, SpoolRule};
 pub use spool::{GemSpool, PutAnswer, Room};
+pub use works::{Undone, Work};

@@ -1,27 +1,33 @@
 ghost use Rattle.std.specs.Prelude.{◌≡◌, ◌+◌, ◌^◌, ◌<◌, ◌≤◌, ◌%◌, nat_lt, [], List, length, IfOk, Some};
 ghost use Rattle.disk_base.specs.Story.{Story};
-ghost use Rattle.gem_spool.specs.Spool.{Confirms, HasList, Purges, PurgesAll, Puts, ReservesMore};
+ghost use Rattle.disk_base.specs.Through.{GoesThrough};
+ghost use Rattle.gem_spool.specs.Spool.{Confirms, HasList, Purges, PurgesAll, Puts, ReservesMore, Stores};
 ghost use Rattle.gem_spool.specs.Spool.{list_after_confirm, list_after_put, numbered, room_for};
+ghost use Rattle.gem_spool.specs.Standing.{Standing, Stands, count_of, standing_of};
+ghost use Rattle.gem_spool.specs.Works.{IsMarked, reserve_disk};
+ghost use Rattle.gem_spool.specs.Works.{standing_after, standing_after_confirm, standing_after_put, standing_after_reserve};
+ghost use Rattle.gem_spool.specs.declared.works.Work.TheVariants.{Purge};
 ghost use Rattle.gem_spool.specs.declared.spool.Room.TheVariants.{Fits};
 ghost use Rattle.spool_slots.specs.Changes.{Looks};
 ghost use Rattle.spool_slots.specs.Slot.{Message};
 ghost use Rattle.spool_slots.specs.Spool.{Rests, next_of};
 
+use crate::count::Count;
 use disk_base::{Disk, MemDisk};
 use spool_slots::{Dropping, OldestAnswer, Reserving, Spent, Spool, Staging, Stored};
 
 // How many bytes a body has at most.
-const BODY_MOST: usize = 4081;
+pub(crate) const BODY_MOST: usize = 4081;
 
 // The number that no message gets any more.
-const NUMBERS: u64 = 1 << 63;
+pub(crate) const NUMBERS: u64 = 1 << 63;
 
 /// The spool of the equipment: a list of messages with their numbers, which a power loss leaves whole, and whether it
 /// is active.
 #[derive(Debug, Drop)]
 pub struct GemSpool<D: Disk> {
-    spool: Spool<D>,
-    active: bool,
+    pub(crate) spool: Spool<D>,
+    pub(crate) active: bool,
 }
 
 /// Whether there is room for a message.
@@ -49,7 +55,8 @@ pub enum PutAnswer {
 impl<D: Disk> GemSpool<D> {
     /// Takes a spool up. It is active where its list isn't empty.
     pub fn new(spool: Spool<D>) -> GemSpool<D>
-        ensures { result ≡ record { spool = spool; active = nat_lt 0 spool.len } }
+        ensures made { result ≡ record { spool = spool; active = nat_lt 0 spool.len } }
+        ensures stands { Stands D.Disk spool (standing_of D.Disk spool) }
     {
         let active = spool.len() > 0;
         GemSpool { spool, active }
@@ -76,21 +83,26 @@ impl<D: Disk> GemSpool<D> {
         self.spool.first() + u64::from(self.spool.len())
     }
 
-    /// Whether there is room for a body of this length: the first limit that it passes, of its length, of the numbers
-    /// and of the slots. It asks nothing of the disk.
+    /// Whether there is room for a body of this length. It asks nothing of the disk.
     pub fn room(&self, length: usize) -> Room
         ensures { result ≡ room_for self.now.spool length }
     {
-        if length > BODY_MOST {
-            return Room::TooLong;
+        self.count().room(length)
+    }
+
+    /// The numbers that decide which works have their turn.
+    pub fn count(&self) -> Count
+        ensures count { result ≡ count_of self.now.spool }
+        ensures slots { (1 ≤ result.slots) × (result.slots ≤ 65535) }
+        ensures range { result.len ≤ result.slots }
+        ensures bound { result.next ≤ 2 ^ 63 + 65535 }
+    {
+        let len = self.spool.len();
+        Count {
+            slots: self.spool.slots(),
+            next: self.spool.first() + u64::from(len),
+            len,
         }
-        if self.next() >= NUMBERS {
-            return Room::NumbersSpent;
-        }
-        if self.spool.len() == self.spool.slots() {
-            return Room::Full;
-        }
-        Room::Fits
     }
 
     /// Puts a message at the end of the list, with the next number. It is stored exactly where there is room for it;
@@ -104,9 +116,12 @@ impl<D: Disk> GemSpool<D> {
             IfOk result (λ r. HasList D.Disk r.0.spool (list_after_put r.1
             (numbered self.spool message.now.stream message.now.function message.now.body.now)
             list)) }
+        ensures stands { (st : Standing) → Stands D.Disk self.spool st →
+            IfOk result (λ r. Stands D.Disk r.0.spool (standing_after_put r.1 st
+            message.now.stream message.now.function message.now.body.now)) }
     {
         match self.room(message.body.len()) {
-            Room::Fits => self.store(message),
+            Room::Fits => self.store_as(message),
             Room::Full => Ok((self, PutAnswer::Full)),
             Room::TooLong => Ok((self, PutAnswer::TooLong)),
             Room::NumbersSpent => Ok((self, PutAnswer::NumbersSpent)),
@@ -119,6 +134,8 @@ impl<D: Disk> GemSpool<D> {
         ensures confirm { Confirms D.Disk self number result }
         ensures list { (list : List Message) → HasList D.Disk self.spool list →
             IfOk result (λ r. HasList D.Disk r.0.spool (list_after_confirm r.1 list)) }
+        ensures stands { (st : Standing) → Stands D.Disk self.spool st →
+            IfOk result (λ r. Stands D.Disk r.0.spool (standing_after_confirm r.1 st)) }
     {
         if self.spool.first() != number {
             return Ok((self, false));
@@ -135,6 +152,8 @@ impl<D: Disk> GemSpool<D> {
     pub fn purge(self) -> Result<GemSpool<D>, Spent<D>>
         ensures purge { PurgesAll D.Disk self result }
         ensures list { IfOk result (λ h. HasList D.Disk h.spool []) }
+        ensures stands { (st : Standing) → Stands D.Disk self.spool st →
+            IfOk result (λ h. Stands D.Disk h.spool (standing_after st Purge)) }
     {
         let active = self.active;
         match emptied(self.spool) {
@@ -149,6 +168,10 @@ impl<D: Disk> GemSpool<D> {
         ensures reserve { ReservesMore D.Disk self result }
         ensures list { (list : List Message) → HasList D.Disk self.spool list →
             IfOk result (λ r. HasList D.Disk r.0.spool list) }
+        ensures stands { (st : Standing) → Stands D.Disk self.spool st →
+            IfOk result (λ r. Stands D.Disk r.0.spool (standing_after_reserve r.1 st)) }
+        ensures moments { (st : Standing) → Stands D.Disk self.spool st → (s : Story) →
+            D.told self.spool.disk ≡ Some s → GoesThrough s (D.told (reserve_disk result)) (IsMarked st) }
     {
         let active = self.active;
         match self.spool.reserve() {
@@ -164,6 +187,7 @@ impl<D: Disk> GemSpool<D> {
         ensures active { self.new.active ≡ self.old.active }
         ensures list { (list : List Message) → HasList D.Disk self.old.spool list →
             HasList D.Disk self.new.spool list }
+        ensures stands { (st : Standing) → Stands D.Disk self.old.spool st → Stands D.Disk self.new.spool st }
     {
         self.spool.oldest(into)
     }
@@ -174,6 +198,7 @@ impl<D: Disk> GemSpool<D> {
         ensures range { result ≤ self.now.spool.slots }
         ensures rests { (s : Story) → D.told self.now.spool.disk ≡ Some s →
             Rests s self.now.spool.slots self.now.spool.first self.now.spool.len self.now.spool.mark }
+        ensures stands { Stands D.Disk self.now.spool (standing_of D.Disk self.now.spool) }
     {
         self.spool.len()
     }
@@ -195,8 +220,8 @@ impl<D: Disk> GemSpool<D> {
         self.spool.retire()
     }
 
-    // Puts a message for which there is room.
-    fn store(self, message: &Stored<'_>) -> Result<(GemSpool<D>, PutAnswer), Spent<D>>
+    // Puts a message for which there is room, and answers its number.
+    fn store_as(self, message: &Stored<'_>) -> Result<(GemSpool<D>, PutAnswer), Spent<D>>
         requires function { message.now.function % 2 ≡ 1 }
         requires stream { message.now.stream < 128 }
         requires fits { room_for self.spool (length message.now.body.now) ≡ Fits }
@@ -205,21 +230,33 @@ impl<D: Disk> GemSpool<D> {
             IfOk result (λ r. HasList D.Disk r.0.spool (list_after_put r.1
             (numbered self.spool message.now.stream message.now.function message.now.body.now)
             list)) }
+        ensures stands { (st : Standing) → Stands D.Disk self.spool st →
+            IfOk result (λ r. Stands D.Disk r.0.spool (standing_after_put r.1 st
+            message.now.stream message.now.function message.now.body.now)) }
+    {
+        let number = self.next();
+        match self.store(message) {
+            Ok(spool) => Ok((spool, PutAnswer::Stored(number))),
+            Err(spent) => Err(spent),
+        }
+    }
+
+    // Puts a message for which there is room.
+    pub(crate) fn store(self, message: &Stored<'_>) -> Result<GemSpool<D>, Spent<D>>
+        requires function { message.now.function % 2 ≡ 1 }
+        requires stream { message.now.stream < 128 }
+        requires fits { room_for self.spool (length message.now.body.now) ≡ Fits }
+        ensures { Stores D.Disk self message.now.stream message.now.function message.now.body.now result }
     {
         let active = self.active;
         match self.spool.stage(message) {
-            Ok(staged) => {
-                let number = staged.number();
-                match staged.seal() {
-                    Ok(spool) => Ok((GemSpool { spool, active }, PutAnswer::Stored(number))),
-                    Err(spent) => Err(spent),
-                }
-            }
-            Err(Staging::Full(spool)) => Ok((GemSpool { spool, active }, PutAnswer::Full)),
-            Err(Staging::TooLong(spool)) => Ok((GemSpool { spool, active }, PutAnswer::TooLong)),
-            Err(Staging::NumbersSpent(spool)) => {
-                Ok((GemSpool { spool, active }, PutAnswer::NumbersSpent))
-            }
+            Ok(staged) => match staged.seal() {
+                Ok(spool) => Ok(GemSpool { spool, active }),
+                Err(spent) => Err(spent),
+            },
+            Err(Staging::Full(spool)) => Ok(GemSpool { spool, active }),
+            Err(Staging::TooLong(spool)) => Ok(GemSpool { spool, active }),
+            Err(Staging::NumbersSpent(spool)) => Ok(GemSpool { spool, active }),
             Err(Staging::Failed(spent)) => Err(spent),
         }
     }

@@ -49,7 +49,7 @@ static LATER: [Row; 7] = [
 ];
 
 // A new spool of three slots.
-fn formatted(alloc: Global) -> Option<GemSpool<MemDisk>> {
+pub(crate) fn formatted(alloc: Global) -> Option<GemSpool<MemDisk>> {
     let Ok(disk) = MemDisk::new(alloc, 16384, 100, 65536) else {
         return None;
     };
@@ -123,7 +123,7 @@ fn behind(spool: GemSpool<MemDisk>, rows: &[Row]) -> Option<GemSpool<MemDisk>> {
 }
 
 // The spool behind the first rows: numbers 1 and 2.
-fn with_two(alloc: Global) -> Option<GemSpool<MemDisk>> {
+pub(crate) fn with_two(alloc: Global) -> Option<GemSpool<MemDisk>> {
     match formatted(alloc) {
         Some(spool) => behind(spool, &ROWS),
         None => None,
@@ -261,7 +261,13 @@ fn room_and_put_end_alike(rt: HostRuntime) {
 }
 
 // Whether a crash leaves so many messages, from this number on.
-fn leaves(alloc: Global, disk: &MemDisk, choice: CutChoice, len: u32, first: u64) -> bool {
+pub(crate) fn leaves(
+    alloc: Global,
+    disk: &MemDisk,
+    choice: CutChoice,
+    len: u32,
+    first: u64,
+) -> bool {
     let Ok(cut) = disk.cut(alloc, choice) else {
         return false;
     };

@@ -1,0 +1,109 @@
+-- That each call leaves a spool that stands as it says.
+use Rattle.std.proofs.Common.{◌≡◌, ⊎_elim, inl, inr, ℕ, zero, suc, ◌+◌, List, length, Option, Some, None, Ok, Err, refl, sym, ap, subst, ◌∙◌, arith}
+use Rattle.disk_base.specs.Story.{Story}
+use Rattle.disk_base.specs.Through.{GoesThrough}
+use Rattle.disk_base.specs.declared.disk.Disk as disk
+use Rattle.disk_base.specs.declared.disk.DiskAnswer.{DiskAnswer}
+use Rattle.disk_base.specs.declared.disk.DiskAnswer.TheVariants.{Failed}
+use Rattle.disk_base.proofs.Moments.{only_now, starts, through_more}
+use Rattle.gem_spool.specs.Standing.{Standing, Stands, blanks, count_of, file_of, list_told, standing_of}
+use Rattle.gem_spool.specs.Works.{IsMarked, reserved}
+use Rattle.gem_spool.proofs.Lists.{reserve_told}
+use Rattle.spool_slots.specs.Changes.{Ends, HasReserved, IsSameOr, Reserves, reserved_in, with_mark}
+use Rattle.spool_slots.specs.File.{SpoolFile, StandsFor, file_in}
+use Rattle.spool_slots.specs.Run.{IsRunFrom}
+use Rattle.spool_slots.specs.Spool.{Rests, SpoolView, next_of}
+use Rattle.spool_slots.specs.declared.states.Reserving.TheVariants as reserving
+use Rattle.spool_slots.specs.declared.states.Spent.{Spent}
+
+blanks_run : (first n : ℕ) → IsRunFrom first (blanks first n)
+blanks_run first zero = tt
+blanks_run first (suc n) = (refl, blanks_run (first + 1) n)
+
+blanks_len : (first n : ℕ) → length (blanks first n) ≡ n
+blanks_len first zero = refl
+blanks_len first (suc n) = ap suc (blanks_len (first + 1) n)
+
+told_run : (told : Option Story) (slots first len mark : ℕ) →
+    ((s : Story) → told ≡ Some s → Rests s slots first len mark) → IsRunFrom first (list_told told first len)
+told_run None slots first len mark rests = blanks_run first len
+told_run (Some s) slots first len mark rests = (rests s refl).run
+
+told_len : (told : Option Story) (slots first len mark : ℕ) →
+    ((s : Story) → told ≡ Some s → Rests s slots first len mark) → len ≡ length (list_told told first len)
+told_len None slots first len mark rests = sym (blanks_len first len)
+told_len (Some s) slots first len mark rests = (rests s refl).count
+
+told_file : (told : Option Story) (slots first len mark : ℕ) (s : Story) → told ≡ Some s →
+    Rests s slots first len mark →
+    Ends s (record { slots = slots; mark = mark; list = list_told told first len })
+told_file None slots first len mark s is rests = absurd (grind (arith, is))
+told_file (Some r) slots first len mark s is rests =
+    let same : r ≡ s = cc in
+    subst (λ (q : Story). Ends s (record { slots = slots; mark = mark; list = (file_in q.now.bytes).list })) (sym same)
+    (record {
+      settled = rests.settled;
+      stands = record {
+        sound = rests.sound;
+        is = ap (λ (n : ℕ). record { slots = n; mark = mark; list = (file_in s.now.bytes).list }) rests.slots_are
+            ∙ ap (λ (n : ℕ). record {
+              slots = (file_in s.now.bytes).slots;
+              mark = n;
+              list = (file_in s.now.bytes).list;
+            }) rests.mark_is;
+      };
+    })
+
+module _ {D : Type 0} (members : disk.Ghosts D) (v : SpoolView D) where
+  pub stands_so : ((s : Story) → members.told v.disk ≡ Some s → Rests s v.slots v.first v.len v.mark) →
+      Stands members v (standing_of members v)
+  stands_so rests = record {
+    count = ap (λ (n : ℕ). record { slots = v.slots; next = next_of v; len = n })
+        (told_len (members.told v.disk) v.slots v.first v.len v.mark rests);
+    mark = refl;
+    run = told_run (members.told v.disk) v.slots v.first v.len v.mark rests;
+    file = λ s told. told_file (members.told v.disk) v.slots v.first v.len v.mark s told (rests s told);
+  }
+
+  pub reserve_stands : (w : SpoolView D) (base : ℕ) → Reserves members v (Ok (w, base)) → (st : Standing) →
+      Stands members v st → Stands members w (reserved st)
+  reserve_stands w base done st stands =
+      let view = done.2 in record {
+        count = ap (λ (x : SpoolView D). count_of x) view ∙ stands.count;
+        mark = ap (λ (x : SpoolView D). x.mark) view ∙ ap (λ (n : ℕ). n + 4096) stands.mark;
+        run = subst (λ (n : ℕ). IsRunFrom n st.list) (sym (ap (λ (x : SpoolView D). x.first) view)) stands.run;
+        file = λ t told. let old = reserve_told members v w.disk done.0 t told in
+            subst (λ (f : SpoolFile). Ends t (with_mark (f.mark + 4096) f)) (sym (stands.file old.0 old.1).stands.is)
+            (done.3 old.0 t old.1 told);
+      }
+
+  -- at every moment the list stands, with the one mark or the other
+  pub rest_way : (st : Standing) → Stands members v st → (s : Story) → members.told v.disk ≡ Some s →
+      GoesThrough s (members.told v.disk) (IsMarked st)
+  rest_way st stands s told =
+      let file = stands.file s told in (
+        s,
+        told,
+        starts s (IsMarked st) (λ image left. inl (subst (λ (bytes : List ℕ). StandsFor bytes (file_of st))
+            (sym (only_now s.now image file.settled left)) file.stands)),
+      )
+
+  pub reserve_way : (after : D) (said : DiskAnswer) → HasReserved members v after said → (st : Standing) →
+      Stands members v st → (s : Story) → members.told v.disk ≡ Some s →
+      GoesThrough s (members.told after) (IsMarked st)
+  reserve_way after said done st stands s told =
+      let one = done.images s told in
+      let same : file_of st ≡ file_in s.now.bytes = (stands.file s told).stands.is in (
+        one.0,
+        one.1,
+        through_more s one.0 (IsSameOr reserved_in s.now.bytes) (IsMarked st)
+            (λ image. ⊎_elim (λ (left : StandsFor image (file_in s.now.bytes)). inl
+            (subst (λ (f : SpoolFile). StandsFor image f) (sym same) left))
+            (λ (left : StandsFor image (reserved_in s.now.bytes)). inr
+            (subst (λ (f : SpoolFile). StandsFor image (with_mark (f.mark + 4096) f)) (sym same) left))) one.2,
+      )
+
+  pub reserve_failed : (spent : Spent D) → Reserves members v (Err (reserving.Failed spent)) → (st : Standing) →
+      Stands members v st → (s : Story) → members.told v.disk ≡ Some s →
+      GoesThrough s (members.told spent.disk) (IsMarked st)
+  reserve_failed spent failed = reserve_way spent.disk Failed failed.0

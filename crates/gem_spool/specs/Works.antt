@@ -1,0 +1,196 @@
+-- What a list of works does to the spool of the equipment (this profile).
+use Rattle.std.specs.Prelude.{◌≡◌, ◌⊎◌, ℕ, ◌+◌, ◌*◌, ◌-◌, ◌%◌, ◌<◌, ◌≤◌}
+use Rattle.std.specs.Prelude.{Bool, true, false, List, [], ◌∷◌, ◌++◌, drop, fold, length, take, Option, Some, None, Result, Ok, Err}
+use Rattle.std.specs.List.{slice_get}
+use Rattle.disk_base.specs.Faults.{HasCause}
+use Rattle.disk_base.specs.Story.{Story}
+use Rattle.disk_base.specs.Through.{EachImage, GoesThrough}
+use Rattle.disk_base.specs.declared.disk.Disk as disk
+use Rattle.disk_base.specs.declared.disk.DiskAnswer.{DiskAnswer}
+use Rattle.disk_base.specs.declared.disk.DiskAnswer.TheVariants.{Done, Failed}
+use Rattle.gem_spool.specs.Spool.{HasList, PurgesAll, Stores, room_in, without_some}
+use Rattle.gem_spool.specs.declared.count.Count.{Count}
+use Rattle.gem_spool.specs.Standing.{Standing, Stands, count_of, file_of}
+use Rattle.gem_spool.specs.declared.spool.GemSpool.{GemSpool}
+use Rattle.gem_spool.specs.declared.spool.PutAnswer.{PutAnswer}
+use Rattle.gem_spool.specs.declared.spool.PutAnswer.TheVariants as answer
+use Rattle.gem_spool.specs.declared.spool.Room.TheVariants as room
+use Rattle.gem_spool.specs.declared.works.Undone.{Undone}
+use Rattle.gem_spool.specs.declared.works.Work.{Work}
+use Rattle.gem_spool.specs.declared.works.Work.TheVariants as work
+use Rattle.spool_slots.specs.Changes.{Drops}
+use Rattle.spool_slots.specs.File.{StandsFor}
+use Rattle.spool_slots.specs.Slot.{Message}
+use Rattle.spool_slots.specs.Spool.{next_of}
+use Rattle.spool_slots.specs.declared.states.Dropping.TheVariants as dropping
+use Rattle.spool_slots.specs.declared.states.Spent.{Spent}
+
+-- ---- what a work makes
+
+-- the number that the next message gets
+abbrev pub next_after : ℕ → Work → ℕ
+next_after next (work.Put stream function body) = next + 1
+next_after next work.DropOldest = next
+next_after next work.Purge = next
+
+-- how many messages there are
+abbrev pub len_after : ℕ → Work → ℕ
+len_after len (work.Put stream function body) = len + 1
+len_after len work.DropOldest = len - 1
+len_after len work.Purge = 0
+
+-- the list, where this is the next number
+abbrev pub list_after : ℕ → List Message → Work → List Message
+list_after next list (work.Put stream function body) =
+    list ++ record { number = next; stream = stream; function = function; body = body } ∷ []
+list_after next list work.DropOldest = drop 1 list
+list_after next list work.Purge = []
+
+abbrev pub count_after : Count → Work → Count
+count_after c one = record { slots = c.slots; next = next_after c.next one; len = len_after c.len one }
+
+abbrev pub standing_after : Standing → Work → Standing
+standing_after st one = record {
+  slots = st.slots;
+  next = next_after st.next one;
+  mark = st.mark;
+  list = list_after st.next st.list one;
+}
+
+-- the same behind the other calls
+abbrev pub standing_after_put : PutAnswer → Standing → ℕ → ℕ → List ℕ → Standing
+standing_after_put (answer.Stored number) st stream function body = standing_after st (work.Put stream function body)
+standing_after_put answer.Full st stream function body = st
+standing_after_put answer.TooLong st stream function body = st
+standing_after_put answer.NumbersSpent st stream function body = st
+
+abbrev pub standing_after_confirm : Bool → Standing → Standing
+standing_after_confirm true st = standing_after st work.DropOldest
+standing_after_confirm false st = st
+
+abbrev pub reserved : Standing → Standing
+reserved st = record { slots = st.slots; next = st.next; mark = st.mark + 4096; list = st.list }
+
+abbrev pub standing_after_reserve : Option ℕ → Standing → Standing
+standing_after_reserve (Some base) st = reserved st
+standing_after_reserve None st = st
+
+-- ---- and all of them
+
+abbrev pub counts_after : Count → List Work → Count
+counts_after = fold count_after
+
+abbrev pub standings_after : Standing → List Work → Standing
+standings_after = fold standing_after
+
+abbrev pub lists_after : ℕ → List Message → List Work → List Message
+lists_after next list [] = list
+lists_after next list (one ∷ works) = lists_after (next_after next one) (list_after next list one) works
+
+-- a put finds room, and a drop a message
+abbrev pub IsDue : Count → Work → Type 0
+IsDue c (work.Put stream function body) =
+    (function % 2 ≡ 1) × (stream < 128) × (room_in c (length body) ≡ room.Fits)
+IsDue c work.DropOldest = 0 < c.len
+IsDue c work.Purge = Unit {0}
+
+-- each does so in its turn
+abbrev pub AreDue : Count → List Work → Type 0
+AreDue c [] = Unit {0}
+AreDue c (one ∷ works) = IsDue c one × AreDue (count_after c one) works
+
+-- ---- what one call does
+
+-- one of them was done, or its call failed as it says by itself
+abbrev pub Does : {D : Type 0} → disk.Ghosts D → GemSpool D → Work → Result (GemSpool D) (Spent D) → Type 0
+Does members g (work.Put stream function body) done = Stores members g stream function body done
+Does members g work.DropOldest (Ok h) = Drops members g.spool (Ok h.spool) × (h.active ≡ g.active)
+Does members g work.DropOldest (Err spent) = Drops members g.spool (Err (dropping.Failed spent))
+Does members g work.Purge done = PurgesAll members g done
+
+-- they were done one after the other
+abbrev pub DoesAll : {D : Type 0} → disk.Ghosts D → GemSpool D → List Work → GemSpool D → Type 0
+DoesAll members g [] h = h ≡ g
+DoesAll {D} members g (one ∷ works) h = (u : GemSpool D) × Does members g one (Ok u) × DoesAll members u works h
+
+-- ---- what a crash leaves, and what it costs
+
+-- bytes stand for the list before a work, or amid it: a purge has taken some first messages off
+abbrev pub IsAmid : Standing → Work → List ℕ → Type 0
+IsAmid st (work.Put stream function body) image = StandsFor image (file_of st)
+IsAmid st work.DropOldest image = StandsFor image (file_of st)
+IsAmid st work.Purge image = (n : ℕ) × (n ≤ length st.list) × StandsFor image (without_some n (file_of st))
+
+-- bytes stand for what some first works make, or amid the next one
+abbrev pub IsOnWay : Standing → List Work → List ℕ → Type 0
+IsOnWay st [] image = StandsFor image (file_of st)
+IsOnWay st (one ∷ works) image = IsAmid st one image ⊎ IsOnWay (standing_after st one) works image
+
+-- how many calls of the disk a work makes, and how many bytes it writes
+abbrev pub calls_of : Count → Work → ℕ
+calls_of c (work.Put stream function body) = 4
+calls_of c work.DropOldest = 2
+calls_of c work.Purge = 2 * c.len
+
+abbrev pub bytes_of : Count → Work → ℕ
+bytes_of c (work.Put stream function body) = length body + 15
+bytes_of c work.DropOldest = 1
+bytes_of c work.Purge = c.len
+
+abbrev pub all_calls : Count → List Work → ℕ
+all_calls c [] = 0
+all_calls c (one ∷ works) = calls_of c one + all_calls (count_after c one) works
+
+abbrev pub all_bytes : Count → List Work → ℕ
+all_bytes c [] = 0
+all_bytes c (one ∷ works) = bytes_of c one + all_bytes (count_after c one) works
+
+-- at every moment till then a crash leaves what some of these works make; a fault was counted where a call failed
+pub record GoesOn {D : Type 0} (members : disk.Ghosts D) (g : GemSpool D) (works : List Work) (after : D)
+    (said : DiskAnswer) : Type 0 where
+  pub images : (st : Standing) → Stands members g.spool st → (s : Story) → members.told g.spool.disk ≡ Some s →
+      GoesThrough s (members.told after) (IsOnWay st works)
+  pub cause : HasCause (members.health g.spool.disk) (members.health after) (all_calls (count_of g.spool) works)
+      (all_bytes (count_of g.spool) works) ((members.health g.spool.disk).room < all_bytes (count_of g.spool) works)
+      said
+
+-- the device behind a reserve
+abbrev pub reserve_disk : {D : Type 0} → Result (GemSpool D × Option ℕ) (Spent D) → D
+reserve_disk (Ok r) = r.0.spool.disk
+reserve_disk (Err spent) = spent.disk
+
+-- amid a reserve bytes stand for the list with the old mark or the new one
+abbrev pub IsMarked : Standing → List ℕ → Type 0
+IsMarked st image = StandsFor image (file_of st) ⊎ StandsFor image (file_of (reserved st))
+
+-- ---- the call
+
+-- the numbers are those that the works make, and mark and switch are as they were
+pub record HasCarried {D : Type 0} (members : disk.Ghosts D) (g : GemSpool D) (works : List Work) (h : GemSpool D) :
+    Type 0 where
+  pub done : DoesAll members g works h
+  pub count : count_of h.spool ≡ counts_after (count_of g.spool) works
+  pub mark : h.spool.mark ≡ g.spool.mark
+  pub active : h.active ≡ g.active
+  pub goes_on : GoesOn members g works h.spool.disk Done
+  pub list : (list : List Message) → HasList members g.spool list →
+      HasList members h.spool (lists_after (next_of g.spool) list works)
+  pub stands : (st : Standing) → Stands members g.spool st → Stands members h.spool (standings_after st works)
+
+-- those before it were done, this one failed, and none behind it was begun
+pub record HasUndone {D : Type 0} (members : disk.Ghosts D) (g : GemSpool D) (works : List Work) (undone : Undone D) :
+    Type 0 where
+  pub failed : Work
+  pub is : slice_get works undone.at ≡ Some failed
+  pub before : GemSpool D
+  pub done : DoesAll members g (take undone.at works) before
+  pub fails : Does members before failed (Err undone.spent)
+  pub goes_on : GoesOn members g (take undone.at works ++ failed ∷ []) undone.spent.disk Failed
+  pub left : (st : Standing) → Stands members g.spool st → (s t : Story) → members.told g.spool.disk ≡ Some s →
+      members.told undone.spent.disk ≡ Some t →
+      EachImage (IsOnWay (standings_after st (take undone.at works)) (failed ∷ [])) t.now
+
+abbrev pub CarriesOut : {D : Type 0} → disk.Ghosts D → GemSpool D → List Work → Result (GemSpool D) (Undone D) →
+    Type 0
+CarriesOut members g works (Ok h) = HasCarried members g works h
+CarriesOut members g works (Err undone) = HasUndone members g works undone

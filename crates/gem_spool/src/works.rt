@@ -1,0 +1,88 @@
+ghost use Rattle.std.specs.Prelude.{◌≡◌};
+ghost use Rattle.gem_spool.specs.Standing.{count_of};
+ghost use Rattle.gem_spool.specs.Works.{AreDue, CarriesOut, Does, IsDue};
+ghost use Rattle.gem_spool.specs.declared.works.Work.TheVariants.{DropOldest};
+
+use crate::spool::GemSpool;
+use disk_base::Disk;
+use gl_base::Row;
+use spool_slots::{Dropping, Spent, Stored};
+
+/// A change of the list, which was decided before the disk has it.
+#[derive(Debug, Drop)]
+pub enum Work {
+    /// A message comes to the end of the list.
+    Put {
+        stream: u8,
+        function: u8,
+        body: Row<u8>,
+    },
+    /// The oldest message leaves, as confirmed or overwritten.
+    DropOldest,
+    /// All messages leave, the oldest first.
+    Purge,
+}
+
+/// The disk failed at one of some works: those before it are done, and none behind it was begun.
+#[derive(Debug, Drop)]
+pub struct Undone<D> {
+    /// Which of them it is, counted from 0.
+    pub at: usize,
+    /// The device, on which this one is done or not; of a purge some messages may have left.
+    pub spent: Spent<D>,
+}
+
+impl<D: Disk> GemSpool<D> {
+    /// Carries works out, one after the other. Each of them has to have its message, or room, when its turn comes,
+    /// which the numbers alone decide. A crash finds the list that some first ones make, or the next one of them with
+    /// it; and of a purge the list with some first messages gone.
+    pub fn carry_out(self, works: &[Work]) -> Result<GemSpool<D>, Undone<D>>
+        requires due { AreDue (count_of self.spool) works.now }
+        ensures { CarriesOut D.Disk self works.now result }
+    {
+        let mut spool = self;
+        'works: for at in 0..works.len() {
+            match spool.work(&works[at]) {
+                Ok(after) => spool = after,
+                Err(spent) => return Err(Undone { at, spent }),
+            }
+        }
+        Ok(spool)
+    }
+
+    // Carries one out.
+    fn work(self, work: &Work) -> Result<GemSpool<D>, Spent<D>>
+        requires due { IsDue (count_of self.spool) work.now }
+        ensures { Does D.Disk self work.now result }
+    {
+        match work {
+            Work::Put {
+                stream,
+                function,
+                body,
+            } => {
+                let message = Stored {
+                    stream: *stream,
+                    function: *function,
+                    body: body.as_slice(),
+                };
+                self.store(&message)
+            }
+            Work::DropOldest => self.without_oldest(),
+            Work::Purge => self.purge(),
+        }
+    }
+
+    // Takes the oldest message off.
+    fn without_oldest(self) -> Result<GemSpool<D>, Spent<D>>
+        requires some { IsDue (count_of self.spool) DropOldest }
+        ensures { Does D.Disk self DropOldest result }
+    {
+        let active = self.active;
+        match self.spool.drop_oldest() {
+            Ok(spool) => Ok(GemSpool { spool, active }),
+            Err(Dropping::Empty(spool)) => Ok(GemSpool { spool, active }),
+            Err(Dropping::Failed(spent)) => Err(spent),
+        }
+    }
+}

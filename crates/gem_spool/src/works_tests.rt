@@ -1,0 +1,159 @@
+use crate::spool_tests::{formatted, leaves, with_two};
+use crate::{GemSpool, Room, Undone, Unread, Work};
+use disk_base::{CutChoice, MemDisk};
+use gl_base::Row;
+use std::alloc::Global;
+use std::test::Fail;
+
+// A call of the disk at which it stops, and the work that fails then; and how many messages a crash leaves, from which
+// number on, where what isn't synced is lost, and where it is kept.
+type Stop = (u32, usize, (u32, u64), (u32, u64));
+
+// Of two messages, 1 and 2, in three slots: a put and a drop,
+static STOPS: [Stop; 6] = [
+    (1, 0, (2, 1), (2, 1)),
+    (2, 0, (2, 1), (2, 1)),
+    (3, 0, (2, 1), (3, 1)),
+    (4, 0, (2, 1), (3, 1)),
+    (5, 1, (3, 1), (2, 2)),
+    (6, 1, (3, 1), (2, 2)),
+];
+
+// and then a purge of two, and a put.
+static LATER: [Stop; 8] = [
+    (7, 2, (2, 2), (1, 3)),
+    (8, 2, (2, 2), (1, 3)),
+    (9, 2, (1, 3), (0, 0)),
+    (10, 2, (1, 3), (0, 0)),
+    (11, 3, (0, 0), (0, 0)),
+    (12, 3, (0, 0), (0, 0)),
+    (13, 3, (0, 0), (1, 4)),
+    (14, 3, (0, 0), (1, 4)),
+];
+
+// Carries them out. None where there aren't two messages and room for one more, or no memory.
+fn carried(
+    alloc: Global,
+    spool: GemSpool<MemDisk>,
+) -> Option<Result<GemSpool<MemDisk>, Undone<MemDisk>>> {
+    let (Ok(body), Ok(last)) = (Row::of(alloc, &[1, 0]), Row::of(alloc, &[33, 0])) else {
+        return None;
+    };
+    if spool.len() != 2 {
+        return None;
+    }
+    if spool.next() > 100 {
+        return None;
+    }
+    let Room::Fits = spool.room(2) else {
+        return None;
+    };
+    let works = [
+        Work::Put {
+            stream: 6,
+            function: 11,
+            body,
+        },
+        Work::DropOldest,
+        Work::Purge,
+        Work::Put {
+            stream: 5,
+            function: 1,
+            body: last,
+        },
+    ];
+    Some(spool.carry_out(&works))
+}
+
+// Whether a crash after a stop leaves so many, from this number on.
+fn stops_so(alloc: Global, stop: &Stop, choice: CutChoice, left: (u32, u64)) -> bool {
+    let Some(mut spool) = with_two(alloc) else {
+        return false;
+    };
+    spool.arm(stop.0);
+    match carried(alloc, spool) {
+        Some(Err(undone)) => {
+            undone.at == stop.1 && leaves(alloc, &undone.spent.into_disk(), choice, left.0, left.1)
+        }
+        _ => false,
+    }
+}
+
+fn stop_so(alloc: Global, stops: &[Stop]) -> bool {
+    for stop in stops {
+        if !stops_so(alloc, stop, CutChoice::Old, stop.2) {
+            return false;
+        }
+        if !stops_so(alloc, stop, CutChoice::New, stop.3) {
+            return false;
+        }
+    }
+    true
+}
+
+#[test]
+fn a_stop_leaves_the_works_before_it(rt: HostRuntime) -> Result<(), Fail> {
+    let alloc = rt.alloc();
+    assert!(rt; stop_so(alloc, &STOPS));
+    assert!(rt; stop_so(alloc, &LATER));
+    Ok(())
+}
+
+// Whether the oldest message is of this stream and function, with this body.
+fn reads(alloc: Global, spool: &mut GemSpool<MemDisk>, name: (u8, u8), body: &[u8]) -> bool {
+    match spool.oldest_message(alloc) {
+        Ok(kept) => { (kept.stream, kept.function) == name && kept.body.as_slice() == body }
+        Err(_) => false,
+    }
+}
+
+// Whether it isn't read, for this reason.
+fn reads_none(alloc: Global, spool: &mut GemSpool<MemDisk>, why: Unread) -> bool {
+    match spool.oldest_message(alloc) {
+        Ok(_) => false,
+        Err(said) => said == why,
+    }
+}
+
+// Whether all are done where the disk goes on, so that the last message alone stands.
+fn all_done(alloc: Global) -> bool {
+    let Some(spool) = with_two(alloc) else {
+        return false;
+    };
+    match carried(alloc, spool) {
+        Some(Ok(mut spool)) => {
+            reads(alloc, &mut spool, (5, 1), &[33, 0])
+                && spool.next() == 5
+                && leaves(alloc, &spool.retire().into_disk(), CutChoice::Old, 1, 4)
+        }
+        _ => false,
+    }
+}
+
+// Whether the oldest of two is read, and not where the disk stops.
+fn reads_the_first(alloc: Global) -> bool {
+    let Some(mut spool) = with_two(alloc) else {
+        return false;
+    };
+    if !reads(alloc, &mut spool, (6, 11), &[0; 4081]) {
+        return false;
+    }
+    spool.arm(1);
+    reads_none(alloc, &mut spool, Unread::Failed)
+}
+
+fn reads_none_of_a_new_one(alloc: Global) -> bool {
+    match formatted(alloc) {
+        Some(mut spool) => reads_none(alloc, &mut spool, Unread::Empty),
+        None => false,
+    }
+}
+
+#[test]
+fn the_oldest_is_read_as_it_was_put(rt: HostRuntime) -> Result<(), Fail> {
+    let alloc = rt.alloc();
+    assert!(rt; all_done(alloc));
+    assert!(rt; reads_the_first(alloc));
+    assert!(rt; reads_none_of_a_new_one(alloc));
+    Ok(())
+}
