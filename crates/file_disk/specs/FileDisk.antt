@@ -1,5 +1,5 @@
 -- What a real file counts as a disk (this profile).
-use Rattle.std.specs.Prelude.{◌≡◌, ℕ, false}
+use Rattle.std.specs.Prelude.{◌≡◌, ℕ, false, Result, Ok, Err}
 use Rattle.disk_base.specs.Faults.{DiskHealth, Rose}
 use Rattle.disk_base.specs.declared.disk.DiskAnswer.{DiskAnswer}
 use Rattle.disk_base.specs.declared.disk.DiskAnswer.TheVariants.{Done, Failed}
@@ -19,3 +19,8 @@ file_health faults = record {
 abbrev pub Counts : ℕ → ℕ → DiskAnswer → Type 0
 Counts before now Done = now ≡ before
 Counts before now Failed = Rose before now
+
+-- the disk fails where the system does
+abbrev pub answer_of : {T E : Type 0} → Result T E → DiskAnswer
+answer_of (Ok done) = Done
+answer_of (Err error) = Failed

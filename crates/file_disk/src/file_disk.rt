@@ -1,7 +1,7 @@
 ghost use Rattle.std.specs.Prelude.{◌≡◌, ◌≤◌, IfOk, None};
 ghost use Rattle.disk_base.specs.Faults.{Rose};
 ghost use Rattle.disk_base.specs.declared.disk.DiskAnswer.{DiskAnswer};
-ghost use Rattle.file_disk.specs.FileDisk.{Counts, file_health};
+ghost use Rattle.file_disk.specs.FileDisk.{Counts, answer_of, file_health};
 
 use disk_base::{AttachedFile, Disk, DiskAnswer};
 use std::fs::{OpenFile, OpenOptions};
@@ -36,6 +36,7 @@ impl<R: rt::Files> FileDisk<R> {
 
     // The disk's answer where the system gave this one, which is counted where it is a fault.
     fn counts<T>(&mut self, answer: &io::Result<T>) -> DiskAnswer
+        ensures answer { result ≡ answer_of answer.now }
         ensures count { Counts self.old.faults self.new.faults result }
         ensures size { self.new.size ≡ self.old.size }
         ensures attached { self.new.attached ≡ self.old.attached }
