@@ -1,0 +1,301 @@
+-- That the list that was noted is the one that is counted.
+use Rattle.std.proofs.Common.{◌≡◌, ◌==◌, ◌&&◌, ℕ, zero, suc, ◌+◌, ◌-◌, ◌%◌, ◌<◌, ◌≤◌, nat_lt, Bool, true, false, not, is_none, if◌then◌else◌, List, [], ◌∷◌, ◌++◌, length, Option, Some, None, refl, sym, ap, ◌∙◌, arith, length-append}
+use Rattle.std.proofs.lemmas.Bool.Decides.{nat_tests}
+use Rattle.std.specs.Prelude.{All, unwrap_or}
+use Rattle.std.specs.Option.{option_map}
+use Rattle.std.proofs.lemmas.List.Elements.{All-head, All-tail, filter_map-append}
+use Rattle.std.proofs.lemmas.List.Sums.{fold-append}
+use Rattle.gem_spool.specs.declared.spool.Room.{Room}
+use Rattle.gem_spool.specs.declared.spool.Room.TheVariants as room
+use Rattle.gem_spool.specs.declared.works.Work.TheVariants as work
+use Rattle.trace_log.specs.Log.{Happening}
+use Rattle.trace_log.specs.Log.Happening.{Discarded, Spool, TooLong, Try}
+use Rattle.trace_log.specs.Names.{Spooled, spooled_name}
+use Rattle.trace_log.specs.declared.names.Cause.{Cause}
+use Rattle.trace_log.specs.declared.names.Cause.TheVariants.{Confirmed, Overwritten, Purged}
+use Rattle.spool_ledger.specs.Activity.{changed, is_done}
+use Rattle.spool_ledger.specs.Laws.{Call, HasCome, MayCall, all_bring, brings, given_by, given_in, listed, listed_after, numbers_from, numbers_of, without}
+use Rattle.spool_ledger.specs.Laws.Call.{Activate, BeginUnload, Confirm, EndUnload, Granted, NextUnload, Purge, Rest, Store, TakeUp, TakeWorks}
+use Rattle.spool_ledger.specs.Ledger.{Booked, IsLedger, LedgerView, and_then, carried_out, confirmed_of, next_of, owed, quiet, room_for}
+use Rattle.spool_ledger.specs.Storing.{all_out, oldest_out, put, stored_by}
+use Rattle.spool_ledger.specs.Unloading.{confirmed, counted, fresh, is_oldest_tried, is_over, let_go, settled, tries, trying, unload_next, with_each, with_unload}
+use Rattle.spool_ledger.specs.declared.unload.Unload.{Unload}
+use Rattle.spool_ledger.proofs.Keeping.{all_out_keeps, full_has_some, makes_room, oldest_out_keeps, put_keeps}
+
+-- ---- numbers
+
+numbers_two : (first m n : ℕ) → numbers_from first m ++ numbers_from (first + m) n ≡ numbers_from first (m + n)
+numbers_two first zero n =
+    let same : first + 0 ≡ first = omega arith in
+    let long : n ≡ 0 + n = omega arith in
+    ap (λ (k : ℕ). numbers_from k n) same ∙ ap (λ (k : ℕ). numbers_from first k) long
+numbers_two first (suc m) n =
+    let same : first + suc m ≡ first + 1 + m = omega arith in
+    let long : suc (m + n) ≡ suc m + n = omega arith in
+    ap (λ (ns : List ℕ). first ∷ ns)
+    (ap (λ (k : ℕ). numbers_from (first + 1) m ++ numbers_from k n) same ∙ numbers_two (first + 1) m n)
+    ∙ ap (λ (k : ℕ). numbers_from first k) long
+
+-- the front number is the only one of its kind
+is_other : (n m : ℕ) → n < m → not (n == m) ≡ true
+is_other n m below = grind (arith, nat_tests, below)
+
+is_same : (n : ℕ) → not (n == n) ≡ false
+is_same n = grind (arith, nat_tests)
+
+without_above : (n m len : ℕ) → n < m → without n (numbers_from m len) ≡ numbers_from m len
+without_above n m zero below = refl
+without_above n m (suc len) below =
+    rw (is_other n m below)
+    (ap (λ (ns : List ℕ). m ∷ ns) (without_above n (m + 1) len (omega (arith, below))))
+
+front_out : (first len : ℕ) → 0 < len → without first (numbers_from first len) ≡ numbers_from (first + 1) (len - 1)
+front_out first zero some = absurd (omega (arith, some))
+front_out first (suc len) some =
+    let less : len ≡ suc len - 1 = omega arith in
+    rw (is_same first)
+    (without_above first (first + 1) len (omega arith) ∙ ap (λ (k : ℕ). numbers_from (first + 1) k) less)
+
+-- two lists of numbers that rise, one behind the other
+rises : (n m : ℕ) (first second both : List ℕ) → both ≡ first ++ second → first ≡ numbers_from n (length first) →
+    m ≡ n + length first → second ≡ numbers_from m (length second) → both ≡ numbers_from n (length both)
+rises n m first second both are one behind two =
+    are
+    ∙ ap (λ (ns : List ℕ). ns ++ second) one
+    ∙ ap (λ (ns : List ℕ). numbers_from n (length first) ++ ns)
+    (two ∙ ap (λ (k : ℕ). numbers_from k (length second)) behind)
+    ∙ numbers_two n (length first) (length second)
+    ∙ ap (λ (k : ℕ). numbers_from n k) (sym (ap (λ (ns : List ℕ). length ns) are ∙ length-append first second))
+
+-- ---- one call behind the other
+
+come_then : (v : LedgerView) (booked : Booked) (next : LedgerView → Booked) → HasCome v booked →
+    HasCome booked.next (next booked.next) → HasCome v (and_then booked next)
+come_then v booked next one two =
+    let more = (next booked.next).lines in
+    let given = filter_map-append given_by booked.lines more in
+    let long : length (given_in (booked.lines ++ more)) ≡ length (given_in booked.lines) + length (given_in more) =
+    ap (λ (ns : List ℕ). length ns) given ∙ length-append (given_in booked.lines) (given_in more) in
+    record {
+      is = two.is;
+      list = fold-append listed_after (numbers_of v) booked.lines more
+          ∙ ap (λ (ns : List ℕ). listed ns more) one.list
+          ∙ two.list;
+      rise = rises (next_of v) (next_of booked.next) (given_in booked.lines) (given_in more)
+          (given_in (booked.lines ++ more)) given one.rise one.next two.rise;
+      next = two.next ∙ omega (arith, one.next, long);
+      no_lower = omega (arith, one.no_lower, two.no_lower);
+    }
+
+-- ---- each call
+
+-- a call that notes nothing, and one that notes what is no matter of the list
+same_numbers : (v w : LedgerView) → w.first ≡ v.first → w.len ≡ v.len → numbers_of v ≡ numbers_of w
+same_numbers v w first len =
+    ap (λ (k : ℕ). numbers_from k v.len) (sym first) ∙ ap (λ (k : ℕ). numbers_from w.first k) (sym len)
+
+still : (v w : LedgerView) → IsLedger w → w.first ≡ v.first → w.len ≡ v.len → HasCome v (quiet w)
+still v w is first len = record {
+  is = is;
+  list = same_numbers v w first len;
+  rise = refl;
+  next = omega (arith, first, len);
+  no_lower = omega (arith, first);
+}
+
+beside : (v w : LedgerView) (what : Happening) → IsLedger w → w.first ≡ v.first → w.len ≡ v.len →
+    listed_after (numbers_of v) what ≡ numbers_of v → given_by what ≡ None →
+    HasCome v (record { next = w; lines = what ∷ [] })
+beside v w what is first len unlisted ungiven = record {
+  is = is;
+  list = unlisted ∙ same_numbers v w first len;
+  rise = rw ungiven refl;
+  next = rw ungiven (omega (arith, first, len));
+  no_lower = omega (arith, first);
+}
+
+put_comes : (v : LedgerView) (message : Spooled) → IsLedger v → message.function % 2 ≡ 1 → message.stream < 128 →
+    room_for v (length message.body) ≡ room.Fits → HasCome v (put message v)
+put_comes v message is odd stream fits = record {
+  is = put_keeps v message (owed v (work.Put message.stream message.function message.body)) is odd stream fits refl;
+  list = numbers_two v.first v.len 1;
+  rise = refl;
+  next = omega arith;
+  no_lower = omega arith;
+}
+
+-- the oldest leaves, of which the cause isn't that all leave
+abbrev IsAlone : Cause → Type 0
+IsAlone Confirmed = Unit {0}
+IsAlone Overwritten = Unit {0}
+IsAlone Purged = ⊥
+
+oldest_list : (cause : Cause) (v : LedgerView) → IsAlone cause → 0 < v.len →
+    listed (numbers_of v) (oldest_out cause v).lines ≡ numbers_from (v.first + 1) (v.len - 1)
+oldest_list Confirmed v alone some = front_out v.first v.len some
+oldest_list Overwritten v alone some = front_out v.first v.len some
+oldest_list Purged v alone some = absurd alone
+
+oldest_comes : (cause : Cause) (v : LedgerView) → IsAlone cause → IsLedger v → 0 < v.len →
+    HasCome v (oldest_out cause v)
+oldest_comes cause v alone is some = record {
+  is = oldest_out_keeps v (owed v work.DropOldest) is some refl;
+  list = oldest_list cause v alone some;
+  rise = refl;
+  next = omega (arith, some);
+  no_lower = omega arith;
+}
+
+-- by the two cases of a test
+by_case : (P : Booked → Type 0) (test : Bool) {x y : Booked} → (test ≡ true → P x) → (test ≡ false → P y) →
+    P (if test then x else y)
+by_case P true one two = one refl
+by_case P false one two = two refl
+
+all_comes : (v : LedgerView) → IsLedger v → HasCome v (all_out v)
+all_comes v is = by_case (HasCome v) (v.len == 0) (λ empty. still v v is refl refl) (λ some. record {
+  is = all_out_keeps v (v.first + v.len) (owed v work.Purge) is refl refl;
+  list = refl;
+  rise = refl;
+  next = omega arith;
+  no_lower = omega arith;
+})
+
+-- a message is stored, by what there is room for
+stored_comes : (found : Room) (overwrites : Bool) (message : Spooled) (v : LedgerView) → IsLedger v →
+    MayCall (Store message overwrites) → room_for v (length message.body) ≡ found →
+    HasCome v (unwrap_or (stored_by found overwrites message v) (quiet v))
+stored_comes room.Fits overwrites message v is may found = put_comes v message is may.0 may.1 found
+stored_comes room.Full true message v is may found =
+    let some = full_has_some v (length message.body) is found in
+    let first = oldest_comes Overwritten v tt is some in
+    come_then v (oldest_out Overwritten v) (put message) first
+    (put_comes (oldest_out Overwritten v).next message first.is may.0 may.1
+    (makes_room v Overwritten (length message.body) is found))
+stored_comes room.Full false message v is may found =
+    beside v v (Discarded (spooled_name message)) is refl refl refl refl
+stored_comes room.TooLong overwrites message v is may found =
+    beside v v (TooLong (spooled_name message)) is refl refl refl refl
+stored_comes room.NumbersSpent overwrites message v is may found = still v v is refl refl
+
+-- ---- the unload
+
+unload_keeps : (v : LedgerView) (unload : Option Unload) → IsLedger v → confirmed_of unload ≤ v.first →
+    IsLedger (with_unload unload v)
+unload_keeps v unload is confirmed = record {
+  some = is.some;
+  most = is.most;
+  room = is.room;
+  bound = is.bound;
+  confirmed = confirmed;
+  due = is.due;
+  come_to = is.come_to;
+}
+
+unload_comes : (v : LedgerView) (unload : Option Unload) → IsLedger v → confirmed_of unload ≤ v.first →
+    HasCome v (quiet (with_unload unload v))
+unload_comes v unload is confirmed = still v (with_unload unload v) (unload_keeps v unload is confirmed) refl refl
+
+-- a change that adds at most so many to those confirmed
+each_confirmed : (change : Unload → Unload) (more : ℕ) →
+    ((unload : Unload) → (change unload).confirmed ≤ unload.confirmed + more) → (unload : Option Unload) →
+    confirmed_of (option_map change unload) ≤ confirmed_of unload + more
+each_confirmed change more adds None = omega arith
+each_confirmed change more adds (Some unload) = adds unload
+
+each_keeps : (v : LedgerView) (change : Unload → Unload) → IsLedger v →
+    ((unload : Unload) → (change unload).confirmed ≤ unload.confirmed + 0) → IsLedger (with_each change v)
+each_keeps v change is adds =
+    let confirmed = each_confirmed change 0 adds v.unload in
+    unload_keeps v (option_map change v.unload) is (omega (arith, confirmed, is.confirmed))
+
+each_comes : (v : LedgerView) (change : Unload → Unload) → IsLedger v →
+    ((unload : Unload) → (change unload).confirmed ≤ unload.confirmed + 0) → HasCome v (quiet (with_each change v))
+each_comes v change is adds = still v (with_each change v) (each_keeps v change is adds) refl refl
+
+and_first : (one two : Bool) → (one && two) ≡ true → one ≡ true
+and_first true two both = refl
+and_first false two both = both
+
+has_some : (len : ℕ) → nat_lt 0 len ≡ true → 0 < len
+has_some len some = grind (arith, nat_tests, some)
+
+-- a message that leaves as confirmed is counted
+counts_comes : (v : LedgerView) → IsLedger v → 0 < v.len →
+    HasCome v (and_then (oldest_out Confirmed v) (λ w. quiet (with_each counted w)))
+counts_comes v is some =
+    let first = oldest_comes Confirmed v tt is some in
+    let more = each_confirmed counted 1 (λ unload. omega arith) v.unload in
+    come_then v (oldest_out Confirmed v) (λ w. quiet (with_each counted w)) first
+    (unload_comes (oldest_out Confirmed v).next (option_map counted v.unload) first.is
+    (omega (arith, more, is.confirmed)))
+
+confirm_comes : (v : LedgerView) → IsLedger v → HasCome v (confirmed v)
+confirm_comes v is = by_case (HasCome v) (is_oldest_tried v)
+    (λ oldest. counts_comes v is (has_some v.len (and_first (nat_lt 0 v.len) (tries v.first v.unload) oldest)))
+    (λ other. each_comes v settled is (λ unload. omega arith))
+
+unload_next_confirmed : (most : ℕ) (v : LedgerView) (unload : Option Unload) →
+    confirmed_of (unload_next most v unload) ≤ confirmed_of unload
+unload_next_confirmed most v None = omega arith
+unload_next_confirmed most v (Some unload) = go (is_none unload.tried && is_over most v unload)
+  where
+    go : (over : Bool) → confirmed_of (if over then None else Some unload) ≤ unload.confirmed
+    go true = omega arith
+    go false = omega arith
+
+-- ---- all calls
+
+active_keeps : (v : LedgerView) (active : Bool) → IsLedger v → IsLedger (record v { is_active = active })
+active_keeps v active is = record {
+  some = is.some;
+  most = is.most;
+  room = is.room;
+  bound = is.bound;
+  confirmed = is.confirmed;
+  due = is.due;
+  come_to = is.come_to;
+}
+
+changed_comes : (v : LedgerView) (active : Bool) → IsLedger v → HasCome v (changed active v)
+changed_comes v active is =
+    beside v (record v { is_active = active }) (Spool active) (active_keeps v active is) refl refl refl refl
+
+carried_keeps : (v : LedgerView) → IsLedger v → IsLedger (carried_out v)
+carried_keeps v is = record {
+  some = is.some;
+  most = is.most;
+  room = is.room;
+  bound = is.bound;
+  confirmed = is.confirmed;
+  due = tt;
+  come_to = refl;
+}
+
+call_comes : (one : Call) (v : LedgerView) → IsLedger v → MayCall one → HasCome v (brings one v)
+call_comes (Store message overwrites) v is may =
+    stored_comes (room_for v (length message.body)) overwrites message v is may refl
+call_comes Purge v is may = all_comes v is
+call_comes Confirm v is may = confirm_comes v is
+call_comes (Activate enabled) v is may =
+    by_case (HasCome v) (enabled && not v.is_active) (λ on. changed_comes v true is) (λ off. still v v is refl refl)
+call_comes (Rest communicating) v is may =
+    by_case (HasCome v) (communicating && v.is_active && is_done v) (λ done. changed_comes v false is)
+    (λ more. still v v is refl refl)
+call_comes BeginUnload v is may = unload_comes v (Some fresh) is (omega arith)
+call_comes EndUnload v is may = unload_comes v None is (omega arith)
+call_comes (NextUnload most) v is may =
+    let confirmed = unload_next_confirmed most v v.unload in
+    unload_comes v (unload_next most v v.unload) is (omega (arith, confirmed, is.confirmed))
+call_comes (TakeUp number system waiting) v is may =
+    beside v (with_each (trying number waiting) v) (Try number system)
+    (each_keeps v (trying number waiting) is (λ unload. omega arith)) refl refl refl refl
+call_comes Granted v is may = each_comes v let_go is (λ unload. omega arith)
+call_comes TakeWorks v is may = still v (carried_out v) (carried_keeps v is) refl refl
+
+pub calls_come : (v : LedgerView) (calls : List Call) → IsLedger v → All MayCall calls → HasCome v (all_bring calls v)
+calls_come v [] is may = still v v is refl refl
+calls_come v (one ∷ calls) is may =
+    let first = call_comes one v is (All-head MayCall one calls may) in
+    come_then v (brings one v) (all_bring calls) first (calls_come (brings one v).next calls first.is
+    (All-tail MayCall one calls may))

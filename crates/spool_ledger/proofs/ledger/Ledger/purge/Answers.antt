@@ -1,0 +1,8 @@
+use Rattle.std.proofs.Common.{rules, ap, ℕ, ◌+◌}
+use Rattle.spool_ledger.proofs.Keeping.{all_out_keeps}
+use Rattle.spool_ledger.proofs.ledger.Ledger.purge.Goals as goal
+
+pub invariant_of-self-2 : goal.invariant_of-self-2
+invariant_of-self-2 c =
+    all_out_keeps _ _ c.push.new.self c.self.invariant (ap (λ (n : ℕ). c.self.inside.stand.first + n) c.from.ensures)
+    (search rules)

@@ -1,0 +1,5 @@
+pub mod Activity
+pub mod Laws
+pub mod Ledger
+pub mod Storing
+pub mod Unloading

@@ -1,0 +1,79 @@
+-- How messages come to the spool and leave it.
+use Rattle.std.specs.Prelude.{◌≡◌, ℕ, Bool, true, false, ◌+◌, ◌-◌, ◌==◌, List, [], ◌∷◌, ◌++◌, length, Option, Some, None, Result, Ok, Err, if◌then◌else◌}
+use Rattle.std.specs.Option.{option_map}
+use Rattle.gem_spool.specs.declared.spool.Room.{Room}
+use Rattle.gem_spool.specs.declared.spool.Room.TheVariants as room
+use Rattle.gem_spool.specs.declared.works.Work.TheVariants as work
+use Rattle.message_end.specs.Ends.{printed}
+use Rattle.message_end.specs.declared.end.Stop.{Stop}
+use Rattle.message_end.specs.declared.end.Stop.TheVariants as stop
+use Rattle.message_flow.specs.declared.step.Note.{Note}
+use Rattle.message_flow.specs.declared.step.StepOut.{StepOut}
+use Rattle.trace_log.specs.Log.{Happening}
+use Rattle.trace_log.specs.Log.Happening.{Discarded, Gone, Leaving, Stored, Storing, TooLong}
+use Rattle.trace_log.specs.Names.{Spooled, spooled_name}
+use Rattle.trace_log.specs.declared.names.Cause.{Cause}
+use Rattle.trace_log.specs.declared.names.Cause.TheVariants.{Overwritten, Purged}
+use Rattle.spool_ledger.specs.Ledger.{Booked, LedgerView, and_then, next_of, owed, quiet, room_for}
+
+-- a primary of this stream and function
+abbrev pub spooled : ℕ → ℕ → List ℕ → Spooled
+spooled stream function body = record { stream = stream; function = function; body = body }
+
+-- a message comes to the end of the list, with the next number
+abbrev pub put : Spooled → LedgerView → Booked
+put message v = record {
+  next = record v {
+    len = v.len + 1;
+    works = owed v (work.Put message.stream message.function message.body);
+  };
+  lines = Storing (next_of v) message ∷ Stored (next_of v) ∷ [];
+}
+
+-- the oldest message leaves
+abbrev pub oldest_out : Cause → LedgerView → Booked
+oldest_out cause v = record {
+  next = record v { first = v.first + 1; len = v.len - 1; works = owed v work.DropOldest };
+  lines = Leaving v.first cause ∷ Gone v.first ∷ [];
+}
+
+-- all messages leave; of an empty list nothing is noted
+abbrev pub all_out : LedgerView → Booked
+all_out v =
+    if v.len == 0 then quiet v
+    else record {
+      next = record v { first = v.first + v.len; len = 0; works = owed v work.Purge };
+      lines = Leaving v.first Purged ∷ Gone v.first ∷ [];
+    }
+
+-- a message that isn't put
+abbrev pub unstored : Happening → LedgerView → Booked
+unstored what v = record { next = v; lines = what ∷ [] }
+
+-- a message is stored where there is room; in a full spool it takes the place of the oldest, where the spool is to be
+-- overwritten (SEMI E30, OverWriteSpool); None where it would get no number
+abbrev pub stored_by : Room → Bool → Spooled → LedgerView → Option Booked
+stored_by room.Fits overwrites message v = Some (put message v)
+stored_by room.Full true message v = Some (and_then (oldest_out Overwritten v) (put message))
+stored_by room.Full false message v = Some (unstored (Discarded (spooled_name message)) v)
+stored_by room.TooLong overwrites message v = Some (unstored (TooLong (spooled_name message)) v)
+stored_by room.NumbersSpent overwrites message v = None
+
+abbrev pub stored : Bool → Spooled → LedgerView → Option Booked
+stored overwrites message v = stored_by (room_for v (length message.body)) overwrites message v
+
+-- the ledger behind a call, with all notes so far, by those before it
+pub record Account : Type 0 where
+  pub ledger : LedgerView
+  pub notes : List Note
+
+abbrev pub account_of : List Note → Booked → Account
+account_of notes booked = record { ledger = booked.next; notes = notes ++ printed booked.lines }
+
+-- unless memory runs out, this is what comes of it; where the numbers are spent, nothing
+abbrev pub Books : Option Booked → LedgerView → StepOut → LedgerView → StepOut → Result (Unit {0}) Stop → Type 0
+Books booked old out_old new out_new (Ok done) =
+    option_map (account_of out_old.notes) booked ≡ Some (record { ledger = new; notes = out_new.notes })
+Books booked old out_old new out_new (Err stop.NumbersSpent) =
+    (booked ≡ None) × (new ≡ old) × (out_new ≡ out_old)
+Books booked old out_old new out_new (Err stop.NoMemory) = Unit {0}

@@ -1,0 +1,16 @@
+//! What is decided of the spool of the equipment before the disk has it (SEMI E30, spooling): in the course of a step,
+//! which messages are put, which leave and why, and how far an unload has come. The works that the disk then owes are
+//! handed over at the step's end.
+#![tactic(auto)]
+
+mod activity;
+mod laws;
+mod ledger;
+mod storing;
+#[cfg(test)]
+mod tests;
+mod unload;
+mod unloading;
+
+pub use laws::ledgers_are_lawful;
+pub use ledger::Ledger;

@@ -1,0 +1,148 @@
+ghost use Rattle.std.specs.Prelude.{◌≡◌, ◌<◌, ◌≤◌, ◌%◌, ◌++◌, ◌∷◌, [], length, IfOk};
+ghost use Rattle.gem_spool.specs.declared.spool.Room.TheVariants.{Fits};
+ghost use Rattle.message_end.specs.Ends.{printed};
+ghost use Rattle.trace_log.specs.Log.Happening.{Gone, Leaving};
+ghost use Rattle.spool_ledger.specs.Ledger.{confirmed_of, room_for};
+ghost use Rattle.spool_ledger.specs.Storing.{Books, all_out, oldest_out, put, spooled, stored};
+
+use crate::ledger::Ledger;
+use gem_spool::{Room, Work};
+use gl_base::{NoMemory, Row};
+use message_end::Stop;
+use message_flow::StepOut;
+use std::alloc::Global;
+use trace_log::{
+    Cause, Name, discarded_note, gone_note, leaving_note, stored_note, storing_note, too_long_note,
+};
+
+impl Ledger {
+    /// A primary is to be stored. Where there is room it comes to the end of the list with the next number. In a full
+    /// spool it takes the oldest message's place where the spool `overwrites`, and is discarded where it doesn't. One
+    /// that is too long is noted.
+    ///
+    /// `NumbersSpent` exactly where it isn't too long and the next number would be 2^63, and then nothing changes.
+    pub fn store(
+        &mut self,
+        alloc: Global,
+        stream: u8,
+        function: u8,
+        body: Row<u8>,
+        overwrites: bool,
+        out: &mut StepOut,
+    ) -> Result<(), Stop>
+        requires function { function % 2 ≡ 1 }
+        requires stream { stream < 128 }
+        ensures books { Books
+            (stored overwrites (spooled stream function body) self.old)
+            self.old
+            out.old
+            self.new
+            out.new
+            result }
+        ensures line { out.new.line ≡ out.old.line }
+    {
+        let name = Name {
+            stream,
+            function,
+            wait: true,
+        };
+        match self.room(body.len()) {
+            Room::Fits => {
+                self.put(alloc, stream, function, body, out)?;
+                Ok(())
+            }
+            Room::Full => {
+                if overwrites {
+                    self.oldest_out(alloc, Cause::Overwritten, out)?;
+                    self.put(alloc, stream, function, body, out)?;
+                    Ok(())
+                } else {
+                    out.notes.push(discarded_note(alloc, name)?)?;
+                    Ok(())
+                }
+            }
+            Room::TooLong => {
+                out.notes.push(too_long_note(alloc, name)?)?;
+                Ok(())
+            }
+            Room::NumbersSpent => Err(Stop::NumbersSpent),
+        }
+    }
+
+    /// All messages leave, the oldest first. Of an empty list nothing is noted.
+    pub fn purge(&mut self, alloc: Global, out: &mut StepOut) -> Result<(), NoMemory>
+        ensures next { IfOk result (λ done. self.new ≡ (all_out self.old).next) }
+        ensures notes { IfOk result (λ done. out.new.notes ≡ out.old.notes ++ printed (all_out self.old).lines) }
+        ensures line { out.new.line ≡ out.old.line }
+    {
+        if self.stand.len == 0 {
+            return Ok(());
+        }
+        note_leaving(alloc, self.stand.first, Cause::Purged, out)?;
+        self.works.push(Work::Purge)?;
+        self.stand.first += u64::from(self.stand.len);
+        self.stand.len = 0;
+        Ok(())
+    }
+
+    // A message for which there is room comes to the end of the list.
+    fn put(
+        &mut self,
+        alloc: Global,
+        stream: u8,
+        function: u8,
+        body: Row<u8>,
+        out: &mut StepOut,
+    ) -> Result<(), NoMemory>
+        requires function { function % 2 ≡ 1 }
+        requires stream { stream < 128 }
+        requires fits { room_for self.old (length body) ≡ Fits }
+        ensures next { IfOk result (λ done. self.new ≡ (put (spooled stream function body) self.old).next) }
+        ensures notes { IfOk result
+            (λ done. out.new.notes ≡ out.old.notes ++ printed (put (spooled stream function body) self.old).lines) }
+        ensures line { out.new.line ≡ out.old.line }
+    {
+        let number = self.next();
+        out.notes
+            .push(storing_note(alloc, number, stream, function)?)?;
+        out.notes.push(stored_note(alloc, number)?)?;
+        self.works.push(Work::Put {
+            stream,
+            function,
+            body,
+        })?;
+        self.stand.len += 1;
+        Ok(())
+    }
+
+    // The oldest message leaves.
+    pub(crate) fn oldest_out(
+        &mut self,
+        alloc: Global,
+        cause: Cause,
+        out: &mut StepOut,
+    ) -> Result<(), NoMemory>
+        requires some { 0 < self.old.len }
+        ensures next { IfOk result (λ done. self.new ≡ (oldest_out cause self.old).next) }
+        ensures notes { IfOk result
+            (λ done. out.new.notes ≡ out.old.notes ++ printed (oldest_out cause self.old).lines) }
+        ensures line { out.new.line ≡ out.old.line }
+        ensures confirmed { confirmed_of self.old.unload ≤ self.old.first }
+    {
+        note_leaving(alloc, self.stand.first, cause, out)?;
+        self.works.push(Work::DropOldest)?;
+        self.stand.first += 1;
+        self.stand.len -= 1;
+        Ok(())
+    }
+}
+
+// Notes a message that leaves.
+fn note_leaving(alloc: Global, number: u64, cause: Cause, out: &mut StepOut) -> Result<(), NoMemory>
+    ensures notes { IfOk result
+        (λ done. out.new.notes ≡ out.old.notes ++ printed (Leaving number cause ∷ Gone number ∷ [])) }
+    ensures line { out.new.line ≡ out.old.line }
+{
+    out.notes.push(leaving_note(alloc, number, cause)?)?;
+    out.notes.push(gone_note(alloc, number)?)
+}
