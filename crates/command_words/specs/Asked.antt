@@ -1,0 +1,27 @@
+-- What the words after the program's name ask for.
+use Rattle.std.specs.Prelude.{◌≤◌, ℕ, List}
+use Rattle.command_words.specs.declared.command.Command.{Command}
+use Rattle.command_words.specs.declared.command.Command.TheVariants as command
+
+-- a command, with the texts that it needs of its words
+pub data Asked : Type 0 where
+  Show : Asked
+  Spell : Asked
+  SpellHex : Asked
+  Replay : (plan schedule : List ℕ) → Asked
+  Format : (spool : List ℕ) (slots : ℕ) → Asked
+  Spool : (spool : List ℕ) → Asked
+
+-- what a command asks for
+abbrev pub asked_by : Command → Asked
+asked_by command.Show = Show
+asked_by command.Spell = Spell
+asked_by command.SpellHex = SpellHex
+asked_by (command.Replay plan schedule) = Replay plan.now schedule.now
+asked_by (command.Format spool slots) = Format spool.now slots
+asked_by (command.Spool spool) = Spool spool.now
+
+-- the numbers of a command are in their ranges
+abbrev pub IsInRange : Asked → Type 0
+IsInRange (Format spool slots) = (1 ≤ slots) × (slots ≤ 65535)
+IsInRange _ = Unit {0}

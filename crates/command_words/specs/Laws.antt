@@ -1,0 +1,45 @@
+-- What holds of all words.
+use Rattle.std.specs.Prelude.{◌≡◌, ◌≢◌, ◌==◌, ℕ, Bool, true, not, List, [], ◌∷◌, codes, Some, None}
+use Rattle.command_words.specs.Asked.{Format, Replay, Spool}
+use Rattle.command_words.specs.Numbers.{number_in}
+use Rattle.command_words.specs.Words.{asked_of}
+
+-- the word is the name of no command
+pub record IsNoName (word : List ℕ) : Type 0 where
+  pub show : word ≢ codes "show"
+  pub spell : word ≢ codes "spell"
+  pub replay : word ≢ codes "replay"
+  pub format : word ≢ codes "format"
+  pub spool : word ≢ codes "spool"
+
+-- words that begin with no name are refused
+abbrev pub RefusesOtherNames : Type 0
+RefusesOtherNames = (word : List ℕ) (words : List (List ℕ)) → IsNoName word → asked_of (word ∷ words) ≡ None
+
+-- the text begins with no hyphen (45), so it can't be taken for an option
+abbrev pub is_plain : List ℕ → Bool
+is_plain [] = true
+is_plain (x ∷ xs) = not (x == 45)
+
+abbrev pub IsPlain : List ℕ → Type 0
+IsPlain text = is_plain text ≡ true
+
+-- a name with its plain values, as many as it takes, is its command
+pub record TakesPlainWords : Type 0 where
+  pub replay :
+      (plan schedule : List ℕ) → IsPlain plan → IsPlain schedule
+      → asked_of (codes "replay" ∷ plan ∷ schedule ∷ []) ≡ Some (Replay plan schedule)
+  pub format :
+      (spool slots : List ℕ) (n : ℕ) → IsPlain spool → IsPlain slots → number_in 1 65535 slots ≡ Some n
+      → asked_of (codes "format" ∷ spool ∷ slots ∷ []) ≡ Some (Format spool n)
+  pub outside :
+      (spool slots : List ℕ) → IsPlain spool → IsPlain slots → number_in 1 65535 slots ≡ None
+      → asked_of (codes "format" ∷ spool ∷ slots ∷ []) ≡ None
+  pub spool : (spool : List ℕ) → IsPlain spool → asked_of (codes "spool" ∷ spool ∷ []) ≡ Some (Spool spool)
+
+-- behind `--` any words at all are values
+pub record TakesAllBehindHyphens : Type 0 where
+  pub replay :
+      (plan schedule : List ℕ)
+      → asked_of (codes "replay" ∷ codes "--" ∷ plan ∷ schedule ∷ []) ≡ Some (Replay plan schedule)
+  pub spool : (spool : List ℕ) → asked_of (codes "spool" ∷ codes "--" ∷ spool ∷ []) ≡ Some (Spool spool)

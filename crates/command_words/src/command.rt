@@ -1,0 +1,133 @@
+//! What the words ask for.
+
+ghost use Rattle.std.specs.Prelude.{◌≡◌, ◌∷◌, IfOk, IfSome, Some, map, option_map, string_bytes};
+ghost use Rattle.clap.specs.Walk.{rows_of};
+ghost use Rattle.clap.specs.Words.{found_of};
+ghost use Rattle.command_words.specs.Asked.{IsInRange, asked_by};
+ghost use Rattle.command_words.specs.Words.{Answers, asked_behind, asked_of, meant_by};
+
+use crate::names::{Name, name_of};
+use crate::numbers::number_in;
+use crate::parsing::{is_set, matches_for, text_of};
+use clap::ArgMatches;
+use std::alloc::Global;
+
+// How many slots a spool file has at most.
+const SLOTS_MOST: u32 = 65535;
+
+/// What the program is asked to do, with the names of files as they stand in the words.
+#[derive(Clone, Copy, Debug, PartialEq, Eq)]
+pub enum Command<'a> {
+    /// Write the lines of a capture.
+    Show,
+    /// Write the bytes of an item's text, in hex.
+    Spell,
+    /// Write the text of an item's bytes in hex.
+    SpellHex,
+    /// Write the trace of a schedule over a plan.
+    Replay { plan: &'a str, schedule: &'a str },
+    /// Make a spool file of so many slots.
+    Format { spool: &'a str, slots: u32 },
+    /// Write the list of a spool file.
+    Spool { spool: &'a str },
+}
+
+/// Why words are no command.
+#[derive(Clone, Copy, Debug, PartialEq, Eq)]
+pub enum WordsFault {
+    /// The first word is no name, or the rest isn't what the command of that name takes.
+    Usage,
+    /// Memory ran out.
+    NoMemory,
+}
+
+/// The command of the words after the program's name.
+pub fn command_of<'a>(alloc: Global, words: &'a [String]) -> Result<Command<'a>, WordsFault>
+    ensures command { Answers (asked_of (map string_bytes words.entry.now)) result }
+    ensures range { IfOk result (λ command. IsInRange (asked_by command)) }
+{
+    match words.split_first() {
+        Some((word, rest)) => command_behind(alloc, word.as_str(), rest),
+        None => Err(WordsFault::Usage),
+    }
+}
+
+// The command of a first word and the words behind it.
+fn command_behind<'a>(
+    alloc: Global,
+    word: &str,
+    words: &'a [String],
+) -> Result<Command<'a>, WordsFault>
+    ensures command { Answers (asked_of (word.now ∷ map string_bytes words.entry.now)) result }
+    ensures range { IfOk result (λ command. IsInRange (asked_by command)) }
+{
+    match name_of(word) {
+        Some(name) => command_named(alloc, name, words),
+        None => Err(WordsFault::Usage),
+    }
+}
+
+// The command of a name and the words behind it.
+fn command_named<'a>(
+    alloc: Global,
+    name: Name,
+    words: &'a [String],
+) -> Result<Command<'a>, WordsFault>
+    ensures command { Answers (asked_behind name (map string_bytes words.entry.now)) result }
+    ensures range { IfOk result (λ command. IsInRange (asked_by command)) }
+{
+    match matches_for(alloc, name, words) {
+        Ok(matches) => meant_by(name, &matches).ok_or(WordsFault::Usage),
+        Err(fault) => Err(fault),
+    }
+}
+
+// The command that a name is with what was found.
+fn meant_by<'a>(name: Name, matches: &ArgMatches<'a>) -> Option<Command<'a>>
+    ensures command { option_map asked_by result ≡ meant_by name (rows_of (found_of matches.now)) }
+    ensures range { IfSome result (λ command. IsInRange (asked_by command)) }
+{
+    match name {
+        Name::Show => Some(Command::Show),
+        Name::Spell => Some(spelling(matches)),
+        Name::Replay => replay(matches),
+        Name::Format => format(matches),
+        Name::Spool => spool(matches),
+    }
+}
+
+fn spelling<'a>(matches: &ArgMatches<'a>) -> Command<'a>
+    ensures { Some (asked_by result) ≡ meant_by Name.Spell (rows_of (found_of matches.now)) }
+{
+    if is_set(matches, "hex") {
+        Command::SpellHex
+    } else {
+        Command::Spell
+    }
+}
+
+fn replay<'a>(matches: &ArgMatches<'a>) -> Option<Command<'a>>
+    ensures command { option_map asked_by result ≡ meant_by Name.Replay (rows_of (found_of matches.now)) }
+    ensures range { IfSome result (λ command. IsInRange (asked_by command)) }
+{
+    let plan = text_of(matches, "PLAN")?;
+    let schedule = text_of(matches, "SCHEDULE")?;
+    Some(Command::Replay { plan, schedule })
+}
+
+fn format<'a>(matches: &ArgMatches<'a>) -> Option<Command<'a>>
+    ensures command { option_map asked_by result ≡ meant_by Name.Format (rows_of (found_of matches.now)) }
+    ensures range { IfSome result (λ command. IsInRange (asked_by command)) }
+{
+    let spool = text_of(matches, "SPOOL")?;
+    let slots = number_in(1, SLOTS_MOST, text_of(matches, "SLOTS")?)?;
+    Some(Command::Format { spool, slots })
+}
+
+fn spool<'a>(matches: &ArgMatches<'a>) -> Option<Command<'a>>
+    ensures command { option_map asked_by result ≡ meant_by Name.Spool (rows_of (found_of matches.now)) }
+    ensures range { IfSome result (λ command. IsInRange (asked_by command)) }
+{
+    let spool = text_of(matches, "SPOOL")?;
+    Some(Command::Spool { spool })
+}

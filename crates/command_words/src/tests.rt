@@ -1,0 +1,189 @@
+use super::*;
+use crate::forms::app_with;
+use crate::parsing::text_of;
+use std::alloc::{AllocError, Global};
+
+/// Words, and what they are.
+type Case = (
+    &'static [&'static str],
+    Result<Command<'static>, WordsFault>,
+);
+
+fn words_of(alloc: Global, words: &[&str]) -> Result<Vec<String>, AllocError> {
+    let mut all = Vec::new(alloc);
+    for word in words {
+        all.push(String::from_str(alloc, word)?)?;
+    }
+    Ok(all)
+}
+
+fn is_answered(alloc: Global, case: &Case) -> bool {
+    match words_of(alloc, case.0) {
+        Ok(words) => command_of(alloc, &words) == case.1,
+        Err(_) => false,
+    }
+}
+
+fn are_answered(alloc: Global, cases: &[Case]) -> bool {
+    for case in cases {
+        if !is_answered(alloc, case) {
+            return false;
+        }
+    }
+    true
+}
+
+const USAGE: Result<Command<'static>, WordsFault> = Err(WordsFault::Usage);
+
+static TAKEN: [Case; 8] = [
+    (&["show"], Ok(Command::Show)),
+    (&["show", "--"], Ok(Command::Show)),
+    (&["spell"], Ok(Command::Spell)),
+    (&["spell", "--hex"], Ok(Command::SpellHex)),
+    (
+        &["replay", "a", "b"],
+        Ok(Command::Replay {
+            plan: "a",
+            schedule: "b",
+        }),
+    ),
+    (
+        &["replay", "", ""],
+        Ok(Command::Replay {
+            plan: "",
+            schedule: "",
+        }),
+    ),
+    (
+        &["replay", "-", "--", "-b"],
+        Ok(Command::Replay {
+            plan: "-",
+            schedule: "-b",
+        }),
+    ),
+    (&["spool", "f"], Ok(Command::Spool { spool: "f" })),
+];
+
+static FORMATS: [Case; 8] = [
+    (
+        &["format", "f", "1"],
+        Ok(Command::Format {
+            spool: "f",
+            slots: 1,
+        }),
+    ),
+    (
+        &["format", "f", "65535"],
+        Ok(Command::Format {
+            spool: "f",
+            slots: 65535,
+        }),
+    ),
+    (
+        &["format", "--", "--f", "0000065535"],
+        Ok(Command::Format {
+            spool: "--f",
+            slots: 65535,
+        }),
+    ),
+    (&["format", "f", "0"], USAGE),
+    (&["format", "f", "65536"], USAGE),
+    (&["format", "f", "00000065535"], USAGE),
+    (&["format", "f", ""], USAGE),
+    (&["format", "f", "+1"], USAGE),
+];
+
+static NO_NAMES: [Case; 8] = [
+    (&[], USAGE),
+    (&[""], USAGE),
+    (&["shwo"], USAGE),
+    (&["Show"], USAGE),
+    (&["--", "show"], USAGE),
+    (&["--help"], USAGE),
+    (&["--version"], USAGE),
+    (&["help", "show"], USAGE),
+];
+
+static OTHER_REFUSALS: [Case; 8] = [
+    (&["show", "--help"], USAGE),
+    (&["spell", "-h"], USAGE),
+    (&["spool", "--version"], USAGE),
+    (&["show", ""], USAGE),
+    (&["spell", "--hex", "--hex"], USAGE),
+    (&["spell", "--hex=true"], USAGE),
+    (&["spell", "--", "--hex"], USAGE),
+    (&["spell", "hex"], USAGE),
+];
+
+static WRONG_COUNTS: [Case; 8] = [
+    (&["replay"], USAGE),
+    (&["replay", "a"], USAGE),
+    (&["replay", "a", "b", "c"], USAGE),
+    (&["replay", "a", "-b"], USAGE),
+    (&["format", "f"], USAGE),
+    (&["format", "f", "1", "1"], USAGE),
+    (&["spool"], USAGE),
+    (&["spool", "f", "f"], USAGE),
+];
+
+/// Commands that aren't built yet.
+static NOT_BUILT: [Case; 4] = [
+    (&["equipment", "p", "a", "s"], USAGE),
+    (&["equipment", "p", "a", "s", "--polls", "5"], USAGE),
+    (&["host", "p", "a", "--polls=5"], USAGE),
+    (&["make", "1"], USAGE),
+];
+
+#[test]
+fn takes_each_command(rt: HostRuntime) {
+    assert!(rt; are_answered(rt.alloc(), TAKEN.as_slice()));
+}
+
+#[test]
+fn reads_the_number_of_slots(rt: HostRuntime) {
+    assert!(rt; are_answered(rt.alloc(), FORMATS.as_slice()));
+}
+
+#[test]
+fn refuses_words_without_a_name(rt: HostRuntime) {
+    assert!(rt; are_answered(rt.alloc(), NO_NAMES.as_slice()));
+}
+
+#[test]
+fn refuses_unknown_and_repeated_options(rt: HostRuntime) {
+    assert!(rt; are_answered(rt.alloc(), OTHER_REFUSALS.as_slice()));
+}
+
+#[test]
+fn refuses_too_few_and_too_many_words(rt: HostRuntime) {
+    assert!(rt; are_answered(rt.alloc(), WRONG_COUNTS.as_slice()));
+}
+
+#[test]
+fn refuses_commands_that_are_not_built(rt: HostRuntime) {
+    assert!(rt; are_answered(rt.alloc(), NOT_BUILT.as_slice()));
+}
+
+/// Whether an option with a value is read from these words as this text.
+fn polls_are(alloc: Global, words: &[&str], wanted: Option<&str>) -> bool {
+    match words_of(alloc, words) {
+        Ok(words) => match app_with(alloc, "host", &["PLAN"], &["polls"], &[]) {
+            Ok(command) => match command.try_get_matches_from(words.as_slice()) {
+                Ok(matches) => text_of(&matches, "polls") == wanted,
+                Err(_) => false,
+            },
+            Err(_) => false,
+        },
+        Err(_) => false,
+    }
+}
+
+#[test]
+fn takes_an_option_in_both_forms(rt: HostRuntime) {
+    let alloc = rt.alloc();
+    assert!(rt; polls_are(alloc, &["p"], None));
+    assert!(rt; polls_are(alloc, &["p", "--polls", "5"], Some("5")));
+    assert!(rt; polls_are(alloc, &["--polls=5", "p"], Some("5")));
+    assert!(rt; !polls_are(alloc, &["p", "--polls", "5", "--polls", "5"], Some("5")));
+    assert!(rt; !polls_are(alloc, &["p", "--polls"], None));
+}
