@@ -1,0 +1,13 @@
+pub mod Claimed
+pub mod Ends
+pub mod Examples
+pub mod Facts
+pub mod Folded
+pub mod Found
+pub mod Lists
+pub mod Logs
+pub mod Orders
+pub mod Runs
+pub mod Sound
+pub mod Tries
+pub mod Worlds

@@ -1,0 +1,120 @@
+-- Members of lists, and lists whose keys rise.
+use Rattle.std.specs.Prelude.{◌≡◌, ◌<◌, ◌⊎◌, zero, suc, ℕ, Bool, true, false, List, [], ◌∷◌, ◌++◌, cond, filter, map, take, drop, refl}
+use Rattle.std.proofs.Common.{sym, ap, ◌∙◌, subst, inl, inr}
+use Rattle.message_end.specs.Own.{Has}
+
+pub has-front : {X : Type 0} (xs ys : List X) (x : X) → Has xs x → Has (xs ++ ys) x
+has-front [] ys x is = absurd is
+has-front (z ∷ xs) ys x (inl same) = inl same
+has-front (z ∷ xs) ys x (inr has) = inr (has-front xs ys x has)
+
+pub has-back : {X : Type 0} (xs ys : List X) (x : X) → Has ys x → Has (xs ++ ys) x
+has-back [] ys x has = has
+has-back (z ∷ xs) ys x has = inr (has-back xs ys x has)
+
+pub has-either : {X : Type 0} (xs ys : List X) (x : X) → Has (xs ++ ys) x → Has xs x ⊎ Has ys x
+has-either [] ys x has = inr has
+has-either (z ∷ xs) ys x (inl same) = inl (inl same)
+has-either (z ∷ xs) ys x (inr has) = go (has-either xs ys x has)
+  where
+    go : Has xs x ⊎ Has ys x → Has (z ∷ xs) x ⊎ Has ys x
+    go (inl front) = inl (inr front)
+    go (inr back) = inr back
+
+pub has-map : {X Y : Type 0} (f : X → Y) (xs : List X) (x : X) → Has xs x → Has (map f xs) (f x)
+has-map f [] x is = absurd is
+has-map f (z ∷ xs) x (inl same) = inl (ap f same)
+has-map f (z ∷ xs) x (inr has) = inr (has-map f xs x has)
+
+pub has-mapped : {X Y : Type 0} (f : X → Y) (xs : List X) (y : Y) → Has (map f xs) y → (x : X) × Has xs x × (y ≡ f x)
+has-mapped f [] y is = absurd is
+has-mapped f (z ∷ xs) y (inl same) = (z, inl refl, same)
+has-mapped f (z ∷ xs) y (inr has) = let it = has-mapped f xs y has in (it.0, inr it.1, it.2)
+
+pub has-drop : {X : Type 0} (n : ℕ) (xs : List X) (x : X) → Has (drop n xs) x → Has xs x
+has-drop zero xs x has = has
+has-drop (suc n) [] x is = absurd is
+has-drop (suc n) (z ∷ xs) x has = inr (has-drop n xs x has)
+
+pub has-take : {X : Type 0} (n : ℕ) (xs : List X) (x : X) → Has (take n xs) x → Has xs x
+has-take zero xs x is = absurd is
+has-take (suc n) [] x is = absurd is
+has-take (suc n) (z ∷ xs) x (inl same) = inl same
+has-take (suc n) (z ∷ xs) x (inr has) = inr (has-take n xs x has)
+
+-- all but the first
+abbrev pub behind_first : {X : Type 0} → List X → List X
+behind_first [] = []
+behind_first (x ∷ xs) = xs
+
+pub has-behind : {X : Type 0} (xs : List X) (x : X) → Has (behind_first xs) x → Has xs x
+has-behind [] x is = absurd is
+has-behind (z ∷ xs) x has = inr has
+
+pub behind-moved : {X : Type 0} (n : ℕ) (xs ys : List X) (x : X)
+    → Has (behind_first (drop n xs ++ ys)) x → Has (behind_first xs) x ⊎ Has ys x
+behind-moved zero [] ys x has = inr (has-behind ys x has)
+behind-moved zero (z ∷ xs) ys x has = has-either xs ys x has
+behind-moved (suc n) [] ys x has = inr (has-behind ys x has)
+behind-moved (suc n) (z ∷ xs) ys x has = go (behind-moved n xs ys x has)
+  where
+    go : Has (behind_first xs) x ⊎ Has ys x → Has xs x ⊎ Has ys x
+    go (inl front) = inl (has-behind xs x front)
+    go (inr back) = inr back
+
+-- ---- keys that rise
+
+abbrev pub Rising : {X : Type 0} → (X → ℕ) → List X → Type 0
+Rising key [] = Unit {0}
+Rising key (x ∷ xs) = ((y : _) → Has xs y → key x < key y) × Rising key xs
+
+abbrev pub AllBelow : {X : Type 0} → (X → ℕ) → List X → List X → Type 0
+AllBelow {X} key xs ys = (x y : X) → Has xs x → Has ys y → key x < key y
+
+pub rising-append : {X : Type 0} (key : X → ℕ) (xs ys : List X) → Rising key xs → Rising key ys → AllBelow key xs ys
+    → Rising key (xs ++ ys)
+rising-append key [] ys front back across = back
+rising-append {X} key (z ∷ xs) ys front back across =
+    (λ y has. go y (has-either xs ys y has), rising-append key xs ys front.1 back (λ x y h k. across x y (inr h) k))
+  where
+    go : (y : X) → Has xs y ⊎ Has ys y → key z < key y
+    go y (inl has) = front.0 y has
+    go y (inr has) = across z y (inl refl) has
+
+pub rising-back : {X : Type 0} (key : X → ℕ) (xs ys : List X) → Rising key (xs ++ ys) → Rising key ys
+rising-back key [] ys rising = rising
+rising-back key (z ∷ xs) ys rising = rising-back key xs ys rising.1
+
+pub rising-across : {X : Type 0} (key : X → ℕ) (xs ys : List X) → Rising key (xs ++ ys) → AllBelow key xs ys
+rising-across key [] ys rising x y is k = absurd is
+rising-across key (z ∷ xs) ys rising x y (inl same) k =
+    subst (λ w. key w < key y) (sym same) (rising.0 y (has-back xs ys y k))
+rising-across key (z ∷ xs) ys rising x y (inr h) k = rising-across key xs ys rising.1 x y h k
+
+pub rising-drop : {X : Type 0} (key : X → ℕ) (n : ℕ) (xs : List X) → Rising key xs → Rising key (drop n xs)
+rising-drop key zero xs rising = rising
+rising-drop key (suc n) [] rising = tt
+rising-drop key (suc n) (z ∷ xs) rising = rising-drop key n xs rising.1
+
+-- ---- those that pass
+
+pub filter-all : {X : Type 0} (test : X → Bool) (xs : List X) → ((x : X) → Has xs x → test x ≡ true)
+    → filter test xs ≡ xs
+filter-all test [] all = refl
+filter-all test (x ∷ xs) all =
+    ap (λ (b : Bool). cond b (x ∷ filter test xs) (filter test xs)) (all x (inl refl))
+    ∙ ap (λ ys. x ∷ ys) (filter-all test xs (λ y has. all y (inr has)))
+
+pub filter-none : {X : Type 0} (test : X → Bool) (xs : List X) → ((x : X) → Has xs x → test x ≡ false)
+    → filter test xs ≡ []
+filter-none test [] none = refl
+filter-none test (x ∷ xs) none =
+    ap (λ (b : Bool). cond b (x ∷ filter test xs) (filter test xs)) (none x (inl refl))
+    ∙ filter-none test xs (λ y has. none y (inr has))
+
+pub filter-alike : {X : Type 0} (one other : X → Bool) (xs : List X) → ((x : X) → Has xs x → one x ≡ other x)
+    → filter one xs ≡ filter other xs
+filter-alike one other [] alike = refl
+filter-alike one other (x ∷ xs) alike =
+    ap (λ (b : Bool). cond b (x ∷ filter one xs) (filter one xs)) (alike x (inl refl))
+    ∙ ap (λ ys. cond (other x) (x ∷ ys) ys) (filter-alike one other xs (λ y has. alike y (inr has)))

@@ -1,0 +1,4 @@
+pub mod Account
+pub mod Claims
+pub mod Laws
+pub mod Worked

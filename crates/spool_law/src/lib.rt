@@ -1,0 +1,2 @@
+//! What an equipment owes for its spool, as its notes and doings tell of it.
+#![tactic(auto)]
