@@ -58,9 +58,9 @@ fn run_over<F: Files, R: Source, W: Sink, E: Sink, D: Disk>(
     match arguments {
         Ok(arguments) => match words_of(alloc, arguments) {
             Ok(words) => gemline(alloc, &words, files, input, out, err, disk),
-            Err(NoMemory) => report(&Outcome::NoMemory, &[], err),
+            Err(NoMemory) => report(&Outcome::NoMemory, None, err),
         },
-        Err(error) => report(&refusal_of(&error), &[], err),
+        Err(error) => report(&refusal_of(&error), None, err),
     }
 }
 

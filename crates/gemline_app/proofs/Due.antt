@@ -1,5 +1,7 @@
 -- Which outcome is due, and when another one comes in its place.
 use Rattle.std.proofs.Common.{◌≡◌, ◌⊎◌, ◌≤◌, ℕ, true, List, length, Option, Some, None, Result, Ok, Err, refl, sym, ap, subst, ◌∙◌, inl, inr, arith}
+use Rattle.command_words.specs.Asked.{Asked, Format, Replay, Show, Spell, SpellHex, Spool}
+use Rattle.command_words.specs.Words.{asked_of}
 use Rattle.gl_base.specs.Input.{ReadsAll, ReadsAllOf}
 use Rattle.gl_base.specs.Sink.{with_bytes}
 use Rattle.gl_base.specs.Told.{FilesTold, SinkTold, SourceTold}
@@ -19,17 +21,14 @@ use Rattle.secs_text.specs.declared.text_fault.TextFault.{TextFault}
 use Rattle.secs_text.proofs.FaultLaws.{no_fault_read}
 use Rattle.secs_text.proofs.FaultPlaces.{one_fault}
 use Rattle.spool_show.specs.Told.{DiskTold}
-use Rattle.gemline_app.specs.Gemline.{ComesFrom, ComesOnInput, HexRefuses, InputRefuses, IsRun, TextRefuses, WasPrinted, WasRead, WasShown, WasSpelled, WasWritten}
+use Rattle.gemline_app.specs.Gemline.{ComesFrom, ComesOnInput, HexRefuses, InputRefuses, IsRun, RunComes, TextRefuses, WasPrinted, WasRead, WasShown, WasSpelled, WasWritten}
 use Rattle.gemline_app.specs.HexInput.{HexMeans}
 use Rattle.gemline_app.specs.Laws.{BytesAsk, CaptureAsks, HexAsks, Hinders, IsDue, IsInputDue, TextAsks}
 use Rattle.gemline_app.specs.Outcome.{outcome_of_show, status_of}
 use Rattle.gemline_app.specs.Spelling.{text_place}
-use Rattle.gemline_app.specs.Words.{capture_limit, command_of, item_limit, name_in}
-use Rattle.gemline_app.specs.declared.outcome.FileRole.TheVariants as role
+use Rattle.gemline_app.specs.Words.{capture_limit, item_limit}
 use Rattle.gemline_app.specs.declared.outcome.Outcome.{Outcome}
 use Rattle.gemline_app.specs.declared.outcome.Outcome.TheVariants.{Done, Usage, BadFrame, BadText, BadHex, BadItem, BadLine, Longer, FileLonger, FileFailed, ReadFailed, NoMemory, WriteFailed, TurnsSpent, NumbersSpent, Slip, DiskFailed, NotSpool, BadPlan, LineNotBuilt}
-use Rattle.gemline_app.specs.declared.words.Command.{Command}
-use Rattle.gemline_app.specs.declared.words.Command.TheVariants.{Show, Spell, SpellHex, Replay, Format, Spool}
 use Rattle.gemline_app.proofs.HexLaws.{means_read, one_break}
 use Rattle.gemline_app.proofs.ReplayDue.{Comes, replay_due}
 use Rattle.gemline_app.proofs.SpoolDue.{formatted_due, listed_due}
@@ -223,30 +222,38 @@ input_due limit Was Asks source files disk out outcome due each (inr (whole, rea
     let same = (read_of limit source bytes (input.Whole whole) told read).1 in
     each bytes (subst (λ (all : List ℕ). Was all out outcome) same was) asks
 
-comes_due : (command : Option Command) (words : List (List ℕ)) (source : SourceTold) (files : FilesTold) (disk : DiskTold) (out : SinkTold) (outcome due : Outcome) →
-    ComesFrom command words source files disk out outcome → IsDue command words source files disk due → Comes source files disk out outcome due
-comes_due None words source files disk out outcome due refused is = inl (refused.usage ∙ sym is)
-comes_due (Some Show) words source files disk out outcome due (files_unread, unused, comes) is_due =
+comes_due : (asked : Option Asked) (source : SourceTold) (files : FilesTold) (disk : DiskTold) (out : SinkTold) (outcome due : Outcome) →
+    ComesFrom asked source files disk out outcome → IsDue asked source files disk due → Comes source files disk out outcome due
+comes_due None source files disk out outcome due refused is = inl (refused.refused ∙ sym is)
+comes_due (Some Show) source files disk out outcome due (files_unread, unused, comes) is_due =
     input_due capture_limit WasShown CaptureAsks source files disk out outcome due
     (λ capture was asks. captured_due capture source files disk out outcome due was asks) comes is_due
-comes_due (Some Spell) words source files disk out outcome due (files_unread, unused, comes) is_due =
+comes_due (Some Spell) source files disk out outcome due (files_unread, unused, comes) is_due =
     input_due item_limit WasSpelled TextAsks source files disk out outcome due
     (λ text was asks. spelled_due text source files disk out outcome due was asks) comes is_due
-comes_due (Some SpellHex) words source files disk out outcome due (files_unread, unused, comes) is_due =
+comes_due (Some SpellHex) source files disk out outcome due (files_unread, unused, comes) is_due =
     input_due item_limit WasPrinted HexAsks source files disk out outcome due
     (λ digits was asks. printed_due digits source files disk out outcome due was asks) comes is_due
-comes_due (Some Replay) words source files disk out outcome due (unread, unused, comes) (bytes, told, is_due) =
-    replay_due source files disk out (name_in words role.Plan) (name_in words role.Schedule) bytes outcome due told comes is_due
-comes_due (Some (Format slots)) words source files disk out outcome due (unread, files_unread, was) is_due =
-    formatted_due source files disk out _ slots outcome due was is_due
-comes_due (Some Spool) words source files disk out outcome due (unread, files_unread, was) is_due =
-    listed_due source files disk out _ outcome due was is_due
+comes_due (Some (Replay plan schedule)) source files disk out outcome due (unread, unused, comes) (bytes, told, is_due) =
+    replay_due source files disk out plan schedule bytes outcome due told comes is_due
+comes_due (Some (Format spool slots)) source files disk out outcome due (unread, files_unread, was) is_due =
+    formatted_due source files disk out spool slots outcome due was is_due
+comes_due (Some (Spool spool)) source files disk out outcome due (unread, files_unread, was) is_due =
+    listed_due source files disk out spool outcome due was is_due
+
+-- memory that runs out over the words hinders every outcome
+run_due : (asked : Option Asked) (source : SourceTold) (files : FilesTold) (disk : DiskTold) (out : SinkTold) (outcome due : Outcome) →
+    RunComes asked source files disk out outcome → IsDue asked source files disk due → Comes source files disk out outcome due
+run_due asked source files disk out outcome due (inl refused) is_due =
+    inr (subst (Hinders source files disk out) (sym refused.refused) tt)
+run_due asked source files disk out outcome due (inr comes) is_due =
+    comes_due asked source files disk out outcome due comes is_due
 
 pub due_outcome : (words : List (List ℕ)) (source : SourceTold) (files : FilesTold) (disk : DiskTold) (out err : SinkTold) (status : ℕ) (due : Outcome)
-    → (run : IsRun words source files disk out err status) → IsDue (command_of words) words source files disk due
+    → (run : IsRun words source files disk out err status) → IsDue (asked_of words) source files disk due
     → (run.outcome ≡ due) ⊎ Hinders source files disk out run.outcome
 due_outcome words source files disk out err status due run is_due =
-    comes_due (command_of words) words source files disk out run.outcome due run.comes is_due
+    run_due (asked_of words) source files disk out run.outcome due run.comes is_due
 
 -- ---- over objects that do not fail
 
@@ -284,17 +291,18 @@ module _ (source : SourceTold) (files : FilesTold) (disk : DiskTold) (out : Sink
   unread_ends (BadPlan key what) was = absurd was
   unread_ends (LineNotBuilt number) was = absurd was
 
-  show_ends : (words : List (List ℕ)) (outcome : Outcome) → ComesFrom (Some Show) words source files disk out outcome → Ends outcome
-  show_ends words outcome (files_unread, unused, inl (refuses, untouched)) = unread_ends outcome refuses
-  show_ends words outcome (files_unread, unused, inr (whole, read, done)) =
+  show_ends : (outcome : Outcome) → RunComes (Some Show) source files disk out outcome → Ends outcome
+  show_ends outcome (inl refused) = inl (ap status_of refused.refused)
+  show_ends outcome (inr (files_unread, unused, inl (refuses, untouched))) = unread_ends outcome refuses
+  show_ends outcome (inr (files_unread, unused, inr (whole, read, done))) =
       let same = (read_of 16777216 source capture (input.Whole whole) told read).1 in
       by_result done.result outcome done.outcome_is (subst (λ (all : List ℕ). Shows out all done.result) same done.shown)
 
 pub whole_capture : (words : List (List ℕ)) (source : SourceTold) (files : FilesTold) (disk : DiskTold) (out err : SinkTold) (status : ℕ)
-    → IsRun words source files disk out err status → command_of words ≡ Some Show
+    → IsRun words source files disk out err status → asked_of words ≡ Some Show
     → (capture : List ℕ) (pieces : List Piece) → source.before ≡ Some capture → length capture ≤ 16777216
     → source.health.reliable ≡ true → Reads capture pieces Whole → length (lines_of pieces) ≤ out.health.room
     → (status ≡ 71) ⊎ ((status ≡ 0) × (out.after ≡ with_bytes out.before (lines_of pieces)))
 whole_capture words source files disk out err status run shows capture pieces told within reliable reads room =
-    rw run.status_is (show_ends source files disk out capture pieces told within reliable reads room words run.outcome
-    (subst (λ (asked : Option Command). ComesFrom asked words source files disk out run.outcome) shows run.comes))
+    rw run.status_is (show_ends source files disk out capture pieces told within reliable reads room run.outcome
+    (subst (λ (asked : Option Asked). RunComes asked source files disk out run.outcome) shows run.comes))

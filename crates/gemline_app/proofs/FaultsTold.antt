@@ -3,6 +3,8 @@ use Rattle.std.proofs.Common.{◌≡◌, ℕ, Bool, false, List, Option, Some, N
 use Rattle.equipment_tables.specs.declared.plan.Plans.{Plans}
 use Rattle.gem_config.specs.declared.fault.ConfigFault.{ConfigFault}
 use Rattle.gem_config.specs.declared.fault.ConfigFault.TheVariants as plan_fault
+use Rattle.command_words.specs.Asked.{Asked, Format, Replay, Show, Spell, SpellHex, Spool}
+use Rattle.command_words.specs.Words.{asked_of}
 use Rattle.gl_base.specs.Sink.{SinkHealth}
 use Rattle.gl_base.specs.Files.{FilesHealth}
 use Rattle.gl_base.specs.Source.{SourceHealth}
@@ -25,18 +27,16 @@ use Rattle.spool_show.specs.declared.spool_end.SpoolEnd.{SpoolEnd}
 use Rattle.spool_show.specs.declared.spool_end.SpoolEnd.TheVariants as spool
 use Rattle.gemline_app.specs.Spool.{EndedAs, IsUnused, outcome_of_spool}
 use Rattle.gemline_app.proofs.SpoolDue.{rose_of}
-use Rattle.gemline_app.specs.Gemline.{ComesFrom, ComesOnInput, HexRefuses, InputRefuses, IsRun, IsUnread, TextRefuses, WasPrinted, WasShown, WasSpelled, WasWritten}
+use Rattle.gemline_app.specs.Gemline.{ComesFrom, ComesOnInput, HexRefuses, InputRefuses, IsRefused, IsRun, IsUnread, RunComes, TextRefuses, WasPrinted, WasShown, WasSpelled, WasWritten}
 use Rattle.gemline_app.specs.Laws.{CountsFaults, IsCounted, is_disk_fault, is_file_fault, is_read_fault, is_write_fault}
 use Rattle.gemline_app.specs.Outcome.{outcome_of_show}
 use Rattle.gemline_app.specs.Replay.{FileRefuses, FollowsPlan, ReplayComes, ScheduleComes, ScheduleRefuses, TextRuns, files_since, outcome_of_end, plan_refusal, schedule_refusal}
-use Rattle.gemline_app.specs.Words.{capture_limit, command_of, item_limit, name_in, spool_name}
+use Rattle.gemline_app.specs.Words.{capture_limit, item_limit}
 use Rattle.gemline_app.specs.Written.{AreUnread, IsUntouched}
 use Rattle.gemline_app.specs.declared.outcome.FileRole.{FileRole}
 use Rattle.gemline_app.specs.declared.outcome.FileRole.TheVariants as role
 use Rattle.gemline_app.specs.declared.outcome.Outcome.{Outcome}
 use Rattle.gemline_app.specs.declared.outcome.Outcome.TheVariants.{Done, Usage, BadFrame, BadText, BadHex, BadItem, BadLine, Longer, FileLonger, FileFailed, ReadFailed, NoMemory, WriteFailed, TurnsSpent, NumbersSpent, Slip, DiskFailed, NotSpool, BadPlan, LineNotBuilt}
-use Rattle.gemline_app.specs.declared.words.Command.{Command}
-use Rattle.gemline_app.specs.declared.words.Command.TheVariants.{Show, Spell, SpellHex, Replay, Format, Spool}
 
 -- ---- the output
 
@@ -363,39 +363,60 @@ spool_counts source files disk out outcome Ends unread files_unread each was =
 
 -- ---- all commands
 
-comes_counts : (command : Option Command) (words : List (List ℕ)) (source : SourceTold) (files : FilesTold) (disk : DiskTold) (out : SinkTold) (outcome : Outcome) →
-    ComesFrom command words source files disk out outcome → CountsFaults source files disk out outcome
-comes_counts None words source files disk out outcome refused =
-    subst (CountsFaults source files disk out) (sym refused.usage) (record {
-      read = source_stands source refused.input;
-      file = files_stand files refused.unread;
-      on_disk = refused.unused.faults;
-      write = untouched out refused.written;
-    })
-comes_counts (Some Show) words source files disk out outcome (unread, unused, comes) =
+-- words that are refused touch nothing
+module _ (source : SourceTold) (files : FilesTold) (disk : DiskTold) (out : SinkTold) (outcome : Outcome) where
+  stands : (refusal : Outcome) → IsRefused refusal source files disk out outcome → CountsFaults source files disk out refusal
+      → CountsFaults source files disk out outcome
+  stands refusal refused counts = subst (CountsFaults source files disk out) (sym refused.refused) counts
+
+  usage_counts : IsRefused Usage source files disk out outcome → CountsFaults source files disk out outcome
+  usage_counts refused = stands Usage refused (record {
+    read = source_stands source refused.input;
+    file = files_stand files refused.unread;
+    on_disk = refused.unused.faults;
+    write = untouched out refused.written;
+  })
+
+  memory_counts : IsRefused NoMemory source files disk out outcome → CountsFaults source files disk out outcome
+  memory_counts refused = stands NoMemory refused (record {
+    read = source_stands source refused.input;
+    file = files_stand files refused.unread;
+    on_disk = refused.unused.faults;
+    write = untouched out refused.written;
+  })
+
+comes_counts : (asked : Option Asked) (source : SourceTold) (files : FilesTold) (disk : DiskTold) (out : SinkTold) (outcome : Outcome) →
+    ComesFrom asked source files disk out outcome → CountsFaults source files disk out outcome
+comes_counts None source files disk out outcome refused = usage_counts source files disk out outcome refused
+comes_counts (Some Show) source files disk out outcome (unread, unused, comes) =
     input_counts source files disk out capture_limit WasShown outcome (others_stand files disk unread unused)
     (λ capture was. shown_counts capture out outcome was) comes
-comes_counts (Some Spell) words source files disk out outcome (unread, unused, comes) =
+comes_counts (Some Spell) source files disk out outcome (unread, unused, comes) =
     input_counts source files disk out item_limit WasSpelled outcome (others_stand files disk unread unused)
     (λ text was. spelled_counts text out outcome was) comes
-comes_counts (Some SpellHex) words source files disk out outcome (unread, unused, comes) =
+comes_counts (Some SpellHex) source files disk out outcome (unread, unused, comes) =
     input_counts source files disk out item_limit WasPrinted outcome (others_stand files disk unread unused)
     (λ digits was. printed_counts digits out outcome was) comes
-comes_counts (Some Replay) words source files disk out outcome (unread, unused, comes) =
-    let counts = replay_counts (name_in words role.Plan) (name_in words role.Schedule) files out outcome comes in
+comes_counts (Some (Replay plan schedule)) source files disk out outcome (unread, unused, comes) =
+    let counts = replay_counts plan schedule files out outcome comes in
     record {
       read = subst (λ (b : Bool). IsCounted b source.health.faults source.health_after.faults) (sym counts.read) (source_stands source unread);
       file = counts.file;
       on_disk = subst (λ (b : Bool). IsCounted b disk.faults disk.faults_after) (sym counts.on_disk) unused.faults;
       write = counts.write;
     }
-comes_counts (Some (Format slots)) words source files disk out outcome (unread, files_unread, was) =
-    spool_counts source files disk out outcome (FormatsSpool (spool_name words) slots disk out) unread files_unread
+comes_counts (Some (Format name slots)) source files disk out outcome (unread, files_unread, was) =
+    spool_counts source files disk out outcome (FormatsSpool name slots disk out) unread files_unread
     (λ ended formats. by_making slots disk out ended formats.formatted) was
-comes_counts (Some Spool) words source files disk out outcome (unread, files_unread, was) =
-    spool_counts source files disk out outcome (ShowsSpool (spool_name words) disk out) unread files_unread
+comes_counts (Some (Spool name)) source files disk out outcome (unread, files_unread, was) =
+    spool_counts source files disk out outcome (ShowsSpool name disk out) unread files_unread
     (λ ended shows. by_listing disk out ended shows.shown) was
+
+run_counts : (asked : Option Asked) (source : SourceTold) (files : FilesTold) (disk : DiskTold) (out : SinkTold) (outcome : Outcome) →
+    RunComes asked source files disk out outcome → CountsFaults source files disk out outcome
+run_counts asked source files disk out outcome (inl refused) = memory_counts source files disk out outcome refused
+run_counts asked source files disk out outcome (inr comes) = comes_counts asked source files disk out outcome comes
 
 pub faults_told : (words : List (List ℕ)) (source : SourceTold) (files : FilesTold) (disk : DiskTold) (out err : SinkTold) (status : ℕ)
     → (run : IsRun words source files disk out err status) → CountsFaults source files disk out run.outcome
-faults_told words source files disk out err status run = comes_counts (command_of words) words source files disk out run.outcome run.comes
+faults_told words source files disk out err status run = run_counts (asked_of words) source files disk out run.outcome run.comes

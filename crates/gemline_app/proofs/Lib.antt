@@ -7,4 +7,5 @@ mod HexMeaning
 mod ReadBack
 mod ReplayDue
 mod Replaying
+mod Running
 mod SpoolDue

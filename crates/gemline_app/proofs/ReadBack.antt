@@ -1,5 +1,7 @@
 -- An input of hex is the hex of one item, and what `spell` wrote is read back as the text's own.
 use Rattle.std.proofs.Common.{◌≡◌, ◌⊎◌, ◌≤◌, ℕ, List, [], length, Option, Some, Ok, Err, refl, sym, ap, subst, ◌∙◌, inl, inr, arith}
+use Rattle.command_words.specs.Asked.{Asked, Spell, SpellHex}
+use Rattle.command_words.specs.Words.{asked_of}
 use Rattle.gl_base.specs.Sink.{with_bytes}
 use Rattle.gl_base.specs.Told.{FilesTold, SinkTold, SourceTold}
 use Rattle.gl_base.specs.declared.input.Input.TheVariants as input
@@ -10,13 +12,11 @@ use Rattle.secs_items.proofs.SpellLaws.{shortest_is_spelled}
 use Rattle.secs_text.specs.Grammar.{ReadsAs}
 use Rattle.secs_text.proofs.TextLaws as texts
 use Rattle.spool_show.specs.Told.{DiskTold}
-use Rattle.gemline_app.specs.Gemline.{ComesFrom, ComesOnInput, HexRefuses, InputRefuses, IsRun, TextRefuses, WasPrinted, WasSpelled, WasWritten}
+use Rattle.gemline_app.specs.Gemline.{ComesFrom, ComesOnInput, HexRefuses, InputRefuses, IsRun, RunComes, TextRefuses, WasPrinted, WasSpelled, WasWritten}
 use Rattle.gemline_app.specs.Laws.{HexAsks, HexSpellsOne, Hinders, IsDue, IsInputDue, ReadsBack, WroteSpelling}
 use Rattle.gemline_app.specs.Outcome.{status_of}
 use Rattle.gemline_app.specs.Spelling.{HexSpells, spelled_line, text_line}
-use Rattle.gemline_app.specs.Words.{command_of, item_limit}
-use Rattle.gemline_app.specs.declared.words.Command.{Command}
-use Rattle.gemline_app.specs.declared.words.Command.TheVariants.{Spell, SpellHex}
+use Rattle.gemline_app.specs.Words.{item_limit}
 use Rattle.gemline_app.specs.declared.outcome.Outcome.{Outcome}
 use Rattle.gemline_app.specs.declared.outcome.Outcome.TheVariants.{Done, Usage, BadFrame, BadText, BadHex, BadItem, BadLine, Longer, FileLonger, FileFailed, ReadFailed, NoMemory, WriteFailed, TurnsSpent, NumbersSpent, Slip, DiskFailed, NotSpool, BadPlan, LineNotBuilt}
 use Rattle.gemline_app.proofs.Due.{due_outcome, one_bytes, read_of}
@@ -110,26 +110,32 @@ second_run line item source out outcome done told spells (inr (whole, read, was)
     let all = read_of 1048576 source line (input.Whole whole) told read in
     printed_so line item out outcome done spells (subst (λ (bytes : List ℕ). WasPrinted bytes out outcome) all.1 was)
 
--- what a run of a command comes from
-comes_of : (command : Command) (words : List (List ℕ)) (source : SourceTold) (files : FilesTold) (disk : DiskTold) (out err : SinkTold) (status : ℕ) →
-    (run : IsRun words source files disk out err status) → command_of words ≡ Some command → ComesFrom (Some command) words source files disk out run.outcome
-comes_of command words source files disk out err status run asks =
-    subst (λ (asked : Option Command). ComesFrom asked words source files disk out run.outcome) asks run.comes
+-- what a run of a command that ended well comes from
+comes_of : (asked : Asked) (words : List (List ℕ)) (source : SourceTold) (files : FilesTold) (disk : DiskTold) (out err : SinkTold) (status : ℕ) →
+    (run : IsRun words source files disk out err status) → run.outcome ≡ Done → asked_of words ≡ Some asked
+    → ComesFrom (Some asked) source files disk out run.outcome
+comes_of asked words source files disk out err status run done asks =
+    go (subst (λ (it : Option Asked). RunComes it source files disk out run.outcome) asks run.comes)
+  where
+    go : RunComes (Some asked) source files disk out run.outcome → ComesFrom (Some asked) source files disk out run.outcome
+    go (inl refused) = let no : 0 ≡ 71 = ap status_of (sym done ∙ refused.refused) in absurd (omega (arith, no))
+    go (inr comes) = comes
 
 spelled_by : (text line : List ℕ) (item : Item) → ReadsAs text item → WroteSpelling text line → Spelled text line item
 spelled_by text line item reads wrote =
     first_run text line item wrote.source wrote.out wrote.run.outcome (done_is wrote.run.outcome wrote.run.status_is) wrote.told wrote.empty wrote.after reads
-    (comes_of Spell wrote.words wrote.source wrote.files wrote.disk wrote.out wrote.err 0 wrote.run wrote.asks).2
+    (comes_of Spell wrote.words wrote.source wrote.files wrote.disk wrote.out wrote.err 0 wrote.run
+    (done_is wrote.run.outcome wrote.run.status_is) wrote.asks).2
 
 pub reads_back : (text line : List ℕ) (item : Item) → ReadsAs text item → WroteSpelling text line → length line ≤ 1048576
     → (words : List (List ℕ)) (source : SourceTold) (files : FilesTold) (disk : DiskTold) (out err : SinkTold) (status : ℕ)
-    → (run : IsRun words source files disk out err status) → command_of words ≡ Some SpellHex → source.before ≡ Some line
+    → (run : IsRun words source files disk out err status) → asked_of words ≡ Some SpellHex → source.before ≡ Some line
     → ReadsBack item out run.outcome ⊎ Hinders source files disk out run.outcome
 reads_back text line item reads wrote within words source files disk out err status run asks told =
-    elim (due_outcome words source files disk out err status Done run (subst (λ (asked : Option Command). IsDue asked words source files disk Done) (sym asks) due)) [
+    elim (due_outcome words source files disk out err status Done run (subst (λ (asked : Option Asked). IsDue asked source files disk Done) (sym asks) due)) [
       | inl done ↦ inl (record {
         done = done;
-        after = second_run line item source out run.outcome done told spells (comes_of SpellHex words source files disk out err status run asks).2;
+        after = second_run line item source out run.outcome done told spells (comes_of SpellHex words source files disk out err status run done asks).2;
       })
       | inr hindered ↦ inr hindered
     ]

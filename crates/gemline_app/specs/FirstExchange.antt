@@ -1,10 +1,10 @@
 -- The capture of an S1F1 with W from the host, block 1, system bytes 1, and what `show` makes of it.
 use Rattle.std.specs.Prelude.{◌≡◌, ◌≤◌, ◌⊎◌, ℕ, true, List, [], ◌∷◌, ◌++◌, codes, Some}
+use Rattle.command_words.specs.Asked.{Show}
+use Rattle.command_words.specs.Words.{asked_of}
 use Rattle.gl_base.specs.Told.{FilesTold, SinkTold, SourceTold}
 use Rattle.spool_show.specs.Told.{DiskTold}
 use Rattle.gemline_app.specs.Gemline.{IsRun}
-use Rattle.gemline_app.specs.Words.{command_of}
-use Rattle.gemline_app.specs.declared.words.Command.TheVariants.{Show}
 
 abbrev pub first_frame : List ℕ
 first_frame = 10 ∷ 0 ∷ 0 ∷ 129 ∷ 1 ∷ 128 ∷ 1 ∷ 0 ∷ 0 ∷ 0 ∷ 1 ∷ 1 ∷ 4 ∷ []
@@ -18,6 +18,6 @@ abbrev pub ShowsTheFirst : Type 0
 ShowsTheFirst =
     (words : List (List ℕ)) (source : SourceTold) (files : FilesTold) (disk : DiskTold)
     (out err : SinkTold) (status : ℕ)
-    → IsRun words source files disk out err status → command_of words ≡ Some Show
+    → IsRun words source files disk out err status → asked_of words ≡ Some Show
     → source.before ≡ Some first_frame → source.health.reliable ≡ true → out.before ≡ Some [] → 88 ≤ out.health.room
     → (status ≡ 71) ⊎ ((status ≡ 0) × (out.after ≡ Some first_lines))

@@ -1,5 +1,7 @@
 -- What a run of the program is, by its words and what the outside tells (this profile).
 use Rattle.std.specs.Prelude.{◌≡◌, ◌⊎◌, ℕ, List, Option, Some, None, Result, Ok, Err}
+use Rattle.command_words.specs.Asked.{Asked, Format, Replay, Show, Spell, SpellHex, Spool}
+use Rattle.command_words.specs.Words.{asked_of}
 use Rattle.gl_base.specs.Input.{HasInputCause, ReadsAll}
 use Rattle.gl_base.specs.Sending.{Sends, WroteShort, WroteText}
 use Rattle.gl_base.specs.Told.{FilesTold, SinkTold, SourceTold}
@@ -23,13 +25,10 @@ use Rattle.gemline_app.specs.Outcome.{line_of, name_of, outcome_of_show, status_
 use Rattle.gemline_app.specs.Spelling.{HexSpells, spelled_line, text_line, text_place}
 use Rattle.gemline_app.specs.Replay.{ReplayComes}
 use Rattle.gemline_app.specs.Spool.{EndedAs, IsUnused}
-use Rattle.gemline_app.specs.Words.{capture_limit, command_of, item_limit, name_in, spool_name}
+use Rattle.gemline_app.specs.Words.{capture_limit, item_limit}
 use Rattle.gemline_app.specs.Written.{AreUnread, IsUntouched}
-use Rattle.gemline_app.specs.declared.outcome.FileRole.TheVariants as role
 use Rattle.gemline_app.specs.declared.outcome.Outcome.{Outcome}
 use Rattle.gemline_app.specs.declared.outcome.Outcome.TheVariants.{Done, Usage, BadText, BadHex, BadItem, Longer, ReadFailed, NoMemory, WriteFailed}
-use Rattle.gemline_app.specs.declared.words.Command.{Command}
-use Rattle.gemline_app.specs.declared.words.Command.TheVariants.{Show, Spell, SpellHex, Replay, Format, Spool}
 
 -- nothing was read
 pub record IsUnread (source : SourceTold) : Type 0 where
@@ -119,32 +118,35 @@ ComesOnInput limit Was source out outcome =
     (InputRefuses limit source outcome × IsUntouched out)
     ⊎ ((bytes : List ℕ) × WasRead limit source (input.Whole bytes) × Was bytes out outcome)
 
--- no words of a command: nothing is read and nothing written
-pub record IsRefused (source : SourceTold) (files : FilesTold) (disk : DiskTold) (out : SinkTold)
+-- the words are refused: nothing is read and nothing written
+pub record IsRefused (refusal : Outcome) (source : SourceTold) (files : FilesTold) (disk : DiskTold) (out : SinkTold)
     (outcome : Outcome) : Type 0 where
-  pub usage : outcome ≡ Usage
+  pub refused : outcome ≡ refusal
   pub input : IsUnread source
   pub unread : AreUnread files
   pub unused : IsUnused disk
   pub written : IsUntouched out
 
 -- what each outcome comes from: the command of the words, if they are one's, and what it reads
-abbrev pub ComesFrom :
-    Option Command → List (List ℕ) → SourceTold → FilesTold → DiskTold → SinkTold → Outcome → Type 0
-ComesFrom None words source files disk out outcome = IsRefused source files disk out outcome
-ComesFrom (Some Show) words source files disk out outcome =
+abbrev pub ComesFrom : Option Asked → SourceTold → FilesTold → DiskTold → SinkTold → Outcome → Type 0
+ComesFrom None source files disk out outcome = IsRefused Usage source files disk out outcome
+ComesFrom (Some Show) source files disk out outcome =
     AreUnread files × IsUnused disk × ComesOnInput capture_limit WasShown source out outcome
-ComesFrom (Some Spell) words source files disk out outcome =
+ComesFrom (Some Spell) source files disk out outcome =
     AreUnread files × IsUnused disk × ComesOnInput item_limit WasSpelled source out outcome
-ComesFrom (Some SpellHex) words source files disk out outcome =
+ComesFrom (Some SpellHex) source files disk out outcome =
     AreUnread files × IsUnused disk × ComesOnInput item_limit WasPrinted source out outcome
-ComesFrom (Some Replay) words source files disk out outcome =
-    IsUnread source × IsUnused disk
-    × ReplayComes (name_in words role.Plan) (name_in words role.Schedule) files out outcome
-ComesFrom (Some (Format slots)) words source files disk out outcome =
-    IsUnread source × AreUnread files × EndedAs (FormatsSpool (spool_name words) slots disk out) outcome
-ComesFrom (Some Spool) words source files disk out outcome =
-    IsUnread source × AreUnread files × EndedAs (ShowsSpool (spool_name words) disk out) outcome
+ComesFrom (Some (Replay plan schedule)) source files disk out outcome =
+    IsUnread source × IsUnused disk × ReplayComes plan schedule files out outcome
+ComesFrom (Some (Format spool slots)) source files disk out outcome =
+    IsUnread source × AreUnread files × EndedAs (FormatsSpool spool slots disk out) outcome
+ComesFrom (Some (Spool spool)) source files disk out outcome =
+    IsUnread source × AreUnread files × EndedAs (ShowsSpool spool disk out) outcome
+
+-- what a run comes from: the words, unless memory runs out over them
+abbrev pub RunComes : Option Asked → SourceTold → FilesTold → DiskTold → SinkTold → Outcome → Type 0
+RunComes asked source files disk out outcome =
+    IsRefused NoMemory source files disk out outcome ⊎ ComesFrom asked source files disk out outcome
 
 -- the bytes went to a sink, all of them or, where a write failed, a part
 abbrev pub WereSent : List ℕ → SinkTold → Type 0
@@ -155,5 +157,5 @@ pub record IsRun (words : List (List ℕ)) (source : SourceTold) (files : FilesT
     (out err : SinkTold) (status : ℕ) : Type 0 where
   pub outcome : Outcome
   pub status_is : status ≡ status_of outcome
-  pub comes : ComesFrom (command_of words) words source files disk out outcome
-  pub line : WereSent (line_of (name_of words outcome) outcome) err
+  pub comes : RunComes (asked_of words) source files disk out outcome
+  pub line : WereSent (line_of (name_of (asked_of words) outcome) outcome) err

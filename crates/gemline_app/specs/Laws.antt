@@ -1,5 +1,7 @@
 -- What holds of all runs.
 use Rattle.std.specs.Prelude.{◌≡◌, ◌<◌, ◌≤◌, ◌⊎◌, ℕ, Bool, true, false, List, [], length, Option, Some, None, Ok}
+use Rattle.command_words.specs.Asked.{Asked, Format, Replay, Show, Spell, SpellHex, Spool}
+use Rattle.command_words.specs.Words.{asked_of}
 use Rattle.equipment_tables.specs.declared.plan.Plans.{Plans}
 use Rattle.gem_config.specs.Plans.{Means}
 use Rattle.gem_config.specs.Reading.{refused}
@@ -31,12 +33,10 @@ use Rattle.gemline_app.specs.Gemline.{IsRun}
 use Rattle.gemline_app.specs.HexInput.{HexMeans, IsHexBreak}
 use Rattle.gemline_app.specs.Outcome.{outcome_of_show}
 use Rattle.gemline_app.specs.Spelling.{HexSpells, spelled_line, text_line, text_place}
-use Rattle.gemline_app.specs.Words.{capture_limit, command_of, file_limit, item_limit, name_in}
+use Rattle.gemline_app.specs.Words.{capture_limit, file_limit, item_limit}
 use Rattle.gemline_app.specs.declared.outcome.FileRole.TheVariants as role
 use Rattle.gemline_app.specs.declared.outcome.Outcome.{Outcome}
 use Rattle.gemline_app.specs.declared.outcome.Outcome.TheVariants.{Done, Usage, BadText, BadHex, BadItem, BadLine, Longer, FileLonger, FileFailed, ReadFailed, NoMemory, WriteFailed, TurnsSpent, NumbersSpent, Slip, DiskFailed, NotSpool, BadPlan, LineNotBuilt}
-use Rattle.gemline_app.specs.declared.words.Command.{Command}
-use Rattle.gemline_app.specs.declared.words.Command.TheVariants.{Show, Spell, SpellHex, Replay, Format, Spool}
 
 -- what a capture asks for: its pieces, and the outcome of how they end
 abbrev pub CaptureAsks : List ℕ → Outcome → Type 0
@@ -118,15 +118,14 @@ IsSpoolDue disk due = (s : Story) × (disk.before ≡ Some s) × (due ≡ outcom
 
 -- the outcome that is due of words: usage where they are no command's, else what the command's input, files or disk ask
 -- for
-abbrev pub IsDue : Option Command → List (List ℕ) → SourceTold → FilesTold → DiskTold → Outcome → Type 0
-IsDue None words source files disk due = due ≡ Usage
-IsDue (Some Show) words source files disk due = IsInputDue capture_limit CaptureAsks source due
-IsDue (Some Spell) words source files disk due = IsInputDue item_limit TextAsks source due
-IsDue (Some SpellHex) words source files disk due = IsInputDue item_limit HexAsks source due
-IsDue (Some Replay) words source files disk due =
-    IsReplayDue (name_in words role.Plan) (name_in words role.Schedule) files due
-IsDue (Some (Format slots)) words source files disk due = due ≡ Done
-IsDue (Some Spool) words source files disk due = IsSpoolDue disk due
+abbrev pub IsDue : Option Asked → SourceTold → FilesTold → DiskTold → Outcome → Type 0
+IsDue None source files disk due = due ≡ Usage
+IsDue (Some Show) source files disk due = IsInputDue capture_limit CaptureAsks source due
+IsDue (Some Spell) source files disk due = IsInputDue item_limit TextAsks source due
+IsDue (Some SpellHex) source files disk due = IsInputDue item_limit HexAsks source due
+IsDue (Some (Replay plan schedule)) source files disk due = IsReplayDue plan schedule files due
+IsDue (Some (Format spool slots)) source files disk due = due ≡ Done
+IsDue (Some (Spool spool)) source files disk due = IsSpoolDue disk due
 
 -- an outcome that may come in place of the one that is due: memory ran out, or a count of faults rose
 abbrev pub Hinders : SourceTold → FilesTold → DiskTold → SinkTold → Outcome → Type 0
@@ -178,7 +177,7 @@ abbrev pub OutcomesAreDue : Type 0
 OutcomesAreDue =
     (words : List (List ℕ)) (source : SourceTold) (files : FilesTold) (disk : DiskTold)
     (out err : SinkTold) (status : ℕ) (due : Outcome)
-    → (run : IsRun words source files disk out err status) → IsDue (command_of words) words source files disk due
+    → (run : IsRun words source files disk out err status) → IsDue (asked_of words) source files disk due
     → (run.outcome ≡ due) ⊎ Hinders source files disk out run.outcome
 
 -- over objects that do not fail, `show` of a capture without a break ends with status 0 and its lines, but for want of
@@ -187,7 +186,7 @@ abbrev pub ShowsWholeCaptures : Type 0
 ShowsWholeCaptures =
     (words : List (List ℕ)) (source : SourceTold) (files : FilesTold) (disk : DiskTold)
     (out err : SinkTold) (status : ℕ)
-    → IsRun words source files disk out err status → command_of words ≡ Some Show
+    → IsRun words source files disk out err status → asked_of words ≡ Some Show
     → (capture : List ℕ) (pieces : List Piece) → source.before ≡ Some capture → length capture ≤ capture_limit
     → source.health.reliable ≡ true → Reads capture pieces Whole → length (lines_of pieces) ≤ out.health.room
     → (status ≡ 71) ⊎ ((status ≡ 0) × (out.after ≡ with_bytes out.before (lines_of pieces)))
@@ -215,7 +214,7 @@ pub record WroteSpelling (text line : List ℕ) : Type 0 where
   pub out : SinkTold
   pub err : SinkTold
   pub run : IsRun words source files disk out err 0
-  pub asks : command_of words ≡ Some Spell
+  pub asks : asked_of words ≡ Some Spell
   pub told : source.before ≡ Some text
   pub empty : out.before ≡ Some []
   pub after : out.after ≡ Some line
@@ -231,6 +230,6 @@ SpelledReadsBack =
     (text line : List ℕ) (item : Item) → ReadsAs text item → WroteSpelling text line → length line ≤ item_limit
     → (words : List (List ℕ)) (source : SourceTold) (files : FilesTold) (disk : DiskTold)
     (out err : SinkTold) (status : ℕ)
-    → (run : IsRun words source files disk out err status) → command_of words ≡ Some SpellHex
+    → (run : IsRun words source files disk out err status) → asked_of words ≡ Some SpellHex
     → source.before ≡ Some line
     → ReadsBack item out run.outcome ⊎ Hinders source files disk out run.outcome

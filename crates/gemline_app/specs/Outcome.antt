@@ -1,6 +1,9 @@
 -- The statuses that the program ends with, and the line that tells of each (this profile).
-use Rattle.std.specs.Prelude.{ℕ, List, [], ◌++◌, codes, decimal, Result, Ok, Err}
+use Rattle.std.specs.Prelude.{ℕ, List, [], ◌++◌, codes, decimal, Option, Result, Ok, Err}
 use Rattle.std.specs.Int.{w16, to_be_bytes}
+use Rattle.command_words.specs.Asked.{Asked}
+use Rattle.command_words.specs.declared.command.WordsFault.{WordsFault}
+use Rattle.command_words.specs.declared.command.WordsFault.TheVariants as words_fault
 use Rattle.gem_config.specs.declared.fault.ConfigWhat.{ConfigWhat}
 use Rattle.gem_config.specs.declared.fault.ConfigWhat.TheVariants as what_is
 use Rattle.hex.specs.Hex.{encode_upper}
@@ -14,6 +17,11 @@ use Rattle.line_show.specs.declared.printer.Stop.TheVariants as stop
 use Rattle.gemline_app.specs.Words.{name_in}
 use Rattle.gemline_app.specs.declared.outcome.Outcome.{Outcome}
 use Rattle.gemline_app.specs.declared.outcome.Outcome.TheVariants.{Done, Usage, BadFrame, BadText, BadHex, BadItem, BadLine, Longer, FileLonger, FileFailed, ReadFailed, NoMemory, WriteFailed, TurnsSpent, NumbersSpent, Slip, DiskFailed, NotSpool, BadPlan, LineNotBuilt}
+
+-- what words come to that are no command
+abbrev pub refusal_of : WordsFault → Outcome
+refusal_of words_fault.Usage = Usage
+refusal_of words_fault.NoMemory = NoMemory
 
 -- what showing a capture came to
 abbrev pub outcome_of_show : Result Ending Stop → Outcome
@@ -55,11 +63,11 @@ break_text (Short at) = decimal at ++ codes ": short"
 break_text (Sum at want found) = decimal at ++ codes ": sum " ++ sum_text want ++ codes " found " ++ sum_text found
 
 -- the name of the file or of the key that an outcome speaks of, if it speaks of one
-abbrev pub name_of : List (List ℕ) → Outcome → List ℕ
-name_of words (BadPlan key what) = key
-name_of words (FileLonger which) = name_in words which
-name_of words (FileFailed which) = name_in words which
-name_of words _ = []
+abbrev pub name_of : Option Asked → Outcome → List ℕ
+name_of asked (BadPlan key what) = key
+name_of asked (FileLonger which) = name_in asked which
+name_of asked (FileFailed which) = name_in asked which
+name_of asked _ = []
 
 -- what is said before that name, and all where there is none. Nothing is said of work that is done
 abbrev pub head_of : Outcome → List ℕ

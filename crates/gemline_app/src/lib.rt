@@ -7,14 +7,12 @@ mod outcome;
 mod replay;
 mod run;
 mod spelling;
-mod words;
 
 pub use laws::{
     faults_are_told, hex_means_one_item, outcomes_are_due, shows_whole_captures, spelled_reads_back,
 };
 pub use outcome::{FileRole, Outcome};
 pub use run::{gemline, report};
-pub use words::Command;
 
 #[cfg(test)]
 mod tests;

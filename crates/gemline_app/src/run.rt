@@ -1,11 +1,10 @@
-ghost use Rattle.std.specs.Prelude.{◌≡◌, ◌++◌, ◌≤◌, map, string_bytes};
+ghost use Rattle.std.specs.Prelude.{◌≡◌, ◌++◌, ◌≤◌, None, Some, map, option_map, string_bytes};
+ghost use Rattle.command_words.specs.Asked.{IsInRange, Replay, asked_by};
 ghost use Rattle.gemline_app.specs.Gemline.{ComesFrom, ComesOnInput, InputAnswers, IsRun, WasPrinted, WasShown};
 ghost use Rattle.gemline_app.specs.Gemline.{WasSpelled, WereSent};
-ghost use Rattle.gemline_app.specs.Outcome.{line_of, name_of, outcome_of_show, status_of};
-ghost use Rattle.gemline_app.specs.Replay.{ReplayComes};
+ghost use Rattle.gemline_app.specs.Outcome.{line_of, name_of, outcome_of_show, refusal_of, status_of};
 ghost use Rattle.gemline_app.specs.Spool.{EndedAs, outcome_of_spool};
-ghost use Rattle.gemline_app.specs.Words.{capture_limit, command_of, item_limit, name_in, spool_name};
-ghost use Rattle.gemline_app.specs.declared.outcome.FileRole.TheVariants as roles;
+ghost use Rattle.gemline_app.specs.Words.{capture_limit, item_limit, name_in};
 ghost use Rattle.gl_base.specs.Told.{files_told, sink_told, source_told};
 ghost use Rattle.spool_show.specs.Formatting.{FormatsSpool};
 ghost use Rattle.spool_show.specs.Showing.{ShowsSpool};
@@ -14,7 +13,7 @@ ghost use Rattle.spool_show.specs.Told.{disk_told};
 use crate::outcome::{FileRole, Outcome};
 use crate::replay::replay;
 use crate::spelling::{spell, spell_hex};
-use crate::words::{Command, command_of, name_in, spool_name};
+use command_words::{Command, WordsFault, command_of};
 use disk_base::Disk;
 use gl_base::{Files, Input, Row, Sink, SinkAnswer, Source, copy_out, read_all};
 use line_show::{Ending, Stop, show};
@@ -53,19 +52,43 @@ pub fn gemline<F: Files, R: Source, W: Sink, E: Sink, D: Disk>(
         (sink_told E.Sink err.old err.new)
         result }
 {
-    let outcome = run(alloc, words, files, input, out, disk);
-    report(&outcome, words, err)
+    match command_of(alloc, words) {
+        Ok(command) => {
+            let outcome = run(alloc, command, files, input, out, disk);
+            report(&outcome, Some(command), err)
+        }
+        Err(fault) => refuse(fault, err),
+    }
 }
 
-/// Tells of an outcome on `err`, and answers its status.
-pub fn report<E: Sink>(outcome: &Outcome, words: &[String], err: &mut E) -> u8
+// Tells why words are no command.
+fn refuse<E: Sink>(fault: WordsFault, err: &mut E) -> u8
+    ensures status { result ≡ status_of (refusal_of fault) }
+    ensures line { WereSent (line_of (name_of None (refusal_of fault)) (refusal_of fault))
+        (sink_told E.Sink err.old err.new) }
+{
+    report(&refusal_of(fault), None, err)
+}
+
+// The outcome where words are no command.
+fn refusal_of(fault: WordsFault) -> Outcome
+    ensures { result ≡ refusal_of fault }
+{
+    match fault {
+        WordsFault::Usage => Outcome::Usage,
+        WordsFault::NoMemory => Outcome::NoMemory,
+    }
+}
+
+/// Tells of an outcome on `err`, with the command that it is of, if words were one's, and answers its status.
+pub fn report<E: Sink>(outcome: &Outcome, command: Option<Command<'_>>, err: &mut E) -> u8
     ensures status { result ≡ status_of outcome.now }
-    ensures line { WereSent (line_of (name_of (map string_bytes words.now) outcome.now) outcome.now)
+    ensures line { WereSent (line_of (name_of (option_map asked_by command.entry) outcome.now) outcome.now)
         (sink_told E.Sink err.old err.new) }
 {
     send(
         &outcome.head(),
-        name_of(words, outcome),
+        name_of(command, outcome),
         outcome.tail(),
         err,
     );
@@ -101,42 +124,68 @@ fn send_one<E: Sink>(bytes: &[u8], err: &mut E)
 }
 
 // The name of the file or of the key that an outcome speaks of, if it speaks of one.
-fn name_of<'a>(words: &'a [String], outcome: &'a Outcome) -> &'a [u8]
-    ensures { result.now ≡ name_of (map string_bytes words.now) outcome.now }
+fn name_of<'a>(command: Option<Command<'a>>, outcome: &'a Outcome) -> &'a [u8]
+    ensures { result.now ≡ name_of (option_map asked_by command.entry) outcome.now }
 {
     match outcome {
         Outcome::BadPlan { key, .. } => key.as_slice(),
-        Outcome::FileLonger(which) | Outcome::FileFailed(which) => {
-            name_in(words, *which).as_bytes()
-        }
+        Outcome::FileLonger(which) | Outcome::FileFailed(which) => name_in(command, *which),
         _ => b"",
     }
 }
 
-// Does what the words ask for.
+// The name of a file of `replay`.
+fn name_in<'a>(command: Option<Command<'a>>, which: FileRole) -> &'a [u8]
+    ensures { result.now ≡ name_in (option_map asked_by command.entry) which }
+{
+    match command {
+        Some(command) => name_for(command, which),
+        None => b"",
+    }
+}
+
+fn name_for<'a>(command: Command<'a>, which: FileRole) -> &'a [u8]
+    ensures { result.now ≡ name_in (Some (asked_by command.entry)) which }
+{
+    match command {
+        Command::Replay { plan, schedule } => one_name(plan, schedule, which),
+        _ => b"",
+    }
+}
+
+fn one_name<'a>(plan: &'a str, schedule: &'a str, which: FileRole) -> &'a [u8]
+    ensures { result.now ≡ name_in (Some (Replay plan.now schedule.now)) which }
+{
+    match which {
+        FileRole::Plan => plan.as_bytes(),
+        FileRole::Schedule => schedule.as_bytes(),
+    }
+}
+
+// Does what a command asks for.
 fn run<F: Files, R: Source, W: Sink, D: Disk>(
     alloc: Global,
-    words: &[String],
+    command: Command<'_>,
     files: &mut F,
     input: &mut R,
     out: &mut W,
     disk: &mut D,
 ) -> Outcome
-    ensures { ComesFrom (command_of (map string_bytes words.now)) (map string_bytes words.now)
+    requires { IsInRange (asked_by command) }
+    ensures { ComesFrom (Some (asked_by command.entry))
         (source_told R.Source input.old input.new)
         (files_told F.Files files.old files.new)
         (disk_told D.Disk disk.old disk.new)
         (sink_told W.Sink out.old out.new)
         result }
 {
-    match command_of(words) {
-        Some(Command::Show) => show_input(alloc, input, out),
-        Some(Command::Spell) => spell_input(alloc, input, out),
-        Some(Command::SpellHex) => spell_hex_input(alloc, input, out),
-        Some(Command::Replay) => replay_files(alloc, words, files, out),
-        Some(Command::Format(slots)) => make_spool(words, slots, out, disk),
-        Some(Command::Spool) => list_spool(words, out, disk),
-        None => Outcome::Usage,
+    match command {
+        Command::Show => show_input(alloc, input, out),
+        Command::Spell => spell_input(alloc, input, out),
+        Command::SpellHex => spell_hex_input(alloc, input, out),
+        Command::Replay { plan, schedule } => replay(alloc, plan, schedule, files, out),
+        Command::Format { spool, slots } => make_spool(spool, slots, out, disk),
+        Command::Spool { spool } => list_spool(spool, out, disk),
     }
 }
 
@@ -179,51 +228,28 @@ fn spell_hex_input<R: Source, W: Sink>(alloc: Global, input: &mut R, out: &mut W
     }
 }
 
-// Carries out the schedule over the plan that the words name.
-fn replay_files<F: Files, W: Sink>(
-    alloc: Global,
-    words: &[String],
-    files: &mut F,
-    out: &mut W,
-) -> Outcome
-    ensures { ReplayComes
-        (name_in (map string_bytes words.now) roles.Plan)
-        (name_in (map string_bytes words.now) roles.Schedule)
-        (files_told F.Files files.old files.new)
-        (sink_told W.Sink out.old out.new)
-        result }
-{
-    replay(
-        alloc,
-        name_in(words, FileRole::Plan),
-        name_in(words, FileRole::Schedule),
-        files,
-        out,
-    )
-}
-
-// Makes the spool file that the words name.
-fn make_spool<W: Sink, D: Disk>(words: &[String], slots: u32, out: &mut W, disk: &mut D) -> Outcome
+// Makes a spool file of this name.
+fn make_spool<W: Sink, D: Disk>(name: &str, slots: u32, out: &mut W, disk: &mut D) -> Outcome
     requires some { 1 ≤ slots }
     requires most { slots ≤ 65535 }
     ensures { EndedAs
-        (FormatsSpool (spool_name (map string_bytes words.now)) slots
+        (FormatsSpool name.now slots
         (disk_told D.Disk disk.old disk.new)
         (sink_told W.Sink out.old out.new))
         result }
 {
-    outcome_of_spool(format_spool(disk, spool_name(words), slots, out))
+    outcome_of_spool(format_spool(disk, name, slots, out))
 }
 
-// Writes the list of the spool file that the words name.
-fn list_spool<W: Sink, D: Disk>(words: &[String], out: &mut W, disk: &mut D) -> Outcome
+// Writes the list of the spool file of this name.
+fn list_spool<W: Sink, D: Disk>(name: &str, out: &mut W, disk: &mut D) -> Outcome
     ensures { EndedAs
-        (ShowsSpool (spool_name (map string_bytes words.now))
+        (ShowsSpool name.now
         (disk_told D.Disk disk.old disk.new)
         (sink_told W.Sink out.old out.new))
         result }
 {
-    outcome_of_spool(show_spool(disk, spool_name(words), out))
+    outcome_of_spool(show_spool(disk, name, out))
 }
 
 // What a word about a spool file came to.

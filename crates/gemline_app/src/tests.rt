@@ -476,12 +476,15 @@ static FILE_FAILURES: [Failing; 6] = [
 ];
 
 /// Words that are no command's.
-static OTHER_WORDS: [&'static [&'static str]; 9] = [
+static OTHER_WORDS: [&'static [&'static str]; 12] = [
     &[],
     &[""],
     &["shwo"],
     &["--help"],
     &["show", "show"],
+    &["show", ""],
+    &["show", "--version"],
+    &["replay", "--help", "schedule"],
     &["spell", "hex"],
     &["spell", "--hex", "--hex"],
     &["replay", "plan"],
@@ -958,7 +961,7 @@ fn pages_and_pieces(rt: HostRuntime) -> Result<(), Fail> {
 /// Whether an outcome is told with this status and this line.
 fn is_reported(alloc: Global, outcome: Outcome, status: u8, line: &str) -> bool {
     let mut err = output(alloc, 100, 0);
-    report(&outcome, &[], &mut err) == status && err.bytes.as_slice() == line.as_bytes()
+    report(&outcome, None, &mut err) == status && err.bytes.as_slice() == line.as_bytes()
 }
 
 /// Whether what no test's run comes to is told so.
