@@ -1,0 +1,340 @@
+-- Acts one after another, and what link, output and end have of them.
+use Rattle.std.proofs.Common.{◌≡◌, ℕ, ◌+◌, List, [], ◌∷◌, ◌++◌, length, take, Option, Some, None, refl, sym, ap, subst, ◌∙◌, append_assoc, append-nil, arith, length-append}
+use Rattle.gl_base.specs.Faults.{one_more}
+use Rattle.gl_base.specs.Link.{IsCarriedOn, LinkContents, LinkFault, LinkHealth}
+use Rattle.gl_base.specs.Sending.{WroteText}
+use Rattle.gl_base.specs.Sink.{IsWrittenOn, SinkHealth, WriteFault, with_bytes}
+use Rattle.gl_base.specs.declared.link.LinkEntry.{LinkEntry}
+use Rattle.gl_base.specs.declared.link.LinkIn.{LinkIn}
+use Rattle.gl_base.proofs.Appending.{wrote_both, wrote_nothing}
+use Rattle.trace_log.specs.Log.{Entry}
+use Rattle.trace_log.specs.Text.{entry_text, text_of}
+use Rattle.end_run.specs.Acts.{Act, AreTimely, end_by, end_with, lines_of, list_of, listed, log_of, moment_by, moment_with, noted, taken, taken_of}
+use Rattle.end_run.specs.Acts.Act.{Connects, Polls, Sends, Stands, Writes}
+use Rattle.end_run.specs.Outcome.{Did, HasListed, IsLeft, LinkFails, Linked, Lists, Made, MadePart, WriteFails}
+use Rattle.end_run.specs.Scenes.{Scene, written}
+
+-- ---- the log's text
+
+pub text_of-append : (newer older : List Entry) → text_of (newer ++ older) ≡ text_of older ++ text_of newer
+text_of-append [] older = sym (append-nil (text_of older))
+text_of-append (entry ∷ newer) older =
+    ap (λ (t : List ℕ). t ++ entry_text entry) (text_of-append newer older)
+    ∙ append_assoc (text_of older) (text_of newer) (entry_text entry)
+
+-- ---- lists of acts
+
+pub list_of-append : {S : Type 0} (first second : List (Act S))
+    → list_of (first ++ second) ≡ list_of first ++ list_of second
+list_of-append [] second = refl
+list_of-append (act ∷ first) second =
+    ap (λ (es : List LinkEntry). listed act ++ es) (list_of-append first second)
+    ∙ sym (append_assoc (listed act) (list_of first) (list_of second))
+
+pub taken_of-append : {S : Type 0} (first second : List (Act S))
+    → taken_of (first ++ second) ≡ taken_of first ++ taken_of second
+taken_of-append [] second = refl
+taken_of-append (act ∷ first) second =
+    ap (λ (answers : List LinkIn). taken act ++ answers) (taken_of-append first second)
+    ∙ sym (append_assoc (taken act) (taken_of first) (taken_of second))
+
+log_of-append : {S : Type 0} (first second : List (Act S)) → log_of (first ++ second) ≡ log_of second ++ log_of first
+log_of-append [] second = sym (append-nil (log_of second))
+log_of-append (act ∷ first) second =
+    ap (λ (log : List Entry). log ++ noted act) (log_of-append first second)
+    ∙ append_assoc (log_of second) (log_of first) (noted act)
+
+pub lines_of-append : {S : Type 0} (first second : List (Act S))
+    → lines_of (first ++ second) ≡ lines_of first ++ lines_of second
+lines_of-append first second =
+    ap text_of (log_of-append first second) ∙ text_of-append (log_of second) (log_of first)
+
+list-length : {S : Type 0} (first second : List (Act S)) → length (list_of (first ++ second))
+    ≡ length (list_of first) + length (list_of second)
+list-length first second = ap length (list_of-append first second) ∙ length-append (list_of first) (list_of second)
+
+-- ---- the link's clock
+
+moment_by-append : {S : Type 0} (before : ℕ) (first second : List (Act S))
+    → moment_by before (first ++ second) ≡ moment_by (moment_by before first) second
+moment_by-append before [] second = refl
+moment_by-append before (act ∷ first) second = moment_by-append (moment_with before act) first second
+
+timely_both : {S : Type 0} (before mid : ℕ) (first second : List (Act S)) → mid ≡ moment_by before first
+    → AreTimely before first → AreTimely mid second → AreTimely before (first ++ second)
+timely_both before mid [] second is one two = subst (λ (m : ℕ). AreTimely m second) is two
+timely_both before mid (act ∷ first) second is one two =
+    (one.0, timely_both (moment_with before act) mid first second is one.1 two)
+
+-- ---- the end
+
+left_on : {S : Type 0} (acts : List (Act S)) (before : Option S) (mid now : S) → IsLeft before mid
+    → IsLeft (end_by (Some mid) acts) now → IsLeft (end_by before acts) now
+left_on [] None mid now is more = tt
+left_on [] (Some before) mid now is more = more ∙ is
+left_on (Stands end ∷ acts) before mid now is more = more
+left_on (Connects ∷ acts) before mid now is more = left_on acts before mid now is more
+left_on (Polls until answer ∷ acts) before mid now is more = left_on acts before mid now is more
+left_on (Writes entries ∷ acts) before mid now is more = left_on acts before mid now is more
+left_on (Sends characters ∷ acts) before mid now is more = left_on acts before mid now is more
+
+end_by-append : {S : Type 0} (before : Option S) (first second : List (Act S))
+    → end_by before (first ++ second) ≡ end_by (end_by before first) second
+end_by-append before [] second = refl
+end_by-append before (act ∷ first) second = end_by-append (end_with before act) first second
+
+left_both : {S : Type 0} (before mid now : S) (first second : List (Act S)) → IsLeft (end_by (Some before) first) mid
+    → IsLeft (end_by (Some mid) second) now → IsLeft (end_by (Some before) (first ++ second)) now
+left_both {S} before mid now first second one two =
+    subst (λ (left : Option S). IsLeft left now) (sym (end_by-append (Some before) first second))
+    (left_on second (end_by (Some before) first) mid now one two)
+
+-- ---- what a link lists
+
+listed_both :
+    {S : Type 0} (a b c : LinkContents) (first second : List (Act S)) → HasListed a first b → HasListed b second c
+    → HasListed a (first ++ second) c
+listed_both a b c first second one two = record {
+  entries = two.entries ∙ ap (λ (es : List LinkEntry). es ++ list_of second) one.entries
+      ∙ append_assoc a.entries (list_of first) (list_of second)
+      ∙ ap (λ (es : List LinkEntry). a.entries ++ es) (sym (list_of-append first second));
+  left = one.left ∙ ap (λ (answers : List LinkIn). taken_of first ++ answers) two.left
+      ∙ sym (append_assoc (taken_of first) (taken_of second) c.left)
+      ∙ ap (λ (answers : List LinkIn). answers ++ c.left) (sym (taken_of-append first second));
+}
+
+lists_both :
+    {S : Type 0} (a b c : Option LinkContents) (first second : List (Act S)) → Lists a first b → Lists b second c
+    → Lists a (first ++ second) c
+lists_both None None c first second one two = two
+lists_both None (Some b) c first second one two = absurd (cc)
+lists_both (Some a) None c first second one two = absurd one
+lists_both (Some a) (Some b) None first second one two = absurd two
+lists_both (Some a) (Some b) (Some c) first second one two = listed_both a b c first second one two
+
+-- acts that a link lists nothing of, and that take nothing from it
+pub lists_still : {S : Type 0} (a b : Option LinkContents) (acts : List (Act S)) → list_of acts ≡ []
+    → taken_of acts ≡ []
+    → b ≡ a → Lists a acts b
+lists_still {S} a b acts none no_answer is = subst (λ (after : Option LinkContents). Lists a acts after) (sym is) (go a)
+  where
+    go : (a : Option LinkContents) → Lists a acts a
+    go None = refl
+    go (Some a) = record {
+      entries = sym (ap (λ (es : List LinkEntry). a.entries ++ es) none ∙ append-nil a.entries);
+      left = sym (ap (λ (answers : List LinkIn). answers ++ a.left) no_answer);
+    }
+
+-- ---- what is counted
+
+pub carried_none : (a : LinkHealth) → IsCarriedOn a a 0
+carried_none a = record { same = refl; relied = λ is. is; used = omega arith }
+
+carried_both :
+    (a b c : LinkHealth) (m n k : ℕ) → k ≡ m + n → IsCarriedOn a b m → IsCarriedOn b c n → IsCarriedOn a c k
+carried_both a b c m n k sum one two = record {
+  same = two.same ∙ one.same;
+  relied = λ is. two.relied (one.relied is);
+  used = omega (arith, one.used, two.used, sum);
+}
+
+fault_behind :
+    (a b c : LinkHealth) (m n k : ℕ) → k ≡ m + n → IsCarriedOn a b m → LinkFault b c n → LinkFault a c k
+fault_behind a b c m n k sum one two = record {
+  rose = record {
+    by_one = two.rose.by_one ∙ ap (λ f. one_more f) one.same;
+    later = omega (arith, one.same, two.rose.later);
+  };
+  lacking = λ is. let less = two.lacking (one.relied is) in omega (arith, one.used, less, sum);
+  relied = λ is. two.relied (one.relied is);
+}
+
+write_fault_behind :
+    (a b c : SinkHealth) (m n k : ℕ) → k ≡ m + n → IsWrittenOn a b m → WriteFault b c n → WriteFault a c k
+write_fault_behind a b c m n k sum one two = record {
+  rose = record {
+    by_one = two.rose.by_one ∙ ap (λ f. one_more f) one.same;
+    later = omega (arith, one.same, two.rose.later);
+  };
+  crowded = omega (arith, one.used, two.crowded, sum);
+}
+
+-- ---- acts that were done, and what came of more
+
+wrote_behind : {S : Type 0} (a b c : Scene S) (first more : List (Act S)) → WroteText (written a b) (lines_of first)
+    → WroteText (written b c) (lines_of more) → WroteText (written a c) (lines_of (first ++ more))
+wrote_behind a b c first more one two =
+    subst (λ (t : List ℕ). WroteText (written a c) t) (sym (lines_of-append first more))
+    (wrote_both (lines_of first) (lines_of more) one two)
+
+module _ {S : Type 0} {a b : Scene S} (c : Scene S) (first second : List (Act S)) where
+  linked_both : (more : List (Act S)) → Linked a b first → Linked b c more → Linked a c (first ++ more)
+  linked_both more one two = record {
+    listed = lists_both a.contents b.contents c.contents first more one.listed two.listed;
+    clock = two.clock ∙ ap (λ (m : ℕ). moment_by m more) one.clock ∙ sym (moment_by-append a.moment first more);
+    timely = timely_both a.moment b.moment first more one.clock one.timely two.timely;
+  }
+
+  made_both : (more : List (Act S)) → Made a b first → Made b c more → Made a c (first ++ more)
+  made_both more one two = record {
+    linked = linked_both more one.linked two.linked;
+    carried = carried_both a.link b.link c.link _ _ _ (list-length first more) one.carried two.carried;
+    wrote = wrote_behind a b c first more one.wrote two.wrote;
+  }
+
+  module _ (one : Did a b first) where
+    pub did_both : Did b c second → Did a c (first ++ second)
+    did_both two = record {
+      made = made_both second one.made two.made;
+      end = left_both a.end b.end c.end first second one.end two.end;
+    }
+
+    pub part_behind : MadePart b c second → MadePart a c (first ++ second)
+    part_behind two = record {
+      done = first ++ two.done;
+      later = two.later;
+      whole = ap (λ (acts : List (Act S)). first ++ acts) two.whole ∙ sym (append_assoc first two.done two.later);
+      made = made_both two.done one.made two.made;
+    }
+
+    pub link_behind : LinkFails b c second → LinkFails a c (first ++ second)
+    link_behind two = record {
+      done = first ++ two.done;
+      failed = two.failed;
+      later = two.later;
+      whole = ap (λ (acts : List (Act S)). first ++ acts) two.whole
+          ∙ sym (append_assoc first two.done (two.failed ∷ two.later));
+      part = two.part;
+      cut = two.cut;
+      linked =
+          subst (λ (acts : List (Act S)). Linked a c acts) (sym (append_assoc first two.done two.part))
+          (linked_both (two.done ++ two.part) one.made.linked two.linked);
+      fault = fault_behind a.link b.link c.link _ _ _ sum one.made.carried two.fault;
+      wrote = wrote_behind a b c first two.done one.made.wrote two.wrote;
+      end = left_both a.end b.end c.end first two.done one.end two.end;
+    }
+      where
+        sum : length (list_of (first ++ two.done) ++ listed two.failed)
+            ≡ length (list_of first) + length (list_of two.done ++ listed two.failed)
+        sum =
+            ap (λ (es : List LinkEntry). length (es ++ listed two.failed)) (list_of-append first two.done)
+            ∙ ap length (append_assoc (list_of first) (list_of two.done) (listed two.failed))
+            ∙ length-append (list_of first) (list_of two.done ++ listed two.failed)
+
+    pub write_behind : WriteFails b c second → WriteFails a c (first ++ second)
+    write_behind two = record {
+      done = first ++ two.done;
+      entries = two.entries;
+      later = two.later;
+      whole = ap (λ (acts : List (Act S)). first ++ acts) two.whole ∙ sym (append_assoc first two.done _);
+      linked = linked_both two.done one.made.linked two.linked;
+      carried = carried_both a.link b.link c.link _ _ _ (list-length first two.done) one.made.carried two.carried;
+      count = two.count;
+      short = two.short;
+      received = received;
+      fault = write_fault_behind a.out b.out c.out _ _ _ sum one.made.wrote.health two.fault;
+      end = left_both a.end b.end c.end first two.done one.end two.end;
+    }
+      where
+        rest : List ℕ
+        rest = take two.count (text_of two.entries)
+
+        sum : length (lines_of (first ++ two.done) ++ text_of two.entries)
+            ≡ length (lines_of first) + length (lines_of two.done ++ text_of two.entries)
+        sum =
+            ap (λ (t : List ℕ). length (t ++ text_of two.entries)) (lines_of-append first two.done)
+            ∙ ap length (append_assoc (lines_of first) (lines_of two.done) (text_of two.entries))
+            ∙ length-append (lines_of first) (lines_of two.done ++ text_of two.entries)
+
+        with_both : (was : Option (List ℕ)) (s t : List ℕ) → with_bytes (with_bytes was s) t ≡ with_bytes was (s ++ t)
+        with_both None s t = refl
+        with_both (Some was) s t = ap Some (append_assoc was s t)
+
+        received : c.received ≡ with_bytes a.received (lines_of (first ++ two.done) ++ rest)
+        received =
+            two.received ∙ ap (λ (r : Option (List ℕ)). with_bytes r
+            (lines_of two.done ++ rest)) one.made.wrote.received
+            ∙ with_both a.received (lines_of first) (lines_of two.done ++ rest)
+            ∙ ap (λ (t : List ℕ). with_bytes a.received t)
+            (sym (append_assoc (lines_of first) (lines_of two.done) rest)
+            ∙ ap (λ (t : List ℕ). t ++ rest) (sym (lines_of-append first two.done)))
+
+-- ---- with more acts behind, which weren't done
+
+module _ {S : Type 0} (a b : Scene S) (first second : List (Act S)) where
+  pub part_before : MadePart a b first → MadePart a b (first ++ second)
+  part_before one = record {
+    done = one.done;
+    later = one.later ++ second;
+    whole = ap (λ (acts : List (Act S)). acts ++ second) one.whole ∙ append_assoc one.done one.later second;
+    made = one.made;
+  }
+
+  pub link_before : LinkFails a b first → LinkFails a b (first ++ second)
+  link_before one = record {
+    done = one.done;
+    failed = one.failed;
+    later = one.later ++ second;
+    whole = ap (λ (acts : List (Act S)). acts ++ second) one.whole
+        ∙ append_assoc one.done (one.failed ∷ one.later) second;
+    part = one.part;
+    cut = one.cut;
+    linked = one.linked;
+    fault = one.fault;
+    wrote = one.wrote;
+    end = one.end;
+  }
+
+  pub write_before : WriteFails a b first → WriteFails a b (first ++ second)
+  write_before one = record {
+    done = one.done;
+    entries = one.entries;
+    later = one.later ++ second;
+    whole = ap (λ (acts : List (Act S)). acts ++ second) one.whole ∙ append_assoc one.done _ second;
+    linked = one.linked;
+    carried = one.carried;
+    count = one.count;
+    short = one.short;
+    received = one.received;
+    fault = one.fault;
+    end = one.end;
+  }
+
+-- ---- nothing was done
+
+-- the same scene with another end
+abbrev pub with_end : {S : Type 0} → Scene S → S → Scene S
+with_end a end = record a { end = end }
+
+module _ {S : Type 0} (a : Scene S) (end : S) where
+  linked_none : Linked a (with_end a end) []
+  linked_none = record { listed = lists_still a.contents a.contents [] refl refl refl; clock = refl; timely = tt }
+
+  -- but by the end
+  pub made_none : Made a (with_end a end) []
+  made_none = record { linked = linked_none; carried = carried_none a.link; wrote = wrote_nothing }
+
+  -- the end has made a step
+  pub did_step : (left : Option S) → IsLeft left end → Did a (with_end a end) (Stands left ∷ [])
+  did_step left is = record {
+    made = record {
+      linked = record {
+        listed = lists_still a.contents a.contents (Stands left ∷ []) refl refl refl;
+        clock = refl;
+        timely = (tt, tt);
+      };
+      carried = carried_none a.link;
+      wrote = wrote_nothing;
+    };
+    end = is;
+  }
+
+pub did_none : {S : Type 0} (a : Scene S) → Did a a []
+did_none a = record {
+  made = record {
+    linked = record { listed = lists_still a.contents a.contents [] refl refl refl; clock = refl; timely = tt };
+    carried = carried_none a.link;
+    wrote = wrote_nothing;
+  };
+  end = refl;
+}

@@ -1,0 +1,162 @@
+-- The start of a run, and the whole of it.
+use Rattle.std.proofs.Common.{◌≡◌, ℕ, List, [], ◌∷◌, ◌++◌, Option, Some, None, refl, sym, ap, subst, ◌∙◌}
+use Rattle.gl_base.specs.Link.{IsCarriedOn, LinkContents, LinkFault, LinkHealth}
+use Rattle.gl_base.specs.Sending.{WroteText}
+use Rattle.gl_base.specs.Sink.{SinkHealth}
+use Rattle.gl_base.specs.declared.link.LinkIn.{LinkIn}
+use Rattle.gl_base.specs.declared.side.Side.{Side}
+use Rattle.line_schedule.specs.declared.script.ScriptStep.{ScriptStep}
+use Rattle.message_end.specs.Core.{Step}
+use Rattle.message_end.specs.Core.Went.{Goes}
+use Rattle.message_end.specs.Ends.{HasGone, Machine}
+use Rattle.message_end.specs.Ends.Input.{Time}
+use Rattle.message_flow.specs.declared.step.StepOut.{StepOut}
+use Rattle.trace_log.specs.Log.{Entry, Happening}
+use Rattle.trace_log.specs.Text.{text_of}
+use Rattle.end_run.specs.declared.ending.Ending.{Ending}
+use Rattle.end_run.specs.declared.ending.Ending.TheVariants.{Closed, LinkFailed, NoMemory, NumbersSpent, Stopped, Turns, WriteFailed}
+use Rattle.end_run.specs.Acts.{taken_of}
+use Rattle.end_run.specs.Acts.Act.{Connects, Writes}
+use Rattle.end_run.specs.Calls.{StopsAtStart}
+use Rattle.end_run.specs.Outcome.{AreToCome, Linked, Runs, RunsOver}
+use Rattle.end_run.specs.Pieces.{Piece}
+use Rattle.end_run.specs.Run.{begun, end_run, polled}
+use Rattle.end_run.specs.Scenes.{Scene, written}
+use Rattle.end_run.specs.Script.{ScriptLine, Telling}
+use Rattle.end_run.specs.Steps.{entries_at, started, stepped}
+use Rattle.end_run.proofs.Doing.{runs_more, runs_stop}
+use Rattle.end_run.proofs.Joining.{lists_still, with_end}
+use Rattle.end_run.proofs.Polling.{comes_behind, more-none, rest_comes, rest_of, stepped-none}
+use Rattle.end_run.proofs.Stepping.{none_wrote, part_none, short_fails, with_link, with_out}
+
+-- memory ran out before the first act
+pub nothing_runs : {S : Type 0} (a : Scene S) (end : S) (run : List LinkIn → Piece S)
+    → RunsOver a (with_end a end) run NoMemory
+nothing_runs a end run = record {
+  answers = rest_of a.contents;
+  to_come = rest_comes a.contents;
+  runs = part_none a end (run (rest_of a.contents)).acts;
+}
+
+-- what a start has left is its step's
+pub start_is : {S : Type 0} (start : Step S Happening) (next : S) (out : StepOut) (gone : HasGone (Goes start) next out)
+    → start ≡ gone.step
+start_is {S} start next out gone = same gone.is
+  where
+    same : {other : Step S Happening} → Goes start ≡ Goes other → start ≡ other
+    same is = cc
+
+module _ {S C : Type 0} (machine : Machine S C) (due : S → Option ℕ) (told_by : ScriptStep → Telling C) (side : Side)
+    (start : Step S Happening) (lines : List ScriptLine) (polls : ℕ) where
+  -- all of the run, by the answers
+  abbrev pub all_of : List LinkIn → Piece S
+  all_of answers = end_run machine due told_by side start lines polls answers
+
+  abbrev pub entries : List Entry
+  entries = entries_at side 0 start.notes
+
+  -- a run that ended before its first poll
+  ends_early : (a b : Scene S) (how : Ending) → Runs a b (begun machine due told_by side start) (Some how)
+      → RunsOver a b all_of how
+  ends_early a b how runs = record {
+    answers = rest_of a.contents;
+    to_come = rest_comes a.contents;
+    runs =
+        runs_stop a b (begun machine due told_by side start)
+        (polled machine due told_by side polls lines 0 (rest_of a.contents)) how runs;
+  }
+
+  start_stops : (a b : Scene S) (how : Ending) → Runs a b (started side start) (Some how) → RunsOver a b all_of how
+  start_stops a b how runs =
+      ends_early a b how (runs_stop a b (started side start) (stepped machine side 0 Time) how runs)
+
+  module _ (a : Scene S) (text : List ℕ) (is : text_of entries ≡ text) (r' : Option (List ℕ)) (k' : SinkHealth) where
+    -- it stopped at the lines of its start
+    pub start_falls : (how : Ending) → StopsAtStart (written a (with_out a r' k')) text how
+        → RunsOver a (with_out a r' k') all_of how
+    start_falls how falls = start_stops a (with_out a r' k') how (go how falls)
+      where
+        go : (how : Ending) → StopsAtStart (written a (with_out a r' k')) text how
+            → Runs a (with_out a r' k') (started side start) (Some how)
+        go WriteFailed short = short_fails a r' k' entries text is (Connects ∷ []) short
+        go NoMemory none = none_wrote a r' k' entries text is (Connects ∷ []) none
+        go Stopped falls = absurd falls
+        go Closed falls = absurd falls
+        go Turns falls = absurd falls
+        go NumbersSpent falls = absurd falls
+        go LinkFailed falls = absurd falls
+
+    module _ (l' : Option LinkContents) (m' : ℕ) (h' : LinkHealth) (same : l' ≡ a.contents) (anew : m' ≡ 0)
+        (text_wrote : WroteText (written a (with_out a r' k')) text) where
+      -- the scene behind the call of connect
+      abbrev pub called : Scene S
+      called = with_link (with_out a r' k') l' m' h'
+
+      wrote : WroteText (written a called) (text_of entries)
+      wrote = subst (λ (t : List ℕ). WroteText (written a called) t) (sym is) text_wrote
+
+      linked : Linked a called (Writes entries ∷ Connects ∷ [])
+      linked = record {
+        listed = lists_still a.contents l' (Writes entries ∷ Connects ∷ []) refl refl same;
+        clock = anew;
+        timely = (tt, (tt, tt));
+      }
+
+      -- it didn't connect
+      pub connects_not : LinkFault a.link h' 0 → RunsOver a called all_of LinkFailed
+      connects_not fault = start_stops a called LinkFailed (record {
+        done = Writes entries ∷ [];
+        failed = Connects;
+        later = [];
+        whole = refl;
+        part = Connects ∷ [];
+        cut = refl;
+        linked = linked;
+        fault = fault;
+        wrote = wrote;
+        end = refl;
+      })
+
+      start_runs : IsCarriedOn a.link h' 0 → Runs a called (started side start) None
+      start_runs carried =
+          (refl, record { made = record { linked = linked; carried = carried; wrote = wrote }; end = refl })
+
+      module _ (carried : IsCarriedOn a.link h' 0) (b : Scene S) (mid : S) (is_mid : mid ≡ start.next) where
+        -- its first step
+        first_step : (result : Option Ending) → Runs called b (stepped machine side 0 Time mid) result
+            → Runs a b (begun machine due told_by side start) result
+        first_step result runs =
+            runs_more b (started side start) (stepped machine side 0 Time) mid result (start_runs carried) is_mid runs
+
+        pub stops_at_first : (how : Ending) → Runs called b (stepped machine side 0 Time mid) (Some how)
+            → RunsOver a b all_of how
+        stops_at_first how runs = ends_early a b how (first_step (Some how) runs)
+
+        -- it goes on behind that
+        pub runs_on : (c : Scene S) (s : S) (how : Ending) → Runs called b (stepped machine side 0 Time mid) None
+            → s ≡ (stepped machine side 0 Time mid).end
+            → RunsOver b c (λ answers. polled machine due told_by side polls lines 0 answers s) how
+            → RunsOver a c all_of how
+        runs_on c s how step is_s over = record {
+          answers = over.answers;
+          to_come =
+              subst (λ (answers : List LinkIn). AreToCome a.contents (answers ++ over.answers)) none
+              (comes_behind a.contents b.contents first.acts over.answers runs.1.made.linked.listed over.to_come);
+          runs =
+              runs_more c first (polled machine due told_by side polls lines 0 over.answers) s (Some how) runs
+              (is_s ∙ sym first_end) over.runs;
+        }
+          where
+            first : Piece S
+            first = begun machine due told_by side start
+
+            runs : Runs a b first None
+            runs = first_step None step
+
+            none : taken_of first.acts ≡ []
+            none =
+                more-none machine side (started side start) (stepped machine side 0 Time) refl
+                (stepped-none machine side 0 Time)
+
+            first_end : first.end ≡ (stepped machine side 0 Time mid).end
+            first_end = ap (λ (s : S). (stepped machine side 0 Time s).end) (sym is_mid)

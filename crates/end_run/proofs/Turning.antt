@@ -1,0 +1,199 @@
+-- What a poll brings, and what the lines of a script bring.
+use Rattle.std.proofs.Common.{◌≡◌, ◌≢◌, ℕ, ◌+◌, ◌<◌, length, get_or, drop-cons, add-one, List, [], ◌∷◌, drop, Option, Some, None, inr, refl, sym, ap, subst, ◌∙◌}
+use Rattle.std.proofs.lemmas.List.{drop-drop}
+use Rattle.gl_base.specs.Events.{moment_after}
+use Rattle.gl_base.specs.Link.{HasPollCause, IsCarriedOn, IsTimely, IsToldAnswer, LinkContents, LinkHealth, told_after_poll}
+use Rattle.gl_base.specs.Sink.{SinkHealth}
+use Rattle.gl_base.specs.declared.link.LinkIn.{LinkIn}
+use Rattle.gl_base.specs.declared.link.LinkIn.TheVariants as link
+use Rattle.gl_base.specs.declared.side.Side.{Side}
+use Rattle.gl_base.proofs.Appending.{wrote_nothing}
+use Rattle.line_schedule.specs.declared.script.ScriptStep.{ScriptStep}
+use Rattle.message_end.specs.Ends.{Input, Machine, MayTake}
+use Rattle.message_end.specs.Ends.Input.{Char, Command, Time}
+use Rattle.trace_log.specs.Log.Happening.{Closed}
+use Rattle.trace_log.specs.Text.{text_of}
+use Rattle.end_run.specs.declared.ending.Ending.{Ending}
+use Rattle.end_run.specs.declared.ending.Ending.TheVariants as ending
+use Rattle.end_run.specs.Acts.{Act}
+use Rattle.end_run.specs.Acts.Act.{Polls}
+use Rattle.end_run.specs.Calls.{EndsWith, HasTurned, IsPlainInput, Left}
+use Rattle.end_run.specs.Outcome.{Did, IfOn, Lists, Runs}
+use Rattle.end_run.specs.Pieces.{behind}
+use Rattle.end_run.specs.Run.{closed, upon}
+use Rattle.end_run.specs.Scenes.{Scene, written}
+use Rattle.end_run.specs.Script.{ScriptLine, Telling, MayTell, command_of, due_count, later_lines, wait_until}
+use Rattle.end_run.specs.Script.Telling.{IsOther, Stops, Tells}
+use Rattle.end_run.specs.Steps.{entries_at, stepped, tells}
+use Rattle.end_run.proofs.Doing.{runs_behind}
+use Rattle.end_run.proofs.Joining.{did_none}
+use Rattle.end_run.proofs.Stepping.{ends_does, with_link, with_out}
+
+-- ---- a poll that was answered
+
+abbrev polling : {S : Type 0} → ℕ → LinkIn → List (Act S)
+polling until answer = Polls until answer ∷ []
+
+polled_listed : (S : Type 0) (l l' : Option LinkContents) (until : ℕ) (answer : LinkIn) → answer ≢ link.Failed
+    → IsToldAnswer l answer → l' ≡ told_after_poll until answer l → Lists l (polling {S = S} until answer) l'
+polled_listed S None l' until (link.Char byte now) other next is = is
+polled_listed S None l' until (link.Quiet now) other next is = is
+polled_listed S None l' until link.Closed other next is = is
+polled_listed S (Some c) l' until (link.Char byte now) other next is =
+    subst (λ (after : Option LinkContents). Lists (Some c) (polling {S = S} until (link.Char byte now)) after) (sym is)
+    (record { entries = refl; left = next })
+polled_listed S (Some c) l' until (link.Quiet now) other next is =
+    subst (λ (after : Option LinkContents). Lists (Some c) (polling {S = S} until (link.Quiet now)) after) (sym is)
+    (record { entries = refl; left = next })
+polled_listed S (Some c) l' until link.Closed other next is =
+    subst (λ (after : Option LinkContents). Lists (Some c) (polling {S = S} until link.Closed) after) (sym is)
+    (record { entries = refl; left = next ∙ sym (ap (λ (answers : List LinkIn). drop 1 answers) next) })
+polled_listed S l l' until link.Failed other next is = absurd (other refl)
+
+polled_carried : (h h' : LinkHealth) (answer : LinkIn) → answer ≢ link.Failed → HasPollCause h h' answer
+    → IsCarriedOn h h' 1
+polled_carried h h' (link.Char byte now) other cause = cause
+polled_carried h h' (link.Quiet now) other cause = cause
+polled_carried h h' link.Closed other cause = cause
+polled_carried h h' link.Failed other cause = absurd (other refl)
+
+polled_did : {S : Type 0} (a : Scene S) (l' : Option LinkContents) (m' : ℕ) (h' : LinkHealth) (until : ℕ)
+    (answer : LinkIn)
+    → answer ≢ link.Failed → IsToldAnswer a.contents answer → l' ≡ told_after_poll until answer a.contents
+    → IsTimely until a.moment answer → m' ≡ moment_after a.moment answer → HasPollCause a.link h' answer
+    → Did a (with_link a l' m' h') (Polls until answer ∷ [])
+polled_did {S} a l' m' h' until answer other next told timely clock cause = record {
+  made = record {
+    linked = record {
+      listed = polled_listed S a.contents l' until answer other next told;
+      clock = clock;
+      timely = (timely, tt);
+    };
+    carried = polled_carried a.link h' answer other cause;
+    wrote = wrote_nothing;
+  };
+  end = refl;
+}
+
+module _ {S C : Type 0} (machine : Machine S C) (due : S → Option ℕ) (told_by : ScriptStep → Telling C) (side : Side)
+    (a c : Scene S) (l' : Option LinkContents) (m' : ℕ) (h' : LinkHealth) (before after : Left S) (until : ℕ)
+    (deadline : Option ℕ) (lines : List ScriptLine) (is_lines : lines ≡ before.lines)
+    (is_due : deadline ≡ due before.end) (is_until : until ≡ wait_until deadline lines)
+  where
+    waits : until ≡ wait_until (due before.end) before.lines
+    waits =
+        is_until ∙ ap (λ (deadline : Option ℕ). wait_until deadline lines) is_due
+        ∙ ap (λ (lines : List ScriptLine). wait_until (due before.end) lines) is_lines
+
+    pub turned_by :
+        (answer : LinkIn) (result : Option Ending) → answer ≢ link.Failed → IsToldAnswer a.contents answer
+        → l' ≡ told_after_poll until answer a.contents → IsTimely until a.moment answer
+        → m' ≡ moment_after a.moment answer → HasPollCause a.link h' answer
+        → Runs (with_link a l' m' h') c (upon machine due told_by side lines before.moment answer before.end) result
+        → IfOn result (after.end ≡ (upon machine due told_by side lines before.moment answer before.end).end)
+        → after.moment ≡ moment_after before.moment answer
+        → IfOn result (after.lines ≡ later_lines after.moment before.lines)
+        → HasTurned machine due told_by side a c before after result
+    turned_by answer result other next told timely clock cause runs end moment later = inr (
+      answer,
+      record {
+        next = next;
+        other = other;
+        runs =
+            subst (λ (act : Act S). Runs a c (behind (act ∷ [])
+            (upon machine due told_by side before.lines before.moment answer before.end)) result)
+            (ap (λ (until : ℕ). Polls until answer) waits)
+            (runs_behind c (Polls until answer ∷ [])
+            (polled_did a l' m' h' until answer other next told timely clock cause)
+            (upon machine due told_by side before.lines before.moment answer before.end) result
+            (subst (λ (lines : List ScriptLine). Runs (with_link a l' m' h') c
+            (upon machine due told_by side lines before.moment answer before.end) result)
+            is_lines runs));
+        end =
+            subst (λ (lines : List ScriptLine). IfOn result (after.end
+            ≡ (upon machine due told_by side lines before.moment answer before.end).end)) is_lines end;
+        moment = moment;
+        lines = later;
+      },
+    )
+
+-- the peer has closed the connection
+pub closed_runs :
+    {S : Type 0} (a : Scene S) (r' : Option (List ℕ)) (k' : SinkHealth) (side : Side) (now : ℕ) (s : S)
+    (result : Ending)
+    → EndsWith (written a (with_out a r' k')) (text_of (entries_at side now (Closed ∷ []))) ending.Closed result
+    → Runs a (with_out a r' k') (closed side now s) (Some result)
+closed_runs a r' k' side now s result ends =
+    ends_does a r' k' (entries_at side now (Closed ∷ [])) (text_of (entries_at side now (Closed ∷ []))) refl
+    ending.Closed result ends
+
+pub if_on : (result : Option Ending) (P : Type 0) → P → IfOn result P
+if_on None P holds = holds
+if_on (Some how) P holds = tt
+
+-- a character and time are what every end takes
+pub plain_taken : {C : Type 0} (takes : C → Type 0) (input : Input C) → IsPlainInput input → MayTake takes input
+plain_taken takes (Char byte) plain = plain
+plain_taken takes Time plain = tt
+plain_taken takes (Command command) plain = absurd plain
+
+-- the lines behind those that were due
+pub past_due :
+    (lines left : List ScriptLine) (given given' now now' : ℕ) → left ≡ drop given lines → now' ≡ now
+    → given' ≡ given + due_count now left → drop given' lines ≡ later_lines now' (drop given lines)
+past_due lines left given given' now now' is_left is_now is_given =
+    ap (λ n. drop n lines) (is_given ∙ ap (λ (left : List ScriptLine). given + due_count now left) is_left)
+    ∙ sym (drop-drop (due_count now (drop given lines)) given lines)
+    ∙ ap (λ (now : ℕ). later_lines now (drop given lines)) (sym is_now)
+
+-- ---- a line of a script
+
+module _ {S C : Type 0} (machine : Machine S C) (side : Side) (now : ℕ) (takes : C → Type 0) where
+  -- a line that tells no command, and isn't of the other end, stops the run
+  pub told_stops : (a : Scene S) (s : S) (telling : Telling C) → MayTell takes telling → command_of telling ≡ None
+      → Runs a a (tells machine side now telling s) (Some ending.Stopped)
+  told_stops a s (Tells command) may is = absurd (cc)
+  told_stops a s Stops may is = (refl, did_none a)
+  told_stops a s IsOther may is = absurd may
+
+  -- it tells a command
+  pub told_runs : (a b : Scene S) (s : S) (telling : Telling C) (given : C) (result : Option Ending)
+      → command_of telling ≡ Some given → Runs a b (stepped machine side now (Command given) s) result
+      → Runs a b (tells machine side now telling s) result
+  told_runs a b s (Tells command) given result is runs =
+      subst (λ (command : C). Runs a b (stepped machine side now (Command command) s) result) (sym (same is)) runs
+    where
+      same : {command : C} → Some command ≡ Some given → command ≡ given
+      same is = cc
+  told_runs a b s Stops given result is runs = absurd (cc)
+  told_runs a b s IsOther given result is runs = absurd (cc)
+
+  pub told_end : (new s : S) (telling : Telling C) (given : C) (result : Option Ending)
+      → command_of telling ≡ Some given
+      → IfOn result (new ≡ (stepped machine side now (Command given) s).end)
+      → IfOn result (new ≡ (tells machine side now telling s).end)
+  told_end new s (Tells command) given result is end =
+      subst (λ (command : C). IfOn result (new ≡ (stepped machine side now (Command command) s).end))
+      (sym (same is)) end
+    where
+      same : {command : C} → Some command ≡ Some given → command ≡ given
+      same is = cc
+  told_end new s Stops given result is end = absurd (cc)
+  told_end new s IsOther given result is end = absurd (cc)
+
+  -- its command is one that the end takes
+  pub told_takes : (telling : Telling C) (given : C) → MayTell takes telling → command_of telling ≡ Some given
+      → takes given
+  told_takes (Tells command) given may is = subst takes (same is) may
+    where
+      same : {command : C} → Some command ≡ Some given → command ≡ given
+      same is = cc
+  told_takes Stops given may is = absurd (cc)
+  told_takes IsOther given may is = absurd (cc)
+
+-- the next line
+pub next_line : (lines : List ScriptLine) (i : ℕ) (line : ScriptLine) → i < length lines → line ≡ get_or lines i line
+    → drop i lines ≡ line ∷ drop (i + 1) lines
+next_line lines i line below is =
+    drop-cons lines i line below ∙ ap (λ (k : ℕ). get_or lines i line ∷ drop k lines) (sym (add-one i))
+    ∙ ap (λ (l : ScriptLine). l ∷ drop (i + 1) lines) (sym is)

@@ -1,0 +1,18 @@
+use Rattle.std.proofs.Common.{List, ℕ, subst, ◌∙◌}
+use Rattle.gl_base.specs.Sending.{WroteShort, WroteText}
+use Rattle.gl_base.specs.Told.{sink_told}
+use Rattle.gl_base.proofs.Appending.{wrote_nothing}
+use Rattle.end_run.proofs.run.put_start.Goals as goal
+
+pub returns-in_default : goal.returns-in_default
+returns-in_default g c = wrote_nothing
+
+pub returns-in-Done : goal.returns-in-Done
+returns-in-Done g c =
+    subst (λ (t : List ℕ). WroteText (sink_told g.W.Sink c.args.out.now c.copy_out.new.out) t)
+    (c.as_slice.ensures ∙ c.in-Ok.ensures) c.in-Done.ensures
+
+pub returns : goal.returns
+returns g c =
+    subst (λ (t : List ℕ). WroteShort (sink_told g.W.Sink c.args.out.now c.copy_out.new.out) t)
+    (c.as_slice.ensures ∙ c.in-Ok.ensures) c.in-Failed.ensures

@@ -1,0 +1,107 @@
+-- What a run of an end does, in its order, and what each act brings (this profile).
+use Rattle.std.specs.Prelude.{ℕ, List, [], ◌∷◌, ◌++◌, Option}
+use Rattle.gl_base.specs.Events.{moment_after}
+use Rattle.gl_base.specs.Link.{IsTimely, entries_of}
+use Rattle.gl_base.specs.declared.link.LinkEntry.{LinkEntry}
+use Rattle.gl_base.specs.declared.link.LinkEntry.TheVariants.{Polled}
+use Rattle.gl_base.specs.declared.link.LinkIn.{LinkIn}
+use Rattle.gl_base.specs.declared.link.LinkIn.TheVariants.{Char, Quiet, Closed, Failed}
+use Rattle.trace_log.specs.Log.{Entry}
+use Rattle.trace_log.specs.Text.{text_of}
+
+-- it has made a step, and is this behind it, of which nothing is said where its numbers were spent; it connects; it
+-- waits up to a moment, and is answered so; it writes the lines of these entries, the newest entry first; it sends
+-- characters
+pub data Act (S : Type 0) : Type 0 where
+  Stands : (end : Option S) → Act S
+  Connects : Act S
+  Polls : (until : ℕ) (answer : LinkIn) → Act S
+  Writes : (entries : List Entry) → Act S
+  Sends : (characters : List ℕ) → Act S
+
+-- ---- the link
+
+-- what its list has of an act, and of all acts
+abbrev pub listed : {S : Type 0} → Act S → List LinkEntry
+listed (Stands end) = []
+listed Connects = []
+listed (Polls until answer) = Polled until answer ∷ []
+listed (Writes entries) = []
+listed (Sends characters) = entries_of characters
+
+abbrev pub list_of : {S : Type 0} → List (Act S) → List LinkEntry
+list_of [] = []
+list_of (act ∷ acts) = listed act ++ list_of acts
+
+-- the answer that a poll took from those to come: Closed comes where none is left
+abbrev pub taken_by : LinkIn → List LinkIn
+taken_by (Char byte moment) = Char byte moment ∷ []
+taken_by (Quiet moment) = Quiet moment ∷ []
+taken_by Closed = []
+taken_by Failed = []
+
+abbrev pub taken : {S : Type 0} → Act S → List LinkIn
+taken (Stands end) = []
+taken Connects = []
+taken (Polls until answer) = taken_by answer
+taken (Writes entries) = []
+taken (Sends characters) = []
+
+abbrev pub taken_of : {S : Type 0} → List (Act S) → List LinkIn
+taken_of [] = []
+taken_of (act ∷ acts) = taken act ++ taken_of acts
+
+-- the moment of its last answer behind an act, and behind all acts: a connection begins its clock anew
+abbrev pub moment_with : {S : Type 0} → ℕ → Act S → ℕ
+moment_with before (Stands end) = before
+moment_with before Connects = 0
+moment_with before (Polls until answer) = moment_after before answer
+moment_with before (Writes entries) = before
+moment_with before (Sends characters) = before
+
+abbrev pub moment_by : {S : Type 0} → ℕ → List (Act S) → ℕ
+moment_by before [] = before
+moment_by before (act ∷ acts) = moment_by (moment_with before act) acts
+
+-- each answer may come where the last one before it was of this moment
+abbrev pub IsTimelyAct : {S : Type 0} → ℕ → Act S → Type 0
+IsTimelyAct before (Stands end) = Unit {0}
+IsTimelyAct before Connects = Unit {0}
+IsTimelyAct before (Polls until answer) = IsTimely until before answer
+IsTimelyAct before (Writes entries) = Unit {0}
+IsTimelyAct before (Sends characters) = Unit {0}
+
+abbrev pub AreTimely : {S : Type 0} → ℕ → List (Act S) → Type 0
+AreTimely before [] = Unit {0}
+AreTimely before (act ∷ acts) = IsTimelyAct before act × AreTimely (moment_with before act) acts
+
+-- ---- the output
+
+-- the log of all acts, the newest entry first, and its text
+abbrev pub noted : {S : Type 0} → Act S → List Entry
+noted (Stands end) = []
+noted Connects = []
+noted (Polls until answer) = []
+noted (Writes entries) = entries
+noted (Sends characters) = []
+
+abbrev pub log_of : {S : Type 0} → List (Act S) → List Entry
+log_of [] = []
+log_of (act ∷ acts) = log_of acts ++ noted act
+
+abbrev pub lines_of : {S : Type 0} → List (Act S) → List ℕ
+lines_of acts = text_of (log_of acts)
+
+-- ---- the end
+
+-- what is said of it behind an act, and behind all acts: what its last step left
+abbrev pub end_with : {S : Type 0} → Option S → Act S → Option S
+end_with before (Stands end) = end
+end_with before Connects = before
+end_with before (Polls until answer) = before
+end_with before (Writes entries) = before
+end_with before (Sends characters) = before
+
+abbrev pub end_by : {S : Type 0} → Option S → List (Act S) → Option S
+end_by before [] = before
+end_by before (act ∷ acts) = end_by (end_with before act) acts

@@ -1,0 +1,99 @@
+-- What single calls of a run leave.
+use Rattle.std.specs.Prelude.{◌≡◌, ◌≢◌, ◌⊎◌, ◌<◌, ℕ, drop, List, [], Option, Some, None}
+use Rattle.gl_base.specs.Events.{moment_after}
+use Rattle.gl_base.specs.Link.{IsToldAnswer, LinkFault}
+use Rattle.gl_base.specs.Sending.{WroteShort, WroteText}
+use Rattle.gl_base.specs.Told.{SinkTold}
+use Rattle.gl_base.specs.declared.link.LinkIn.{LinkIn}
+use Rattle.gl_base.specs.declared.link.LinkIn.TheVariants as link
+use Rattle.gl_base.specs.declared.side.Side.{Side}
+use Rattle.line_schedule.specs.declared.script.ScriptStep.{ScriptStep}
+use Rattle.message_end.specs.Ends.{Input, Machine}
+use Rattle.message_end.specs.Ends.Input.{Char, Command, Time}
+use Rattle.end_run.specs.declared.ending.Ending.{Ending}
+use Rattle.end_run.specs.declared.ending.Ending.TheVariants.{Closed, LinkFailed, NoMemory, NumbersSpent, Stopped, Turns, WriteFailed}
+use Rattle.end_run.specs.declared.polls.Place.{Place}
+use Rattle.end_run.specs.Outcome.{IfOn, Runs}
+use Rattle.end_run.specs.Run.{turned}
+use Rattle.end_run.specs.Scenes.{Scene}
+use Rattle.end_run.specs.Script.{ScriptLine, Telling, later_lines}
+
+-- ---- lines that are written
+
+-- an ending that neither memory nor link nor output has brought
+abbrev pub IsExact : Ending → Type 0
+IsExact Stopped = Unit {0}
+IsExact Closed = Unit {0}
+IsExact Turns = Unit {0}
+IsExact NumbersSpent = Unit {0}
+IsExact LinkFailed = ⊥
+IsExact WriteFailed = ⊥
+IsExact NoMemory = ⊥
+
+-- the lines of a start were to be written, and the run to go on
+abbrev pub StopsAtStart : SinkTold → List ℕ → Ending → Type 0
+StopsAtStart out text WriteFailed = WroteShort out text
+StopsAtStart out text NoMemory = WroteText out []
+StopsAtStart out text _ = ⊥
+
+abbrev pub PutsStart : SinkTold → List ℕ → Option Ending → Type 0
+PutsStart out text None = WroteText out text
+PutsStart out text (Some how) = StopsAtStart out text how
+
+-- a text was to be written, with which a run ends so
+abbrev pub EndsWith : SinkTold → List ℕ → Ending → Ending → Type 0
+EndsWith out text how WriteFailed = WroteShort out text
+EndsWith out text how NoMemory = WroteText out []
+EndsWith out text how Stopped = (how ≡ Stopped) × WroteText out text
+EndsWith out text how Closed = (how ≡ Closed) × WroteText out text
+EndsWith out text how Turns = (how ≡ Turns) × WroteText out text
+EndsWith out text how NumbersSpent = (how ≡ NumbersSpent) × WroteText out text
+EndsWith out text how LinkFailed = ⊥
+
+-- ---- what an end is given
+
+-- a character, or time
+abbrev pub plain_input : {C : Type 0} → Option ℕ → Input C
+plain_input (Some byte) = Char byte
+plain_input None = Time
+
+abbrev pub IsPlainInput : {C : Type 0} → Input C → Type 0
+IsPlainInput (Char byte) = byte < 256
+IsPlainInput Time = Unit {0}
+IsPlainInput (Command command) = ⊥
+
+-- ---- polls
+
+-- an end on its way: its state, the lines still to come, and the moment of the last answer that had one
+pub record Left (S : Type 0) : Type 0 where
+  pub end : S
+  pub lines : List ScriptLine
+  pub moment : ℕ
+
+abbrev pub left_of : {S : Type 0} → S → List ScriptLine → Place → Left S
+left_of end lines place = record { end = end; lines = drop place.given lines; moment = place.now }
+
+-- a poll failed, and nothing else was done
+pub record PollFails {S : Type 0} (a b : Scene S) (result : Option Ending) : Type 0 where
+  pub is : result ≡ Some LinkFailed
+  pub contents : b.contents ≡ a.contents
+  pub moment : b.moment ≡ a.moment
+  pub fault : LinkFault a.link b.link 1
+  pub received : b.received ≡ a.received
+  pub out : b.out ≡ a.out
+  pub end : b.end ≡ a.end
+
+module _ {S C : Type 0} (machine : Machine S C) (due : S → Option ℕ) (told : ScriptStep → Telling C) (side : Side) where
+  -- a poll came to this answer, which was the next to come, and what follows from it was done
+  pub record Turned (a b : Scene S) (before after : Left S) (result : Option Ending) (answer : LinkIn) : Type 0 where
+    pub next : IsToldAnswer a.contents answer
+    pub other : answer ≢ link.Failed
+    pub runs : Runs a b (turned machine due told side before.lines before.moment answer before.end) result
+    pub end : IfOn result (after.end ≡ (turned machine due told side before.lines before.moment answer before.end).end)
+    pub moment : after.moment ≡ moment_after before.moment answer
+    pub lines : IfOn result (after.lines ≡ later_lines after.moment before.lines)
+
+  -- a poll came to some answer, or failed
+  abbrev pub HasTurned : Scene S → Scene S → Left S → Left S → Option Ending → Type 0
+  HasTurned a b before after result =
+      PollFails a b result ⊎ ((answer : LinkIn) × Turned a b before after result answer)

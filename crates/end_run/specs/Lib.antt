@@ -1,0 +1,9 @@
+pub mod Acts
+pub mod Calls
+pub mod Outcome
+pub mod Pieces
+pub mod Run
+pub mod Scenes
+pub mod Script
+pub mod Sides
+pub mod Steps

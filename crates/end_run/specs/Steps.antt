@@ -1,0 +1,71 @@
+-- One step of an end over a link, and the lines of a script as steps (this profile).
+use Rattle.std.specs.Prelude.{ℕ, List, [], ◌∷◌, ◌++◌, Some, None}
+use Rattle.gl_base.specs.declared.side.Side.{Side}
+use Rattle.line_schedule.specs.declared.script.ScriptStep.{ScriptStep}
+use Rattle.message_end.specs.Core.{Step, Went}
+use Rattle.message_end.specs.Core.Went.{Goes, Spent}
+use Rattle.message_end.specs.Ends.{Input, Machine}
+use Rattle.message_end.specs.Ends.Input.{Command}
+use Rattle.trace_log.specs.Laws.{log_with}
+use Rattle.trace_log.specs.Log.{Entry, Happening}
+use Rattle.trace_log.specs.Log.Happening.{Wrote}
+use Rattle.end_run.specs.declared.ending.Ending.TheVariants as ending
+use Rattle.end_run.specs.Acts.{Act}
+use Rattle.end_run.specs.Acts.Act.{Connects, Sends, Stands, Writes}
+use Rattle.end_run.specs.Pieces.{Piece, and_more, still, stops}
+use Rattle.end_run.specs.Script.{ScriptLine, Telling}
+use Rattle.end_run.specs.Script.Telling.{IsOther, Stops, Tells}
+
+-- what was noted at a moment, as entries
+abbrev pub entries_at : Side → ℕ → List Happening → List Entry
+entries_at side now noted = log_with now side noted []
+
+-- the characters that a step has written are noted last, where there are any
+abbrev pub wrote : List ℕ → List Happening
+wrote [] = []
+wrote (byte ∷ bytes) = Wrote (byte ∷ bytes) ∷ []
+
+-- and are sent
+abbrev pub sends : {S : Type 0} → List ℕ → List (Act S)
+sends [] = []
+sends (byte ∷ bytes) = Sends (byte ∷ bytes) ∷ []
+
+-- a step is made, its lines are written, and then its characters are sent; where the numbers are spent nothing is sent,
+-- and the run ends
+abbrev pub made : {S : Type 0} → Side → ℕ → Went S Happening → Piece S
+made side now (Goes step) = record {
+  end = step.next;
+  acts = Stands (Some step.next) ∷ Writes (entries_at side now (step.notes ++ wrote step.written)) ∷ sends step.written;
+  ended = None;
+}
+made side now (Spent step) = record {
+  end = step.next;
+  acts = Stands None ∷ Writes (entries_at side now step.notes) ∷ [];
+  ended = Some ending.NumbersSpent;
+}
+
+-- the lines of a start are written before the end connects
+abbrev pub started : {S : Type 0} → Side → Step S Happening → Piece S
+started side start = record {
+  end = start.next;
+  acts = Writes (entries_at side 0 start.notes) ∷ Connects ∷ [];
+  ended = None;
+}
+
+module _ {S C : Type 0} (machine : Machine S C) (side : Side) where
+  abbrev pub stepped : ℕ → Input C → S → Piece S
+  stepped now input s = made side now (machine.act s input now)
+
+  -- a line of a script is a step with its command, or stops the end; one of the other end does nothing
+  abbrev pub tells : ℕ → Telling C → S → Piece S
+  tells now (Tells command) s = stepped now (Command command) s
+  tells now Stops s = stops ending.Stopped s
+  tells now IsOther s = still s
+
+  abbrev pub all_told : (ScriptStep → Telling C) → ℕ → List ScriptLine → S → Piece S
+  all_told told now [] s = still s
+  all_told told now (line ∷ lines) s = and_more (tells now (told line.1) s) (all_told told now lines)
+
+  -- the lines that are due come first, each as a step of its own, and then what was answered
+  abbrev pub answered : (ScriptStep → Telling C) → ℕ → List ScriptLine → Input C → S → Piece S
+  answered told now due input s = and_more (all_told told now due s) (stepped now input)

@@ -1,0 +1,17 @@
+//! One end of the line over a real link: what it is told by a script and by the link, what it writes and sends, and how
+//! it ends.
+#![tactic(auto)]
+
+mod ending;
+mod polls;
+mod putting;
+mod run;
+mod scripted;
+mod step;
+mod telling;
+#[cfg(test)]
+mod tests;
+
+pub use ending::Ending;
+pub use run::{run_end, run_started};
+pub use scripted::Scripted;

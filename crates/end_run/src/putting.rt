@@ -1,0 +1,61 @@
+//! The lines of a step.
+
+ghost use Rattle.std.specs.Prelude.{◌≡◌, ◌++◌, IfOk, OnOk};
+ghost use Rattle.std.specs.List.{flat_map};
+ghost use Rattle.message_end.specs.Ends.{printed};
+ghost use Rattle.trace_log.specs.Text.{note_line};
+ghost use Rattle.end_run.specs.Steps.{wrote};
+
+use gl_base::{NoMemory, Row, Side};
+use message_flow::{Note, StepOut};
+use std::alloc::Global;
+use trace_log::{put_note, wrote_note};
+
+/// The lines of a step's notes, and behind them that of the characters that it has written.
+pub(crate) fn lines_of_step(
+    alloc: Global,
+    now: u64,
+    side: Side,
+    out: &StepOut,
+) -> Result<Row<u8>, NoMemory>
+    ensures { IfOk result (λ lines. lines
+        ≡ flat_map (note_line now side) out.now.notes
+        ++ flat_map (note_line now side) (printed (wrote out.now.line.items))) }
+{
+    let mut lines = lines_of_notes(alloc, now, side, out.notes.as_slice())?;
+    put_wrote(alloc, now, side, out.line.as_slice(), &mut lines)?;
+    Ok(lines)
+}
+
+/// The lines of notes.
+pub(crate) fn lines_of_notes(
+    alloc: Global,
+    now: u64,
+    side: Side,
+    notes: &[Note],
+) -> Result<Row<u8>, NoMemory>
+    ensures { IfOk result (λ lines. lines ≡ flat_map (note_line now side) notes.now) }
+{
+    let mut lines = Row::new(alloc);
+    'notes: for note in notes {
+        put_note(now, side, note, &mut lines)?;
+    }
+    Ok(lines)
+}
+
+// Puts the line of the characters that a step has written, where there are any.
+fn put_wrote(
+    alloc: Global,
+    now: u64,
+    side: Side,
+    written: &[u8],
+    lines: &mut Row<u8>,
+) -> Result<(), NoMemory>
+    ensures { OnOk result (lines.new ≡ lines.old ++ flat_map (note_line now side) (printed (wrote written.now))) }
+{
+    if written.is_empty() {
+        return Ok(());
+    }
+    let note = wrote_note(alloc, written)?;
+    put_note(now, side, &note, lines)
+}
