@@ -1,10 +1,30 @@
 -- Words behind `--`, by computing.
-use Rattle.std.proofs.Common.{refl}
+use Rattle.std.proofs.Common.{◌≡◌, ◌∙◌, ◌++◌, ℕ, List, [], ◌∷◌, codes, Option, Some, None, refl, ap}
+use Rattle.std.specs.Option.{option_map, option_zip}
 use Rattle.clap.proofs.OnLiterals.{clap_on_literals}
+use Rattle.command_words.specs.Asked.{Asked, Host}
 use Rattle.command_words.specs.Forms.{app_for}
 use Rattle.command_words.specs.Laws.{TakesAllBehindHyphens}
-use Rattle.command_words.specs.Words.{found_in, refusals}
+use Rattle.command_words.specs.Numbers.{number_in}
+use Rattle.command_words.specs.Words.{asked_of, found_in, refusals}
+
+-- the host with this number of polls, if it is one
+abbrev host_with : List ℕ → List ℕ → Option ℕ → Option Asked
+host_with plan address polls =
+    option_map (λ parts. Host parts.0 parts.1.0 parts.1.1) (option_zip (Some plan) (option_zip (Some address) polls))
+
+host_polls : (plan address polls : List ℕ)
+    → asked_of (codes "host" ∷ (codes "--polls=" ++ polls) ∷ codes "--" ∷ plan ∷ address ∷ [])
+    ≡ host_with plan address (number_in 1 4294967295 polls)
+unfolding clap_on_literals app_for refusals found_in
+host_polls plan address polls = refl
 
 pub takes_all : TakesAllBehindHyphens
 unfolding clap_on_literals app_for refusals found_in
-takes_all = record { replay = λ plan schedule. refl; spool = λ spool. refl }
+takes_all = record {
+  replay = λ plan schedule. refl;
+  host = λ plan address. refl;
+  polls = λ plan address polls n is. host_polls plan address polls ∙ ap (host_with plan address) is;
+  outside = λ plan address polls is. host_polls plan address polls ∙ ap (host_with plan address) is;
+  spool = λ spool. refl;
+}

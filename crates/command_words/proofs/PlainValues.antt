@@ -1,12 +1,12 @@
 -- The commands of plain words.
 use Rattle.std.proofs.Common.{◌≡◌, ◌∙◌, ℕ, false, List, [], ◌∷◌, codes, Option, Some, None, refl, ap, if◌then◌else◌}
-use Rattle.std.specs.Option.{option_and_then, option_map, option_zip}
+use Rattle.std.specs.Option.{option_and_then, option_map, option_map_or, option_zip}
 use Rattle.clap.proofs.FaultLemmas.{leaf_fault}
 use Rattle.clap.specs.Faults.{defaults_fault, level_fault}
 use Rattle.clap.specs.Simple.{Shape, built}
 use Rattle.clap.specs.Walk.{Held, is_empty, nothing_held, rows_after}
 use Rattle.clap.specs.Words.{Kinds, Text, first_of}
-use Rattle.command_words.specs.Asked.{Format, Replay, Spool}
+use Rattle.command_words.specs.Asked.{Format, Host, Replay, Spool}
 use Rattle.command_words.specs.Forms.{app_for}
 use Rattle.command_words.specs.Laws.{IsPlain, TakesPlainWords}
 use Rattle.command_words.specs.Numbers.{number_in}
@@ -59,6 +59,15 @@ replay_rows : (words : List Text) → found_in name.Replay words ≡ rows_after 
 unfolding found_in app_for
 replay_rows words = refl
 
+host_level : (words : List Text)
+    → refusals name.Host words ≡ level_fault (top_of name.Host) [] nothing_held words false []
+unfolding refusals app_for
+host_level words = leaf_fault (built (app_for name.Host)) nothing_held words refl
+
+host_rows : (words : List Text) → found_in name.Host words ≡ rows_after (top_of name.Host).rules [] words
+unfolding found_in app_for
+host_rows words = refl
+
 format_level : (words : List Text)
     → refusals name.Format words ≡ level_fault (top_of name.Format) [] nothing_held words false []
 unfolding refusals app_for
@@ -95,6 +104,42 @@ module _ (a b : Text) (plain_a : IsPlain a) (plain_b : IsPlain b) where
       (option_zip o (first_of (codes "SCHEDULE") rows))) plan_found
       ∙ ap (λ (o : Option Text). option_map (λ files. Replay files.0 files.1) (option_zip (Some a) o)) schedule_found
 
+  host_refused : refusals name.Host (a ∷ b ∷ []) ≡ []
+  unfolding app_for defaults_fault
+  host_refused =
+      host_level (a ∷ b ∷ [])
+      ∙ two_refused (top_of name.Host) a b plain_a plain_b (with_first (codes "PLAN") a) refl
+
+  plan_of_host : first_of (codes "PLAN") (found_in name.Host (a ∷ b ∷ [])) ≡ Some a
+  unfolding app_for
+  plan_of_host =
+      ap (first_of (codes "PLAN")) (host_rows (a ∷ b ∷ [])
+      ∙ two_found (top_of name.Host) a b plain_a plain_b (with_first (codes "PLAN") a) refl)
+
+  address_found : first_of (codes "ADDRESS") (found_in name.Host (a ∷ b ∷ [])) ≡ Some b
+  unfolding app_for
+  address_found =
+      ap (first_of (codes "ADDRESS")) (host_rows (a ∷ b ∷ [])
+      ∙ two_found (top_of name.Host) a b plain_a plain_b (with_first (codes "PLAN") a) refl)
+
+  polls_found : first_of (codes "polls") (found_in name.Host (a ∷ b ∷ [])) ≡ None
+  unfolding app_for
+  polls_found =
+      ap (first_of (codes "polls")) (host_rows (a ∷ b ∷ [])
+      ∙ two_found (top_of name.Host) a b plain_a plain_b (with_first (codes "PLAN") a) refl)
+
+  host_asked : asked_of (codes "host" ∷ a ∷ b ∷ []) ≡ Some (Host a b 1000000)
+  host_asked =
+      let rows = found_in name.Host (a ∷ b ∷ []) in
+      let polls = λ (o : Option Text). option_map_or (number_in 1 4294967295) o (Some 1000000) in
+      ap (λ (k : Kinds). if is_empty k then meant_by name.Host rows else None) host_refused
+      ∙ ap (λ (o : Option Text). option_map (λ parts. Host parts.0 parts.1.0 parts.1.1)
+      (option_zip o (option_zip (first_of (codes "ADDRESS") rows) (polls (first_of (codes "polls") rows))))) plan_of_host
+      ∙ ap (λ (o : Option Text). option_map (λ parts. Host parts.0 parts.1.0 parts.1.1)
+      (option_zip (Some a) (option_zip o (polls (first_of (codes "polls") rows))))) address_found
+      ∙ ap (λ (o : Option Text). option_map (λ parts. Host parts.0 parts.1.0 parts.1.1)
+      (option_zip (Some a) (option_zip (Some b) (polls o)))) polls_found
+
   format_refused : refusals name.Format (a ∷ b ∷ []) ≡ []
   unfolding app_for defaults_fault
   format_refused =
@@ -128,6 +173,7 @@ module _ (a b : Text) (plain_a : IsPlain a) (plain_b : IsPlain b) where
 pub takes_plain : TakesPlainWords
 takes_plain = record {
   replay = replay_asked;
+  host = host_asked;
   format = λ spool slots n plain_a plain_b is. format_asked spool slots plain_a plain_b (Some n) is;
   outside = λ spool slots plain_a plain_b is. format_asked spool slots plain_a plain_b None is;
   spool = spool_asked;

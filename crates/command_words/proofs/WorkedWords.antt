@@ -7,4 +7,4 @@ use Rattle.command_words.specs.Worked.{AreAsWorked}
 
 pub as_worked : AreAsWorked
 unfolding clap_on_literals app_for refusals found_in
-as_worked = record { takes = refl; refuses = refl; options = refl }
+as_worked = record { takes = refl; refuses = refl }

@@ -1,6 +1,6 @@
 -- What holds of all words.
-use Rattle.std.specs.Prelude.{◌≡◌, ◌≢◌, ◌==◌, ℕ, Bool, true, not, List, [], ◌∷◌, codes, Some, None}
-use Rattle.command_words.specs.Asked.{Format, Replay, Spool}
+use Rattle.std.specs.Prelude.{◌≡◌, ◌≢◌, ◌==◌, ◌++◌, ℕ, Bool, true, not, List, [], ◌∷◌, codes, Some, None}
+use Rattle.command_words.specs.Asked.{Format, Host, Replay, Spool}
 use Rattle.command_words.specs.Numbers.{number_in}
 use Rattle.command_words.specs.Words.{asked_of}
 
@@ -9,6 +9,7 @@ pub record IsNoName (word : List ℕ) : Type 0 where
   pub show : word ≢ codes "show"
   pub spell : word ≢ codes "spell"
   pub replay : word ≢ codes "replay"
+  pub host : word ≢ codes "host"
   pub format : word ≢ codes "format"
   pub spool : word ≢ codes "spool"
 
@@ -29,6 +30,9 @@ pub record TakesPlainWords : Type 0 where
   pub replay :
       (plan schedule : List ℕ) → IsPlain plan → IsPlain schedule
       → asked_of (codes "replay" ∷ plan ∷ schedule ∷ []) ≡ Some (Replay plan schedule)
+  pub host :
+      (plan address : List ℕ) → IsPlain plan → IsPlain address
+      → asked_of (codes "host" ∷ plan ∷ address ∷ []) ≡ Some (Host plan address 1000000)
   pub format :
       (spool slots : List ℕ) (n : ℕ) → IsPlain spool → IsPlain slots → number_in 1 65535 slots ≡ Some n
       → asked_of (codes "format" ∷ spool ∷ slots ∷ []) ≡ Some (Format spool n)
@@ -37,9 +41,19 @@ pub record TakesPlainWords : Type 0 where
       → asked_of (codes "format" ∷ spool ∷ slots ∷ []) ≡ None
   pub spool : (spool : List ℕ) → IsPlain spool → asked_of (codes "spool" ∷ spool ∷ []) ≡ Some (Spool spool)
 
--- behind `--` any words at all are values
+-- behind `--` any words at all are values, and behind `--polls=` any text is
 pub record TakesAllBehindHyphens : Type 0 where
   pub replay :
       (plan schedule : List ℕ)
       → asked_of (codes "replay" ∷ codes "--" ∷ plan ∷ schedule ∷ []) ≡ Some (Replay plan schedule)
+  pub host :
+      (plan address : List ℕ)
+      → asked_of (codes "host" ∷ codes "--" ∷ plan ∷ address ∷ []) ≡ Some (Host plan address 1000000)
+  pub polls :
+      (plan address polls : List ℕ) (n : ℕ) → number_in 1 4294967295 polls ≡ Some n
+      → asked_of (codes "host" ∷ (codes "--polls=" ++ polls) ∷ codes "--" ∷ plan ∷ address ∷ [])
+      ≡ Some (Host plan address n)
+  pub outside :
+      (plan address polls : List ℕ) → number_in 1 4294967295 polls ≡ None
+      → asked_of (codes "host" ∷ (codes "--polls=" ++ polls) ∷ codes "--" ∷ plan ∷ address ∷ []) ≡ None
   pub spool : (spool : List ℕ) → asked_of (codes "spool" ∷ codes "--" ∷ spool ∷ []) ≡ Some (Spool spool)

@@ -1,17 +1,17 @@
 -- Which command the words after the program's name are (this profile).
-use Rattle.std.specs.Prelude.{◌≡◌, ◌≢◌, Bool, false, List, [], ◌∷◌, codes, bytes_eq, Option, Some, None, Result, Ok, Err, if◌then◌else◌}
+use Rattle.std.specs.Prelude.{ℕ, ◌≡◌, ◌≢◌, Bool, false, List, [], ◌∷◌, codes, bytes_eq, Option, Some, None, Result, Ok, Err, if◌then◌else◌}
 use Rattle.std.specs.Option.{option_and_then, option_map, option_map_or, option_zip}
 use Rattle.clap.specs.Walk.{is_empty, rows_of}
 use Rattle.clap.specs.Words.{Kinds, Row, Text, fault_of, first_of, found_of, matches_of}
 use Rattle.clap.specs.declared.parser.matches.ArgMatches.{ArgMatches}
-use Rattle.command_words.specs.Asked.{Asked, asked_by, Format as AskedFormat, Replay as AskedReplay, Show as AskedShow, Spell as AskedSpell, SpellHex as AskedSpellHex, Spool as AskedSpool}
+use Rattle.command_words.specs.Asked.{Asked, asked_by, Format as AskedFormat, Host as AskedHost, Replay as AskedReplay, Show as AskedShow, Spell as AskedSpell, SpellHex as AskedSpellHex, Spool as AskedSpool}
 use Rattle.command_words.specs.Forms.{app_for}
 use Rattle.command_words.specs.Numbers.{number_in}
 use Rattle.command_words.specs.declared.command.Command.{Command}
 use Rattle.command_words.specs.declared.command.WordsFault.{WordsFault}
 use Rattle.command_words.specs.declared.command.WordsFault.TheVariants.{Usage, NoMemory}
 use Rattle.command_words.specs.declared.names.Name.{Name}
-use Rattle.command_words.specs.declared.names.Name.TheVariants.{Show, Spell, Replay, Format, Spool}
+use Rattle.command_words.specs.declared.names.Name.TheVariants.{Show, Spell, Replay, Host, Format, Spool}
 
 -- the name that a word is, spelled exactly so
 abbrev pub name_of : Text → Option Name
@@ -19,6 +19,7 @@ name_of word =
     if bytes_eq word (codes "show") then Some Show
     else if bytes_eq word (codes "spell") then Some Spell
     else if bytes_eq word (codes "replay") then Some Replay
+    else if bytes_eq word (codes "host") then Some Host
     else if bytes_eq word (codes "format") then Some Format
     else if bytes_eq word (codes "spool") then Some Spool else None
 
@@ -33,6 +34,10 @@ found_in name words = matches_of (app_for name) words
 abbrev pub is_set : Text → List Row → Bool
 is_set id rows = option_map_or (λ text. bytes_eq text (codes "true")) (first_of id rows) false
 
+-- how many polls are made at most: 1,000,000 where nothing is said of it
+abbrev pub polls_in : List Row → Option ℕ
+polls_in rows = option_map_or (number_in 1 4294967295) (first_of (codes "polls") rows) (Some 1000000)
+
 -- the command that a name is with what was found; none where a number is out of its range
 abbrev pub meant_by : Name → List Row → Option Asked
 meant_by Show rows = Some AskedShow
@@ -40,6 +45,9 @@ meant_by Spell rows = Some (if is_set (codes "hex") rows then AskedSpellHex else
 meant_by Replay rows =
     option_map (λ files. AskedReplay files.0 files.1)
     (option_zip (first_of (codes "PLAN") rows) (first_of (codes "SCHEDULE") rows))
+meant_by Host rows =
+    option_map (λ parts. AskedHost parts.0 parts.1.0 parts.1.1)
+    (option_zip (first_of (codes "PLAN") rows) (option_zip (first_of (codes "ADDRESS") rows) (polls_in rows)))
 meant_by Format rows =
     option_map (λ parts. AskedFormat parts.0 parts.1)
     (option_zip (first_of (codes "SPOOL") rows)

@@ -1,10 +1,10 @@
 //! What the words ask for.
 
-ghost use Rattle.std.specs.Prelude.{◌≡◌, ◌∷◌, IfOk, IfSome, Some, map, option_map, string_bytes};
+ghost use Rattle.std.specs.Prelude.{◌≡◌, ◌≤◌, ◌∷◌, IfOk, IfSome, Some, map, option_map, string_bytes};
 ghost use Rattle.clap.specs.Walk.{rows_of};
 ghost use Rattle.clap.specs.Words.{found_of};
 ghost use Rattle.command_words.specs.Asked.{IsInRange, asked_by};
-ghost use Rattle.command_words.specs.Words.{Answers, asked_behind, asked_of, meant_by};
+ghost use Rattle.command_words.specs.Words.{Answers, asked_behind, asked_of, meant_by, polls_in};
 
 use crate::names::{Name, name_of};
 use crate::numbers::number_in;
@@ -14,6 +14,9 @@ use std::alloc::Global;
 
 // How many slots a spool file has at most.
 const SLOTS_MOST: u32 = 65535;
+
+// How many polls an end makes at most, where its words don't say.
+const POLLS_USUAL: u32 = 1_000_000;
 
 /// What the program is asked to do, with the names of files as they stand in the words.
 #[derive(Clone, Copy, Debug, PartialEq, Eq)]
@@ -25,11 +28,25 @@ pub enum Command<'a> {
     /// Write the text of an item's bytes in hex.
     SpellHex,
     /// Write the trace of a schedule over a plan.
-    Replay { plan: &'a str, schedule: &'a str },
+    Replay {
+        plan: &'a str,
+        schedule: &'a str,
+    },
+    /// Run the host's end of a line with the peer at an address, up to so many polls.
+    Host {
+        plan: &'a str,
+        address: &'a str,
+        polls: u32,
+    },
     /// Make a spool file of so many slots.
-    Format { spool: &'a str, slots: u32 },
+    Format {
+        spool: &'a str,
+        slots: u32,
+    },
     /// Write the list of a spool file.
-    Spool { spool: &'a str },
+    Spool {
+        spool: &'a str,
+    },
 }
 
 /// Why words are no command.
@@ -91,6 +108,7 @@ fn meant_by<'a>(name: Name, matches: &ArgMatches<'a>) -> Option<Command<'a>>
         Name::Show => Some(Command::Show),
         Name::Spell => Some(spelling(matches)),
         Name::Replay => replay(matches),
+        Name::Host => host(matches),
         Name::Format => format(matches),
         Name::Spool => spool(matches),
     }
@@ -113,6 +131,32 @@ fn replay<'a>(matches: &ArgMatches<'a>) -> Option<Command<'a>>
     let plan = text_of(matches, "PLAN")?;
     let schedule = text_of(matches, "SCHEDULE")?;
     Some(Command::Replay { plan, schedule })
+}
+
+fn host<'a>(matches: &ArgMatches<'a>) -> Option<Command<'a>>
+    ensures command { option_map asked_by result ≡ meant_by Name.Host (rows_of (found_of matches.now)) }
+    ensures range { IfSome result (λ command. IsInRange (asked_by command)) }
+{
+    let plan = text_of(matches, "PLAN")?;
+    let address = text_of(matches, "ADDRESS")?;
+    let polls = polls_in(matches)?;
+    Some(Command::Host {
+        plan,
+        address,
+        polls,
+    })
+}
+
+// How many polls are made at most.
+fn polls_in(matches: &ArgMatches<'_>) -> Option<u32>
+    ensures number { result ≡ polls_in (rows_of (found_of matches.now)) }
+    ensures some { IfSome result (λ n. 1 ≤ n) }
+    ensures most { IfSome result (λ n. n ≤ 4294967295) }
+{
+    match text_of(matches, "polls") {
+        Some(text) => number_in(1, u32::MAX, text),
+        None => Some(POLLS_USUAL),
+    }
 }
 
 fn format<'a>(matches: &ArgMatches<'a>) -> Option<Command<'a>>

@@ -9,6 +9,7 @@ pub(crate) enum Name {
     Show,
     Spell,
     Replay,
+    Host,
     Format,
     Spool,
 }
@@ -23,6 +24,8 @@ pub(crate) fn name_of(word: &str) -> Option<Name>
         Some(Name::Spell)
     } else if word == "replay" {
         Some(Name::Replay)
+    } else if word == "host" {
+        Some(Name::Host)
     } else if word == "format" {
         Some(Name::Format)
     } else if word == "spool" {

@@ -1,6 +1,4 @@
 use super::*;
-use crate::forms::app_with;
-use crate::parsing::text_of;
 use std::alloc::{AllocError, Global};
 
 /// Words, and what they are.
@@ -126,11 +124,63 @@ static WRONG_COUNTS: [Case; 8] = [
     (&["spool", "f", "f"], USAGE),
 ];
 
+static HOSTS: [Case; 5] = [
+    (
+        &["host", "p", "a"],
+        Ok(Command::Host {
+            plan: "p",
+            address: "a",
+            polls: 1_000_000,
+        }),
+    ),
+    (
+        &["host", "p", "a", "--polls", "5"],
+        Ok(Command::Host {
+            plan: "p",
+            address: "a",
+            polls: 5,
+        }),
+    ),
+    (
+        &["host", "--polls=05", "p", "a"],
+        Ok(Command::Host {
+            plan: "p",
+            address: "a",
+            polls: 5,
+        }),
+    ),
+    (
+        &["host", "--polls", "1", "--", "p", "a"],
+        Ok(Command::Host {
+            plan: "p",
+            address: "a",
+            polls: 1,
+        }),
+    ),
+    (
+        &["host", "p", "a", "--polls=4294967295"],
+        Ok(Command::Host {
+            plan: "p",
+            address: "a",
+            polls: u32::MAX,
+        }),
+    ),
+];
+
+static WRONG_HOSTS: [Case; 7] = [
+    (&["host", "p", "a", "--polls", "0"], USAGE),
+    (&["host", "p", "a", "--polls", "4294967296"], USAGE),
+    (&["host", "p", "a", "--polls", "-1"], USAGE),
+    (&["host", "p", "a", "--polls"], USAGE),
+    (&["host", "p", "a", "--polls=5", "--polls=5"], USAGE),
+    (&["host", "p", "--polls=5"], USAGE),
+    (&["host", "p", "a", "s"], USAGE),
+];
+
 /// Commands that aren't built yet.
-static NOT_BUILT: [Case; 4] = [
+static NOT_BUILT: [Case; 3] = [
     (&["equipment", "p", "a", "s"], USAGE),
     (&["equipment", "p", "a", "s", "--polls", "5"], USAGE),
-    (&["host", "p", "a", "--polls=5"], USAGE),
     (&["make", "1"], USAGE),
 ];
 
@@ -142,6 +192,12 @@ fn takes_each_command(rt: HostRuntime) {
 #[test]
 fn reads_the_number_of_slots(rt: HostRuntime) {
     assert!(rt; are_answered(rt.alloc(), FORMATS.as_slice()));
+}
+
+#[test]
+fn reads_the_number_of_polls(rt: HostRuntime) {
+    assert!(rt; are_answered(rt.alloc(), HOSTS.as_slice()));
+    assert!(rt; are_answered(rt.alloc(), WRONG_HOSTS.as_slice()));
 }
 
 #[test]
@@ -162,28 +218,4 @@ fn refuses_too_few_and_too_many_words(rt: HostRuntime) {
 #[test]
 fn refuses_commands_that_are_not_built(rt: HostRuntime) {
     assert!(rt; are_answered(rt.alloc(), NOT_BUILT.as_slice()));
-}
-
-/// Whether an option with a value is read from these words as this text.
-fn polls_are(alloc: Global, words: &[&str], wanted: Option<&str>) -> bool {
-    match words_of(alloc, words) {
-        Ok(words) => match app_with(alloc, "host", &["PLAN"], &["polls"], &[]) {
-            Ok(command) => match command.try_get_matches_from(words.as_slice()) {
-                Ok(matches) => text_of(&matches, "polls") == wanted,
-                Err(_) => false,
-            },
-            Err(_) => false,
-        },
-        Err(_) => false,
-    }
-}
-
-#[test]
-fn takes_an_option_in_both_forms(rt: HostRuntime) {
-    let alloc = rt.alloc();
-    assert!(rt; polls_are(alloc, &["p"], None));
-    assert!(rt; polls_are(alloc, &["p", "--polls", "5"], Some("5")));
-    assert!(rt; polls_are(alloc, &["--polls=5", "p"], Some("5")));
-    assert!(rt; !polls_are(alloc, &["p", "--polls", "5", "--polls", "5"], Some("5")));
-    assert!(rt; !polls_are(alloc, &["p", "--polls"], None));
 }

@@ -10,7 +10,9 @@ use Rattle.std.specs.declared.string.String.{String}
 use Rattle.std.specs.declared.vec.IntoIter.{IntoIter}
 use Rattle.gl_base.specs.Told.{FilesTold, SinkTold, SourceTold}
 use Rattle.spool_show.specs.Told.{DiskTold}
-use Rattle.gemline_app.specs.Gemline.{IsRun, IsUnread, WereSent}
+use Rattle.gemline_app.specs.Gemline.{IsRun, WereSent}
+use Rattle.gemline_app.specs.Inputs.{IsUnread}
+use Rattle.gemline_app.specs.LinkTold.{IsUncalled, LinkTold}
 use Rattle.gemline_app.specs.Outcome.{line_of, status_of}
 use Rattle.gemline_app.specs.Spool.{IsUnused}
 use Rattle.gemline_app.specs.Written.{AreUnread, IsUntouched}
@@ -31,20 +33,21 @@ refusal_of OutOfMemory = outcome.NoMemory
 refusal_of _ = outcome.Usage
 
 -- nothing was read and nothing written, and the outcome gives the status and the line on the sink of errors
-pub record IsRefusal (refusal : Outcome) (source : SourceTold) (files : FilesTold) (disk : DiskTold)
+pub record IsRefusal (refusal : Outcome) (source : SourceTold) (files : FilesTold) (disk : DiskTold) (link : LinkTold)
     (out err : SinkTold) (status : ℕ) : Type 0 where
   pub status_is : status ≡ status_of refusal
   pub input : IsUnread source
   pub unread : AreUnread files
   pub unused : IsUnused disk
+  pub uncalled : IsUncalled link
   pub written : IsUntouched out
   pub line : WereSent (line_of [] refusal) err
 
 -- a run over the words of the arguments, unless memory runs out before it; or, where there are none, a refusal by the
 -- cause
-abbrev pub RunsOver : Result Arguments Error → SourceTold → FilesTold → DiskTold → SinkTold → SinkTold → ℕ → Type 0
-RunsOver (Ok arguments) source files disk out err status =
-    IsRun (words_of arguments) source files disk out err status
-    ⊎ IsRefusal outcome.NoMemory source files disk out err status
-RunsOver (Err error) source files disk out err status =
-    IsRefusal (refusal_of (error_kind error)) source files disk out err status
+abbrev pub RunsOver : Result Arguments Error → SourceTold → FilesTold → DiskTold → LinkTold → SinkTold → SinkTold → ℕ → Type 0
+RunsOver (Ok arguments) source files disk link out err status =
+    IsRun (words_of arguments) source files disk link out err status
+    ⊎ IsRefusal outcome.NoMemory source files disk link out err status
+RunsOver (Err error) source files disk link out err status =
+    IsRefusal (refusal_of (error_kind error)) source files disk link out err status

@@ -1,14 +1,17 @@
-ghost use Rattle.std.specs.Prelude.{◌≡◌, IfOk, drop};
+ghost use Rattle.std.specs.Prelude.{◌≡◌, [], IfOk, drop};
 ghost use Rattle.std.specs.Process.{exit_status};
 ghost use Rattle.std.specs.IoError.{error_kind};
 ghost use Rattle.std.specs.Vec.Iter.{into_iter_items};
 ghost use Rattle.gl_base.specs.Told.{files_told, sink_told, source_told};
 ghost use Rattle.spool_show.specs.Told.{disk_told};
+ghost use Rattle.gemline_app.specs.Gemline.{WereSent};
+ghost use Rattle.gemline_app.specs.LinkTold.{link_told};
+ghost use Rattle.gemline_app.specs.Outcome.{line_of, status_of};
 ghost use Rattle.gemline.specs.Arguments.{IsRefusal, RunsOver, refusal_of};
 
 use disk_base::Disk;
 use gemline_app::{Outcome, gemline, report};
-use gl_base::{Files, NoMemory, Sink, Source};
+use gl_base::{Files, Link, NoMemory, Sink, Source};
 use std::alloc::Global;
 use std::env::Args;
 use std::io;
@@ -16,7 +19,7 @@ use std::process::ExitCode;
 
 /// Runs the program over the arguments that the system gave, its name in front of the words, and answers the status to
 /// end with. Where the system gave none, nothing is read: an argument that is no text is a fault of usage.
-pub(crate) fn run_arguments<F: Files, R: Source, W: Sink, E: Sink, D: Disk>(
+pub(crate) fn run_arguments<F: Files, R: Source, W: Sink, E: Sink, D: Disk, L: Link>(
     alloc: Global,
     arguments: io::Result<Args>,
     files: &mut F,
@@ -24,21 +27,23 @@ pub(crate) fn run_arguments<F: Files, R: Source, W: Sink, E: Sink, D: Disk>(
     out: &mut W,
     err: &mut E,
     disk: &mut D,
+    link: &mut L,
 ) -> ExitCode
     ensures { RunsOver arguments
         (source_told R.Source input.old input.new)
         (files_told F.Files files.old files.new)
         (disk_told D.Disk disk.old disk.new)
+        (link_told L.Link link.old link.new)
         (sink_told W.Sink out.old out.new)
         (sink_told E.Sink err.old err.new)
         (exit_status result) }
 {
-    let status = run_over(alloc, arguments, files, input, out, err, disk);
+    let status = run_over(alloc, arguments, files, input, out, err, disk, link);
     ExitCode::from(status)
 }
 
 // Runs the program over the arguments, and answers the number of its status.
-fn run_over<F: Files, R: Source, W: Sink, E: Sink, D: Disk>(
+fn run_over<F: Files, R: Source, W: Sink, E: Sink, D: Disk, L: Link>(
     alloc: Global,
     arguments: io::Result<Args>,
     files: &mut F,
@@ -46,21 +51,23 @@ fn run_over<F: Files, R: Source, W: Sink, E: Sink, D: Disk>(
     out: &mut W,
     err: &mut E,
     disk: &mut D,
+    link: &mut L,
 ) -> u8
     ensures { RunsOver arguments
         (source_told R.Source input.old input.new)
         (files_told F.Files files.old files.new)
         (disk_told D.Disk disk.old disk.new)
+        (link_told L.Link link.old link.new)
         (sink_told W.Sink out.old out.new)
         (sink_told E.Sink err.old err.new)
         result }
 {
     match arguments {
         Ok(arguments) => match words_of(alloc, arguments) {
-            Ok(words) => gemline(alloc, &words, files, input, out, err, disk),
+            Ok(words) => gemline(alloc, &words, files, input, out, err, disk, link),
             Err(NoMemory) => report(&Outcome::NoMemory, None, err),
         },
-        Err(error) => report(&refusal_of(&error), None, err),
+        Err(error) => refuse(&error, err),
     }
 }
 
@@ -76,13 +83,15 @@ fn words_of(alloc: Global, mut arguments: Args) -> Result<Vec<String>, NoMemory>
     Ok(words)
 }
 
-// The outcome where the system gave no arguments.
-fn refusal_of(error: &io::Error) -> Outcome
-    ensures { result ≡ refusal_of (error_kind error.now) }
+// Tells why the system gave no arguments, and answers the number of the status.
+fn refuse<E: Sink>(error: &io::Error, err: &mut E) -> u8
+    ensures status { result ≡ status_of (refusal_of (error_kind error.now)) }
+    ensures line { WereSent (line_of [] (refusal_of (error_kind error.now)))
+        (sink_told E.Sink err.old err.new) }
 {
     match error.kind() {
-        io::ErrorKind::OutOfMemory => Outcome::NoMemory,
-        _ => Outcome::Usage,
+        io::ErrorKind::OutOfMemory => report(&Outcome::NoMemory, None, err),
+        _ => report(&Outcome::Usage, None, err),
     }
 }
 
@@ -90,7 +99,7 @@ fn refusal_of(error: &io::Error) -> Outcome
 mod tests {
     use super::*;
     use disk_base::MemDisk;
-    use gl_base::{MemFiles, MemSink, MemSource, Row};
+    use gl_base::{MemFiles, MemLink, MemSink, MemSource, Row};
 
     /// Words that a system gives, the program's name in front.
     fn arguments_of(alloc: Global, words: &[&str]) -> Result<Args, NoMemory> {
@@ -101,17 +110,20 @@ mod tests {
         Ok(all.into_iter())
     }
 
-    /// The status of a run over these arguments, without a file or a byte of input or of a disk.
+    /// The status of a run over these arguments, without a file, a byte of input or of a disk, or an answer of a link.
     fn status_of(
         alloc: Global,
         arguments: io::Result<Args>,
         out: &mut MemSink,
         err: &mut MemSink,
         disk: &mut MemDisk,
+        link: &mut MemLink,
     ) -> ExitCode {
         let mut files = MemFiles::new(Row::new(alloc));
         let mut input = MemSource::new(Row::new(alloc));
-        run_arguments(alloc, arguments, &mut files, &mut input, out, err, disk)
+        run_arguments(
+            alloc, arguments, &mut files, &mut input, out, err, disk, link,
+        )
     }
 
     /// Whether such a run ends with this status and this line.
@@ -122,9 +134,15 @@ mod tests {
         wanted: u8,
         line: &[u8],
     ) -> bool {
-        match (MemSink::new(alloc, 100), MemDisk::new(alloc, 0, 10, 10)) {
-            (Ok(mut err), Ok(mut disk)) => {
-                status_of(alloc, arguments, out, &mut err, &mut disk) == ExitCode::from(wanted)
+        let link = MemLink::new(alloc, Row::new(alloc), 0);
+        match (
+            MemSink::new(alloc, 100),
+            MemDisk::new(alloc, 0, 10, 10),
+            link,
+        ) {
+            (Ok(mut err), Ok(mut disk), Ok(mut link)) => {
+                status_of(alloc, arguments, out, &mut err, &mut disk, &mut link)
+                    == ExitCode::from(wanted)
                     && err.bytes() == line
             }
             _ => false,

@@ -12,6 +12,7 @@ use host_files::HostFiles;
 use reading::Reading;
 use std::env;
 use std::process::ExitCode;
+use tcp_link::TcpLink;
 use writing::Writing;
 
 fn main(rt: HostRuntime) -> ExitCode {
@@ -23,5 +24,6 @@ fn main(rt: HostRuntime) -> ExitCode {
         &mut Writing::new(rt.stdout()),
         &mut Writing::new(rt.stderr()),
         &mut FileDisk::new(&rt),
+        &mut TcpLink::new(&rt),
     )
 }

@@ -1,11 +1,9 @@
 -- Which outcome is due, and when another one comes in its place.
 use Rattle.std.proofs.Common.{◌≡◌, ◌⊎◌, ◌≤◌, ℕ, true, List, length, Option, Some, None, Result, Ok, Err, refl, sym, ap, subst, ◌∙◌, inl, inr, arith}
-use Rattle.command_words.specs.Asked.{Asked, Format, Replay, Show, Spell, SpellHex, Spool}
+use Rattle.command_words.specs.Asked.{Asked, Format, Host, Replay, Show, Spell, SpellHex, Spool}
 use Rattle.command_words.specs.Words.{asked_of}
-use Rattle.gl_base.specs.Input.{ReadsAll, ReadsAllOf}
 use Rattle.gl_base.specs.Sink.{with_bytes}
 use Rattle.gl_base.specs.Told.{FilesTold, SinkTold, SourceTold}
-use Rattle.gl_base.specs.declared.input.Input.{Input}
 use Rattle.gl_base.specs.declared.input.Input.TheVariants as input
 use Rattle.line_show.specs.Capture.{Piece, Reads}
 use Rattle.line_show.specs.Lines.{lines_of}
@@ -21,52 +19,58 @@ use Rattle.secs_text.specs.declared.text_fault.TextFault.{TextFault}
 use Rattle.secs_text.proofs.FaultLaws.{no_fault_read}
 use Rattle.secs_text.proofs.FaultPlaces.{one_fault}
 use Rattle.spool_show.specs.Told.{DiskTold}
-use Rattle.gemline_app.specs.Gemline.{ComesFrom, ComesOnInput, HexRefuses, InputRefuses, IsRun, RunComes, TextRefuses, WasPrinted, WasRead, WasShown, WasSpelled, WasWritten}
+use Rattle.gemline_app.specs.LinkTold.{LinkTold}
+use Rattle.gemline_app.specs.Gemline.{ComesFrom, HexRefuses, IsRun, RunComes, TextRefuses, WasPrinted, WasShown, WasSpelled, WasWritten}
+use Rattle.gemline_app.specs.Inputs.{InputRefuses}
 use Rattle.gemline_app.specs.HexInput.{HexMeans}
-use Rattle.gemline_app.specs.Laws.{BytesAsk, CaptureAsks, HexAsks, Hinders, IsDue, IsInputDue, TextAsks}
+use Rattle.gemline_app.specs.Laws.{BytesAsk, CaptureAsks, HexAsks, Hinders, IsDue, TextAsks}
 use Rattle.gemline_app.specs.Outcome.{outcome_of_show, status_of}
 use Rattle.gemline_app.specs.Spelling.{text_place}
 use Rattle.gemline_app.specs.Words.{capture_limit, item_limit}
 use Rattle.gemline_app.specs.declared.outcome.Outcome.{Outcome}
-use Rattle.gemline_app.specs.declared.outcome.Outcome.TheVariants.{Done, Usage, BadFrame, BadText, BadHex, BadItem, BadLine, Longer, FileLonger, FileFailed, ReadFailed, NoMemory, WriteFailed, TurnsSpent, NumbersSpent, Slip, DiskFailed, NotSpool, BadPlan, LineNotBuilt}
+use Rattle.gemline_app.specs.declared.outcome.Outcome.TheVariants.{Done, Usage, BadFrame, BadText, BadHex, BadItem, BadLine, Longer, FileLonger, FileFailed, ReadFailed, NoMemory, WriteFailed, TurnsSpent, NumbersSpent, Slip, DiskFailed, NotSpool, BadPlan, LineNotBuilt, BadScript, LinkFailed}
 use Rattle.gemline_app.proofs.HexLaws.{means_read, one_break}
+use Rattle.gemline_app.proofs.HostDue.{host_due}
+use Rattle.gemline_app.proofs.InputDue.{input_due, read_of}
 use Rattle.gemline_app.proofs.ReplayDue.{Comes, replay_due}
 use Rattle.gemline_app.proofs.SpoolDue.{formatted_due, listed_due}
 
 -- ---- a command of its whole input
 
-shown_due : (source : SourceTold) (files : FilesTold) (disk : DiskTold) (out : SinkTold) (capture : List ℕ) (pieces : List Piece) (ending : Ending) (outcome due : Outcome) (result : Result Ending Stop) →
-    outcome ≡ outcome_of_show result → Shows out capture result → HasStopCause out result → Reads capture pieces ending → due ≡ outcome_of_show (Ok ending) → Comes source files disk out outcome due
-shown_due source files disk out capture pieces ending outcome due (Ok found) is shows cause reads is_due =
+shown_due : (source : SourceTold) (files : FilesTold) (disk : DiskTold) (link : LinkTold) (out : SinkTold) (capture : List ℕ) (pieces : List Piece) (ending : Ending) (outcome due : Outcome) (result : Result Ending Stop) →
+    outcome ≡ outcome_of_show result → Shows out capture result → HasStopCause out result → Reads capture pieces ending → due ≡ outcome_of_show (Ok ending) → Comes source files disk link out outcome due
+shown_due source files disk link out capture pieces ending outcome due (Ok found) is shows cause reads is_due =
     inl (is ∙ ap (λ (e : Ending). outcome_of_show (Ok e)) (shows pieces ending reads).0 ∙ sym is_due)
-shown_due source files disk out capture pieces ending outcome due (Err stop.NoMemory) is shows cause reads is_due =
-    inr (subst (Hinders source files disk out) (sym is) tt)
-shown_due source files disk out capture pieces ending outcome due (Err stop.WriteFailed) is shows cause reads is_due =
-    inr (subst (Hinders source files disk out) (sym is) cause)
+shown_due source files disk link out capture pieces ending outcome due (Err stop.NoMemory) is shows cause reads is_due =
+    inr (subst (Hinders source files disk link out) (sym is) tt)
+shown_due source files disk link out capture pieces ending outcome due (Err stop.WriteFailed) is shows cause reads is_due =
+    inr (subst (Hinders source files disk link out) (sym is) cause)
 
 -- a line was written, or a write failed
-written_due : (source : SourceTold) (files : FilesTold) (disk : DiskTold) (out : SinkTold) (line : List ℕ) (outcome : Outcome) → WasWritten line out outcome
-    → Comes source files disk out outcome Done
-written_due source files disk out line Done written = inl refl
-written_due source files disk out line Usage written = absurd written
-written_due source files disk out line (BadFrame named) written = absurd written
-written_due source files disk out line (BadText at) written = absurd written
-written_due source files disk out line (BadHex at) written = absurd written
-written_due source files disk out line (BadItem fault) written = absurd written
-written_due source files disk out line Longer written = absurd written
-written_due source files disk out line ReadFailed written = absurd written
-written_due source files disk out line NoMemory written = absurd written
-written_due source files disk out line WriteFailed written = inr written.fault.rose
-written_due source files disk out line (BadLine number) written = absurd written
-written_due source files disk out line (FileLonger which) written = absurd written
-written_due source files disk out line (FileFailed which) written = absurd written
-written_due source files disk out line TurnsSpent written = absurd written
-written_due source files disk out line NumbersSpent written = absurd written
-written_due source files disk out line DiskFailed written = absurd written
-written_due source files disk out line (NotSpool at) written = absurd written
-written_due source files disk out line Slip written = absurd written
-written_due source files disk out line (BadPlan key what) written = absurd written
-written_due source files disk out line (LineNotBuilt number) written = absurd written
+written_due : (source : SourceTold) (files : FilesTold) (disk : DiskTold) (link : LinkTold) (out : SinkTold) (line : List ℕ) (outcome : Outcome) → WasWritten line out outcome
+    → Comes source files disk link out outcome Done
+written_due source files disk link out line Done written = inl refl
+written_due source files disk link out line Usage written = absurd written
+written_due source files disk link out line (BadFrame named) written = absurd written
+written_due source files disk link out line (BadText at) written = absurd written
+written_due source files disk link out line (BadHex at) written = absurd written
+written_due source files disk link out line (BadItem fault) written = absurd written
+written_due source files disk link out line Longer written = absurd written
+written_due source files disk link out line ReadFailed written = absurd written
+written_due source files disk link out line NoMemory written = absurd written
+written_due source files disk link out line WriteFailed written = inr written.fault.rose
+written_due source files disk link out line (BadLine number) written = absurd written
+written_due source files disk link out line (FileLonger which) written = absurd written
+written_due source files disk link out line (FileFailed which) written = absurd written
+written_due source files disk link out line TurnsSpent written = absurd written
+written_due source files disk link out line NumbersSpent written = absurd written
+written_due source files disk link out line DiskFailed written = absurd written
+written_due source files disk link out line (NotSpool at) written = absurd written
+written_due source files disk link out line Slip written = absurd written
+written_due source files disk link out line (BadPlan key what) written = absurd written
+written_due source files disk link out line (LineNotBuilt number) written = absurd written
+written_due source files disk link out line (BadScript number) written = absurd written
+written_due source files disk link out line LinkFailed written = absurd written
 
 -- what a text is refused for
 text_refused : (text : List ℕ) (refusal : Outcome) → TextRefuses text refusal →
@@ -91,6 +95,8 @@ text_refused text (NotSpool at) refuses = absurd refuses
 text_refused text Slip refuses = absurd refuses
 text_refused text (BadPlan key what) refuses = absurd refuses
 text_refused text (LineNotBuilt number) refuses = absurd refuses
+text_refused text (BadScript number) refuses = absurd refuses
+text_refused text LinkFailed refuses = absurd refuses
 
 pub hex_refused : (digits : List ℕ) (refusal : Outcome) → HexRefuses digits refusal →
     (refusal ≡ NoMemory) ⊎ HexAsks digits refusal
@@ -114,6 +120,8 @@ hex_refused digits (NotSpool at) refuses = absurd refuses
 hex_refused digits Slip refuses = absurd refuses
 hex_refused digits (BadPlan key what) refuses = absurd refuses
 hex_refused digits (LineNotBuilt number) refuses = absurd refuses
+hex_refused digits (BadScript number) refuses = absurd refuses
+hex_refused digits LinkFailed refuses = absurd refuses
 
 -- a text asks for one outcome
 one_text : (text : List ℕ) (a b : Outcome) → TextAsks text a → TextAsks text b → a ≡ b
@@ -144,120 +152,78 @@ one_hex digits a b (inr (at, broken, is)) (inl (bytes, means, asks)) = absurd (b
 one_hex digits a b (inr (at, broken, is)) (inr (at', broken', is')) = is ∙ ap (λ p. BadHex p) (one_break digits at at' broken broken') ∙ sym is'
 
 -- an outcome that is a refusal for want of memory hinders, another one is what is asked for
-refused_due : (source : SourceTold) (files : FilesTold) (disk : DiskTold) (out : SinkTold) (outcome refusal due : Outcome) (A : Outcome → Type 0) → outcome ≡ refusal →
-    ((a b : Outcome) → A a → A b → a ≡ b) → (refusal ≡ NoMemory) ⊎ A refusal → A due → Comes source files disk out outcome due
-refused_due source files disk out outcome refusal due A is one (inl memory) asks = inr (subst (Hinders source files disk out) (sym (is ∙ memory)) tt)
-refused_due source files disk out outcome refusal due A is one (inr why) asks = inl (is ∙ one refusal due why asks)
+refused_due : (source : SourceTold) (files : FilesTold) (disk : DiskTold) (link : LinkTold) (out : SinkTold) (outcome refusal due : Outcome) (A : Outcome → Type 0) → outcome ≡ refusal →
+    ((a b : Outcome) → A a → A b → a ≡ b) → (refusal ≡ NoMemory) ⊎ A refusal → A due → Comes source files disk link out outcome due
+refused_due source files disk link out outcome refusal due A is one (inl memory) asks = inr (subst (Hinders source files disk link out) (sym (is ∙ memory)) tt)
+refused_due source files disk link out outcome refusal due A is one (inr why) asks = inl (is ∙ one refusal due why asks)
 
 pub text_why : (text : List ℕ) (refusal : Outcome) → TextRefuses text refusal → (refusal ≡ NoMemory) ⊎ TextAsks text refusal
 text_why text refusal refuses = elim (text_refused text refusal refuses) [ inl memory ↦ inl memory | inr why ↦ inr (inr why) ]
 
-line_due : (source : SourceTold) (files : FilesTold) (disk : DiskTold) (out : SinkTold) (line : List ℕ) (outcome due : Outcome) → WasWritten line out outcome
-    → due ≡ Done → Comes source files disk out outcome due
-line_due source files disk out line outcome due written is =
-    subst (Comes source files disk out outcome) (sym is) (written_due source files disk out line outcome written)
+line_due : (source : SourceTold) (files : FilesTold) (disk : DiskTold) (link : LinkTold) (out : SinkTold) (line : List ℕ) (outcome due : Outcome) → WasWritten line out outcome
+    → due ≡ Done → Comes source files disk link out outcome due
+line_due source files disk link out line outcome due written is =
+    subst (Comes source files disk link out outcome) (sym is) (written_due source files disk link out line outcome written)
 
-spelled_due : (text : List ℕ) (source : SourceTold) (files : FilesTold) (disk : DiskTold) (out : SinkTold) (outcome due : Outcome) →
-    WasSpelled text out outcome → TextAsks text due → Comes source files disk out outcome due
-spelled_due text source files disk out outcome due (Ok line, (item, reads, is), written) asks =
-    line_due source files disk out line outcome due written (one_text text due Done asks (inl (item, reads, refl)))
-spelled_due text source files disk out outcome due (Err refusal, refuses, (is, untouched)) asks =
-    refused_due source files disk out outcome refusal due (TextAsks text) is (one_text text) (text_why text refusal refuses) asks
+spelled_due : (text : List ℕ) (source : SourceTold) (files : FilesTold) (disk : DiskTold) (link : LinkTold) (out : SinkTold) (outcome due : Outcome) →
+    WasSpelled text out outcome → TextAsks text due → Comes source files disk link out outcome due
+spelled_due text source files disk link out outcome due (Ok line, (item, reads, is), written) asks =
+    line_due source files disk link out line outcome due written (one_text text due Done asks (inl (item, reads, refl)))
+spelled_due text source files disk link out outcome due (Err refusal, refuses, (is, untouched)) asks =
+    refused_due source files disk link out outcome refusal due (TextAsks text) is (one_text text) (text_why text refusal refuses) asks
 
-printed_due : (digits : List ℕ) (source : SourceTold) (files : FilesTold) (disk : DiskTold) (out : SinkTold) (outcome due : Outcome) →
-    WasPrinted digits out outcome → HexAsks digits due → Comes source files disk out outcome due
-printed_due digits source files disk out outcome due (Ok line, (item, (bytes, means, spelled), is), written) asks =
-    line_due source files disk out line outcome due written (one_hex digits due Done asks (inl (bytes, means, inl (item, spelled, refl))))
-printed_due digits source files disk out outcome due (Err refusal, refuses, (is, untouched)) asks =
-    refused_due source files disk out outcome refusal due (HexAsks digits) is (one_hex digits) (hex_refused digits refusal refuses) asks
+printed_due : (digits : List ℕ) (source : SourceTold) (files : FilesTold) (disk : DiskTold) (link : LinkTold) (out : SinkTold) (outcome due : Outcome) →
+    WasPrinted digits out outcome → HexAsks digits due → Comes source files disk link out outcome due
+printed_due digits source files disk link out outcome due (Ok line, (item, (bytes, means, spelled), is), written) asks =
+    line_due source files disk link out line outcome due written (one_hex digits due Done asks (inl (bytes, means, inl (item, spelled, refl))))
+printed_due digits source files disk link out outcome due (Err refusal, refuses, (is, untouched)) asks =
+    refused_due source files disk link out outcome refusal due (HexAsks digits) is (one_hex digits) (hex_refused digits refusal refuses) asks
 
-captured_due : (capture : List ℕ) (source : SourceTold) (files : FilesTold) (disk : DiskTold) (out : SinkTold) (outcome due : Outcome) →
-    WasShown capture out outcome → CaptureAsks capture due → Comes source files disk out outcome due
-captured_due capture source files disk out outcome due was (pieces, ending, reads, is) =
-    shown_due source files disk out capture pieces ending outcome due was.result was.outcome_is was.shown was.cause reads is
+captured_due : (capture : List ℕ) (source : SourceTold) (files : FilesTold) (disk : DiskTold) (link : LinkTold) (out : SinkTold) (outcome due : Outcome) →
+    WasShown capture out outcome → CaptureAsks capture due → Comes source files disk link out outcome due
+captured_due capture source files disk link out outcome due was (pieces, ending, reads, is) =
+    shown_due source files disk link out capture pieces ending outcome due was.result was.outcome_is was.shown was.cause reads is
 
 -- ---- a run
 
--- what reading came to, where the source told its bytes
-pub read_of : (limit : ℕ) (source : SourceTold) (bytes : List ℕ) (answer : Input) → source.before ≡ Some bytes → WasRead limit source answer →
-    ReadsAllOf limit bytes source.after answer
-read_of limit source bytes answer told read = subst (λ (b : Option (List ℕ)). ReadsAll limit b source.after answer) told read.bytes
-
--- what was not read
-unread_due : (limit : ℕ) (Asks : List ℕ → Outcome → Type 0) (source : SourceTold) (files : FilesTold) (disk : DiskTold) (out : SinkTold) (outcome due : Outcome) →
-    InputRefuses limit source outcome → IsInputDue limit Asks source due → Comes source files disk out outcome due
-unread_due limit Asks source files disk out Longer due read (bytes, told, inl (past, is)) = inl (sym is)
-unread_due limit Asks source files disk out Longer due read (bytes, told, inr (within, asks)) =
-    let past = (read_of limit source bytes input.Longer told read).0 in absurd (omega arith)
-unread_due limit Asks source files disk out ReadFailed due read is_due = inr read.cause.rose
-unread_due limit Asks source files disk out NoMemory due read is_due = inr tt
-unread_due limit Asks source files disk out Done due was is_due = absurd was
-unread_due limit Asks source files disk out Usage due was is_due = absurd was
-unread_due limit Asks source files disk out (BadFrame named) due was is_due = absurd was
-unread_due limit Asks source files disk out (BadText at) due was is_due = absurd was
-unread_due limit Asks source files disk out (BadHex at) due was is_due = absurd was
-unread_due limit Asks source files disk out (BadItem fault) due was is_due = absurd was
-unread_due limit Asks source files disk out WriteFailed due was is_due = absurd was
-unread_due limit Asks source files disk out (BadLine number) due was is_due = absurd was
-unread_due limit Asks source files disk out (FileLonger which) due was is_due = absurd was
-unread_due limit Asks source files disk out (FileFailed which) due was is_due = absurd was
-unread_due limit Asks source files disk out TurnsSpent due was is_due = absurd was
-unread_due limit Asks source files disk out NumbersSpent due was is_due = absurd was
-unread_due limit Asks source files disk out DiskFailed due was is_due = absurd was
-unread_due limit Asks source files disk out (NotSpool at) due was is_due = absurd was
-unread_due limit Asks source files disk out Slip due was is_due = absurd was
-unread_due limit Asks source files disk out (BadPlan key what) due was is_due = absurd was
-unread_due limit Asks source files disk out (LineNotBuilt number) due was is_due = absurd was
-
--- a command over the input, of which it is shown what it does with the whole of it
-input_due : (limit : ℕ) (Was : List ℕ → SinkTold → Outcome → Type 0) (Asks : List ℕ → Outcome → Type 0)
-    (source : SourceTold) (files : FilesTold) (disk : DiskTold) (out : SinkTold) (outcome due : Outcome) →
-    ((bytes : List ℕ) → Was bytes out outcome → Asks bytes due → Comes source files disk out outcome due) →
-    ComesOnInput limit Was source out outcome → IsInputDue limit Asks source due → Comes source files disk out outcome due
-input_due limit Was Asks source files disk out outcome due each (inl (refuses, untouched)) is_due =
-    unread_due limit Asks source files disk out outcome due refuses is_due
-input_due limit Was Asks source files disk out outcome due each (inr (whole, read, was)) (bytes, told, inl (past, is)) =
-    let within = (read_of limit source bytes (input.Whole whole) told read).0 in absurd (omega arith)
-input_due limit Was Asks source files disk out outcome due each (inr (whole, read, was)) (bytes, told, inr (within, asks)) =
-    let same = (read_of limit source bytes (input.Whole whole) told read).1 in
-    each bytes (subst (λ (all : List ℕ). Was all out outcome) same was) asks
-
-comes_due : (asked : Option Asked) (source : SourceTold) (files : FilesTold) (disk : DiskTold) (out : SinkTold) (outcome due : Outcome) →
-    ComesFrom asked source files disk out outcome → IsDue asked source files disk due → Comes source files disk out outcome due
-comes_due None source files disk out outcome due refused is = inl (refused.refused ∙ sym is)
-comes_due (Some Show) source files disk out outcome due (files_unread, unused, comes) is_due =
-    input_due capture_limit WasShown CaptureAsks source files disk out outcome due
-    (λ capture was asks. captured_due capture source files disk out outcome due was asks) comes is_due
-comes_due (Some Spell) source files disk out outcome due (files_unread, unused, comes) is_due =
-    input_due item_limit WasSpelled TextAsks source files disk out outcome due
-    (λ text was asks. spelled_due text source files disk out outcome due was asks) comes is_due
-comes_due (Some SpellHex) source files disk out outcome due (files_unread, unused, comes) is_due =
-    input_due item_limit WasPrinted HexAsks source files disk out outcome due
-    (λ digits was asks. printed_due digits source files disk out outcome due was asks) comes is_due
-comes_due (Some (Replay plan schedule)) source files disk out outcome due (unread, unused, comes) (bytes, told, is_due) =
-    replay_due source files disk out plan schedule bytes outcome due told comes is_due
-comes_due (Some (Format spool slots)) source files disk out outcome due (unread, files_unread, was) is_due =
-    formatted_due source files disk out spool slots outcome due was is_due
-comes_due (Some (Spool spool)) source files disk out outcome due (unread, files_unread, was) is_due =
-    listed_due source files disk out spool outcome due was is_due
+comes_due : (asked : Option Asked) (source : SourceTold) (files : FilesTold) (disk : DiskTold) (link : LinkTold) (out : SinkTold) (outcome due : Outcome) →
+    ComesFrom asked source files disk link out outcome → IsDue asked source files disk link due → Comes source files disk link out outcome due
+comes_due None source files disk link out outcome due refused is = inl (refused.refused ∙ sym is)
+comes_due (Some Show) source files disk link out outcome due (files_unread, unused, uncalled, comes) is_due =
+    input_due capture_limit WasShown CaptureAsks source files disk link out outcome due
+    (λ capture was asks. captured_due capture source files disk link out outcome due was asks) comes is_due
+comes_due (Some Spell) source files disk link out outcome due (files_unread, unused, uncalled, comes) is_due =
+    input_due item_limit WasSpelled TextAsks source files disk link out outcome due
+    (λ text was asks. spelled_due text source files disk link out outcome due was asks) comes is_due
+comes_due (Some SpellHex) source files disk link out outcome due (files_unread, unused, uncalled, comes) is_due =
+    input_due item_limit WasPrinted HexAsks source files disk link out outcome due
+    (λ digits was asks. printed_due digits source files disk link out outcome due was asks) comes is_due
+comes_due (Some (Replay plan schedule)) source files disk link out outcome due (unread, unused, uncalled, comes) (bytes, told, is_due) =
+    replay_due source files disk link out plan schedule bytes outcome due told comes is_due
+comes_due (Some (Host plan address polls)) source files disk link out outcome due (unused, comes) (bytes, told, is_due) =
+    host_due source files disk link out plan polls bytes outcome due told comes is_due
+comes_due (Some (Format spool slots)) source files disk link out outcome due (unread, files_unread, uncalled, was) is_due =
+    formatted_due source files disk link out spool slots outcome due was is_due
+comes_due (Some (Spool spool)) source files disk link out outcome due (unread, files_unread, uncalled, was) is_due =
+    listed_due source files disk link out spool outcome due was is_due
 
 -- memory that runs out over the words hinders every outcome
-run_due : (asked : Option Asked) (source : SourceTold) (files : FilesTold) (disk : DiskTold) (out : SinkTold) (outcome due : Outcome) →
-    RunComes asked source files disk out outcome → IsDue asked source files disk due → Comes source files disk out outcome due
-run_due asked source files disk out outcome due (inl refused) is_due =
-    inr (subst (Hinders source files disk out) (sym refused.refused) tt)
-run_due asked source files disk out outcome due (inr comes) is_due =
-    comes_due asked source files disk out outcome due comes is_due
+run_due : (asked : Option Asked) (source : SourceTold) (files : FilesTold) (disk : DiskTold) (link : LinkTold) (out : SinkTold) (outcome due : Outcome) →
+    RunComes asked source files disk link out outcome → IsDue asked source files disk link due → Comes source files disk link out outcome due
+run_due asked source files disk link out outcome due (inl refused) is_due =
+    inr (subst (Hinders source files disk link out) (sym refused.refused) tt)
+run_due asked source files disk link out outcome due (inr comes) is_due =
+    comes_due asked source files disk link out outcome due comes is_due
 
-pub due_outcome : (words : List (List ℕ)) (source : SourceTold) (files : FilesTold) (disk : DiskTold) (out err : SinkTold) (status : ℕ) (due : Outcome)
-    → (run : IsRun words source files disk out err status) → IsDue (asked_of words) source files disk due
-    → (run.outcome ≡ due) ⊎ Hinders source files disk out run.outcome
-due_outcome words source files disk out err status due run is_due =
-    run_due (asked_of words) source files disk out run.outcome due run.comes is_due
+pub due_outcome : (words : List (List ℕ)) (source : SourceTold) (files : FilesTold) (disk : DiskTold) (link : LinkTold) (out err : SinkTold) (status : ℕ) (due : Outcome)
+    → (run : IsRun words source files disk link out err status) → IsDue (asked_of words) source files disk link due
+    → (run.outcome ≡ due) ⊎ Hinders source files disk link out run.outcome
+due_outcome words source files disk link out err status due run is_due =
+    run_due (asked_of words) source files disk link out run.outcome due run.comes is_due
 
 -- ---- over objects that do not fail
 
-module _ (source : SourceTold) (files : FilesTold) (disk : DiskTold) (out : SinkTold) (capture : List ℕ) (pieces : List Piece)
+module _ (source : SourceTold) (files : FilesTold) (disk : DiskTold) (link : LinkTold) (out : SinkTold) (capture : List ℕ) (pieces : List Piece)
     (told : source.before ≡ Some capture) (within : length capture ≤ 16777216) (reliable : source.health.reliable ≡ true)
     (reads : Reads capture pieces Whole) (room : length (lines_of pieces) ≤ out.health.room) where
   abbrev Ends : Outcome → Type 0
@@ -290,19 +256,21 @@ module _ (source : SourceTold) (files : FilesTold) (disk : DiskTold) (out : Sink
   unread_ends Slip was = absurd was
   unread_ends (BadPlan key what) was = absurd was
   unread_ends (LineNotBuilt number) was = absurd was
+  unread_ends (BadScript number) was = absurd was
+  unread_ends LinkFailed was = absurd was
 
-  show_ends : (outcome : Outcome) → RunComes (Some Show) source files disk out outcome → Ends outcome
+  show_ends : (outcome : Outcome) → RunComes (Some Show) source files disk link out outcome → Ends outcome
   show_ends outcome (inl refused) = inl (ap status_of refused.refused)
-  show_ends outcome (inr (files_unread, unused, inl (refuses, untouched))) = unread_ends outcome refuses
-  show_ends outcome (inr (files_unread, unused, inr (whole, read, done))) =
+  show_ends outcome (inr (files_unread, unused, uncalled, inl (refuses, untouched))) = unread_ends outcome refuses
+  show_ends outcome (inr (files_unread, unused, uncalled, inr (whole, read, done))) =
       let same = (read_of 16777216 source capture (input.Whole whole) told read).1 in
       by_result done.result outcome done.outcome_is (subst (λ (all : List ℕ). Shows out all done.result) same done.shown)
 
-pub whole_capture : (words : List (List ℕ)) (source : SourceTold) (files : FilesTold) (disk : DiskTold) (out err : SinkTold) (status : ℕ)
-    → IsRun words source files disk out err status → asked_of words ≡ Some Show
+pub whole_capture : (words : List (List ℕ)) (source : SourceTold) (files : FilesTold) (disk : DiskTold) (link : LinkTold) (out err : SinkTold) (status : ℕ)
+    → IsRun words source files disk link out err status → asked_of words ≡ Some Show
     → (capture : List ℕ) (pieces : List Piece) → source.before ≡ Some capture → length capture ≤ 16777216
     → source.health.reliable ≡ true → Reads capture pieces Whole → length (lines_of pieces) ≤ out.health.room
     → (status ≡ 71) ⊎ ((status ≡ 0) × (out.after ≡ with_bytes out.before (lines_of pieces)))
-whole_capture words source files disk out err status run shows capture pieces told within reliable reads room =
-    rw run.status_is (show_ends source files disk out capture pieces told within reliable reads room run.outcome
-    (subst (λ (asked : Option Asked). RunComes asked source files disk out run.outcome) shows run.comes))
+whole_capture words source files disk link out err status run shows capture pieces told within reliable reads room =
+    rw run.status_is (show_ends source files disk link out capture pieces told within reliable reads room run.outcome
+    (subst (λ (asked : Option Asked). RunComes asked source files disk link out run.outcome) shows run.comes))

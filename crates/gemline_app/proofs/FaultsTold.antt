@@ -3,10 +3,11 @@ use Rattle.std.proofs.Common.{◌≡◌, ℕ, Bool, false, List, Option, Some, N
 use Rattle.equipment_tables.specs.declared.plan.Plans.{Plans}
 use Rattle.gem_config.specs.declared.fault.ConfigFault.{ConfigFault}
 use Rattle.gem_config.specs.declared.fault.ConfigFault.TheVariants as plan_fault
-use Rattle.command_words.specs.Asked.{Asked, Format, Replay, Show, Spell, SpellHex, Spool}
+use Rattle.command_words.specs.Asked.{Asked, Format, Host, Replay, Show, Spell, SpellHex, Spool}
 use Rattle.command_words.specs.Words.{asked_of}
 use Rattle.gl_base.specs.Sink.{SinkHealth}
 use Rattle.gl_base.specs.Files.{FilesHealth}
+use Rattle.gl_base.specs.Link.{LinkHealth}
 use Rattle.gl_base.specs.Source.{SourceHealth}
 use Rattle.gl_base.specs.Told.{FilesTold, SinkTold, SourceTold}
 use Rattle.line_show.specs.Show.{HasStopCause}
@@ -16,6 +17,14 @@ use Rattle.line_show.specs.declared.printer.Stop.{Stop}
 use Rattle.line_show.specs.declared.printer.Stop.TheVariants as stop
 use Rattle.line_schedule.specs.declared.schedule.ScheduleFault.{ScheduleFault}
 use Rattle.line_schedule.specs.declared.schedule.ScheduleFault.TheVariants as schedule_fault
+use Rattle.line_end.specs.declared.plan.HostPlan.{HostPlan}
+use Rattle.message_end.specs.Parts.{Node}
+use Rattle.host_node.specs.Host.{HostOwn, Kind}
+use Rattle.end_run.specs.Acts.{Act}
+use Rattle.end_run.specs.Outcome.{Does, Made}
+use Rattle.end_run.specs.Script.{ScriptLine}
+use Rattle.end_run.specs.declared.ending.Ending.{Ending as RunEnding}
+use Rattle.end_run.specs.declared.ending.Ending.TheVariants as ending
 use Rattle.end_pair.specs.Run.{Runs}
 use Rattle.end_pair.specs.declared.answers.RunEnd.{RunEnd}
 use Rattle.end_pair.specs.declared.answers.RunEnd.TheVariants as end
@@ -25,18 +34,21 @@ use Rattle.spool_show.specs.Formatting.{FormatsFile, FormatsSpool}
 use Rattle.spool_show.specs.Showing.{ShowsFile, ShowsSpool}
 use Rattle.spool_show.specs.declared.spool_end.SpoolEnd.{SpoolEnd}
 use Rattle.spool_show.specs.declared.spool_end.SpoolEnd.TheVariants as spool
+use Rattle.gemline_app.specs.Host.{HostComes, IsIdle, ScriptRuns, WasRun, after_run, before_run, outcome_of_ending, script_refusal}
+use Rattle.gemline_app.specs.LinkTold.{IsUncalled, LinkTold}
 use Rattle.gemline_app.specs.Spool.{EndedAs, IsUnused, outcome_of_spool}
 use Rattle.gemline_app.proofs.SpoolDue.{rose_of}
-use Rattle.gemline_app.specs.Gemline.{ComesFrom, ComesOnInput, HexRefuses, InputRefuses, IsRefused, IsRun, IsUnread, RunComes, TextRefuses, WasPrinted, WasShown, WasSpelled, WasWritten}
-use Rattle.gemline_app.specs.Laws.{CountsFaults, IsCounted, is_disk_fault, is_file_fault, is_read_fault, is_write_fault}
+use Rattle.gemline_app.specs.Gemline.{ComesFrom, ComesOnInput, HexRefuses, IsRefused, IsRun, RunComes, TextRefuses, WasPrinted, WasShown, WasSpelled, WasWritten}
+use Rattle.gemline_app.specs.Inputs.{InputRefuses, IsUnread}
+use Rattle.gemline_app.specs.Laws.{CountsFaults, IsCounted, is_disk_fault, is_file_fault, is_link_fault, is_read_fault, is_write_fault}
 use Rattle.gemline_app.specs.Outcome.{outcome_of_show}
 use Rattle.gemline_app.specs.Replay.{FileRefuses, FollowsPlan, ReplayComes, ScheduleComes, ScheduleRefuses, TextRuns, files_since, outcome_of_end, plan_refusal, schedule_refusal}
-use Rattle.gemline_app.specs.Words.{capture_limit, item_limit}
+use Rattle.gemline_app.specs.Words.{capture_limit, item_limit, script_limit}
 use Rattle.gemline_app.specs.Written.{AreUnread, IsUntouched}
 use Rattle.gemline_app.specs.declared.outcome.FileRole.{FileRole}
 use Rattle.gemline_app.specs.declared.outcome.FileRole.TheVariants as role
 use Rattle.gemline_app.specs.declared.outcome.Outcome.{Outcome}
-use Rattle.gemline_app.specs.declared.outcome.Outcome.TheVariants.{Done, Usage, BadFrame, BadText, BadHex, BadItem, BadLine, Longer, FileLonger, FileFailed, ReadFailed, NoMemory, WriteFailed, TurnsSpent, NumbersSpent, Slip, DiskFailed, NotSpool, BadPlan, LineNotBuilt}
+use Rattle.gemline_app.specs.declared.outcome.Outcome.TheVariants.{Done, Usage, BadFrame, BadText, BadHex, BadItem, BadLine, Longer, FileLonger, FileFailed, ReadFailed, NoMemory, WriteFailed, TurnsSpent, NumbersSpent, Slip, DiskFailed, NotSpool, BadPlan, LineNotBuilt, BadScript, LinkFailed}
 
 -- ---- the output
 
@@ -45,22 +57,23 @@ record CountsWrites (out : SinkTold) (outcome : Outcome) : Type 0 where
   read : is_read_fault outcome ≡ false
   file : is_file_fault outcome ≡ false
   on_disk : is_disk_fault outcome ≡ false
+  on_link : is_link_fault outcome ≡ false
   write : IsCounted (is_write_fault outcome) out.health.faults out.health_after.faults
 
 untouched : (out : SinkTold) → IsUntouched out → out.health_after.faults ≡ out.health.faults
 untouched out is = ap (λ (h : SinkHealth). h.faults) is.health
 
 by_show : (out : SinkTold) (result : Result Ending Stop) → HasStopCause out result → CountsWrites out (outcome_of_show result)
-by_show out (Ok Whole) cause = record { read = refl; file = refl; on_disk = refl; write = cause }
-by_show out (Ok (Broken named)) cause = record { read = refl; file = refl; on_disk = refl; write = cause }
-by_show out (Err stop.NoMemory) cause = record { read = refl; file = refl; on_disk = refl; write = cause }
-by_show out (Err stop.WriteFailed) cause = record { read = refl; file = refl; on_disk = refl; write = cause }
+by_show out (Ok Whole) cause = record { read = refl; file = refl; on_disk = refl; on_link = refl; write = cause }
+by_show out (Ok (Broken named)) cause = record { read = refl; file = refl; on_disk = refl; on_link = refl; write = cause }
+by_show out (Err stop.NoMemory) cause = record { read = refl; file = refl; on_disk = refl; on_link = refl; write = cause }
+by_show out (Err stop.WriteFailed) cause = record { read = refl; file = refl; on_disk = refl; on_link = refl; write = cause }
 
 shown_counts : (capture : List ℕ) (out : SinkTold) (outcome : Outcome) → WasShown capture out outcome → CountsWrites out outcome
 shown_counts capture out outcome was = subst (CountsWrites out) (sym was.outcome_is) (by_show out was.result was.cause)
 
 written_counts : (line : List ℕ) (out : SinkTold) (outcome : Outcome) → WasWritten line out outcome → CountsWrites out outcome
-written_counts line out Done was = record { read = refl; file = refl; on_disk = refl; write = was.health.same }
+written_counts line out Done was = record { read = refl; file = refl; on_disk = refl; on_link = refl; write = was.health.same }
 written_counts line out Usage was = absurd was
 written_counts line out (BadFrame named) was = absurd was
 written_counts line out (BadText at) was = absurd was
@@ -72,7 +85,7 @@ written_counts line out (FileLonger which) was = absurd was
 written_counts line out (FileFailed which) was = absurd was
 written_counts line out ReadFailed was = absurd was
 written_counts line out NoMemory was = absurd was
-written_counts line out WriteFailed was = record { read = refl; file = refl; on_disk = refl; write = was.fault.rose }
+written_counts line out WriteFailed was = record { read = refl; file = refl; on_disk = refl; on_link = refl; write = was.fault.rose }
 written_counts line out TurnsSpent was = absurd was
 written_counts line out NumbersSpent was = absurd was
 written_counts line out DiskFailed was = absurd was
@@ -80,19 +93,22 @@ written_counts line out (NotSpool at) was = absurd was
 written_counts line out Slip was = absurd was
 written_counts line out (BadPlan key what) was = absurd was
 written_counts line out (LineNotBuilt number) was = absurd was
+written_counts line out (BadScript number) was = absurd was
+written_counts line out LinkFailed was = absurd was
 
 -- a refusal is no fault of an object
 record IsPlain (outcome : Outcome) : Type 0 where
   read : is_read_fault outcome ≡ false
   file : is_file_fault outcome ≡ false
   on_disk : is_disk_fault outcome ≡ false
+  on_link : is_link_fault outcome ≡ false
   write : is_write_fault outcome ≡ false
 
 text_plain : (text : List ℕ) (refusal : Outcome) → TextRefuses text refusal → IsPlain refusal
 text_plain text Done was = absurd was
 text_plain text Usage was = absurd was
 text_plain text (BadFrame named) was = absurd was
-text_plain text (BadText at) was = record { read = refl; file = refl; on_disk = refl; write = refl }
+text_plain text (BadText at) was = record { read = refl; file = refl; on_disk = refl; on_link = refl; write = refl }
 text_plain text (BadHex at) was = absurd was
 text_plain text (BadItem fault) was = absurd was
 text_plain text (BadLine number) was = absurd was
@@ -100,7 +116,7 @@ text_plain text Longer was = absurd was
 text_plain text (FileLonger which) was = absurd was
 text_plain text (FileFailed which) was = absurd was
 text_plain text ReadFailed was = absurd was
-text_plain text NoMemory was = record { read = refl; file = refl; on_disk = refl; write = refl }
+text_plain text NoMemory was = record { read = refl; file = refl; on_disk = refl; on_link = refl; write = refl }
 text_plain text WriteFailed was = absurd was
 text_plain text TurnsSpent was = absurd was
 text_plain text NumbersSpent was = absurd was
@@ -109,20 +125,22 @@ text_plain text (NotSpool at) was = absurd was
 text_plain text Slip was = absurd was
 text_plain text (BadPlan key what) was = absurd was
 text_plain text (LineNotBuilt number) was = absurd was
+text_plain text (BadScript number) was = absurd was
+text_plain text LinkFailed was = absurd was
 
 hex_plain : (digits : List ℕ) (refusal : Outcome) → HexRefuses digits refusal → IsPlain refusal
 hex_plain digits Done was = absurd was
 hex_plain digits Usage was = absurd was
 hex_plain digits (BadFrame named) was = absurd was
 hex_plain digits (BadText at) was = absurd was
-hex_plain digits (BadHex at) was = record { read = refl; file = refl; on_disk = refl; write = refl }
-hex_plain digits (BadItem fault) was = record { read = refl; file = refl; on_disk = refl; write = refl }
+hex_plain digits (BadHex at) was = record { read = refl; file = refl; on_disk = refl; on_link = refl; write = refl }
+hex_plain digits (BadItem fault) was = record { read = refl; file = refl; on_disk = refl; on_link = refl; write = refl }
 hex_plain digits (BadLine number) was = absurd was
 hex_plain digits Longer was = absurd was
 hex_plain digits (FileLonger which) was = absurd was
 hex_plain digits (FileFailed which) was = absurd was
 hex_plain digits ReadFailed was = absurd was
-hex_plain digits NoMemory was = record { read = refl; file = refl; on_disk = refl; write = refl }
+hex_plain digits NoMemory was = record { read = refl; file = refl; on_disk = refl; on_link = refl; write = refl }
 hex_plain digits WriteFailed was = absurd was
 hex_plain digits TurnsSpent was = absurd was
 hex_plain digits NumbersSpent was = absurd was
@@ -131,12 +149,15 @@ hex_plain digits (NotSpool at) was = absurd was
 hex_plain digits Slip was = absurd was
 hex_plain digits (BadPlan key what) was = absurd was
 hex_plain digits (LineNotBuilt number) was = absurd was
+hex_plain digits (BadScript number) was = absurd was
+hex_plain digits LinkFailed was = absurd was
 
 plain_counts : (out : SinkTold) (outcome : Outcome) → IsPlain outcome → out.health_after.faults ≡ out.health.faults → CountsWrites out outcome
 plain_counts out outcome plain stands = record {
   read = plain.read;
   file = plain.file;
   on_disk = plain.on_disk;
+  on_link = plain.on_link;
   write = subst (λ (b : Bool). IsCounted b out.health.faults out.health_after.faults) (sym plain.write) stands;
 }
 
@@ -152,14 +173,15 @@ printed_counts digits out outcome (Err refusal, refuses, (is, left)) =
 
 -- ---- the input
 
--- the files and the disk stand
-record OthersStand (files : FilesTold) (disk : DiskTold) : Type 0 where
+-- the files, the disk and the link stand
+record OthersStand (files : FilesTold) (disk : DiskTold) (link : LinkTold) : Type 0 where
   file : files.health_after.faults ≡ files.health.faults
   on_disk : disk.faults_after ≡ disk.faults
+  on_link : link.health_after.faults ≡ link.health.faults
 
-module _ (source : SourceTold) (files : FilesTold) (disk : DiskTold) (out : SinkTold) where
-  unread_counts : (limit : ℕ) → OthersStand files disk → out.health_after.faults ≡ out.health.faults → (outcome : Outcome) → InputRefuses limit source outcome →
-      CountsFaults source files disk out outcome
+module _ (source : SourceTold) (files : FilesTold) (disk : DiskTold) (link : LinkTold) (out : SinkTold) where
+  unread_counts : (limit : ℕ) → OthersStand files disk link → out.health_after.faults ≡ out.health.faults → (outcome : Outcome) → InputRefuses limit source outcome →
+      CountsFaults source files disk link out outcome
   unread_counts limit stands left Done was = absurd was
   unread_counts limit stands left Usage was = absurd was
   unread_counts limit stands left (BadFrame named) was = absurd was
@@ -167,11 +189,11 @@ module _ (source : SourceTold) (files : FilesTold) (disk : DiskTold) (out : Sink
   unread_counts limit stands left (BadHex at) was = absurd was
   unread_counts limit stands left (BadItem fault) was = absurd was
   unread_counts limit stands left (BadLine number) was = absurd was
-  unread_counts limit stands left Longer was = record { read = was.cause.same; file = stands.file; on_disk = stands.on_disk; write = left }
+  unread_counts limit stands left Longer was = record { read = was.cause.same; file = stands.file; on_disk = stands.on_disk; on_link = stands.on_link; write = left }
   unread_counts limit stands left (FileLonger which) was = absurd was
   unread_counts limit stands left (FileFailed which) was = absurd was
-  unread_counts limit stands left ReadFailed was = record { read = was.cause.rose; file = stands.file; on_disk = stands.on_disk; write = left }
-  unread_counts limit stands left NoMemory was = record { read = was.cause.same; file = stands.file; on_disk = stands.on_disk; write = left }
+  unread_counts limit stands left ReadFailed was = record { read = was.cause.rose; file = stands.file; on_disk = stands.on_disk; on_link = stands.on_link; write = left }
+  unread_counts limit stands left NoMemory was = record { read = was.cause.same; file = stands.file; on_disk = stands.on_disk; on_link = stands.on_link; write = left }
   unread_counts limit stands left WriteFailed was = absurd was
   unread_counts limit stands left TurnsSpent was = absurd was
   unread_counts limit stands left NumbersSpent was = absurd was
@@ -180,20 +202,23 @@ module _ (source : SourceTold) (files : FilesTold) (disk : DiskTold) (out : Sink
   unread_counts limit stands left Slip was = absurd was
   unread_counts limit stands left (BadPlan key what) was = absurd was
   unread_counts limit stands left (LineNotBuilt number) was = absurd was
+  unread_counts limit stands left (BadScript number) was = absurd was
+  unread_counts limit stands left LinkFailed was = absurd was
 
-  -- the source, the files and the disk stand
-  written_only : (outcome : Outcome) → source.health_after.faults ≡ source.health.faults → OthersStand files disk → CountsWrites out outcome
-      → CountsFaults source files disk out outcome
+  -- the source, the files, the disk and the link stand
+  written_only : (outcome : Outcome) → source.health_after.faults ≡ source.health.faults → OthersStand files disk link → CountsWrites out outcome
+      → CountsFaults source files disk link out outcome
   written_only outcome read stands counts = record {
     read = subst (λ (b : Bool). IsCounted b source.health.faults source.health_after.faults) (sym counts.read) read;
     file = subst (λ (b : Bool). IsCounted b files.health.faults files.health_after.faults) (sym counts.file) stands.file;
     on_disk = subst (λ (b : Bool). IsCounted b disk.faults disk.faults_after) (sym counts.on_disk) stands.on_disk;
+    on_link = subst (λ (b : Bool). IsCounted b link.health.faults link.health_after.faults) (sym counts.on_link) stands.on_link;
     write = counts.write;
   }
 
-  input_counts : (limit : ℕ) (Was : List ℕ → SinkTold → Outcome → Type 0) (outcome : Outcome) → OthersStand files disk →
+  input_counts : (limit : ℕ) (Was : List ℕ → SinkTold → Outcome → Type 0) (outcome : Outcome) → OthersStand files disk link →
       ((bytes : List ℕ) → Was bytes out outcome → CountsWrites out outcome) → ComesOnInput limit Was source out outcome →
-      CountsFaults source files disk out outcome
+      CountsFaults source files disk link out outcome
   input_counts limit Was outcome stands each (inl (refuses, left)) = unread_counts limit stands (untouched out left) outcome refuses
   input_counts limit Was outcome stands each (inr (bytes, read, was)) = written_only outcome read.cause.same stands (each bytes was)
 
@@ -203,6 +228,7 @@ module _ (source : SourceTold) (files : FilesTold) (disk : DiskTold) (out : Sink
 record CountsFiles (files : FilesTold) (out : SinkTold) (outcome : Outcome) : Type 0 where
   read : is_read_fault outcome ≡ false
   on_disk : is_disk_fault outcome ≡ false
+  on_link : is_link_fault outcome ≡ false
   file : IsCounted (is_file_fault outcome) files.health.faults files.health_after.faults
   write : IsCounted (is_write_fault outcome) out.health.faults out.health_after.faults
 
@@ -216,10 +242,10 @@ file_refused which name files out left (BadHex at) was = absurd was
 file_refused which name files out left (BadItem fault) was = absurd was
 file_refused which name files out left (BadLine number) was = absurd was
 file_refused which name files out left Longer was = absurd was
-file_refused which name files out left (FileLonger found) was = record { read = refl; on_disk = refl; file = was.1.cause.same; write = left }
-file_refused which name files out left (FileFailed found) was = record { read = refl; on_disk = refl; file = was.1.cause.rose; write = left }
+file_refused which name files out left (FileLonger found) was = record { read = refl; on_disk = refl; on_link = refl; file = was.1.cause.same; write = left }
+file_refused which name files out left (FileFailed found) was = record { read = refl; on_disk = refl; on_link = refl; file = was.1.cause.rose; write = left }
 file_refused which name files out left ReadFailed was = absurd was
-file_refused which name files out left NoMemory was = record { read = refl; on_disk = refl; file = was.cause.same; write = left }
+file_refused which name files out left NoMemory was = record { read = refl; on_disk = refl; on_link = refl; file = was.cause.same; write = left }
 file_refused which name files out left WriteFailed was = absurd was
 file_refused which name files out left TurnsSpent was = absurd was
 file_refused which name files out left NumbersSpent was = absurd was
@@ -228,6 +254,8 @@ file_refused which name files out left (NotSpool at) was = absurd was
 file_refused which name files out left Slip was = absurd was
 file_refused which name files out left (BadPlan key what) was = absurd was
 file_refused which name files out left (LineNotBuilt number) was = absurd was
+file_refused which name files out left (BadScript number) was = absurd was
+file_refused which name files out left LinkFailed was = absurd was
 
 -- the files stand
 stand_files : (files : FilesTold) (out : SinkTold) (outcome : Outcome) → files.health_after.faults ≡ files.health.faults → CountsWrites out outcome
@@ -235,17 +263,18 @@ stand_files : (files : FilesTold) (out : SinkTold) (outcome : Outcome) → files
 stand_files files out outcome stands counts = record {
   read = counts.read;
   on_disk = counts.on_disk;
+  on_link = counts.on_link;
   file = subst (λ (b : Bool). IsCounted b files.health.faults files.health_after.faults) (sym counts.file) stands;
   write = counts.write;
 }
 
 by_end : (out : SinkTold) (text : List ℕ) (went : WorldStep) (ended : RunEnd) → Runs out text went ended → CountsWrites out (outcome_of_end ended)
-by_end out text went end.Whole (at, wrote) = record { read = refl; file = refl; on_disk = refl; write = wrote.health.same }
-by_end out text went end.Slip (at, wrote) = record { read = refl; file = refl; on_disk = refl; write = wrote.health.same }
-by_end out text went end.Turns (at, wrote) = record { read = refl; file = refl; on_disk = refl; write = wrote.health.same }
-by_end out text went end.NumbersSpent (at, wrote) = record { read = refl; file = refl; on_disk = refl; write = wrote.health.same }
-by_end out text went end.NoMemory part = record { read = refl; file = refl; on_disk = refl; write = part.wrote.health.same }
-by_end out text went end.WriteFailed short = record { read = refl; file = refl; on_disk = refl; write = short.fault.rose }
+by_end out text went end.Whole (at, wrote) = record { read = refl; file = refl; on_disk = refl; on_link = refl; write = wrote.health.same }
+by_end out text went end.Slip (at, wrote) = record { read = refl; file = refl; on_disk = refl; on_link = refl; write = wrote.health.same }
+by_end out text went end.Turns (at, wrote) = record { read = refl; file = refl; on_disk = refl; on_link = refl; write = wrote.health.same }
+by_end out text went end.NumbersSpent (at, wrote) = record { read = refl; file = refl; on_disk = refl; on_link = refl; write = wrote.health.same }
+by_end out text went end.NoMemory part = record { read = refl; file = refl; on_disk = refl; on_link = refl; write = part.wrote.health.same }
+by_end out text went end.WriteFailed short = record { read = refl; file = refl; on_disk = refl; on_link = refl; write = short.fault.rose }
 
 left_of : (text : List ℕ) (out : SinkTold) (fault : ScheduleFault) → ScheduleRefuses text out fault → IsUntouched out
 left_of text out (schedule_fault.Line number) (at, left) = left
@@ -253,9 +282,9 @@ left_of text out (schedule_fault.NotBuilt number) (at, left) = left
 left_of text out schedule_fault.NoMemory left = left
 
 schedule_plain : (fault : ScheduleFault) → IsPlain (schedule_refusal fault)
-schedule_plain (schedule_fault.Line number) = record { read = refl; file = refl; on_disk = refl; write = refl }
-schedule_plain (schedule_fault.NotBuilt number) = record { read = refl; file = refl; on_disk = refl; write = refl }
-schedule_plain schedule_fault.NoMemory = record { read = refl; file = refl; on_disk = refl; write = refl }
+schedule_plain (schedule_fault.Line number) = record { read = refl; file = refl; on_disk = refl; on_link = refl; write = refl }
+schedule_plain (schedule_fault.NotBuilt number) = record { read = refl; file = refl; on_disk = refl; on_link = refl; write = refl }
+schedule_plain schedule_fault.NoMemory = record { read = refl; file = refl; on_disk = refl; on_link = refl; write = refl }
 
 text_counts :
     (plans : Plans) (text : List ℕ) (out : SinkTold) (outcome : Outcome)
@@ -280,6 +309,7 @@ since_counts : (files later : FilesTold) (out : SinkTold) (outcome : Outcome) �
 since_counts files later out outcome since same counts = record {
   read = counts.read;
   on_disk = counts.on_disk;
+  on_link = counts.on_link;
   file = subst (λ (n : ℕ). IsCounted (is_file_fault outcome) n files.health_after.faults) since
       (subst (λ (h : FilesHealth). IsCounted (is_file_fault outcome) later.health.faults h.faults) same counts.file);
   write = counts.write;
@@ -287,8 +317,8 @@ since_counts files later out outcome since same counts = record {
 
 -- a plan was read, or refused
 plan_plain : (fault : ConfigFault) → IsPlain (plan_refusal fault)
-plan_plain (plan_fault.Key key what) = record { read = refl; file = refl; on_disk = refl; write = refl }
-plan_plain plan_fault.NoMemory = record { read = refl; file = refl; on_disk = refl; write = refl }
+plan_plain (plan_fault.Key key what) = record { read = refl; file = refl; on_disk = refl; on_link = refl; write = refl }
+plan_plain plan_fault.NoMemory = record { read = refl; file = refl; on_disk = refl; on_link = refl; write = refl }
 
 plan_counts :
     (result : Result Plans ConfigFault) (schedule : List ℕ) (files : FilesTold) (out : SinkTold) (outcome : Outcome)
@@ -313,8 +343,16 @@ files_stand files unread = ap (λ (h : FilesHealth). h.faults) unread.health
 source_stands : (source : SourceTold) → IsUnread source → source.health_after.faults ≡ source.health.faults
 source_stands source unread = ap (λ (h : SourceHealth). h.faults) unread.health
 
-others_stand : (files : FilesTold) (disk : DiskTold) → AreUnread files → IsUnused disk → OthersStand files disk
-others_stand files disk unread unused = record { file = files_stand files unread; on_disk = unused.faults }
+link_stands : (link : LinkTold) → IsUncalled link → link.health_after.faults ≡ link.health.faults
+link_stands link uncalled = ap (λ (h : LinkHealth). h.faults) uncalled.health
+
+others_stand : (files : FilesTold) (disk : DiskTold) (link : LinkTold) → AreUnread files → IsUnused disk
+    → IsUncalled link → OthersStand files disk link
+others_stand files disk link unread unused uncalled = record {
+  file = files_stand files unread;
+  on_disk = unused.faults;
+  on_link = link_stands link uncalled;
+}
 
 -- ---- a word about a spool file
 
@@ -322,35 +360,36 @@ others_stand files disk unread unused = record { file = files_stand files unread
 record CountsDisk (disk : DiskTold) (out : SinkTold) (outcome : Outcome) : Type 0 where
   read : is_read_fault outcome ≡ false
   file : is_file_fault outcome ≡ false
+  on_link : is_link_fault outcome ≡ false
   on_disk : IsCounted (is_disk_fault outcome) disk.faults disk.faults_after
   write : IsCounted (is_write_fault outcome) out.health.faults out.health_after.faults
 
 by_making : (slots : ℕ) (disk : DiskTold) (out : SinkTold) (ended : SpoolEnd) → FormatsFile slots disk out ended
     → CountsDisk disk out (outcome_of_spool ended)
 by_making slots disk out spool.Done was =
-    record { read = refl; file = refl; on_disk = was.count; write = was.made.1.health.same }
+    record { read = refl; file = refl; on_disk = was.count; on_link = refl; write = was.made.1.health.same }
 by_making slots disk out (spool.NotSpool place) was = absurd was.made.1
 by_making slots disk out spool.DiskFailed was =
-    record { read = refl; file = refl; on_disk = rose_of was.count; write = was.made.health.same }
+    record { read = refl; file = refl; on_disk = rose_of was.count; on_link = refl; write = was.made.health.same }
 by_making slots disk out spool.WriteFailed was =
-    record { read = refl; file = refl; on_disk = was.count; write = was.made.1.fault.rose }
+    record { read = refl; file = refl; on_disk = was.count; on_link = refl; write = was.made.1.fault.rose }
 
 by_listing : (disk : DiskTold) (out : SinkTold) (ended : SpoolEnd) → ShowsFile disk out ended
     → CountsDisk disk out (outcome_of_spool ended)
 by_listing disk out spool.Done was =
-    record { read = refl; file = refl; on_disk = was.count; write = was.written.1.1.health.same }
+    record { read = refl; file = refl; on_disk = was.count; on_link = refl; write = was.written.1.1.health.same }
 by_listing disk out (spool.NotSpool place) was =
-    record { read = refl; file = refl; on_disk = was.count; write = was.written.0.health.same }
+    record { read = refl; file = refl; on_disk = was.count; on_link = refl; write = was.written.0.health.same }
 by_listing disk out spool.DiskFailed was =
-    record { read = refl; file = refl; on_disk = rose_of was.count; write = was.written.1.health.same }
+    record { read = refl; file = refl; on_disk = rose_of was.count; on_link = refl; write = was.written.1.health.same }
 by_listing disk out spool.WriteFailed was =
-    record { read = refl; file = refl; on_disk = was.count; write = was.written.1.1.fault.rose }
+    record { read = refl; file = refl; on_disk = was.count; on_link = refl; write = was.written.1.1.fault.rose }
 
-spool_counts : (source : SourceTold) (files : FilesTold) (disk : DiskTold) (out : SinkTold) (outcome : Outcome)
-    (Ends : SpoolEnd → Type 0) → IsUnread source → AreUnread files
+spool_counts : (source : SourceTold) (files : FilesTold) (disk : DiskTold) (link : LinkTold) (out : SinkTold) (outcome : Outcome)
+    (Ends : SpoolEnd → Type 0) → IsUnread source → AreUnread files → IsUncalled link
     → ((ended : SpoolEnd) → Ends ended → CountsDisk disk out (outcome_of_spool ended)) → EndedAs Ends outcome
-    → CountsFaults source files disk out outcome
-spool_counts source files disk out outcome Ends unread files_unread each was =
+    → CountsFaults source files disk link out outcome
+spool_counts source files disk link out outcome Ends unread files_unread uncalled each was =
     let counts = subst (CountsDisk disk out) (sym was.outcome_is) (each was.ended was.ends) in
     record {
       read = subst (λ (b : Bool). IsCounted b source.health.faults source.health_after.faults) (sym counts.read)
@@ -358,65 +397,192 @@ spool_counts source files disk out outcome Ends unread files_unread each was =
       file = subst (λ (b : Bool). IsCounted b files.health.faults files.health_after.faults) (sym counts.file)
           (files_stand files files_unread);
       on_disk = counts.on_disk;
+      on_link = subst (λ (b : Bool). IsCounted b link.health.faults link.health_after.faults) (sym counts.on_link)
+          (link_stands link uncalled);
       write = counts.write;
     }
+
+-- ---- the host's end
+
+-- what a run over a link came to: no fault of the input, of a file or of the disk
+record CountsLink (link : LinkTold) (out : SinkTold) (outcome : Outcome) : Type 0 where
+  read : is_read_fault outcome ≡ false
+  file : is_file_fault outcome ≡ false
+  on_disk : is_disk_fault outcome ≡ false
+  on_link : IsCounted (is_link_fault outcome) link.health.faults link.health_after.faults
+  write : IsCounted (is_write_fault outcome) out.health.faults out.health_after.faults
+
+-- all of a run was made, or a part of it for want of memory: no fault was counted
+made_counts : (link : LinkTold) (out : SinkTold) (host left : Node HostOwn Kind)
+    (acts : List (Act (Node HostOwn Kind))) (outcome : Outcome) → IsPlain outcome
+    → Made (before_run link out host) (after_run link out left) acts → CountsLink link out outcome
+made_counts link out host left acts outcome plain made = record {
+  read = plain.read;
+  file = plain.file;
+  on_disk = plain.on_disk;
+  on_link = subst (λ (b : Bool). IsCounted b link.health.faults link.health_after.faults) (sym plain.on_link)
+      made.carried.same;
+  write = subst (λ (b : Bool). IsCounted b out.health.faults out.health_after.faults) (sym plain.write)
+      made.wrote.health.same;
+}
+
+by_run : (link : LinkTold) (out : SinkTold) (host left : Node HostOwn Kind) (how : Option RunEnding)
+    (acts : List (Act (Node HostOwn Kind))) (ended : RunEnding)
+    → Does (before_run link out host) (after_run link out left) how acts (Some ended)
+    → CountsLink link out (outcome_of_ending ended)
+by_run link out host left how acts ending.Stopped (at, did) = made_counts link out host left acts Done
+    (record { read = refl; file = refl; on_disk = refl; on_link = refl; write = refl }) did.made
+by_run link out host left how acts ending.Closed (at, did) = made_counts link out host left acts Done
+    (record { read = refl; file = refl; on_disk = refl; on_link = refl; write = refl }) did.made
+by_run link out host left how acts ending.Turns (at, did) =
+    made_counts link out host left acts TurnsSpent
+    (record { read = refl; file = refl; on_disk = refl; on_link = refl; write = refl }) did.made
+by_run link out host left how acts ending.NumbersSpent (at, did) =
+    made_counts link out host left acts NumbersSpent
+    (record { read = refl; file = refl; on_disk = refl; on_link = refl; write = refl }) did.made
+by_run link out host left how acts ending.LinkFailed fails =
+    record { read = refl; file = refl; on_disk = refl; on_link = fails.fault.rose; write = fails.wrote.health.same }
+by_run link out host left how acts ending.WriteFailed fails =
+    record { read = refl; file = refl; on_disk = refl; on_link = fails.carried.same; write = fails.fault.rose }
+by_run link out host left how acts ending.NoMemory part =
+    made_counts link out host left part.done NoMemory
+    (record { read = refl; file = refl; on_disk = refl; on_link = refl; write = refl }) part.made
+
+ran_counts : (plan : HostPlan) (lines : List ScriptLine) (polls : ℕ) (link : LinkTold) (out : SinkTold)
+    (outcome : Outcome) → WasRun plan lines polls link out outcome → CountsLink link out outcome
+ran_counts plan lines polls link out outcome was =
+    subst (CountsLink link out) (sym was.outcome_is) (by_run link out _ was.left _ _ was.ended was.runs.runs)
+
+-- a refusal is no fault of an object, and none was touched
+idle_counts : (link : LinkTold) (out : SinkTold) (outcome : Outcome) → IsPlain outcome → IsIdle link out
+    → CountsLink link out outcome
+idle_counts link out outcome plain idle = record {
+  read = plain.read;
+  file = plain.file;
+  on_disk = plain.on_disk;
+  on_link = subst (λ (b : Bool). IsCounted b link.health.faults link.health_after.faults) (sym plain.on_link)
+      (link_stands link idle.uncalled);
+  write = subst (λ (b : Bool). IsCounted b out.health.faults out.health_after.faults) (sym plain.write)
+      (untouched out idle.written);
+}
+
+script_plain : (fault : ScheduleFault) → IsPlain (script_refusal fault)
+script_plain (schedule_fault.Line number) =
+    record { read = refl; file = refl; on_disk = refl; on_link = refl; write = refl }
+script_plain (schedule_fault.NotBuilt number) =
+    record { read = refl; file = refl; on_disk = refl; on_link = refl; write = refl }
+script_plain schedule_fault.NoMemory =
+    record { read = refl; file = refl; on_disk = refl; on_link = refl; write = refl }
+
+script_counts : (plan : HostPlan) (text : List ℕ) (polls : ℕ) (link : LinkTold) (out : SinkTold) (outcome : Outcome)
+    → ScriptRuns plan text polls link out outcome → CountsLink link out outcome
+script_counts plan text polls link out outcome runs = elim runs.because [
+  | inl (lines, is, was) ↦ ran_counts plan lines polls link out outcome was
+  | inr (fault, refuses, is, idle) ↦
+      idle_counts link out outcome (subst IsPlain (sym is) (script_plain fault)) idle
+]
+
+module _ (source : SourceTold) (files : FilesTold) (disk : DiskTold) (link : LinkTold) (out : SinkTold) (plan : List ℕ)
+    (polls : ℕ) (outcome : Outcome) (unused : IsUnused disk) where
+  -- the files and the disk stand
+  linked_only : source.health_after.faults ≡ source.health.faults → files.health_after.faults ≡ files.health.faults
+      → CountsLink link out outcome → CountsFaults source files disk link out outcome
+  linked_only read file counts = record {
+    read = subst (λ (b : Bool). IsCounted b source.health.faults source.health_after.faults) (sym counts.read) read;
+    file = subst (λ (b : Bool). IsCounted b files.health.faults files.health_after.faults) (sym counts.file) file;
+    on_disk = subst (λ (b : Bool). IsCounted b disk.faults disk.faults_after) (sym counts.on_disk) unused.faults;
+    on_link = counts.on_link;
+    write = counts.write;
+  }
+
+  -- the input, the disk and the link stand
+  filed_only : IsUnread source → IsUncalled link → CountsFiles files out outcome
+      → CountsFaults source files disk link out outcome
+  filed_only unread uncalled counts = record {
+    read = subst (λ (b : Bool). IsCounted b source.health.faults source.health_after.faults) (sym counts.read)
+        (source_stands source unread);
+    file = counts.file;
+    on_disk = subst (λ (b : Bool). IsCounted b disk.faults disk.faults_after) (sym counts.on_disk) unused.faults;
+    on_link = subst (λ (b : Bool). IsCounted b link.health.faults link.health_after.faults) (sym counts.on_link)
+        (link_stands link uncalled);
+    write = counts.write;
+  }
+
+  host_counts : HostComes plan polls source files link out outcome → CountsFaults source files disk link out outcome
+  host_counts (inl (inl refuses, unread, idle)) =
+      filed_only unread idle.uncalled (file_refused role.Plan plan files out (untouched out idle.written) outcome refuses)
+  host_counts (inl (inr bad, unread, idle)) =
+      linked_only (source_stands source unread) bad.read.cause.same
+      (idle_counts link out outcome (subst IsPlain (sym bad.refused) (plan_plain bad.fault)) idle)
+  host_counts (inr (plans, are, inl (refuses, idle))) =
+      unread_counts source files disk link out script_limit
+      (record { file = are.read.cause.same; on_disk = unused.faults; on_link = link_stands link idle.uncalled })
+      (untouched out idle.written) outcome refuses
+  host_counts (inr (plans, are, inr (text, read, runs))) =
+      linked_only read.cause.same are.read.cause.same (script_counts plans.host text polls link out outcome runs)
 
 -- ---- all commands
 
 -- words that are refused touch nothing
-module _ (source : SourceTold) (files : FilesTold) (disk : DiskTold) (out : SinkTold) (outcome : Outcome) where
-  stands : (refusal : Outcome) → IsRefused refusal source files disk out outcome → CountsFaults source files disk out refusal
-      → CountsFaults source files disk out outcome
-  stands refusal refused counts = subst (CountsFaults source files disk out) (sym refused.refused) counts
+module _ (source : SourceTold) (files : FilesTold) (disk : DiskTold) (link : LinkTold) (out : SinkTold) (outcome : Outcome) where
+  stands : (refusal : Outcome) → IsRefused refusal source files disk link out outcome → CountsFaults source files disk link out refusal
+      → CountsFaults source files disk link out outcome
+  stands refusal refused counts = subst (CountsFaults source files disk link out) (sym refused.refused) counts
 
-  usage_counts : IsRefused Usage source files disk out outcome → CountsFaults source files disk out outcome
+  usage_counts : IsRefused Usage source files disk link out outcome → CountsFaults source files disk link out outcome
   usage_counts refused = stands Usage refused (record {
     read = source_stands source refused.input;
     file = files_stand files refused.unread;
     on_disk = refused.unused.faults;
+    on_link = link_stands link refused.uncalled;
     write = untouched out refused.written;
   })
 
-  memory_counts : IsRefused NoMemory source files disk out outcome → CountsFaults source files disk out outcome
+  memory_counts : IsRefused NoMemory source files disk link out outcome → CountsFaults source files disk link out outcome
   memory_counts refused = stands NoMemory refused (record {
     read = source_stands source refused.input;
     file = files_stand files refused.unread;
     on_disk = refused.unused.faults;
+    on_link = link_stands link refused.uncalled;
     write = untouched out refused.written;
   })
 
-comes_counts : (asked : Option Asked) (source : SourceTold) (files : FilesTold) (disk : DiskTold) (out : SinkTold) (outcome : Outcome) →
-    ComesFrom asked source files disk out outcome → CountsFaults source files disk out outcome
-comes_counts None source files disk out outcome refused = usage_counts source files disk out outcome refused
-comes_counts (Some Show) source files disk out outcome (unread, unused, comes) =
-    input_counts source files disk out capture_limit WasShown outcome (others_stand files disk unread unused)
+comes_counts : (asked : Option Asked) (source : SourceTold) (files : FilesTold) (disk : DiskTold) (link : LinkTold) (out : SinkTold) (outcome : Outcome) →
+    ComesFrom asked source files disk link out outcome → CountsFaults source files disk link out outcome
+comes_counts None source files disk link out outcome refused = usage_counts source files disk link out outcome refused
+comes_counts (Some Show) source files disk link out outcome (unread, unused, uncalled, comes) =
+    input_counts source files disk link out capture_limit WasShown outcome (others_stand files disk link unread unused uncalled)
     (λ capture was. shown_counts capture out outcome was) comes
-comes_counts (Some Spell) source files disk out outcome (unread, unused, comes) =
-    input_counts source files disk out item_limit WasSpelled outcome (others_stand files disk unread unused)
+comes_counts (Some Spell) source files disk link out outcome (unread, unused, uncalled, comes) =
+    input_counts source files disk link out item_limit WasSpelled outcome (others_stand files disk link unread unused uncalled)
     (λ text was. spelled_counts text out outcome was) comes
-comes_counts (Some SpellHex) source files disk out outcome (unread, unused, comes) =
-    input_counts source files disk out item_limit WasPrinted outcome (others_stand files disk unread unused)
+comes_counts (Some SpellHex) source files disk link out outcome (unread, unused, uncalled, comes) =
+    input_counts source files disk link out item_limit WasPrinted outcome (others_stand files disk link unread unused uncalled)
     (λ digits was. printed_counts digits out outcome was) comes
-comes_counts (Some (Replay plan schedule)) source files disk out outcome (unread, unused, comes) =
+comes_counts (Some (Replay plan schedule)) source files disk link out outcome (unread, unused, uncalled, comes) =
     let counts = replay_counts plan schedule files out outcome comes in
     record {
       read = subst (λ (b : Bool). IsCounted b source.health.faults source.health_after.faults) (sym counts.read) (source_stands source unread);
       file = counts.file;
       on_disk = subst (λ (b : Bool). IsCounted b disk.faults disk.faults_after) (sym counts.on_disk) unused.faults;
+      on_link = subst (λ (b : Bool). IsCounted b link.health.faults link.health_after.faults) (sym counts.on_link)
+          (link_stands link uncalled);
       write = counts.write;
     }
-comes_counts (Some (Format name slots)) source files disk out outcome (unread, files_unread, was) =
-    spool_counts source files disk out outcome (FormatsSpool name slots disk out) unread files_unread
+comes_counts (Some (Host plan address polls)) source files disk link out outcome (unused, comes) =
+    host_counts source files disk link out plan polls outcome unused comes
+comes_counts (Some (Format name slots)) source files disk link out outcome (unread, files_unread, uncalled, was) =
+    spool_counts source files disk link out outcome (FormatsSpool name slots disk out) unread files_unread uncalled
     (λ ended formats. by_making slots disk out ended formats.formatted) was
-comes_counts (Some (Spool name)) source files disk out outcome (unread, files_unread, was) =
-    spool_counts source files disk out outcome (ShowsSpool name disk out) unread files_unread
+comes_counts (Some (Spool name)) source files disk link out outcome (unread, files_unread, uncalled, was) =
+    spool_counts source files disk link out outcome (ShowsSpool name disk out) unread files_unread uncalled
     (λ ended shows. by_listing disk out ended shows.shown) was
 
-run_counts : (asked : Option Asked) (source : SourceTold) (files : FilesTold) (disk : DiskTold) (out : SinkTold) (outcome : Outcome) →
-    RunComes asked source files disk out outcome → CountsFaults source files disk out outcome
-run_counts asked source files disk out outcome (inl refused) = memory_counts source files disk out outcome refused
-run_counts asked source files disk out outcome (inr comes) = comes_counts asked source files disk out outcome comes
+run_counts : (asked : Option Asked) (source : SourceTold) (files : FilesTold) (disk : DiskTold) (link : LinkTold) (out : SinkTold) (outcome : Outcome) →
+    RunComes asked source files disk link out outcome → CountsFaults source files disk link out outcome
+run_counts asked source files disk link out outcome (inl refused) = memory_counts source files disk link out outcome refused
+run_counts asked source files disk link out outcome (inr comes) = comes_counts asked source files disk link out outcome comes
 
-pub faults_told : (words : List (List ℕ)) (source : SourceTold) (files : FilesTold) (disk : DiskTold) (out err : SinkTold) (status : ℕ)
-    → (run : IsRun words source files disk out err status) → CountsFaults source files disk out run.outcome
-faults_told words source files disk out err status run = run_counts (asked_of words) source files disk out run.outcome run.comes
+pub faults_told : (words : List (List ℕ)) (source : SourceTold) (files : FilesTold) (disk : DiskTold) (link : LinkTold) (out err : SinkTold) (status : ℕ)
+    → (run : IsRun words source files disk link out err status) → CountsFaults source files disk link out run.outcome
+faults_told words source files disk link out err status run = run_counts (asked_of words) source files disk link out run.outcome run.comes

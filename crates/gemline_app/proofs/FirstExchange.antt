@@ -32,9 +32,9 @@ unfolding encode_with digits
 first_text = refl
 
 pub first_ends : ShowsTheFirst
-first_ends words source files disk out err status run shows told reliable empty room =
+first_ends words source files disk link out err status run shows told reliable empty room =
     let long : length (lines_of (Framed first_block ∷ [])) ≡ 88 = ap length first_text in
-    elim (whole_capture words source files disk out err status run shows first_frame (Framed first_block ∷ []) told (omega arith) reliable first_reads (omega arith)) [
+    elim (whole_capture words source files disk link out err status run shows first_frame (Framed first_block ∷ []) told (omega arith) reliable first_reads (omega arith)) [
       | inl memory ↦ inl memory
       | inr done ↦
           inr (done.0, done.1 ∙ ap (λ r. with_bytes r (lines_of (Framed first_block ∷ []))) empty ∙ ap Some first_text)

@@ -4,6 +4,10 @@ mod FaultsTold
 mod FirstExchange
 mod HexLaws
 mod HexMeaning
+mod HostAnswered
+mod HostDue
+mod Hosting
+mod InputDue
 mod ReadBack
 mod ReplayDue
 mod Replaying

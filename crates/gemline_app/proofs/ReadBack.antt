@@ -12,14 +12,17 @@ use Rattle.secs_items.proofs.SpellLaws.{shortest_is_spelled}
 use Rattle.secs_text.specs.Grammar.{ReadsAs}
 use Rattle.secs_text.proofs.TextLaws as texts
 use Rattle.spool_show.specs.Told.{DiskTold}
-use Rattle.gemline_app.specs.Gemline.{ComesFrom, ComesOnInput, HexRefuses, InputRefuses, IsRun, RunComes, TextRefuses, WasPrinted, WasSpelled, WasWritten}
+use Rattle.gemline_app.specs.LinkTold.{LinkTold}
+use Rattle.gemline_app.specs.Gemline.{ComesFrom, ComesOnInput, HexRefuses, IsRun, RunComes, TextRefuses, WasPrinted, WasSpelled, WasWritten}
+use Rattle.gemline_app.specs.Inputs.{InputRefuses}
 use Rattle.gemline_app.specs.Laws.{HexAsks, HexSpellsOne, Hinders, IsDue, IsInputDue, ReadsBack, WroteSpelling}
 use Rattle.gemline_app.specs.Outcome.{status_of}
 use Rattle.gemline_app.specs.Spelling.{HexSpells, spelled_line, text_line}
 use Rattle.gemline_app.specs.Words.{item_limit}
 use Rattle.gemline_app.specs.declared.outcome.Outcome.{Outcome}
-use Rattle.gemline_app.specs.declared.outcome.Outcome.TheVariants.{Done, Usage, BadFrame, BadText, BadHex, BadItem, BadLine, Longer, FileLonger, FileFailed, ReadFailed, NoMemory, WriteFailed, TurnsSpent, NumbersSpent, Slip, DiskFailed, NotSpool, BadPlan, LineNotBuilt}
-use Rattle.gemline_app.proofs.Due.{due_outcome, one_bytes, read_of}
+use Rattle.gemline_app.specs.declared.outcome.Outcome.TheVariants.{Done, Usage, BadFrame, BadText, BadHex, BadItem, BadLine, Longer, FileLonger, FileFailed, ReadFailed, NoMemory, WriteFailed, TurnsSpent, NumbersSpent, Slip, DiskFailed, NotSpool, BadPlan, LineNotBuilt, BadScript, LinkFailed}
+use Rattle.gemline_app.proofs.Due.{due_outcome, one_bytes}
+use Rattle.gemline_app.proofs.InputDue.{read_of}
 use Rattle.gemline_app.proofs.HexMeaning.{hex_means}
 use Rattle.line_schedule.proofs.SpelledBytes.{spelled_bytes}
 use Rattle.line_schedule.proofs.TextItems.{text_encodes, text_in_range}
@@ -58,6 +61,8 @@ done_is (NotSpool at) is = absurd (omega (arith, is))
 done_is Slip is = absurd (omega (arith, is))
 done_is (BadPlan key what) is = absurd (omega (arith, is))
 done_is (LineNotBuilt number) is = absurd (omega (arith, is))
+done_is (BadScript number) is = absurd (omega (arith, is))
+done_is LinkFailed is = absurd (omega (arith, is))
 
 -- an output that was empty received this line
 one_line : (before after : Option (List ℕ)) (line found : List ℕ) → before ≡ Some [] → after ≡ Some line → after ≡ with_bytes before found → line ≡ found
@@ -111,31 +116,31 @@ second_run line item source out outcome done told spells (inr (whole, read, was)
     printed_so line item out outcome done spells (subst (λ (bytes : List ℕ). WasPrinted bytes out outcome) all.1 was)
 
 -- what a run of a command that ended well comes from
-comes_of : (asked : Asked) (words : List (List ℕ)) (source : SourceTold) (files : FilesTold) (disk : DiskTold) (out err : SinkTold) (status : ℕ) →
-    (run : IsRun words source files disk out err status) → run.outcome ≡ Done → asked_of words ≡ Some asked
-    → ComesFrom (Some asked) source files disk out run.outcome
-comes_of asked words source files disk out err status run done asks =
-    go (subst (λ (it : Option Asked). RunComes it source files disk out run.outcome) asks run.comes)
+comes_of : (asked : Asked) (words : List (List ℕ)) (source : SourceTold) (files : FilesTold) (disk : DiskTold) (link : LinkTold) (out err : SinkTold) (status : ℕ) →
+    (run : IsRun words source files disk link out err status) → run.outcome ≡ Done → asked_of words ≡ Some asked
+    → ComesFrom (Some asked) source files disk link out run.outcome
+comes_of asked words source files disk link out err status run done asks =
+    go (subst (λ (it : Option Asked). RunComes it source files disk link out run.outcome) asks run.comes)
   where
-    go : RunComes (Some asked) source files disk out run.outcome → ComesFrom (Some asked) source files disk out run.outcome
+    go : RunComes (Some asked) source files disk link out run.outcome → ComesFrom (Some asked) source files disk link out run.outcome
     go (inl refused) = let no : 0 ≡ 71 = ap status_of (sym done ∙ refused.refused) in absurd (omega (arith, no))
     go (inr comes) = comes
 
 spelled_by : (text line : List ℕ) (item : Item) → ReadsAs text item → WroteSpelling text line → Spelled text line item
 spelled_by text line item reads wrote =
     first_run text line item wrote.source wrote.out wrote.run.outcome (done_is wrote.run.outcome wrote.run.status_is) wrote.told wrote.empty wrote.after reads
-    (comes_of Spell wrote.words wrote.source wrote.files wrote.disk wrote.out wrote.err 0 wrote.run
-    (done_is wrote.run.outcome wrote.run.status_is) wrote.asks).2
+    (comes_of Spell wrote.words wrote.source wrote.files wrote.disk wrote.link wrote.out wrote.err 0 wrote.run
+    (done_is wrote.run.outcome wrote.run.status_is) wrote.asks).3
 
 pub reads_back : (text line : List ℕ) (item : Item) → ReadsAs text item → WroteSpelling text line → length line ≤ 1048576
-    → (words : List (List ℕ)) (source : SourceTold) (files : FilesTold) (disk : DiskTold) (out err : SinkTold) (status : ℕ)
-    → (run : IsRun words source files disk out err status) → asked_of words ≡ Some SpellHex → source.before ≡ Some line
-    → ReadsBack item out run.outcome ⊎ Hinders source files disk out run.outcome
-reads_back text line item reads wrote within words source files disk out err status run asks told =
-    elim (due_outcome words source files disk out err status Done run (subst (λ (asked : Option Asked). IsDue asked source files disk Done) (sym asks) due)) [
+    → (words : List (List ℕ)) (source : SourceTold) (files : FilesTold) (disk : DiskTold) (link : LinkTold) (out err : SinkTold) (status : ℕ)
+    → (run : IsRun words source files disk link out err status) → asked_of words ≡ Some SpellHex → source.before ≡ Some line
+    → ReadsBack item out run.outcome ⊎ Hinders source files disk link out run.outcome
+reads_back text line item reads wrote within words source files disk link out err status run asks told =
+    elim (due_outcome words source files disk link out err status Done run (subst (λ (asked : Option Asked). IsDue asked source files disk link Done) (sym asks) due)) [
       | inl done ↦ inl (record {
         done = done;
-        after = second_run line item source out run.outcome done told spells (comes_of SpellHex words source files disk out err status run done asks).2;
+        after = second_run line item source out run.outcome done told spells (comes_of SpellHex words source files disk link out err status run done asks).3;
       })
       | inr hindered ↦ inr hindered
     ]

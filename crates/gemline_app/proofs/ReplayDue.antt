@@ -18,13 +18,14 @@ use Rattle.gem_config.specs.Reading.{Read, refused as is_refused}
 use Rattle.gem_config.specs.declared.fault.ConfigFault.{ConfigFault}
 use Rattle.gem_config.specs.declared.fault.ConfigFault.TheVariants as plan_fault
 use Rattle.gem_config.specs.declared.fault.ConfigWhat.{ConfigWhat}
+use Rattle.gemline_app.specs.LinkTold.{LinkTold}
 use Rattle.gemline_app.specs.Laws.{Hinders, IsPlanDue, IsScheduleDue, PlanAsks, ScheduleAsks, outcome_of_run}
 use Rattle.gemline_app.specs.Replay.{FileRefuses, FollowsPlan, ReplayComes, ScheduleComes, TextRuns, WasFile, files_since, files_until, outcome_of_end, plan_refusal}
 use Rattle.gemline_app.specs.Words.{file_limit}
 use Rattle.gemline_app.specs.declared.outcome.FileRole.{FileRole}
 use Rattle.gemline_app.specs.declared.outcome.FileRole.TheVariants as role
 use Rattle.gemline_app.specs.declared.outcome.Outcome.{Outcome}
-use Rattle.gemline_app.specs.declared.outcome.Outcome.TheVariants.{Done, Usage, BadFrame, BadText, BadHex, BadItem, BadLine, Longer, FileLonger, FileFailed, ReadFailed, NoMemory, WriteFailed, TurnsSpent, NumbersSpent, Slip, DiskFailed, NotSpool, BadPlan, LineNotBuilt}
+use Rattle.gemline_app.specs.declared.outcome.Outcome.TheVariants.{Done, Usage, BadFrame, BadText, BadHex, BadItem, BadLine, Longer, FileLonger, FileFailed, ReadFailed, NoMemory, WriteFailed, TurnsSpent, NumbersSpent, Slip, DiskFailed, NotSpool, BadPlan, LineNotBuilt, BadScript, LinkFailed}
 
 -- what reading a file came to, where the files tell its bytes
 told_answer : (limit : ℕ) (name bytes : List ℕ) (told : Option (List MemFile)) (answer : FileAnswer) → told_file name told ≡ Some bytes →
@@ -33,7 +34,7 @@ told_answer limit name bytes None answer is reads = cc
 told_answer limit name bytes (Some files) answer is reads = subst (λ (f : Option (List ℕ)). ReadsFileOf limit f answer) is reads
 
 -- a file was longer than its limit, or its reading failed, or memory ran out
-abbrev Refused : FileRole → List ℕ → FilesTold → Outcome → Type 0
+abbrev pub Refused : FileRole → List ℕ → FilesTold → Outcome → Type 0
 Refused which bytes files outcome =
     ((outcome ≡ FileLonger which) × (file_limit which < length bytes))
     ⊎ (((found : FileRole) × (outcome ≡ FileFailed found) × Rose files.health.faults files.health_after.faults) ⊎ (outcome ≡ NoMemory))
@@ -41,7 +42,7 @@ Refused which bytes files outcome =
 longer_than : (limit : ℕ) (bytes found : List ℕ) → Some bytes ≡ Some found → limit < length found → limit < length bytes
 longer_than limit bytes found same past = let is : bytes ≡ found = cc in omega (arith, ap length is)
 
-refused : (which : FileRole) (name bytes : List ℕ) (files : FilesTold) (outcome : Outcome) → told_file name files.before ≡ Some bytes →
+pub refused : (which : FileRole) (name bytes : List ℕ) (files : FilesTold) (outcome : Outcome) → told_file name files.before ≡ Some bytes →
     FileRefuses which name files outcome → Refused which bytes files outcome
 refused which name bytes files (FileLonger found) told (same, was) =
     let read = told_answer (file_limit which) name bytes files.before file.Longer told was.bytes in
@@ -65,9 +66,11 @@ refused which name bytes files (NotSpool at) told refuses = absurd refuses
 refused which name bytes files Slip told refuses = absurd refuses
 refused which name bytes files (BadPlan key what) told refuses = absurd refuses
 refused which name bytes files (LineNotBuilt number) told refuses = absurd refuses
+refused which name bytes files (BadScript number) told refuses = absurd refuses
+refused which name bytes files LinkFailed told refuses = absurd refuses
 
 -- a file that was read whole
-whole_is : (which : FileRole) (name bytes found : List ℕ) (files : FilesTold) → told_file name files.before ≡ Some bytes →
+pub whole_is : (which : FileRole) (name bytes found : List ℕ) (files : FilesTold) → told_file name files.before ≡ Some bytes →
     WasFile which name files (file.Whole found) → (bytes ≡ found) × (length bytes ≤ file_limit which)
 whole_is which name bytes found files told was =
     let read = told_answer (file_limit which) name bytes files.before (file.Whole found) told was.bytes in
@@ -78,116 +81,116 @@ whole_is which name bytes found files told was =
     go is = cc
 
 -- the outcome is the one that is due, or hinders it
-abbrev pub Comes : SourceTold → FilesTold → DiskTold → SinkTold → Outcome → Outcome → Type 0
-Comes source files disk out outcome due = (outcome ≡ due) ⊎ Hinders source files disk out outcome
+abbrev pub Comes : SourceTold → FilesTold → DiskTold → LinkTold → SinkTold → Outcome → Outcome → Type 0
+Comes source files disk link out outcome due = (outcome ≡ due) ⊎ Hinders source files disk link out outcome
 
-hindered : (source : SourceTold) (files : FilesTold) (disk : DiskTold) (out : SinkTold) (outcome : Outcome) → outcome ≡ NoMemory → Hinders source files disk out outcome
-hindered source files disk out outcome is = subst (Hinders source files disk out) (sym is) tt
+pub hindered : (source : SourceTold) (files : FilesTold) (disk : DiskTold) (link : LinkTold) (out : SinkTold) (outcome : Outcome) → outcome ≡ NoMemory → Hinders source files disk link out outcome
+hindered source files disk link out outcome is = subst (Hinders source files disk link out) (sym is) tt
 
-failed : (source : SourceTold) (files : FilesTold) (disk : DiskTold) (out : SinkTold) (outcome : Outcome) (found : FileRole) → outcome ≡ FileFailed found →
-    Rose files.health.faults files.health_after.faults → Hinders source files disk out outcome
-failed source files disk out outcome found is rose = subst (Hinders source files disk out) (sym is) rose
+pub failed : (source : SourceTold) (files : FilesTold) (disk : DiskTold) (link : LinkTold) (out : SinkTold) (outcome : Outcome) (found : FileRole) → outcome ≡ FileFailed found →
+    Rose files.health.faults files.health_after.faults → Hinders source files disk link out outcome
+failed source files disk link out outcome found is rose = subst (Hinders source files disk link out) (sym is) rose
 
 -- ---- a schedule that was carried out
 
 ended_due :
-    (source : SourceTold) (files : FilesTold) (disk : DiskTold) (out : SinkTold) (text : List ℕ) (went : WorldStep)
+    (source : SourceTold) (files : FilesTold) (disk : DiskTold) (link : LinkTold) (out : SinkTold) (text : List ℕ) (went : WorldStep)
     (ended : RunEnd) (outcome due : Outcome)
     → outcome ≡ outcome_of_end ended → Runs out text went ended → due ≡ outcome_of_run went
-    → Comes source files disk out outcome due
-ended_due source files disk out text went end.Whole outcome due is (at, wrote) is_due =
+    → Comes source files disk link out outcome due
+ended_due source files disk link out text went end.Whole outcome due is (at, wrote) is_due =
     inl (is ∙ sym (is_due ∙ ap outcome_of_run at))
-ended_due source files disk out text went end.Slip outcome due is (at, wrote) is_due =
+ended_due source files disk link out text went end.Slip outcome due is (at, wrote) is_due =
     inl (is ∙ sym (is_due ∙ ap outcome_of_run at))
-ended_due source files disk out text went end.Turns outcome due is (at, wrote) is_due =
+ended_due source files disk link out text went end.Turns outcome due is (at, wrote) is_due =
     inl (is ∙ sym (is_due ∙ ap outcome_of_run at))
-ended_due source files disk out text went end.NumbersSpent outcome due is (at, wrote) is_due =
+ended_due source files disk link out text went end.NumbersSpent outcome due is (at, wrote) is_due =
     inl (is ∙ sym (is_due ∙ ap outcome_of_run at))
-ended_due source files disk out text went end.NoMemory outcome due is part is_due =
-    inr (hindered source files disk out outcome is)
-ended_due source files disk out text went end.WriteFailed outcome due is short is_due =
-    inr (subst (Hinders source files disk out) (sym is) short.fault.rose)
+ended_due source files disk link out text went end.NoMemory outcome due is part is_due =
+    inr (hindered source files disk link out outcome is)
+ended_due source files disk link out text went end.WriteFailed outcome due is short is_due =
+    inr (subst (Hinders source files disk link out) (sym is) short.fault.rose)
 
 text_due :
-    (source : SourceTold) (files : FilesTold) (disk : DiskTold) (out : SinkTold) (plans : Plans) (text : List ℕ)
+    (source : SourceTold) (files : FilesTold) (disk : DiskTold) (link : LinkTold) (out : SinkTold) (plans : Plans) (text : List ℕ)
     (outcome due : Outcome)
-    → TextRuns plans text out outcome → ScheduleAsks plans text due → Comes source files disk out outcome due
-text_due source files disk out plans text outcome due runs (inl (schedule, is, is_due)) = elim (runs.only schedule is) [
+    → TextRuns plans text out outcome → ScheduleAsks plans text due → Comes source files disk link out outcome due
+text_due source files disk link out plans text outcome due runs (inl (schedule, is, is_due)) = elim (runs.only schedule is) [
   | inl was ↦
-      ended_due source files disk out (trace_text plans schedule) (went_of plans schedule) was.ended outcome due
+      ended_due source files disk link out (trace_text plans schedule) (went_of plans schedule) was.ended outcome due
       was.outcome_is was.wrote is_due
-  | inr memory ↦ inr (hindered source files disk out outcome memory.0)
+  | inr memory ↦ inr (hindered source files disk link out outcome memory.0)
 ]
-text_due source files disk out plans text outcome due runs (inr (inl (n, at, is_due))) = elim (runs.outside n at).0 [
+text_due source files disk link out plans text outcome due runs (inr (inl (n, at, is_due))) = elim (runs.outside n at).0 [
   | inl named ↦ inl (named ∙ sym is_due)
-  | inr memory ↦ inr (hindered source files disk out outcome memory)
+  | inr memory ↦ inr (hindered source files disk link out outcome memory)
 ]
-text_due source files disk out plans text outcome due runs (inr (inr (n, at, is_due))) = elim (runs.later n at).0 [
+text_due source files disk link out plans text outcome due runs (inr (inr (n, at, is_due))) = elim (runs.later n at).0 [
   | inl named ↦ inl (named ∙ sym is_due)
-  | inr memory ↦ inr (hindered source files disk out outcome memory)
+  | inr memory ↦ inr (hindered source files disk link out outcome memory)
 ]
 
 -- ---- both files
 
 schedule_due :
-    (source : SourceTold) (files later : FilesTold) (disk : DiskTold) (out : SinkTold) (plans : Plans)
+    (source : SourceTold) (files later : FilesTold) (disk : DiskTold) (link : LinkTold) (out : SinkTold) (plans : Plans)
     (name text : List ℕ) (outcome due : Outcome)
     → later.health.faults ≡ files.health.faults → later.health_after ≡ files.health_after
     → told_file name later.before ≡ Some text → ScheduleComes plans name later out outcome
-    → IsScheduleDue plans text due → Comes source files disk out outcome due
-schedule_due source files later disk out plans name text outcome due since same told (inl (refuses, untouched)) is_due =
+    → IsScheduleDue plans text due → Comes source files disk link out outcome due
+schedule_due source files later disk link out plans name text outcome due since same told (inl (refuses, untouched)) is_due =
     go (refused role.Schedule name text later outcome told refuses) is_due
   where
     go : Refused role.Schedule text later outcome → IsScheduleDue plans text due
-        → Comes source files disk out outcome due
+        → Comes source files disk link out outcome due
     go (inl (longer, past)) (inl (also, is)) = inl (longer ∙ sym is)
     go (inl (longer, past)) (inr (within, asks)) = absurd (omega arith)
     go (inr (inl (found, is, rose))) due_is =
-        inr (failed source files disk out outcome found is
+        inr (failed source files disk link out outcome found is
         (subst (λ (n : ℕ). Rose n files.health_after.faults) since
         (subst (λ h. Rose later.health.faults h.faults) same rose)))
-    go (inr (inr memory)) due_is = inr (hindered source files disk out outcome memory)
-schedule_due source files later disk out plans name text outcome due since same told (inr (whole, was, runs)) is_due =
+    go (inr (inr memory)) due_is = inr (hindered source files disk link out outcome memory)
+schedule_due source files later disk link out plans name text outcome due since same told (inr (whole, was, runs)) is_due =
     go is_due
   where
     read : (text ≡ whole) × (length text ≤ file_limit role.Schedule)
     read = whole_is role.Schedule name text whole later told was
 
-    go : IsScheduleDue plans text due → Comes source files disk out outcome due
+    go : IsScheduleDue plans text due → Comes source files disk link out outcome due
     go (inl (past, is)) = let within = read.1 in absurd (omega arith)
     go (inr (within, asks)) =
-        text_due source files disk out plans text outcome due
+        text_due source files disk link out plans text outcome due
         (subst (λ (t : List ℕ). TextRuns plans t out outcome) (sym read.0) runs) asks
 
 -- what a plan was read as
-abbrev read_plan : Plans → Read Plans
+abbrev pub read_plan : Plans → Read Plans
 read_plan plans = Ok plans
 
-abbrev read_fault : ConfigFault → Read Plans
+abbrev pub read_fault : ConfigFault → Read Plans
 read_fault fault = Err fault
 
-no_plans : (plans : Plans) (fault : ConfigFault) → read_plan plans ≡ read_fault fault → ⊥
+pub no_plans : (plans : Plans) (fault : ConfigFault) → read_plan plans ≡ read_fault fault → ⊥
 no_plans plans fault same = cc
 
-no_fault : (plans : Plans) (fault : ConfigFault) → read_fault fault ≡ read_plan plans → ⊥
+pub no_fault : (plans : Plans) (fault : ConfigFault) → read_fault fault ≡ read_plan plans → ⊥
 no_fault plans fault same = cc
 
-one_plan : (one other : Plans) → read_plan one ≡ read_plan other → one ≡ other
+pub one_plan : (one other : Plans) → read_plan one ≡ read_plan other → one ≡ other
 one_plan one other same = cc
 
-one_fault : (one other : ConfigFault) → read_fault one ≡ read_fault other → one ≡ other
+pub one_fault : (one other : ConfigFault) → read_fault one ≡ read_fault other → one ≡ other
 one_fault one other same = cc
 
-is_no_memory : (key : List ℕ) (what : ConfigWhat) → plan_fault.Key key what ≢ plan_fault.NoMemory
+pub is_no_memory : (key : List ℕ) (what : ConfigWhat) → plan_fault.Key key what ≢ plan_fault.NoMemory
 is_no_memory key what same = cc
 
-module _ (source : SourceTold) (files later : FilesTold) (disk : DiskTold) (out : SinkTold) (bytes schedule : List ℕ)
+module _ (source : SourceTold) (files later : FilesTold) (disk : DiskTold) (link : LinkTold) (out : SinkTold) (bytes schedule : List ℕ)
     (outcome due : Outcome) where
   -- a plan that is refused so, where it asks for this
   refusal_due :
       (fault : ConfigFault) → IsReadAs bytes (Err fault) → outcome ≡ plan_refusal fault
-      → PlanAsks schedule files bytes due → Comes source files disk out outcome due
-  refusal_due plan_fault.NoMemory read is asks = inr (hindered source files disk out outcome is)
+      → PlanAsks schedule files bytes due → Comes source files disk link out outcome due
+  refusal_due plan_fault.NoMemory read is asks = inr (hindered source files disk link out outcome is)
   refusal_due (plan_fault.Key key what) read is (inl (k, w, means, is_due)) =
       let same = one_fault _ _ (read.only (is_refused k w) means (is_no_memory key what)) in
       inl (is ∙ sym (ap plan_refusal same) ∙ sym is_due)
@@ -198,11 +201,11 @@ module _ (source : SourceTold) (files later : FilesTold) (disk : DiskTold) (out 
   plans_due :
       (plans : Plans) → later.health.faults ≡ files.health.faults → later.health_after ≡ files.health_after
       → later.before ≡ files.before → IsReadAs bytes (Ok plans) → ScheduleComes plans schedule later out outcome
-      → PlanAsks schedule files bytes due → Comes source files disk out outcome due
+      → PlanAsks schedule files bytes due → Comes source files disk link out outcome due
   plans_due plans since same before read comes (inl (key, what, means, is_due)) =
       absurd (no_fault plans _ (read.only (is_refused key what) means))
   plans_due plans since same before read comes (inr (meant, text, means, told, rest)) =
-      schedule_due source files later disk out plans schedule text outcome due since same
+      schedule_due source files later disk link out plans schedule text outcome due since same
       (ap (told_file schedule) before ∙ told) comes
       (subst (λ (p : Plans). IsScheduleDue p text due) (one_plan meant plans (read.only (Ok meant) means)) rest)
 
@@ -211,25 +214,25 @@ module _ (source : SourceTold) (files later : FilesTold) (disk : DiskTold) (out 
       (result : Result Plans ConfigFault) → later.health.faults ≡ files.health.faults
       → later.health_after ≡ files.health_after → later.before ≡ files.before → IsReadAs bytes result
       → FollowsPlan result schedule later out outcome → PlanAsks schedule files bytes due
-      → Comes source files disk out outcome due
+      → Comes source files disk link out outcome due
   bytes_due (Ok plans) since same before read comes asks = plans_due plans since same before read comes asks
   bytes_due (Err fault) since same before read (is, unread, left) asks = refusal_due fault read is asks
 
 pub replay_due :
-    (source : SourceTold) (files : FilesTold) (disk : DiskTold) (out : SinkTold) (plan schedule bytes : List ℕ)
+    (source : SourceTold) (files : FilesTold) (disk : DiskTold) (link : LinkTold) (out : SinkTold) (plan schedule bytes : List ℕ)
     (outcome due : Outcome)
     → told_file plan files.before ≡ Some bytes → ReplayComes plan schedule files out outcome
-    → IsPlanDue schedule files bytes due → Comes source files disk out outcome due
-replay_due source files disk out plan schedule bytes outcome due told (inl (refuses, untouched)) is_due =
+    → IsPlanDue schedule files bytes due → Comes source files disk link out outcome due
+replay_due source files disk link out plan schedule bytes outcome due told (inl (refuses, untouched)) is_due =
     go (refused role.Plan plan bytes files outcome told refuses) is_due
   where
     go : Refused role.Plan bytes files outcome → IsPlanDue schedule files bytes due
-        → Comes source files disk out outcome due
+        → Comes source files disk link out outcome due
     go (inl (longer, past)) (inl (_, is)) = inl (longer ∙ sym is)
     go (inl (longer, past)) (inr (within, asks)) = absurd (omega arith)
-    go (inr (inl (found, is, rose))) due_is = inr (failed source files disk out outcome found is rose)
-    go (inr (inr memory)) due_is = inr (hindered source files disk out outcome memory)
-replay_due source files disk out plan schedule bytes outcome due told (inr over) is_due = go is_due
+    go (inr (inl (found, is, rose))) due_is = inr (failed source files disk link out outcome found is rose)
+    go (inr (inr memory)) due_is = inr (hindered source files disk link out outcome memory)
+replay_due source files disk link out plan schedule bytes outcome due told (inr over) is_due = go is_due
   where
     first : FilesTold
     first = files_until files over.told over.health
@@ -237,9 +240,9 @@ replay_due source files disk out plan schedule bytes outcome due told (inr over)
     read : (bytes ≡ over.bytes) × (length bytes ≤ file_limit role.Plan)
     read = whole_is role.Plan plan bytes over.bytes first told over.read
 
-    go : IsPlanDue schedule files bytes due → Comes source files disk out outcome due
+    go : IsPlanDue schedule files bytes due → Comes source files disk link out outcome due
     go (inl (past, is_longer)) = let within = read.1 in absurd (omega arith)
     go (inr (within, asks)) =
-        bytes_due source files (files_since files over.told over.health) disk out over.bytes schedule outcome due
+        bytes_due source files (files_since files over.told over.health) disk link out over.bytes schedule outcome due
         over.rest.result over.read.cause.same refl over.read.same over.rest.is over.rest.follows
         (subst (λ (b : List ℕ). PlanAsks schedule files b due) read.0 asks)

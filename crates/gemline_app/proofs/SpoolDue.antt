@@ -8,6 +8,7 @@ use Rattle.spool_show.specs.Showing.{ShowsFile, ShowsSpool}
 use Rattle.spool_show.specs.Told.{DiskTold}
 use Rattle.spool_show.specs.declared.spool_end.SpoolEnd.{SpoolEnd}
 use Rattle.spool_show.specs.declared.spool_end.SpoolEnd.TheVariants as spool
+use Rattle.gemline_app.specs.LinkTold.{LinkTold}
 use Rattle.gemline_app.specs.Laws.{IsSpoolDue, outcome_of_break}
 use Rattle.gemline_app.specs.Spool.{EndedAs, outcome_of_spool}
 use Rattle.gemline_app.specs.declared.outcome.Outcome.{Outcome}
@@ -18,9 +19,9 @@ use Rattle.gemline_app.proofs.ReplayDue.{Comes}
 pub rose_of : {before now : ℕ} → RoseOnDisk before now → Rose before now
 rose_of rose = record { by_one = rose.by_one; later = rose.later }
 
-module _ (source : SourceTold) (files : FilesTold) (disk : DiskTold) (out : SinkTold) where
+module _ (source : SourceTold) (files : FilesTold) (disk : DiskTold) (link : LinkTold) (out : SinkTold) where
   made_due : (slots : ℕ) (ended : SpoolEnd) → FormatsFile slots disk out ended
-      → Comes source files disk out (outcome_of_spool ended) Done
+      → Comes source files disk link out (outcome_of_spool ended) Done
   made_due slots spool.Done was = inl refl
   made_due slots (spool.NotSpool place) was = absurd was.made.1
   made_due slots spool.DiskFailed was = inr (rose_of was.count)
@@ -28,14 +29,14 @@ module _ (source : SourceTold) (files : FilesTold) (disk : DiskTold) (out : Sink
 
   pub formatted_due : (name : List ℕ) (slots : ℕ) (outcome due : Outcome)
       → EndedAs (FormatsSpool name slots disk out) outcome → due ≡ Done
-      → Comes source files disk out outcome due
+      → Comes source files disk link out outcome due
   formatted_due name slots outcome due was is =
-      subst (Comes source files disk out outcome) (sym is)
-      (subst (λ (o : Outcome). Comes source files disk out o Done) (sym was.outcome_is)
+      subst (Comes source files disk link out outcome) (sym is)
+      (subst (λ (o : Outcome). Comes source files disk link out o Done) (sym was.outcome_is)
       (made_due slots was.ended was.ends.formatted))
 
   shown_due : (ended : SpoolEnd) (due : Outcome) → ShowsFile disk out ended → IsSpoolDue disk due
-      → Comes source files disk out (outcome_of_spool ended) due
+      → Comes source files disk link out (outcome_of_spool ended) due
   shown_due spool.Done due was (s, told, is) = inl (sym (is ∙ ap outcome_of_break (was.written.0 s told)))
   shown_due (spool.NotSpool place) due was (s, told, is) =
       inl (sym (is ∙ ap outcome_of_break (was.written.1 s told).0))
@@ -44,7 +45,7 @@ module _ (source : SourceTold) (files : FilesTold) (disk : DiskTold) (out : Sink
 
   pub listed_due : (name : List ℕ) (outcome due : Outcome) → EndedAs (ShowsSpool name disk out) outcome
       → IsSpoolDue disk due
-      → Comes source files disk out outcome due
+      → Comes source files disk link out outcome due
   listed_due name outcome due was is =
-      subst (λ (o : Outcome). Comes source files disk out o due) (sym was.outcome_is)
+      subst (λ (o : Outcome). Comes source files disk link out o due) (sym was.outcome_is)
       (shown_due was.ended due was.ends.shown is)

@@ -4,6 +4,7 @@ use Rattle.command_words.specs.Asked.{Show}
 use Rattle.command_words.specs.Words.{asked_of}
 use Rattle.gl_base.specs.Told.{FilesTold, SinkTold, SourceTold}
 use Rattle.spool_show.specs.Told.{DiskTold}
+use Rattle.gemline_app.specs.LinkTold.{LinkTold}
 use Rattle.gemline_app.specs.Gemline.{IsRun}
 
 abbrev pub first_frame : List ℕ
@@ -16,8 +17,8 @@ first_lines =
 -- over objects with room that do not fail, its lines and status 0, but for want of memory
 abbrev pub ShowsTheFirst : Type 0
 ShowsTheFirst =
-    (words : List (List ℕ)) (source : SourceTold) (files : FilesTold) (disk : DiskTold)
+    (words : List (List ℕ)) (source : SourceTold) (files : FilesTold) (disk : DiskTold) (link : LinkTold)
     (out err : SinkTold) (status : ℕ)
-    → IsRun words source files disk out err status → asked_of words ≡ Some Show
+    → IsRun words source files disk link out err status → asked_of words ≡ Some Show
     → source.before ≡ Some first_frame → source.health.reliable ≡ true → out.before ≡ Some [] → 88 ≤ out.health.room
     → (status ≡ 71) ⊎ ((status ≡ 0) × (out.after ≡ Some first_lines))

@@ -1,11 +1,9 @@
 -- What a run of the program is, by its words and what the outside tells (this profile).
 use Rattle.std.specs.Prelude.{◌≡◌, ◌⊎◌, ℕ, List, Option, Some, None, Result, Ok, Err}
-use Rattle.command_words.specs.Asked.{Asked, Format, Replay, Show, Spell, SpellHex, Spool}
+use Rattle.command_words.specs.Asked.{Asked, Format, Host, Replay, Show, Spell, SpellHex, Spool}
 use Rattle.command_words.specs.Words.{asked_of}
-use Rattle.gl_base.specs.Input.{HasInputCause, ReadsAll}
 use Rattle.gl_base.specs.Sending.{Sends, WroteShort, WroteText}
 use Rattle.gl_base.specs.Told.{FilesTold, SinkTold, SourceTold}
-use Rattle.gl_base.specs.declared.input.Input.{Input}
 use Rattle.gl_base.specs.declared.input.Input.TheVariants as input
 use Rattle.gl_base.specs.declared.copying.SinkAnswer.{SinkAnswer}
 use Rattle.line_show.specs.Show.{HasStopCause, Shows}
@@ -21,6 +19,9 @@ use Rattle.spool_show.specs.Formatting.{FormatsSpool}
 use Rattle.spool_show.specs.Showing.{ShowsSpool}
 use Rattle.spool_show.specs.Told.{DiskTold}
 use Rattle.gemline_app.specs.HexInput.{HexMeans, IsHexBreak}
+use Rattle.gemline_app.specs.Host.{HostComes}
+use Rattle.gemline_app.specs.Inputs.{InputRefuses, IsUnread, WasRead}
+use Rattle.gemline_app.specs.LinkTold.{IsUncalled, LinkTold}
 use Rattle.gemline_app.specs.Outcome.{line_of, name_of, outcome_of_show, status_of}
 use Rattle.gemline_app.specs.Spelling.{HexSpells, spelled_line, text_line, text_place}
 use Rattle.gemline_app.specs.Replay.{ReplayComes}
@@ -29,16 +30,6 @@ use Rattle.gemline_app.specs.Words.{capture_limit, item_limit}
 use Rattle.gemline_app.specs.Written.{AreUnread, IsUntouched}
 use Rattle.gemline_app.specs.declared.outcome.Outcome.{Outcome}
 use Rattle.gemline_app.specs.declared.outcome.Outcome.TheVariants.{Done, Usage, BadText, BadHex, BadItem, Longer, ReadFailed, NoMemory, WriteFailed}
-
--- nothing was read
-pub record IsUnread (source : SourceTold) : Type 0 where
-  pub left : source.after ≡ source.before
-  pub health : source.health_after ≡ source.health
-
--- reading it to its end within a limit came to this
-pub record WasRead (limit : ℕ) (source : SourceTold) (answer : Input) : Type 0 where
-  pub bytes : ReadsAll limit source.before source.after answer
-  pub cause : HasInputCause source.health source.health_after answer
 
 -- the capture was shown, and showing it came to this
 pub record WasShown (capture : List ℕ) (out : SinkTold) (outcome : Outcome) : Type 0 where
@@ -100,18 +91,6 @@ abbrev pub WasPrinted : List ℕ → SinkTold → Outcome → Type 0
 WasPrinted digits out outcome =
     (answer : Result (List ℕ) Outcome) × HexAnswers digits answer × WasAnswered answer out outcome
 
--- why an input was not read whole
-abbrev pub InputRefuses : ℕ → SourceTold → Outcome → Type 0
-InputRefuses limit source Longer = WasRead limit source input.Longer
-InputRefuses limit source ReadFailed = WasRead limit source input.Failed
-InputRefuses limit source NoMemory = WasRead limit source input.NoMemory
-InputRefuses limit source _ = ⊥
-
--- an input's bytes, or why there are none
-abbrev pub InputAnswers : ℕ → SourceTold → Result (List ℕ) Outcome → Type 0
-InputAnswers limit source (Ok bytes) = WasRead limit source (input.Whole bytes)
-InputAnswers limit source (Err refusal) = InputRefuses limit source refusal
-
 -- what a command over the input came to: this, of the whole of it, or it was not read whole and nothing was written
 abbrev pub ComesOnInput : ℕ → (List ℕ → SinkTold → Outcome → Type 0) → SourceTold → SinkTold → Outcome → Type 0
 ComesOnInput limit Was source out outcome =
@@ -119,43 +98,46 @@ ComesOnInput limit Was source out outcome =
     ⊎ ((bytes : List ℕ) × WasRead limit source (input.Whole bytes) × Was bytes out outcome)
 
 -- the words are refused: nothing is read and nothing written
-pub record IsRefused (refusal : Outcome) (source : SourceTold) (files : FilesTold) (disk : DiskTold) (out : SinkTold)
+pub record IsRefused (refusal : Outcome) (source : SourceTold) (files : FilesTold) (disk : DiskTold) (link : LinkTold) (out : SinkTold)
     (outcome : Outcome) : Type 0 where
   pub refused : outcome ≡ refusal
   pub input : IsUnread source
   pub unread : AreUnread files
   pub unused : IsUnused disk
+  pub uncalled : IsUncalled link
   pub written : IsUntouched out
 
 -- what each outcome comes from: the command of the words, if they are one's, and what it reads
-abbrev pub ComesFrom : Option Asked → SourceTold → FilesTold → DiskTold → SinkTold → Outcome → Type 0
-ComesFrom None source files disk out outcome = IsRefused Usage source files disk out outcome
-ComesFrom (Some Show) source files disk out outcome =
-    AreUnread files × IsUnused disk × ComesOnInput capture_limit WasShown source out outcome
-ComesFrom (Some Spell) source files disk out outcome =
-    AreUnread files × IsUnused disk × ComesOnInput item_limit WasSpelled source out outcome
-ComesFrom (Some SpellHex) source files disk out outcome =
-    AreUnread files × IsUnused disk × ComesOnInput item_limit WasPrinted source out outcome
-ComesFrom (Some (Replay plan schedule)) source files disk out outcome =
-    IsUnread source × IsUnused disk × ReplayComes plan schedule files out outcome
-ComesFrom (Some (Format spool slots)) source files disk out outcome =
-    IsUnread source × AreUnread files × EndedAs (FormatsSpool spool slots disk out) outcome
-ComesFrom (Some (Spool spool)) source files disk out outcome =
-    IsUnread source × AreUnread files × EndedAs (ShowsSpool spool disk out) outcome
+abbrev pub ComesFrom : Option Asked → SourceTold → FilesTold → DiskTold → LinkTold → SinkTold → Outcome → Type 0
+ComesFrom None source files disk link out outcome = IsRefused Usage source files disk link out outcome
+ComesFrom (Some Show) source files disk link out outcome =
+    AreUnread files × IsUnused disk × IsUncalled link × ComesOnInput capture_limit WasShown source out outcome
+ComesFrom (Some Spell) source files disk link out outcome =
+    AreUnread files × IsUnused disk × IsUncalled link × ComesOnInput item_limit WasSpelled source out outcome
+ComesFrom (Some SpellHex) source files disk link out outcome =
+    AreUnread files × IsUnused disk × IsUncalled link × ComesOnInput item_limit WasPrinted source out outcome
+ComesFrom (Some (Replay plan schedule)) source files disk link out outcome =
+    IsUnread source × IsUnused disk × IsUncalled link × ReplayComes plan schedule files out outcome
+ComesFrom (Some (Host plan address polls)) source files disk link out outcome =
+    IsUnused disk × HostComes plan polls source files link out outcome
+ComesFrom (Some (Format spool slots)) source files disk link out outcome =
+    IsUnread source × AreUnread files × IsUncalled link × EndedAs (FormatsSpool spool slots disk out) outcome
+ComesFrom (Some (Spool spool)) source files disk link out outcome =
+    IsUnread source × AreUnread files × IsUncalled link × EndedAs (ShowsSpool spool disk out) outcome
 
 -- what a run comes from: the words, unless memory runs out over them
-abbrev pub RunComes : Option Asked → SourceTold → FilesTold → DiskTold → SinkTold → Outcome → Type 0
-RunComes asked source files disk out outcome =
-    IsRefused NoMemory source files disk out outcome ⊎ ComesFrom asked source files disk out outcome
+abbrev pub RunComes : Option Asked → SourceTold → FilesTold → DiskTold → LinkTold → SinkTold → Outcome → Type 0
+RunComes asked source files disk link out outcome =
+    IsRefused NoMemory source files disk link out outcome ⊎ ComesFrom asked source files disk link out outcome
 
 -- the bytes went to a sink, all of them or, where a write failed, a part
 abbrev pub WereSent : List ℕ → SinkTold → Type 0
 WereSent bytes err = (answer : SinkAnswer) × Sends err bytes answer
 
 -- a run: its outcome, which comes only from its cause and gives the status and the line on the sink of errors
-pub record IsRun (words : List (List ℕ)) (source : SourceTold) (files : FilesTold) (disk : DiskTold)
+pub record IsRun (words : List (List ℕ)) (source : SourceTold) (files : FilesTold) (disk : DiskTold) (link : LinkTold)
     (out err : SinkTold) (status : ℕ) : Type 0 where
   pub outcome : Outcome
   pub status_is : status ≡ status_of outcome
-  pub comes : RunComes (asked_of words) source files disk out outcome
+  pub comes : RunComes (asked_of words) source files disk link out outcome
   pub line : WereSent (line_of (name_of (asked_of words) outcome) outcome) err

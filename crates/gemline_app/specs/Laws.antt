@@ -1,6 +1,6 @@
 -- What holds of all runs.
 use Rattle.std.specs.Prelude.{◌≡◌, ◌<◌, ◌≤◌, ◌⊎◌, ℕ, Bool, true, false, List, [], length, Option, Some, None, Ok}
-use Rattle.command_words.specs.Asked.{Asked, Format, Replay, Show, Spell, SpellHex, Spool}
+use Rattle.command_words.specs.Asked.{Asked, Format, Host, Replay, Show, Spell, SpellHex, Spool}
 use Rattle.command_words.specs.Words.{asked_of}
 use Rattle.equipment_tables.specs.declared.plan.Plans.{Plans}
 use Rattle.gem_config.specs.Plans.{Means}
@@ -10,8 +10,14 @@ use Rattle.gl_base.specs.Faults.{Rose}
 use Rattle.gl_base.specs.Sink.{with_bytes}
 use Rattle.gl_base.specs.Told.{FilesTold, SinkTold, SourceTold}
 use Rattle.gl_base.specs.Files.{told_file}
+use Rattle.gl_base.specs.Link.{LinkContents}
+use Rattle.gl_base.specs.declared.side.Side.TheVariants as side
 use Rattle.line_schedule.specs.Schedule.{IsSchedule, LaterAt, OutsideAt}
+use Rattle.line_schedule.specs.Script.{IsScript, OutsideScriptAt}
 use Rattle.line_schedule.specs.declared.schedule.Schedule.{Schedule}
+use Rattle.line_end.specs.declared.plan.HostPlan.{HostPlan}
+use Rattle.end_run.specs.Script.{ScriptLine}
+use Rattle.end_run.specs.declared.ending.Ending.{Ending as RunEnding}
 use Rattle.end_pair.specs.declared.answers.WorldStep.{WorldStep}
 use Rattle.end_pair.specs.declared.answers.WorldStep.TheVariants as went
 use Rattle.line_world.specs.Run.{went_of}
@@ -29,14 +35,16 @@ use Rattle.secs_text.specs.declared.text_fault.TextFault.{TextFault}
 use Rattle.disk_base.specs.Story.{Story}
 use Rattle.spool_show.specs.Told.{DiskTold}
 use Rattle.spool_slots.specs.File.{spool_break}
+use Rattle.gemline_app.specs.LinkTold.{LinkTold}
 use Rattle.gemline_app.specs.Gemline.{IsRun}
 use Rattle.gemline_app.specs.HexInput.{HexMeans, IsHexBreak}
+use Rattle.gemline_app.specs.Host.{host_run, outcome_of_ending}
 use Rattle.gemline_app.specs.Outcome.{outcome_of_show}
 use Rattle.gemline_app.specs.Spelling.{HexSpells, spelled_line, text_line, text_place}
-use Rattle.gemline_app.specs.Words.{capture_limit, file_limit, item_limit}
+use Rattle.gemline_app.specs.Words.{capture_limit, file_limit, item_limit, script_limit}
 use Rattle.gemline_app.specs.declared.outcome.FileRole.TheVariants as role
 use Rattle.gemline_app.specs.declared.outcome.Outcome.{Outcome}
-use Rattle.gemline_app.specs.declared.outcome.Outcome.TheVariants.{Done, Usage, BadText, BadHex, BadItem, BadLine, Longer, FileLonger, FileFailed, ReadFailed, NoMemory, WriteFailed, TurnsSpent, NumbersSpent, Slip, DiskFailed, NotSpool, BadPlan, LineNotBuilt}
+use Rattle.gemline_app.specs.declared.outcome.Outcome.TheVariants.{Done, Usage, BadText, BadHex, BadItem, BadLine, Longer, FileLonger, FileFailed, ReadFailed, NoMemory, WriteFailed, TurnsSpent, NumbersSpent, Slip, DiskFailed, NotSpool, BadPlan, LineNotBuilt, BadScript, LinkFailed}
 
 -- what a capture asks for: its pieces, and the outcome of how they end
 abbrev pub CaptureAsks : List ℕ → Outcome → Type 0
@@ -107,6 +115,32 @@ abbrev pub IsReplayDue : List ℕ → List ℕ → FilesTold → Outcome → Typ
 IsReplayDue plan schedule files due =
     (bytes : List ℕ) × (told_file plan files.before ≡ Some bytes) × IsPlanDue schedule files bytes due
 
+-- what lines of a script ask for, by the plan of the host and the answers that a link tells to come: how its run ends
+abbrev pub LinesAsk : HostPlan → ℕ → LinkTold → List ScriptLine → Outcome → Type 0
+LinesAsk plan polls link lines due =
+    (contents : LinkContents) × (how : RunEnding) × (link.before ≡ Some contents)
+    × ((host_run plan lines polls contents.left).ended ≡ Some how) × (due ≡ outcome_of_ending how)
+
+-- what the text of a script asks for: how its run ends, or its first line that is none
+abbrev pub ScriptAsks : HostPlan → ℕ → LinkTold → List ℕ → Outcome → Type 0
+ScriptAsks plan polls link text due =
+    ((lines : List ScriptLine) × IsScript side.Host text lines × LinesAsk plan polls link lines due)
+    ⊎ ((number : ℕ) × OutsideScriptAt side.Host text number × (due ≡ BadScript number))
+
+-- what the text of a plan asks for: its refusal, or what the script asks for over the plans that it means
+abbrev pub HostAsks : ℕ → SourceTold → LinkTold → List ℕ → Outcome → Type 0
+HostAsks polls source link plan due =
+    ((key : List ℕ) × (what : ConfigWhat) × Means plan (refused key what) × (due ≡ BadPlan key what))
+    ⊎ ((plans : Plans) × Means plan (Ok plans)
+    × IsInputDue script_limit (ScriptAsks plans.host polls link) source due)
+
+-- the outcome that is due of a host's plan, where it is told, and of its script and its link
+abbrev pub IsHostDue : List ℕ → ℕ → SourceTold → FilesTold → LinkTold → Outcome → Type 0
+IsHostDue plan polls source files link due =
+    (bytes : List ℕ) × (told_file plan files.before ≡ Some bytes)
+    × (((file_limit role.Plan < length bytes) × (due ≡ FileLonger role.Plan))
+    ⊎ ((length bytes ≤ file_limit role.Plan) × HostAsks polls source link bytes due))
+
 -- what the bytes of a spool file ask for: its list, or the first place at which they break
 abbrev pub outcome_of_break : Option ℕ → Outcome
 outcome_of_break None = Done
@@ -118,23 +152,25 @@ IsSpoolDue disk due = (s : Story) × (disk.before ≡ Some s) × (due ≡ outcom
 
 -- the outcome that is due of words: usage where they are no command's, else what the command's input, files or disk ask
 -- for
-abbrev pub IsDue : Option Asked → SourceTold → FilesTold → DiskTold → Outcome → Type 0
-IsDue None source files disk due = due ≡ Usage
-IsDue (Some Show) source files disk due = IsInputDue capture_limit CaptureAsks source due
-IsDue (Some Spell) source files disk due = IsInputDue item_limit TextAsks source due
-IsDue (Some SpellHex) source files disk due = IsInputDue item_limit HexAsks source due
-IsDue (Some (Replay plan schedule)) source files disk due = IsReplayDue plan schedule files due
-IsDue (Some (Format spool slots)) source files disk due = due ≡ Done
-IsDue (Some (Spool spool)) source files disk due = IsSpoolDue disk due
+abbrev pub IsDue : Option Asked → SourceTold → FilesTold → DiskTold → LinkTold → Outcome → Type 0
+IsDue None source files disk link due = due ≡ Usage
+IsDue (Some Show) source files disk link due = IsInputDue capture_limit CaptureAsks source due
+IsDue (Some Spell) source files disk link due = IsInputDue item_limit TextAsks source due
+IsDue (Some SpellHex) source files disk link due = IsInputDue item_limit HexAsks source due
+IsDue (Some (Replay plan schedule)) source files disk link due = IsReplayDue plan schedule files due
+IsDue (Some (Host plan address polls)) source files disk link due = IsHostDue plan polls source files link due
+IsDue (Some (Format spool slots)) source files disk link due = due ≡ Done
+IsDue (Some (Spool spool)) source files disk link due = IsSpoolDue disk due
 
 -- an outcome that may come in place of the one that is due: memory ran out, or a count of faults rose
-abbrev pub Hinders : SourceTold → FilesTold → DiskTold → SinkTold → Outcome → Type 0
-Hinders source files disk out NoMemory = Unit {0}
-Hinders source files disk out ReadFailed = Rose source.health.faults source.health_after.faults
-Hinders source files disk out (FileFailed which) = Rose files.health.faults files.health_after.faults
-Hinders source files disk out DiskFailed = Rose disk.faults disk.faults_after
-Hinders source files disk out WriteFailed = Rose out.health.faults out.health_after.faults
-Hinders source files disk out _ = ⊥
+abbrev pub Hinders : SourceTold → FilesTold → DiskTold → LinkTold → SinkTold → Outcome → Type 0
+Hinders source files disk link out NoMemory = Unit {0}
+Hinders source files disk link out ReadFailed = Rose source.health.faults source.health_after.faults
+Hinders source files disk link out (FileFailed which) = Rose files.health.faults files.health_after.faults
+Hinders source files disk link out DiskFailed = Rose disk.faults disk.faults_after
+Hinders source files disk link out LinkFailed = Rose link.health.faults link.health_after.faults
+Hinders source files disk link out WriteFailed = Rose out.health.faults out.health_after.faults
+Hinders source files disk link out _ = ⊥
 
 -- which object's fault an outcome is
 abbrev pub is_read_fault : Outcome → Bool
@@ -149,6 +185,10 @@ abbrev pub is_disk_fault : Outcome → Bool
 is_disk_fault DiskFailed = true
 is_disk_fault _ = false
 
+abbrev pub is_link_fault : Outcome → Bool
+is_link_fault LinkFailed = true
+is_link_fault _ = false
+
 abbrev pub is_write_fault : Outcome → Bool
 is_write_fault WriteFailed = true
 is_write_fault _ = false
@@ -158,35 +198,62 @@ abbrev pub IsCounted : Bool → ℕ → ℕ → Type 0
 IsCounted true before now = Rose before now
 IsCounted false before now = now ≡ before
 
--- each fault of the input, the files, the disk and the output is the outcome
-pub record CountsFaults (source : SourceTold) (files : FilesTold) (disk : DiskTold) (out : SinkTold)
+-- each fault of the input, the files, the disk, the link and the output is the outcome
+pub record CountsFaults (source : SourceTold) (files : FilesTold) (disk : DiskTold) (link : LinkTold) (out : SinkTold)
     (outcome : Outcome) : Type 0 where
   pub read : IsCounted (is_read_fault outcome) source.health.faults source.health_after.faults
   pub file : IsCounted (is_file_fault outcome) files.health.faults files.health_after.faults
   pub on_disk : IsCounted (is_disk_fault outcome) disk.faults disk.faults_after
+  pub on_link : IsCounted (is_link_fault outcome) link.health.faults link.health_after.faults
   pub write : IsCounted (is_write_fault outcome) out.health.faults out.health_after.faults
 
 abbrev pub FaultsAreTold : Type 0
 FaultsAreTold =
-    (words : List (List ℕ)) (source : SourceTold) (files : FilesTold) (disk : DiskTold)
+    (words : List (List ℕ)) (source : SourceTold) (files : FilesTold) (disk : DiskTold) (link : LinkTold)
     (out err : SinkTold) (status : ℕ)
-    → (run : IsRun words source files disk out err status) → CountsFaults source files disk out run.outcome
+    → (run : IsRun words source files disk link out err status) → CountsFaults source files disk link out run.outcome
 
 -- the outcome that is due comes, unless one hinders it
 abbrev pub OutcomesAreDue : Type 0
 OutcomesAreDue =
-    (words : List (List ℕ)) (source : SourceTold) (files : FilesTold) (disk : DiskTold)
+    (words : List (List ℕ)) (source : SourceTold) (files : FilesTold) (disk : DiskTold) (link : LinkTold)
     (out err : SinkTold) (status : ℕ) (due : Outcome)
-    → (run : IsRun words source files disk out err status) → IsDue (asked_of words) source files disk due
-    → (run.outcome ≡ due) ⊎ Hinders source files disk out run.outcome
+    → (run : IsRun words source files disk link out err status) → IsDue (asked_of words) source files disk link due
+    → (run.outcome ≡ due) ⊎ Hinders source files disk link out run.outcome
+
+-- a host's plan and script are told and within their limits, and mean these plans and lines
+pub record HostIsGiven (plan : List ℕ) (source : SourceTold) (files : FilesTold) : Type 0 where
+  pub bytes : List ℕ
+  pub plan_told : told_file plan files.before ≡ Some bytes
+  pub plan_within : length bytes ≤ file_limit role.Plan
+  pub plans : Plans
+  pub means : Means bytes (Ok plans)
+  pub text : List ℕ
+  pub script_told : source.before ≡ Some text
+  pub script_within : length text ≤ script_limit
+  pub lines : List ScriptLine
+  pub is : IsScript side.Host text lines
+
+-- its script or its peer has ended it, or its polls or its numbers are spent
+abbrev pub AnswersHost : Outcome → Type 0
+AnswersHost outcome = (outcome ≡ Done) ⊎ ((outcome ≡ TurnsSpent) ⊎ (outcome ≡ NumbersSpent))
+
+-- over any link such a host is answered so, unless memory runs out or a count of faults rises
+abbrev pub HostsAreAnswered : Type 0
+HostsAreAnswered =
+    (words : List (List ℕ)) (source : SourceTold) (files : FilesTold) (disk : DiskTold) (link : LinkTold)
+    (out err : SinkTold) (status : ℕ) (plan address : List ℕ) (polls : ℕ)
+    → (run : IsRun words source files disk link out err status) → asked_of words ≡ Some (Host plan address polls)
+    → HostIsGiven plan source files
+    → AnswersHost run.outcome ⊎ Hinders source files disk link out run.outcome
 
 -- over objects that do not fail, `show` of a capture without a break ends with status 0 and its lines, but for want of
 -- memory
 abbrev pub ShowsWholeCaptures : Type 0
 ShowsWholeCaptures =
-    (words : List (List ℕ)) (source : SourceTold) (files : FilesTold) (disk : DiskTold)
+    (words : List (List ℕ)) (source : SourceTold) (files : FilesTold) (disk : DiskTold) (link : LinkTold)
     (out err : SinkTold) (status : ℕ)
-    → IsRun words source files disk out err status → asked_of words ≡ Some Show
+    → IsRun words source files disk link out err status → asked_of words ≡ Some Show
     → (capture : List ℕ) (pieces : List Piece) → source.before ≡ Some capture → length capture ≤ capture_limit
     → source.health.reliable ≡ true → Reads capture pieces Whole → length (lines_of pieces) ≤ out.health.room
     → (status ≡ 71) ⊎ ((status ≡ 0) × (out.after ≡ with_bytes out.before (lines_of pieces)))
@@ -211,9 +278,10 @@ pub record WroteSpelling (text line : List ℕ) : Type 0 where
   pub source : SourceTold
   pub files : FilesTold
   pub disk : DiskTold
+  pub link : LinkTold
   pub out : SinkTold
   pub err : SinkTold
-  pub run : IsRun words source files disk out err 0
+  pub run : IsRun words source files disk link out err 0
   pub asks : asked_of words ≡ Some Spell
   pub told : source.before ≡ Some text
   pub empty : out.before ≡ Some []
@@ -228,8 +296,8 @@ pub record ReadsBack (item : Item) (out : SinkTold) (outcome : Outcome) : Type 0
 abbrev pub SpelledReadsBack : Type 0
 SpelledReadsBack =
     (text line : List ℕ) (item : Item) → ReadsAs text item → WroteSpelling text line → length line ≤ item_limit
-    → (words : List (List ℕ)) (source : SourceTold) (files : FilesTold) (disk : DiskTold)
+    → (words : List (List ℕ)) (source : SourceTold) (files : FilesTold) (disk : DiskTold) (link : LinkTold)
     (out err : SinkTold) (status : ℕ)
-    → (run : IsRun words source files disk out err status) → asked_of words ≡ Some SpellHex
+    → (run : IsRun words source files disk link out err status) → asked_of words ≡ Some SpellHex
     → source.before ≡ Some line
-    → ReadsBack item out run.outcome ⊎ Hinders source files disk out run.outcome
+    → ReadsBack item out run.outcome ⊎ Hinders source files disk link out run.outcome

@@ -2,7 +2,10 @@ pub mod FirstExchange
 pub mod Gemline
 pub mod HexInput
 pub mod HexReading
+pub mod Host
+pub mod Inputs
 pub mod Laws
+pub mod LinkTold
 pub mod Outcome
 pub mod Replay
 pub mod Spelling

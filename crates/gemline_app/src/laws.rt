@@ -1,5 +1,5 @@
-ghost use Rattle.gemline_app.specs.Laws.{FaultsAreTold, HexMeansOne, HexSpellsOne, OutcomesAreDue, ShowsWholeCaptures};
-ghost use Rattle.gemline_app.specs.Laws.{SpelledIsHex, SpelledReadsBack};
+ghost use Rattle.gemline_app.specs.Laws.{FaultsAreTold, HexMeansOne, HexSpellsOne, HostsAreAnswered, OutcomesAreDue};
+ghost use Rattle.gemline_app.specs.Laws.{ShowsWholeCaptures, SpelledIsHex, SpelledReadsBack};
 
 /// The outcome that is due of the words and of what they have read comes exactly there, unless memory runs out or a
 /// count of faults rises: usage, an input or a file that is too long, its first fault, the end of its work.
@@ -7,10 +7,16 @@ pub fn outcomes_are_due()
     ensures { OutcomesAreDue }
 {}
 
-/// No fault is passed over, but one of the errors: the count of the input, of the files, of the disk and of the output
-/// rises where the outcome is its fault, by one, and stands otherwise.
+/// No fault is passed over, but one of the errors: the count of the input, of the files, of the disk, of the link and of
+/// the output rises where the outcome is its fault, by one, and stands otherwise.
 pub fn faults_are_told()
     ensures { FaultsAreTold }
+{}
+
+/// A host whose plan and script mean something ends by its script, by its peer, or as its polls or its numbers are spent,
+/// over any link, unless memory runs out or a count of faults rises.
+pub fn hosts_are_answered()
+    ensures { HostsAreAnswered }
 {}
 
 /// Over objects that do not fail, `show` of a capture without a break ends with status 0 and all its

@@ -2,6 +2,8 @@
 #![tactic(auto)]
 
 mod hex_input;
+mod host;
+mod inputs;
 mod laws;
 mod outcome;
 mod replay;
@@ -9,7 +11,8 @@ mod run;
 mod spelling;
 
 pub use laws::{
-    faults_are_told, hex_means_one_item, outcomes_are_due, shows_whole_captures, spelled_reads_back,
+    faults_are_told, hex_means_one_item, hosts_are_answered, outcomes_are_due,
+    shows_whole_captures, spelled_reads_back,
 };
 pub use outcome::{FileRole, Outcome};
 pub use run::{gemline, report};

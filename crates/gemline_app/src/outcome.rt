@@ -8,7 +8,7 @@ use line_show::{Break, Line, put_fault};
 use secs_items::ItemFault;
 use short_text::{put, put_hex, put_number};
 
-/// A file that `replay` reads.
+/// A file that a command reads.
 #[derive(Clone, Copy, Debug, PartialEq, Eq)]
 pub enum FileRole {
     Plan,
@@ -58,6 +58,10 @@ pub enum Outcome {
     NotSpool { at: u64 },
     /// The line of this number, from 1, is of a kind that isn't built yet.
     LineNotBuilt { number: u32 },
+    /// The line of this number, from 1, is none of a script.
+    BadScript { number: u32 },
+    /// The link failed.
+    LinkFailed,
 }
 
 impl Outcome {
@@ -76,10 +80,12 @@ impl Outcome {
             | Outcome::BadItem(_)
             | Outcome::BadPlan { .. }
             | Outcome::BadLine { .. }
+            | Outcome::BadScript { .. }
             | Outcome::Longer
             | Outcome::FileLonger(_) => 65,
             Outcome::FileFailed(_) => 66,
             Outcome::ReadFailed => 68,
+            Outcome::LinkFailed => 69,
             Outcome::NoMemory => 71,
             Outcome::WriteFailed => 73,
             Outcome::TurnsSpent => 75,
@@ -115,10 +121,14 @@ impl Outcome {
             Outcome::BadLine { number } => {
                 put_place(&mut line, b"gemline: 65 schedule line ", u64::from(*number));
             }
+            Outcome::BadScript { number } => {
+                put_place(&mut line, b"gemline: 65 script line ", u64::from(*number));
+            }
             Outcome::Longer => put(&mut line, b"gemline: 65 input longer\n"),
             Outcome::FileLonger(_) => put(&mut line, b"gemline: 65 file "),
             Outcome::FileFailed(_) => put(&mut line, b"gemline: 66 file "),
             Outcome::ReadFailed => put(&mut line, b"gemline: 68 read\n"),
+            Outcome::LinkFailed => put(&mut line, b"gemline: 69 link\n"),
             Outcome::NoMemory => put(&mut line, b"gemline: 71 memory\n"),
             Outcome::WriteFailed => put(&mut line, b"gemline: 73 write\n"),
             Outcome::TurnsSpent => put(&mut line, b"gemline: 75 turns\n"),

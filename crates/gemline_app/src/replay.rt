@@ -1,15 +1,15 @@
 //! A schedule carried out over a tool and its host, as a plan says.
 
-ghost use Rattle.std.specs.Prelude.{◌≡◌, List, Ok};
+ghost use Rattle.std.specs.Prelude.{◌≡◌};
 ghost use Rattle.equipment_tables.specs.Plan.{PlansFit};
-ghost use Rattle.gemline_app.specs.Replay.{FileAnswers, PlanComes, ReplayComes, ScheduleComes, TextRuns};
-ghost use Rattle.gemline_app.specs.Replay.{outcome_of_end, plan_refusal, schedule_refusal};
-ghost use Rattle.gemline_app.specs.Words.{file_limit};
+ghost use Rattle.gemline_app.specs.Replay.{PlanComes, ReplayComes, ScheduleComes, TextRuns, outcome_of_end};
+ghost use Rattle.gemline_app.specs.Replay.{schedule_refusal};
 ghost use Rattle.gl_base.specs.Told.{files_told, sink_told};
 
+use crate::inputs::{plan_refusal, whole_file};
 use crate::outcome::{FileRole, Outcome};
-use gem_config::{ConfigFault, read_plans};
-use gl_base::{FileAnswer, Files, Row, Sink};
+use gem_config::read_plans;
+use gl_base::{Files, Sink};
 use line_schedule::{ScheduleFault, read_schedule};
 use line_world::{Plans, RunEnd, run};
 use std::alloc::Global;
@@ -72,35 +72,6 @@ fn replay_over<F: Files, W: Sink>(
     }
 }
 
-// The bytes of a file, or why there are none.
-fn whole_file<F: Files>(
-    alloc: Global,
-    which: FileRole,
-    name: &str,
-    files: &mut F,
-) -> Result<Row<u8>, Outcome>
-    ensures { FileAnswers which name.now
-        (files_told F.Files files.old files.new)
-        result }
-{
-    match files.read_file(alloc, name, file_limit(which)) {
-        FileAnswer::Whole(bytes) => Ok(bytes),
-        FileAnswer::Longer => Err(Outcome::FileLonger(which)),
-        FileAnswer::Failed => Err(Outcome::FileFailed(which)),
-        FileAnswer::NoMemory => Err(Outcome::NoMemory),
-    }
-}
-
-// How long a file may be, in bytes.
-fn file_limit(which: FileRole) -> usize
-    ensures { result ≡ file_limit which }
-{
-    match which {
-        FileRole::Plan => 1024 * 1024,
-        FileRole::Schedule => 4 * 1024 * 1024,
-    }
-}
-
 // Writes the trace of the schedule that a text means.
 fn run_text<W: Sink>(alloc: Global, plans: &Plans, text: &[u8], out: &mut W) -> Outcome
     requires { PlansFit plans.now }
@@ -127,16 +98,6 @@ fn outcome_of_end(end: RunEnd) -> Outcome
         RunEnd::NumbersSpent => Outcome::NumbersSpent,
         RunEnd::NoMemory => Outcome::NoMemory,
         RunEnd::WriteFailed => Outcome::WriteFailed,
-    }
-}
-
-// The refusal of a plan.
-fn plan_refusal(fault: ConfigFault) -> Outcome
-    ensures { result ≡ plan_refusal fault }
-{
-    match fault {
-        ConfigFault::Key { key, what } => Outcome::BadPlan { key, what },
-        ConfigFault::NoMemory => Outcome::NoMemory,
     }
 }
 

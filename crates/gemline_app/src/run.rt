@@ -1,6 +1,7 @@
-ghost use Rattle.std.specs.Prelude.{◌≡◌, ◌++◌, ◌≤◌, None, Some, map, option_map, string_bytes};
-ghost use Rattle.command_words.specs.Asked.{IsInRange, Replay, asked_by};
-ghost use Rattle.gemline_app.specs.Gemline.{ComesFrom, ComesOnInput, InputAnswers, IsRun, WasPrinted, WasShown};
+ghost use Rattle.std.specs.Prelude.{◌≡◌, ◌++◌, ◌≤◌, ℕ, List, None, Some, map, option_map, string_bytes};
+ghost use Rattle.command_words.specs.Asked.{Host, IsInRange, Replay, asked_by};
+ghost use Rattle.gemline_app.specs.Gemline.{ComesFrom, ComesOnInput, IsRun, WasPrinted, WasShown};
+ghost use Rattle.gemline_app.specs.LinkTold.{link_told};
 ghost use Rattle.gemline_app.specs.Gemline.{WasSpelled, WereSent};
 ghost use Rattle.gemline_app.specs.Outcome.{line_of, name_of, outcome_of_show, refusal_of, status_of};
 ghost use Rattle.gemline_app.specs.Spool.{EndedAs, outcome_of_spool};
@@ -10,12 +11,14 @@ ghost use Rattle.spool_show.specs.Formatting.{FormatsSpool};
 ghost use Rattle.spool_show.specs.Showing.{ShowsSpool};
 ghost use Rattle.spool_show.specs.Told.{disk_told};
 
+use crate::host::host;
+use crate::inputs::whole_input;
 use crate::outcome::{FileRole, Outcome};
 use crate::replay::replay;
 use crate::spelling::{spell, spell_hex};
 use command_words::{Command, WordsFault, command_of};
 use disk_base::Disk;
-use gl_base::{Files, Input, Row, Sink, SinkAnswer, Source, copy_out, read_all};
+use gl_base::{Files, Link, Sink, SinkAnswer, Source, copy_out};
 use line_show::{Ending, Stop, show};
 use spool_show::{SpoolEnd, format_spool, show_spool};
 use std::alloc::Global;
@@ -32,9 +35,11 @@ const ITEM_LIMIT: usize = 1024 * 1024;
 /// handshake, and tells what each block brings: its message, or why there is none. From an item's text on `input`,
 /// `spell` makes hex with as few length bytes as can be; `spell --hex` makes the text from hex on `input`. `replay`
 /// finds a plan and a schedule in `files`, lets both ends of a line run by them and tells what they do, as a trace.
+/// `host` runs the host's end of a line by a plan in `files` and by the script on `input`, over `link`, and tells what
+/// it does, each line before the characters of its step are sent.
 /// `format` makes a spool file on `disk`, and `spool` writes the list of one. `err` gets one line where the status
 /// isn't 0.
-pub fn gemline<F: Files, R: Source, W: Sink, E: Sink, D: Disk>(
+pub fn gemline<F: Files, R: Source, W: Sink, E: Sink, D: Disk, L: Link>(
     alloc: Global,
     words: &[String],
     files: &mut F,
@@ -42,19 +47,21 @@ pub fn gemline<F: Files, R: Source, W: Sink, E: Sink, D: Disk>(
     out: &mut W,
     err: &mut E,
     disk: &mut D,
+    link: &mut L,
 ) -> u8
-    // the words, what input, files, disk, output and errors told, and the status
+    // the words, what input, files, disk, link, output and errors told, and the status
     ensures run { IsRun (map string_bytes words.now)
         (source_told R.Source input.old input.new)
         (files_told F.Files files.old files.new)
         (disk_told D.Disk disk.old disk.new)
+        (link_told L.Link link.old link.new)
         (sink_told W.Sink out.old out.new)
         (sink_told E.Sink err.old err.new)
         result }
 {
     match command_of(alloc, words) {
         Ok(command) => {
-            let outcome = run(alloc, command, files, input, out, disk);
+            let outcome = run(alloc, command, files, input, out, disk, link);
             report(&outcome, Some(command), err)
         }
         Err(fault) => refuse(fault, err),
@@ -134,7 +141,7 @@ fn name_of<'a>(command: Option<Command<'a>>, outcome: &'a Outcome) -> &'a [u8]
     }
 }
 
-// The name of a file of `replay`.
+// The name of a file of `replay` or of `host`.
 fn name_in<'a>(command: Option<Command<'a>>, which: FileRole) -> &'a [u8]
     ensures { result.now ≡ name_in (option_map asked_by command.entry) which }
 {
@@ -149,6 +156,7 @@ fn name_for<'a>(command: Command<'a>, which: FileRole) -> &'a [u8]
 {
     match command {
         Command::Replay { plan, schedule } => one_name(plan, schedule, which),
+        Command::Host { plan, .. } => plan_name(plan, which),
         _ => b"",
     }
 }
@@ -162,20 +170,31 @@ fn one_name<'a>(plan: &'a str, schedule: &'a str, which: FileRole) -> &'a [u8]
     }
 }
 
+fn plan_name<'a>(plan: &'a str, which: FileRole) -> &'a [u8]
+    ensures { (address : List ℕ) (polls : ℕ) → result.now ≡ name_in (Some (Host plan.now address polls)) which }
+{
+    match which {
+        FileRole::Plan => plan.as_bytes(),
+        FileRole::Schedule => b"",
+    }
+}
+
 // Does what a command asks for.
-fn run<F: Files, R: Source, W: Sink, D: Disk>(
+fn run<F: Files, R: Source, W: Sink, D: Disk, L: Link>(
     alloc: Global,
     command: Command<'_>,
     files: &mut F,
     input: &mut R,
     out: &mut W,
     disk: &mut D,
+    link: &mut L,
 ) -> Outcome
     requires { IsInRange (asked_by command) }
     ensures { ComesFrom (Some (asked_by command.entry))
         (source_told R.Source input.old input.new)
         (files_told F.Files files.old files.new)
         (disk_told D.Disk disk.old disk.new)
+        (link_told L.Link link.old link.new)
         (sink_told W.Sink out.old out.new)
         result }
 {
@@ -184,6 +203,11 @@ fn run<F: Files, R: Source, W: Sink, D: Disk>(
         Command::Spell => spell_input(alloc, input, out),
         Command::SpellHex => spell_hex_input(alloc, input, out),
         Command::Replay { plan, schedule } => replay(alloc, plan, schedule, files, out),
+        Command::Host {
+            plan,
+            address,
+            polls,
+        } => host(alloc, plan, address, polls, files, input, link, out),
         Command::Format { spool, slots } => make_spool(spool, slots, out, disk),
         Command::Spool { spool } => list_spool(spool, out, disk),
     }
@@ -261,20 +285,6 @@ fn outcome_of_spool(ended: SpoolEnd) -> Outcome
         SpoolEnd::NotSpool(place) => Outcome::NotSpool { at: place.at },
         SpoolEnd::DiskFailed => Outcome::DiskFailed,
         SpoolEnd::WriteFailed => Outcome::WriteFailed,
-    }
-}
-
-// All bytes of the input, or why there are none.
-fn whole_input<R: Source>(alloc: Global, input: &mut R, limit: usize) -> Result<Row<u8>, Outcome>
-    ensures { InputAnswers limit
-        (source_told R.Source input.old input.new)
-        result }
-{
-    match read_all(alloc, input, limit) {
-        Input::Whole(bytes) => Ok(bytes),
-        Input::Longer => Err(Outcome::Longer),
-        Input::Failed => Err(Outcome::ReadFailed),
-        Input::NoMemory => Err(Outcome::NoMemory),
     }
 }
 

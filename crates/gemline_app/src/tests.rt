@@ -1,10 +1,14 @@
 ghost use Rattle.std.specs.Prelude.{None, false};
+ghost use Rattle.gl_base.specs.Events.{AreLinkEvents};
 ghost use Rattle.gl_base.specs.Files.{FileIsWithin};
 ghost use Rattle.gemline_app.specs.FirstExchange.{ShowsTheFirst};
 
 use super::*;
 use disk_base::{Disk, DiskAnswer, MemDisk, settle};
-use gl_base::{FileAnswer, Files, NoMemory, ReadAnswer, Row, Sink, Source, WriteAnswer};
+use gl_base::{
+    FileAnswer, Files, Link, LinkAnswer, LinkIn, MemLink, NoMemory, ReadAnswer, Row, Side, Sink,
+    Source, WriteAnswer,
+};
 use std::alloc::Global;
 use std::test::Fail;
 
@@ -172,6 +176,30 @@ impl Disk for NoDisk {
 
     fn sync(&mut self) -> DiskAnswer {
         DiskAnswer::Failed
+    }
+}
+
+/// A link of which each call fails.
+#[derive(Drop)]
+struct NoLink;
+
+impl Link for NoLink {
+    ghost told = { λ _. None };
+
+    ghost moment = { λ _. 0 };
+
+    ghost health = { λ _. record { faults = 18446744073709551615; reliable = false; room = 0 } };
+
+    fn connect(&mut self, side: Side, address: &str) -> LinkAnswer {
+        LinkAnswer::Failed
+    }
+
+    fn poll(&mut self, until: u64) -> LinkIn {
+        LinkIn::Failed
+    }
+
+    fn send(&mut self, bytes: &[u8]) -> LinkAnswer {
+        LinkAnswer::Failed
     }
 }
 
@@ -476,7 +504,7 @@ static FILE_FAILURES: [Failing; 6] = [
 ];
 
 /// Words that are no command's.
-static OTHER_WORDS: [&'static [&'static str]; 12] = [
+static OTHER_WORDS: [&'static [&'static str]; 16] = [
     &[],
     &[""],
     &["shwo"],
@@ -489,6 +517,10 @@ static OTHER_WORDS: [&'static [&'static str]; 12] = [
     &["spell", "--hex", "--hex"],
     &["replay", "plan"],
     &["replay", "plan", "schedule", "schedule"],
+    &["host", "plan"],
+    &["host", "plan", "address", "spool"],
+    &["host", "plan", "address", "--polls=0"],
+    &["host", "plan", "address", "--polls"],
 ];
 
 /// The same of spool files.
@@ -546,7 +578,7 @@ fn pieces_of(alloc: Global, bytes: &Bytes) -> Result<Row<u8>, NoMemory> {
     Ok(row)
 }
 
-/// Whether these words over this input, these files and no disk end so, with what the output took.
+/// Whether these words over this input, these files, no disk and no link end so, with what the output took.
 fn ends_so(
     alloc: Global,
     words: &[String],
@@ -556,7 +588,16 @@ fn ends_so(
     end: &End,
 ) -> bool {
     let mut err = output(alloc, 100, 0);
-    let status = gemline(alloc, words, files, input, out, &mut err, &mut NoDisk);
+    let status = gemline(
+        alloc,
+        words,
+        files,
+        input,
+        out,
+        &mut err,
+        &mut NoDisk,
+        &mut NoLink,
+    );
     let (wanted, text, line) = *end;
     status == wanted
         && out.bytes.as_slice() == text.as_bytes()
@@ -867,13 +908,234 @@ fn status_over(
         step: 1,
         fails: 1,
     };
-    gemline(alloc, words, &mut files, &mut input, out, err, disk)
+    gemline(
+        alloc,
+        words,
+        &mut files,
+        &mut input,
+        out,
+        err,
+        disk,
+        &mut NoLink,
+    )
 }
 
 #[test]
 fn spool_files_are_made_and_listed(rt: HostRuntime) -> Result<(), Fail> {
     for case in &SPOOLS {
         assert!(rt; is_spooling(rt.alloc(), case));
+    }
+    Ok(())
+}
+
+/// Words behind `host`, a plan, a script, which call of the input, of the files, of the output and of the link fails, and
+/// the end.
+type Hosting = (&'static [&'static str], &'static [u8], Bytes, [u32; 4], End);
+
+const NO_SCRIPT: Bytes = (b"", b"", 1, b"");
+
+/// Over a link that the peer has closed.
+static CLOSED: [Hosting; 11] = [
+    (
+        &["host", "plan", "address"],
+        b"",
+        NO_SCRIPT,
+        [0, 0, 0, 0],
+        (0, "0 H start\n0 H closed\n", ""),
+    ),
+    (
+        &["host", "plan", "address"],
+        b"",
+        NO_SCRIPT,
+        [0, 0, 0, 1],
+        (69, "0 H start\n", "gemline: 69 link\n"),
+    ),
+    (
+        &["host", "plan", "address"],
+        b"",
+        NO_SCRIPT,
+        [0, 0, 0, 2],
+        (69, "0 H start\n", "gemline: 69 link\n"),
+    ),
+    (
+        &["host", "plan", "address"],
+        b"",
+        NO_SCRIPT,
+        [0, 0, 1, 1],
+        (73, "", "gemline: 73 write\n"),
+    ),
+    (
+        &["host", "plan", "address"],
+        b"",
+        NO_SCRIPT,
+        [0, 0, 2, 0],
+        (73, "0 H start\n", "gemline: 73 write\n"),
+    ),
+    (
+        &["host", "plan", "address"],
+        b"",
+        NO_SCRIPT,
+        [1, 0, 1, 1],
+        (68, "", "gemline: 68 read\n"),
+    ),
+    (
+        &["host", "plan", "address"],
+        b"",
+        NO_SCRIPT,
+        [1, 1, 1, 1],
+        (66, "", "gemline: 66 file plan\n"),
+    ),
+    (
+        &["host", "other", "address"],
+        b"",
+        NO_SCRIPT,
+        [1, 0, 1, 1],
+        (66, "", "gemline: 66 file other\n"),
+    ),
+    (
+        &["host", "plan", "address"],
+        b"[line]\nrty = 32",
+        NO_SCRIPT,
+        [1, 0, 1, 1],
+        (65, "", "gemline: 65 plan line.rty Range\n"),
+    ),
+    (
+        &["host", "plan", "address"],
+        b"",
+        (b"", b"1 event 1", 1, b""),
+        [0, 0, 1, 1],
+        (65, "", "gemline: 65 script line 1\n"),
+    ),
+    (
+        &["host", "plan", "address"],
+        b"",
+        (b"", b"# a script line\n", 65_536, b"#"),
+        [0, 0, 1, 1],
+        (65, "", "gemline: 65 input longer\n"),
+    ),
+];
+
+/// After a quiet time up to 10 the peer closes the link.
+static QUIET: [Hosting; 6] = [
+    (
+        &["host", "plan", "address", "--polls=1"],
+        b"",
+        NO_SCRIPT,
+        [0, 0, 0, 0],
+        (75, "0 H start\n", "gemline: 75 turns\n"),
+    ),
+    (
+        &["host", "plan", "address", "--polls=2"],
+        b"",
+        NO_SCRIPT,
+        [0, 0, 0, 0],
+        (0, "0 H start\n10 H closed\n", ""),
+    ),
+    (
+        &["host", "plan", "address", "--polls=2"],
+        b"",
+        NO_SCRIPT,
+        [0, 0, 0, 3],
+        (69, "0 H start\n", "gemline: 69 link\n"),
+    ),
+    (
+        &["host", "plan", "address", "--polls=1"],
+        b"",
+        (b"", b"5 stop\n", 1, b""),
+        [0, 0, 0, 0],
+        (0, "0 H start\n", ""),
+    ),
+    (
+        &["host", "plan", "address"],
+        b"",
+        (b"", b"5 send S1F1 W -\n", 1, b""),
+        [0, 0, 0, 0],
+        (
+            0,
+            "0 H start\n10 H sent S1F1 W 00000000 -\n10 H tx 05\n10 H closed\n",
+            "",
+        ),
+    ),
+    (
+        &["host", "plan", "address"],
+        b"",
+        (b"", b"5 send S1F1 W -\n", 1, b""),
+        [0, 0, 0, 3],
+        (
+            69,
+            "0 H start\n10 H sent S1F1 W 00000000 -\n10 H tx 05\n",
+            "gemline: 69 link\n",
+        ),
+    ),
+];
+
+/// Whether the host over a link with these answers ends so.
+fn is_hosting(alloc: Global, answers: Row<LinkIn>, case: &Hosting) -> bool
+    requires { AreLinkEvents answers }
+{
+    match Row::of(alloc, &[case.3[3]]) {
+        Ok(fails) => match MemLink::failing(alloc, answers, 100, fails) {
+            Ok(mut link) => is_hosting_over(alloc, &mut link, case),
+            Err(NoMemory) => false,
+        },
+        Err(NoMemory) => false,
+    }
+}
+
+fn is_hosting_over(alloc: Global, link: &mut MemLink, case: &Hosting) -> bool {
+    match (words_of(alloc, case.0), pieces_of(alloc, &case.2)) {
+        (Ok(words), Ok(script)) => hosts_so(alloc, &words, script.as_slice(), link, case),
+        _ => false,
+    }
+}
+
+fn hosts_so(
+    alloc: Global,
+    words: &[String],
+    script: &[u8],
+    link: &mut MemLink,
+    case: &Hosting,
+) -> bool {
+    let (_, plan, _, [read, file, write, _], (wanted, text, line)) = *case;
+    let mut out = output(alloc, 2000, write);
+    let mut err = output(alloc, 100, 0);
+    let status = gemline(
+        alloc,
+        words,
+        &mut TestFiles {
+            plan,
+            schedule: b"",
+            fails: file,
+        },
+        &mut TestInput {
+            left: script,
+            step: 65536,
+            fails: read,
+        },
+        &mut out,
+        &mut err,
+        &mut NoDisk,
+        link,
+    );
+    status == wanted
+        && out.bytes.as_slice() == text.as_bytes()
+        && err.bytes.as_slice() == line.as_bytes()
+}
+
+fn hosts_quietly(alloc: Global, case: &Hosting) -> bool {
+    match Row::of(alloc, &[LinkIn::Quiet(10)]) {
+        Ok(answers) => is_hosting(alloc, answers, case),
+        Err(NoMemory) => false,
+    }
+}
+
+#[test]
+fn hosts_end_by_their_causes(rt: HostRuntime) -> Result<(), Fail> {
+    for case in &CLOSED {
+        assert!(rt; is_hosting(rt.alloc(), Row::new(rt.alloc()), case));
+    }
+    for case in &QUIET {
+        assert!(rt; hosts_quietly(rt.alloc(), case));
     }
     Ok(())
 }
@@ -917,6 +1179,7 @@ fn status_of_show(
         out,
         &mut output(alloc, 0, 0),
         &mut NoDisk,
+        &mut NoLink,
     )
 }
 

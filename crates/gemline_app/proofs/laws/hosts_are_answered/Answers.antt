@@ -1,0 +1,5 @@
+use Rattle.gemline_app.proofs.HostAnswered.{hosts_answered}
+use Rattle.gemline_app.proofs.laws.hosts_are_answered.Goals as goal
+
+pub returns : goal.returns
+returns c = hosts_answered
