@@ -1,4 +1,5 @@
--- Doings of an end, one after the other: the law, its line, and what it notes and writes. What it keeps beside is apart.
+-- Doings of an end, one after the other: the law, its line, and what it notes and writes. What it keeps beside is
+-- apart.
 use Rattle.std.proofs.Common.{◌≡◌, inl, inr, refl, sym, ap, ◌∙◌, subst, arith, Bool, true, false, ℕ, List, [], ◌∷◌, ◌++◌, length, Some, None, Option}
 use Rattle.std.proofs.lemmas.Bool.Decides.{nat_tests}
 use Rattle.std.proofs.lemmas.List.{append_assoc, append-nil}

@@ -4,6 +4,7 @@ use Rattle.std.specs.Prelude.{slice_get, drop, flat_map}
 use Rattle.std.specs.List.{position_or_len, remove}
 use Rattle.std.specs.Option.{option_map, option_map_or}
 use Rattle.std.proofs.lemmas.Bool.{eq-eqb}
+use Rattle.std.proofs.lemmas.Option.{same_Some}
 use Rattle.block_codec.specs.declared.header.Header.{Header}
 use Rattle.message_flow.specs.declared.step.Note.{Note}
 use Rattle.message_flow.specs.declared.step.StepOut.{StepOut}
@@ -17,7 +18,7 @@ use Rattle.transact.specs.Transactions.{has_system, primary_of, system_of}
 use Rattle.message_end.specs.Core.{Command, EndView, Went, and_then, carried, carry}
 use Rattle.message_end.specs.Core.Command.{DropFront, End, Note as NoteThis, Recall, Remove}
 use Rattle.message_end.specs.Core.Went.{Goes}
-use Rattle.message_end.specs.Endings.{IsFirstEnded, ends_begun, ends_failed, ends_front, ends_one, ends_waiting}
+use Rattle.message_end.specs.Endings.{IsFirstEnded, ends_begun, ends_failed, ends_front, ends_one, ends_waiting, notes_failed}
 use Rattle.message_end.specs.Parts.{AreCarried, next_of, on_the_way}
 use Rattle.message_end.proofs.Carrying.{carried_append}
 
@@ -42,73 +43,79 @@ remove-first begun rest = rw (eq-eqb begun.header.system begun.header.system ref
 
 -- the one that began first
 pub first_ended :
-    {K : Type 0} (header : Header) (kind : K) (old e1 e2 : EndView K) (out : StepOut) (notes : List Note)
+    {K : Type 0} (header : Header) (kind : K) (old e1 e2 : EndView K)
     → option_map primary_of (slice_get old.transactions.begun 0) ≡ Some (header, kind)
-    → carry printed_note (End header.system) (on_the_way old out) ≡ Goes (on_the_way e1 out)
-    → carry printed_note (Remove true header.system) (on_the_way e1 out) ≡ Goes (on_the_way e2 out)
-    → notes ≡ out.notes ++ note_of (Happening.Failed (header_title header)) ∷ []
-    → IsFirstEnded kind old out e2 (noted_out out notes)
-first_ended {K} header kind old e1 e2 out notes first ended removed noted = go old.transactions.begun refl first
+    → ((out : StepOut) → carry printed_note (End header.system) (on_the_way old out) ≡ Goes (on_the_way e1 out))
+    → ((out : StepOut) → carry printed_note (Remove true header.system) (on_the_way e1 out) ≡ Goes (on_the_way e2 out))
+    → IsFirstEnded (header, kind) old e2
+first_ended {K} header kind old e1 e2 first ended removed = go old.transactions.begun refl first
   where
+    quiet : StepOut
+    quiet = record { line = record { items = [] }; notes = [] }
+
     go : (begun : List (Begun K)) → old.transactions.begun ≡ begun
         → option_map primary_of (slice_get begun 0) ≡ Some (header, kind)
-        → IsFirstEnded kind old out e2 (noted_out out notes)
+        → IsFirstEnded (header, kind) old e2
     go [] is none = absurd (cc)
     go (begun ∷ rest) is some = record {
       first = begun;
       rest = rest;
       begun = is;
       left = left;
-      kind_is = ap (λ (o : Option (Header × K)). option_map_or (λ p. p.1) o kind) some;
+      primary_is = same_Some _ _ some;
       ended = done;
     }
       where
         header_is : begun.header ≡ header
         header_is = ap (λ (o : Option (Header × K)). option_map_or (λ p. p.0) o header) some
 
-        left : e2.transactions.begun ≡ rest
-        left =
-            sym (ap (λ (w : Went (EndView K) Note). (next_of w).transactions.begun) removed)
-            ∙ sym (ap (λ (w : Went (EndView K) Note). (next_of w).transactions.begun) ended)
+        left_with : (out : StepOut) → e2.transactions.begun ≡ rest
+        left_with out =
+            sym (ap (λ (w : Went (EndView K) Note). (next_of w).transactions.begun) (removed out))
+            ∙ sym (ap (λ (w : Went (EndView K) Note). (next_of w).transactions.begun) (ended out))
             ∙ ap (λ (all : List (Begun K)). remove all (position_or_len (has_system header.system) all)) is
             ∙ ap (λ (h : Header). remove (begun ∷ rest) (position_or_len (has_system h.system) (begun ∷ rest)))
             (sym header_is)
             ∙ remove-first begun rest
 
-        done : carried printed_note (ends_one (λ kind. []) begun) (on_the_way old out)
-            ≡ Goes (on_the_way e2 (noted_out out notes))
-        done =
-            ap (λ (h : Header). carried printed_note
-            (End h.system ∷ Remove true h.system ∷ NoteThis (Happening.Failed (header_title h)) ∷ [])
-            (on_the_way old out)) header_is
-            ∙ ap (λ (w : Went (EndView K) Note). and_then w
-            (carried printed_note
-            (Remove true header.system ∷ NoteThis (Happening.Failed (header_title header)) ∷ []))) ended
-            ∙ ap (λ (w : Went (EndView K) Note). and_then w
-            (carried printed_note (NoteThis (Happening.Failed (header_title header)) ∷ []))) removed
-            ∙ ap (λ (ns : List Note). Goes (on_the_way e2 (noted_out out ns))) (sym noted)
+        left : e2.transactions.begun ≡ rest
+        left = left_with quiet
 
--- with what its end brings
+        done : (out : StepOut) → AreCarried (ends_one (λ begun. []) begun) old out e2 out
+        done out =
+            ap (λ (h : Header). carried printed_note (End h.system ∷ Remove true h.system ∷ []) (on_the_way old out))
+            header_is
+            ∙ ap (λ (w : Went (EndView K) Note). and_then w (carried printed_note (Remove true header.system ∷ [])))
+            (ended out)
+            ∙ ap (λ (w : Went (EndView K) Note). and_then w (carried printed_note [])) (removed out)
+
+-- with what its end brings, by its header and kind
 pub begun_ended :
-    {K : Type 0} (brings : K → List (Command K)) (kind : K) (old new : EndView K) (out out_new out_later : StepOut)
-    → IsFirstEnded kind old out new out_new → AreCarried (brings kind) new out_new new out_later
+    {K : Type 0} (brings : Begun K → List (Command K)) (what : Header × K → List (Command K)) (primary : Header × K)
+    (old new : EndView K) (out out_later : StepOut)
+    → ((begun : Begun K) → brings begun ≡ what (primary_of begun)) → IsFirstEnded primary old new
+    → AreCarried (what primary) new out new out_later
     → IsEnded (ends_begun brings old) (ends_begun brings new) old new out out_later
     (length old.transactions.begun) (length new.transactions.begun)
-begun_ended {K} brings kind old new out out_new out_later is brought = record { same = sym same; fewer = fewer }
+begun_ended {K} brings what primary old new out out_later told is brought =
+    record { same = sym same; fewer = fewer }
   where
     F : List (Begun K) → List (Command K)
     F begun = flat_map (ends_one brings) begun
+
+    brings_is : brings is.first ≡ what primary
+    brings_is = told is.first ∙ ap what is.primary_is
 
     same : carried printed_note (F old.transactions.begun) (on_the_way old out)
         ≡ carried printed_note (F new.transactions.begun) (on_the_way new out_later)
     same =
         ap (λ (all : List (Begun K)). carried printed_note (F all) (on_the_way old out)) is.begun
-        ∙ carried_append printed_note (ends_one (λ kind. []) is.first) (brings is.first.kind ++ F is.rest)
+        ∙ carried_append printed_note (ends_one (λ begun. []) is.first) (brings is.first ++ F is.rest)
         (on_the_way old out)
-        ∙ ap (λ (w : Went (EndView K) Note). and_then w
-        (carried printed_note (brings is.first.kind ++ F is.rest))) is.ended
-        ∙ ap (λ (k : K). carried printed_note (brings k ++ F is.rest) (on_the_way new out_new)) is.kind_is
-        ∙ carried_append printed_note (brings kind) (F is.rest) (on_the_way new out_new)
+        ∙ ap (λ (w : Went (EndView K) Note). and_then w (carried printed_note (brings is.first ++ F is.rest)))
+        (is.ended out)
+        ∙ ap (λ (cs : List (Command K)). carried printed_note (cs ++ F is.rest) (on_the_way new out)) brings_is
+        ∙ carried_append printed_note (what primary) (F is.rest) (on_the_way new out)
         ∙ ap (λ (w : Went (EndView K) Note). and_then w (carried printed_note (F is.rest))) brought
         ∙ ap (λ (all : List (Begun K)). carried printed_note (F all) (on_the_way new out_later)) (sym is.left)
 
@@ -118,6 +125,23 @@ begun_ended {K} brings kind old new out out_new out_later is brought = record { 
         let longer = ap (λ (all : List (Begun K)). length all) is.begun in
         omega arith
 
+-- with the note of its failure
+pub failed_noted :
+    {K : Type 0} (header : Header) (e : EndView K) (out : StepOut) (notes : List Note)
+    → notes ≡ out.notes ++ note_of (Happening.Failed (header_title header)) ∷ []
+    → AreCarried (notes_failed header) e out e (noted_out out notes)
+failed_noted header e out notes noted = ap (λ (ns : List Note). Goes (on_the_way e (noted_out out ns))) (sym noted)
+
+-- and with more behind it
+pub failed_then :
+    {K : Type 0} (header : Header) (more : List (Command K)) (e new : EndView K) (out out_new : StepOut)
+    (notes : List Note)
+    → notes ≡ out.notes ++ note_of (Happening.Failed (header_title header)) ∷ []
+    → AreCarried more e (noted_out out notes) new out_new
+    → AreCarried (notes_failed header ++ more) e out new out_new
+failed_then header more e new out out_new notes noted is =
+    ap (λ (ns : List Note). carried printed_note more (on_the_way e (noted_out out ns))) (sym noted) ∙ is
+
 -- where none is open
 pub none_first :
     {K : Type 0} (begun : List (Begun K)) → option_map primary_of (slice_get begun 0) ≡ None → begun ≡ []
@@ -125,7 +149,7 @@ none_first [] none = refl
 none_first (begun ∷ rest) some = absurd (cc)
 
 pub none_begun :
-    {K : Type 0} (brings : K → List (Command K)) (old : EndView K) (out : StepOut) → old.transactions.begun ≡ []
+    {K : Type 0} (brings : Begun K → List (Command K)) (old : EndView K) (out : StepOut) → old.transactions.begun ≡ []
     → AreCarried (ends_begun brings old) old out old out
 none_begun {K} brings old out none =
     ap (λ (all : List (Begun K)). carried printed_note (flat_map (ends_one brings) all) (on_the_way old out)) none

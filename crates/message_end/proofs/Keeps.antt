@@ -233,7 +233,8 @@ answered-found {side} sents gave heard out header on new is item has primary rep
         let of_i = named i.waiting header.system (ap (is_named true header.system) (sym from.2) ∙ passes) in
         let at_i = (is.each i from.1).sent in
         let at_item = (is.each item has).sent in
-        let place = one-place sents new i.place item.place i.waiting.message item.waiting.message at_i at_item of_i.0 primary
+        let place = one-place sents new i.place item.place i.waiting.message item.waiting.message at_i at_item of_i.0
+        primary
         (of_i.1 ∙ sym (reply-system side item.waiting.message header reply)) in
         let equal : Some i.waiting.message ≡ Some item.waiting.message =
         sym at_i ∙ ap (λ p. sent_at p sents) place ∙ at_item in
@@ -633,7 +634,11 @@ spare-sent drawn sents numbers kept message other is = λ spare e. go spare e (i
   where
     go : (spare : ℕ) → kept ≡ Some spare → IsSpare drawn sents numbers spare
         → IsSpare drawn (message ∷ sents) numbers spare
-    go spare e old = record { drawn_is = old.drawn_is; below = old.below; free = λ m has primary same. free m has primary same }
+    go spare e old = record {
+      drawn_is = old.drawn_is;
+      below = old.below;
+      free = λ m has primary same. free m has primary same;
+    }
       where
         free : (m : Message) → Has (message ∷ sents) m → is_primary m ≡ true → m.system ≡ spare → ⊥
         free m (inl here) primary same =

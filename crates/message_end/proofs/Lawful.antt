@@ -42,13 +42,18 @@ begins laws plan numbers fits left = record {
     };
     held = λ block none. absurd (cc);
     asked = λ title none. absurd (cc);
-    transactions = record { t3 = refl; each = λ begun has. absurd has; apart = λ i j d less within. absurd (omega (arith, within)) };
+    transactions = record {
+      t3 = refl;
+      each = λ begun has. absurd has;
+      apart = λ i j d less within. absurd (omega (arith, within));
+    };
     met = record { receiver = refl; stands = record { last = refl; partials = refl }; blocks = All-nil IsBlock };
   };
 }
 
 continues :
-    {K : Type 0} (laws : Laws) (plan : EndPlan) (base : ℕ) (doings : List Doing) (e : EndView K) (commands : List (Command K))
+    {K : Type 0} (laws : Laws) (plan : EndPlan) (base : ℕ) (doings : List Doing) (e : EndView K)
+    (commands : List (Command K))
     → LinePlanFits plan.line → IsHistoryOf plan base doings e → MayCarryAll commands
     → CarriesOn plan base doings commands (carried Some commands (at_first e))
 continues {K} laws plan base doings e commands fits is may =

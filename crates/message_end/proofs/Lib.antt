@@ -2,9 +2,12 @@ pub mod Carrying
 pub mod Courses
 pub mod Duties
 pub mod Ended
+pub mod Fronts
+pub mod Growing
 mod Keeps
 pub mod Lawful
 pub mod Leaving
+pub mod Limits
 pub mod Lines
 mod Lists
 pub mod Lower

@@ -40,18 +40,26 @@ has-set {X} (z ∷ xs) (suc place) y x (inr rest) = go (has-set xs place y x res
 module _ {K : Type 0} (plan : EndPlan) (sents : List Message) where
   -- a message is sent
   pub open-sent :
-      (message : Message) (t : TransactionsView K) → AreTransactionsOf plan sents t → AreTransactionsOf plan (message ∷ sents) t
+      (message : Message) (t : TransactionsView K) → AreTransactionsOf plan sents t
+      → AreTransactionsOf plan (message ∷ sents) t
   open-sent message t is = record {
     t3 = is.t3;
     each = λ begun has.
         let old = is.each begun has in
-        record { message = old.message; sent = inr old.sent; primary = old.primary; wait = old.wait; header = old.header };
+        record {
+          message = old.message;
+          sent = inr old.sent;
+          primary = old.primary;
+          wait = old.wait;
+          header = old.header;
+        };
     apart = is.apart;
   }
 
   -- one ends
   pub open-less :
-      (test : Begun K → Bool) (t : TransactionsView K) → AreTransactionsOf plan sents t → AreTransactionsOf plan sents (without_first test t)
+      (test : Begun K → Bool) (t : TransactionsView K) → AreTransactionsOf plan sents t → AreTransactionsOf plan sents
+      (without_first test t)
   open-less test t is = record {
     t3 = is.t3;
     each = λ begun has. is.each begun (has-cut place (suc place) t.begun begun (omega arith) has);
@@ -91,7 +99,8 @@ module _ {K : Type 0} (plan : EndPlan) (sents : List Message) where
           same : system_of new ≡ system_of (get_or t.begun place one)
           same =
               ap (λ (b : Begun K). system_of b)
-              (same_Some _ _ (sym e ∙ found test t.begun place one (record { is = refl; within = find-within test t.begun one e })))
+              (same_Some _ _ (sym e ∙ found test t.begun place one
+              (record { is = refl; within = find-within test t.begun one e })))
 
           old : IsTransactionOf plan sents one
           old = is.each one (found-in test t.begun one e).0
@@ -145,7 +154,8 @@ open-begins {K} plan sents (Some kind) header message t primary wait last is =
 
     go : (again : Bool) → list_any (has_system header.system) t.begun ≡ again → (full : Bool)
         → AreTransactionsOf plan (message ∷ sents) (record t {
-          begun = begun_with (if again then Some (Same header.system) else if full then Some Full else None) header kind t;
+          begun = begun_with (if again then Some (Same header.system) else if full then Some Full else None) header kind
+              t;
         })
     go true e full = same
     go false e true = same
@@ -157,7 +167,8 @@ open-begins {K} plan sents (Some kind) header message t primary wait last is =
 
 -- ---- why none is refused
 
-none-any : {X : Type 0} (test : X → Bool) (xs : List X) → ((x : X) → Has xs x → test x ≡ false) → list_any test xs ≡ false
+none-any : {X : Type 0} (test : X → Bool) (xs : List X) → ((x : X) → Has xs x → test x ≡ false)
+    → list_any test xs ≡ false
 none-any test [] none = refl
 none-any test (x ∷ xs) none = rw (none x (inl refl)) (none-any test xs (λ y has. none y (inr has)))
 

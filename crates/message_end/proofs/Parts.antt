@@ -11,47 +11,51 @@ use Rattle.message_flow.specs.declared.flow.Flow.TheVariants.{Part as PartOf, Wh
 use Rattle.message_flow.specs.Assembly.{flow_to, with_block}
 use Rattle.transact.specs.Transactions.{is_answered_by, with_deadline}
 use Rattle.trace_log.specs.Log.{Happening}
-use Rattle.transact.specs.Numbers.{IsNumbers, numbers_from}
-use Rattle.message_end.specs.Core.{Command, EndView, MayCarryAll, Step, Went, acknowledges, and_then, asked_by, at_first, calls, carried, carry, held_header, judges, offers, takes, takes_back, tells, with_asked, with_assembly, with_end, with_transactions}
+use Rattle.transact.specs.Numbers.{IsNumbers, NumbersView, numbers_from}
+use Rattle.message_end.specs.Core.{Command, EndView, MayCarryAll, Step, Went, acknowledges, and_then, asked_by, at_first, calls, carried, carry, held_header, judges, offers, step_in, takes, takes_back, tells, with_asked, with_assembly, with_end, with_transactions}
 use Rattle.message_end.specs.Core.Went.{Goes, Spent}
 use Rattle.message_end.specs.Doings.{Doing, IsPlain, own_of}
 use Rattle.message_end.specs.Doings.Doing.{Says}
 use Rattle.message_end.specs.Drops.{AllDropAt, Drops}
 use Rattle.message_end.specs.Duties.{Duty, all_done}
-use Rattle.message_end.specs.Ends.{AreBegunOf, AreDecidedAt, AreOfStep, DoesMore, DoesStep, HasRestarted, HasStarted, Input, IsOfWorld, KeepsLaw, MayTake, OnRestart, taking_calls}
+use Rattle.message_end.specs.Ends.{AreBegunOf, AreDecidedAt, AreOfStep, DoesMore, DoesStep, HasRestarted, HasStarted, Input, IsOfWorld, KeepsLaw, MayTake, OnStart, taking_calls}
 use Rattle.message_end.specs.Ends.Input.{Char, Command as Told, Time}
-use Rattle.message_end.specs.History.{Folds, IsCore, folds_of, noted_in, written_in}
+use Rattle.message_end.specs.History.{Folds, IsCore, IsHistoryOf, folds_of, noted_in, written_in}
+use Rattle.message_end.specs.Laws.{new_end}
 use Rattle.message_end.specs.LineCalls.{calls_in}
 use Rattle.message_end.specs.Parts.{Design, Did, Node, Part, Turn, after_parts, after_turn, core_after, core_step, leads, led_turn, machine_of, next_of, started, went_with, with_own}
 use Rattle.message_end.specs.Plan.{EndPlan}
 use Rattle.message_end.proofs.Courses.{in-turn}
 use Rattle.message_end.proofs.Lawful as core
+use Rattle.message_end.proofs.Limits.{AddsNone, AllAddNone, carried-limit, carry-limit, limit_of}
 use Rattle.message_end.proofs.Steps.{AllCallNone, CallsNone, IsAt, Laws, OnWent, at-carried}
 use Rattle.message_end.proofs.Such.{at-offers, at-takes, at-tick}
 
 -- ---- what a node shows of its parts
 
--- a command that calls no line, and drops no message
+-- a command that calls no line, drops no message and adds no numbers
 abbrev pub StaysOff : {K : Type 0} → Command K → Type 0
 StaysOff (Command.Tick now) = ⊥
 StaysOff (Command.Take byte now) = ⊥
 StaysOff (Command.Offer now) = ⊥
 StaysOff (Command.DropDue now) = ⊥
+StaysOff (Command.More count) = ⊥
 StaysOff _ = Unit {0}
 
 abbrev pub AllStayOff : {K : Type 0} → List (Command K) → Type 0
 AllStayOff [] = Unit {0}
 AllStayOff (one ∷ commands) = StaysOff one × AllStayOff commands
 
--- commands that do neither, and may be carried out
+-- commands that do none of these, and may be carried out
 pub record IsQuiet {K : Type 0} (commands : List (Command K)) : Type 0 where
   pub calls : AllStayOff commands
   pub may : MayCarryAll commands
 
--- commands that call no line, drop messages at this moment alone, and may be carried out
+-- commands that call no line, drop messages at this moment alone, add no numbers, and may be carried out
 pub record IsDue {K : Type 0} (now : ℕ) (commands : List (Command K)) : Type 0 where
   pub calls : AllCallNone commands
   pub drops : AllDropAt now commands
+  pub adds : AllAddNone commands
   pub may : MayCarryAll commands
 
 -- the core is what some history has made of it
@@ -139,38 +143,40 @@ module _ {S K : Type 0} (plan : EndPlan) (base : ℕ) (Sound : S → Type 0) whe
     pub offer_is : IsLedPart (Command.Offer now) offer
 
 -- what is quiet drops at no other moment
-off-calls-none : {K : Type 0} (now : ℕ) (one : Command K) → StaysOff one → CallsNone one × Drops (λ at. at ≡ now) one
-off-calls-none now (Command.Note what) off = (tt, tt)
-off-calls-none now (Command.Primary unsent) off = (tt, tt)
-off-calls-none now Command.Draw off = (tt, tt)
-off-calls-none now (Command.DrawnPrimary unsent) off = (tt, tt)
-off-calls-none now (Command.More count) off = (tt, tt)
-off-calls-none now (Command.Reply body) off = (tt, tt)
-off-calls-none now Command.Abort off = (tt, tt)
+off-calls-none : {K : Type 0} (now : ℕ) (one : Command K) → StaysOff one
+    → CallsNone one × Drops (λ at. at ≡ now) one × AddsNone one
+off-calls-none now (Command.Note what) off = (tt, tt, tt)
+off-calls-none now (Command.Primary unsent) off = (tt, tt, tt)
+off-calls-none now Command.Draw off = (tt, tt, tt)
+off-calls-none now (Command.DrawnPrimary unsent) off = (tt, tt, tt)
+off-calls-none now (Command.More count) off = absurd off
+off-calls-none now (Command.Reply body) off = (tt, tt, tt)
+off-calls-none now Command.Abort off = (tt, tt, tt)
 off-calls-none now (Command.Tick at) off = absurd off
 off-calls-none now (Command.Take byte at) off = absurd off
 off-calls-none now (Command.Offer at) off = absurd off
 off-calls-none now (Command.DropDue at) off = absurd off
-off-calls-none now (Command.Expire at) off = (tt, tt)
-off-calls-none now (Command.Answer header) off = (tt, tt)
-off-calls-none now (Command.GiveUp header) off = (tt, tt)
-off-calls-none now (Command.End system) off = (tt, tt)
-off-calls-none now (Command.Recall header) off = (tt, tt)
-off-calls-none now (Command.Remove odd system) off = (tt, tt)
-off-calls-none now Command.DropFront off = (tt, tt)
+off-calls-none now (Command.Expire at) off = (tt, tt, tt)
+off-calls-none now (Command.Answer header) off = (tt, tt, tt)
+off-calls-none now (Command.GiveUp header) off = (tt, tt, tt)
+off-calls-none now (Command.End system) off = (tt, tt, tt)
+off-calls-none now (Command.Recall header) off = (tt, tt, tt)
+off-calls-none now (Command.Remove odd system) off = (tt, tt, tt)
+off-calls-none now Command.DropFront off = (tt, tt, tt)
+off-calls-none now Command.Halt off = (tt, tt, tt)
 
 all-off : {K : Type 0} (now : ℕ) (commands : List (Command K)) → AllStayOff commands
-    → AllCallNone commands × AllDropAt now commands
-all-off now [] off = (tt, tt)
+    → AllCallNone commands × AllDropAt now commands × AllAddNone commands
+all-off now [] off = (tt, tt, tt)
 all-off now (one ∷ commands) off =
     let first = off-calls-none now one off.0 in
     let rest = all-off now commands off.1 in
-    ((first.0, rest.0), (first.1, rest.1))
+    ((first.0, rest.0), (first.1, rest.1), (first.2, rest.2))
 
 pub commands-due : {K : Type 0} (now : ℕ) (commands : List (Command K)) → IsQuiet commands → IsDue now commands
 commands-due now commands is =
     let off = all-off now commands is.calls in
-    record { calls = off.0; drops = off.1; may = is.may }
+    record { calls = off.0; drops = off.1; adds = off.2; may = is.may }
 
 module _ {S K : Type 0} (plan : EndPlan) (base : ℕ) (Sound : S → Type 0) (now : ℕ) where
   pub duties-due :
@@ -285,20 +291,20 @@ abbrev pub OnEither : {S N : Type 0} → (Goes_so Spent_so : Step S N → Type 0
 OnEither P Q (Goes step) = P step
 OnEither P Q (Spent step) = Q step
 
-either-then :
+pub either-then :
     {S N : Type 0} (P Q R : Step S N → Type 0) (went : Went S N) (next : Step S N → Went S N)
     → OnEither P Q went → ((step : Step S N) → P step → OnEither R Q (next step))
     → OnEither R Q (and_then went next)
 either-then P Q R (Goes step) next is more = more step is
 either-then P Q R (Spent step) next is more = is
 
-either-less :
+pub either-less :
     {S N : Type 0} (P Q R T : Step S N → Type 0) (went : Went S N) → OnEither P Q went
     → ((step : Step S N) → P step → R step) → ((step : Step S N) → Q step → T step) → OnEither R T went
 either-less P Q R T (Goes step) is goes spent = goes step is
 either-less P Q R T (Spent step) is goes spent = spent step is
 
-of-either : {S N : Type 0} (P : Step S N → Type 0) (went : Went S N) → OnWent P went → OnEither P P went
+pub of-either : {S N : Type 0} (P : Step S N → Type 0) (went : Went S N) → OnWent P went → OnEither P P went
 of-either P (Goes step) is = is
 of-either P (Spent step) is = is
 
@@ -312,7 +318,7 @@ abbrev IsTicked : ℕ → List LineCall → Type 0
 IsTicked now made = made ≡ LineCall.Tick now ∷ []
 
 module _ {C : Type 0} (input : Input C) (now : ℕ) where
-  begun-none : (made : List LineCall) → IsNone made → AreBegunOf input now made
+  pub begun-none : (made : List LineCall) → IsNone made → AreBegunOf input now made
   begun-none made none = record {
     later = taking_calls input now;
     whole = record {
@@ -354,34 +360,60 @@ decided-both now (call ∷ one) two first second = (first.0, decided-both now on
 
 module _
     {S K : Type 0} (laws : Laws) (plan : EndPlan) (base : ℕ) (fits : LinePlanFits plan.line) (Sound : S → Type 0)
-    (doings : List Doing) (now : ℕ) where
-  abbrev CoreAt : (List LineCall → Type 0) → Step (EndView K) Happening → Type 0
-  CoreAt Called step = IsAt plan base doings (λ at. at ≡ now) Called step
+    (doings : List Doing) (now limit : ℕ) where
+  abbrev pub IsAtNow : (List LineCall → Type 0) → Step (EndView K) Happening → Type 0
+  IsAtNow Called step = IsAt plan base doings (λ at. at ≡ now) Called step
 
-  -- the law is kept so far, with such calls, and what the end keeps beside its core is sound
+  -- the law is kept so far, with such calls, and the numbers that are left end here
+  pub record CoreAt (Called : List LineCall → Type 0) (step : Step (EndView K) Happening) : Type 0 where
+    pub at : IsAtNow Called step
+    pub limit_is : limit_of step ≡ limit
+
+  -- so it is, and what the end keeps beside its core is sound
   pub record NodeAt (Called : List LineCall → Type 0) (step : Step (Node S K) Happening) : Type 0 where
     pub core : CoreAt Called (core_step step)
     pub sound : Sound step.next.own
 
-  core-of : {Called : List LineCall → Type 0} (step : Step (EndView K) Happening) → CoreAt Called step
+  pub core-of : {Called : List LineCall → Type 0} (step : Step (EndView K) Happening) → CoreAt Called step
       → IsCoreOf plan base step.next
-  core-of step is = record { folds = folds_of (own_of plan (is.done ++ doings)); core = is.core }
+  core-of step is = record { folds = folds_of (own_of plan (is.at.done ++ doings)); core = is.at.core }
 
   at-less :
       {Called Other : List LineCall → Type 0} (step : Step (EndView K) Happening)
       → ((made : List LineCall) → Called made → Other made) → CoreAt Called step → CoreAt Other step
   at-less step less is = record {
-    done = is.done;
-    called = less (calls_in is.done) is.called;
-    drops = is.drops;
-    course = is.course;
-    received = is.received;
-    core = is.core;
+    at = record {
+      done = is.at.done;
+      called = less (calls_in is.at.done) is.at.called;
+      drops = is.at.drops;
+      course = is.at.course;
+      received = is.at.received;
+      core = is.at.core;
+    };
+    limit_is = is.limit_is;
   }
+
+  at-went :
+      (Called : List LineCall → Type 0) (went : Went (EndView K) Happening)
+      → OnEither (IsAtNow Called) (IsAtNow Called) went → limit_of (step_in went) ≡ limit
+      → OnEither (CoreAt Called) (CoreAt Called) went
+  at-went Called (Goes step) is same = record { at = is; limit_is = same }
+  at-went Called (Spent step) is same = record { at = is; limit_is = same }
+
+  -- commands that are due
+  at-commands :
+      (Called : List LineCall → Type 0) (commands : List (Command K)) (step : Step (EndView K) Happening)
+      → IsDue now commands → CoreAt Called step
+      → OnEither (CoreAt Called) (CoreAt Called) (carried Some commands step)
+  at-commands Called commands step due is =
+      at-went Called (carried Some commands step)
+      (of-either (IsAtNow Called) (carried Some commands step)
+      (at-carried laws plan base fits doings (λ at. at ≡ now) Called commands step due.calls due.drops due.may is.at))
+      (carried-limit commands step due.adds ∙ is.limit_is)
 
   -- ---- duties
 
-  at-due-duties :
+  pub at-due-duties :
       (Called : List LineCall → Type 0) (duties : List (Duty K)) (step : Step (EndView K) Happening)
       → AreDueDuties plan base Sound now duties → CoreAt Called step
       → OnEither (CoreAt Called) (CoreAt Called) (all_done Some duties step)
@@ -390,9 +422,7 @@ module _
       let one = due.0 step.next (core-of step is) in
       either-then (CoreAt Called) (CoreAt Called) (CoreAt Called) (carried Some (duty step.next) step)
       (all_done Some duties)
-      (of-either (CoreAt Called) (carried Some (duty step.next) step)
-      (at-carried laws plan base fits doings (λ at. at ≡ now) Called (duty step.next) step one.calls one.drops one.may
-      is))
+      (at-commands Called (duty step.next) step one is)
       (λ next at. at-due-duties Called duties next due.1 at)
 
   at-led :
@@ -414,8 +444,7 @@ module _
       due = commands-due now one.rest one.quiet
 
       rest : OnEither (CoreAt Other) (CoreAt Other) (carried Some one.rest next)
-      rest = of-either (CoreAt Other) (carried Some one.rest next)
-          (at-carried laws plan base fits doings (λ at. at ≡ now) Other one.rest next due.calls due.drops due.may at)
+      rest = at-commands Other one.rest next due at
 
       first : OnEither (CoreAt Other) (CoreAt Other) (carried Some (led.first step.next) step)
       first =
@@ -434,7 +463,7 @@ module _
   at-turn Called own (Goes step) sound is = record { core = is; sound = sound }
   at-turn Called own (Spent step) sound is = record { core = is; sound = sound }
 
-  at-due-turn :
+  pub at-due-turn :
       (Called : List LineCall → Type 0) (turn : Turn S K) (step : Step (Node S K) Happening)
       → IsDueTurn plan base Sound now turn → NodeAt Called step
       → OnEither (NodeAt Called) (NodeAt Called) (after_turn Some turn step)
@@ -443,7 +472,7 @@ module _
       (at-due-duties Called turn.duties (core_step step) due.due is.core)
 
   -- parts that don't call the line, and others behind them
-  at-due-parts :
+  pub at-due-parts :
       (Called : List LineCall → Type 0) (P Q : Step (Node S K) Happening → Type 0) (parts rest : List (Part S K))
       (step : Step (Node S K) Happening)
       → AreDueParts plan base Sound now parts → NodeAt Called step
@@ -462,13 +491,13 @@ module _
   -- ---- a step
 
   module _ {C : Type 0} (input : Input C) where
-    abbrev Begun : Step (Node S K) Happening → Type 0
+    abbrev pub Begun : Step (Node S K) Happening → Type 0
     Begun step = NodeAt (AreBegunOf input now) step
 
-    abbrev Stepped : Step (Node S K) Happening → Type 0
+    abbrev pub Stepped : Step (Node S K) Happening → Type 0
     Stepped step = NodeAt (AreOfStep input now) step
 
-    node-less :
+    pub node-less :
         {Called Other : List LineCall → Type 0} (step : Step (Node S K) Happening)
         → ((made : List LineCall) → Called made → Other made) → NodeAt Called step → NodeAt Other step
     node-less step less is = record { core = at-less (core_step step) less is.core; sound = is.sound }
@@ -494,22 +523,27 @@ module _
         next = offers step.next.core.line.phase step.next.core.line.held now (core_step step)
 
         offered : CoreAt (AreOfStep input now) next
-        offered =
-            at-offers laws plan base fits doings (λ at. at ≡ now) (AreOfStep input now) now (core_step step) step.next.core.line.phase
-            step.next.core.line.held refl refl is.core
-            (λ decided are. record {
-              decided = decided ++ is.core.called.decided;
-              are = ap (λ (cs : List LineCall). decided ++ cs) is.core.called.are
-                  ∙ sym (append_assoc decided is.core.called.decided _);
-              decisions = decided-both now decided is.core.called.decided are is.core.called.decisions;
-            })
+        offered = record {
+          at =
+              at-offers laws plan base fits doings (λ at. at ≡ now) (AreOfStep input now) now (core_step step)
+              step.next.core.line.phase step.next.core.line.held refl refl is.core.at
+              (λ decided are. record {
+                decided = decided ++ is.core.at.called.decided;
+                are = ap (λ (cs : List LineCall). decided ++ cs) is.core.at.called.are
+                    ∙ sym (append_assoc decided is.core.at.called.decided _);
+                decisions = decided-both now decided is.core.at.called.decided are is.core.at.called.decisions;
+              });
+          limit_is = carry-limit (Command.Offer now) (core_step step) tt ∙ is.core.limit_is;
+        }
 
-    at-later :
+    -- the last half of a step: parts without the line, and its turn
+    pub at-later :
         (later : List (Part S K)) (offer : Part S K) (step : Step (Node S K) Happening)
         → AreQuietParts plan base Sound later → IsLedPart plan base Sound (Command.Offer now) offer → Stepped step
         → OnEither Stepped Begun (after_parts Some (later ++ offer ∷ []) step)
     at-later later offer step quiet led is =
-        at-due-parts (AreOfStep input now) Stepped Begun later (offer ∷ []) step (parts-due plan base Sound now later quiet) is
+        at-due-parts (AreOfStep input now) Stepped Begun later (offer ∷ []) step
+        (parts-due plan base Sound now later quiet) is
         (λ last at. node-less last (begun-stepped input now) at) (λ last at. at-offer offer last led at)
 
     at-quiet-input :
@@ -519,7 +553,8 @@ module _
     at-quiet-input given step none quiet is =
         either-less Stepped Stepped Stepped Begun (after_turn Some turn step)
         (at-due-turn (AreOfStep input now) turn step
-        (turn-due plan base Sound now turn (quiet step.next.own step.next.core is.sound (core-of (core_step step) is.core)))
+        (turn-due plan base Sound now turn (quiet step.next.own step.next.core is.sound
+        (core-of (core_step step) is.core)))
         (node-less step (λ made ticked. stepped-quiet input now made none ticked) is))
         (λ last at. at) (λ last at. node-less last (begun-stepped input now) at)
       where
@@ -544,14 +579,18 @@ module _
         so = led step.next.own step.next.core is.sound (core-of (core_step step) is.core)
 
         taken : CoreAt (AreOfStep input now) (takes Some byte now (core_step step))
-        taken =
-            at-takes laws plan base fits doings (λ at. at ≡ now) (AreOfStep input now) byte now (core_step step) below is.core
-            (λ decided are. record {
-              decided = decided;
-              are = ap (λ (cs : List LineCall). decided ++ LineCall.Take byte now ∷ cs) is.core.called
-                  ∙ ap (λ (i : Input C). decided ++ taking_calls i now) (sym char);
-              decisions = are;
-            })
+        taken = record {
+          at =
+              at-takes laws plan base fits doings (λ at. at ≡ now) (AreOfStep input now) byte now (core_step step) below
+              is.core.at
+              (λ decided are. record {
+                decided = decided;
+                are = ap (λ (cs : List LineCall). decided ++ LineCall.Take byte now ∷ cs) is.core.at.called
+                    ∙ ap (λ (i : Input C). decided ++ taking_calls i now) (sym char);
+                decisions = are;
+              });
+          limit_is = carry-limit (Command.Take byte now) (core_step step) tt ∙ is.core.limit_is;
+        }
 
     at-input :
         (given : Part S K) (step : Step (Node S K) Happening) (i : Input C) → input ≡ i
@@ -564,14 +603,13 @@ module _
         at-quiet-input given step (ap (λ (i : Input C). taking_calls i now) is) so at
 
     at-given :
-        (given offer : Part S K) (later : List (Part S K)) (step : Step (Node S K) Happening)
-        → IsInputPart plan base Sound input now given → AreQuietParts plan base Sound later
-        → IsLedPart plan base Sound (Command.Offer now) offer → NodeAt (IsTicked now) step
-        → OnEither Stepped Begun (after_parts Some (given ∷ (later ++ offer ∷ [])) step)
-    at-given given offer later step so quiet led is =
+        (given : Part S K) (rest : List (Part S K)) (step : Step (Node S K) Happening)
+        → IsInputPart plan base Sound input now given → NodeAt (IsTicked now) step
+        → ((last : Step (Node S K) Happening) → Stepped last → OnEither Stepped Begun (after_parts Some rest last))
+        → OnEither Stepped Begun (after_parts Some (given ∷ rest) step)
+    at-given given rest step so is more =
         either-then Stepped Begun Stepped (after_turn Some (given step.next.own step.next.core) step)
-        (after_parts Some (later ++ offer ∷ [])) (at-input given step input refl so is)
-        (λ last at. at-later later offer last quiet led at)
+        (after_parts Some rest) (at-input given step input refl so is) more
 
     at-tick-part :
         (tick : Part S K) (rest : List (Part S K)) (step : Step (Node S K) Happening)
@@ -596,9 +634,31 @@ module _
         so = led step.next.own step.next.core is.sound (core-of (core_step step) is.core)
 
         ticked : CoreAt (IsTicked now) (calls (LineCall.Tick now) (core_step step))
-        ticked =
-            at-tick laws plan base fits doings (λ at. at ≡ now) (IsTicked now) now (core_step step) is.core
-            (ap (λ (cs : List LineCall). LineCall.Tick now ∷ cs) is.core.called)
+        ticked = record {
+          at =
+              at-tick laws plan base fits doings (λ at. at ≡ now) (IsTicked now) now (core_step step) is.core.at
+              (ap (λ (cs : List LineCall). LineCall.Tick now ∷ cs) is.core.at.called);
+          limit_is = is.core.limit_is;
+        }
+
+    -- the first half of a step, up to the input, and parts behind it
+    pub at-first :
+        (first : List (Part S K)) (tick : Part S K) (due : List (Part S K)) (given : Part S K) (rest : List (Part S K))
+        (step : Step (Node S K) Happening)
+        → AreQuietParts plan base Sound first → IsLedPart plan base Sound (Command.Tick now) tick
+        → AreDueParts plan base Sound now due → IsInputPart plan base Sound input now given
+        → NodeAt (λ (made : List LineCall). made ≡ []) step
+        → ((last : Step (Node S K) Happening) → Stepped last → OnEither Stepped Begun (after_parts Some rest last))
+        → OnEither Stepped Begun (after_parts Some (first ++ tick ∷ (due ++ given ∷ rest)) step)
+    at-first first tick due given rest step first_is tick_is due_is given_is is more =
+        at-due-parts IsNone Stepped Begun first (tick ∷ (due ++ given ∷ rest)) step
+        (parts-due plan base Sound now first first_is) is (λ last at. node-less last (begun-none input now) at)
+        (λ last at.
+        at-tick-part tick (due ++ given ∷ rest) last tick_is at
+        (λ next ticked.
+        at-due-parts (IsTicked now) Stepped Begun due (given ∷ rest) next due_is ticked
+        (λ end ended. node-less end (begun-ticked input now) ended)
+        (λ end ended. at-given given rest end given_is ended more)))
 
     at-step :
         (parts : List (Part S K)) (step : Step (Node S K) Happening)
@@ -606,16 +666,9 @@ module _
         → OnEither Stepped Begun (after_parts Some parts step)
     at-step parts step so is =
         subst (λ (all : List (Part S K)). OnEither Stepped Begun (after_parts Some all step)) (sym so.are)
-        (at-due-parts IsNone Stepped Begun so.first
-        (so.tick ∷ (so.due ++ so.given ∷ (so.later ++ so.offer ∷ []))) step
-        (parts-due plan base Sound now so.first so.first_is) is (λ last at. node-less last (begun-none input now) at)
-        (λ last at.
-        at-tick-part so.tick (so.due ++ so.given ∷ (so.later ++ so.offer ∷ [])) last so.tick_is at
-        (λ next ticked.
-        at-due-parts (IsTicked now) Stepped Begun so.due
-        (so.given ∷ (so.later ++ so.offer ∷ [])) next so.due_is ticked
-        (λ end ended. node-less end (begun-ticked input now) ended)
-        (λ end ended. at-given so.given so.offer so.later end so.given_is so.later_is so.offer_is ended))))
+        (at-first so.first so.tick so.due so.given (so.later ++ so.offer ∷ []) step so.first_is so.tick_is so.due_is
+        so.given_is is
+        (λ last at. at-later so.later so.offer last so.later_is so.offer_is at))
 
 -- ---- the law of a node
 
@@ -658,6 +711,75 @@ world-plain (Happening.TooLong name) is = absurd is
 world-plain (Happening.Full name) is = absurd is
 world-plain (Happening.Recorded past) is = absurd is
 
+-- a start, and what the world notes of an end
+pub begins-new :
+    {S K : Type 0} (laws : Laws) (plan : EndPlan) (fits : LinePlanFits plan.line) (Sound : S → Type 0) (own : S)
+    (numbers : NumbersView) → IsNumbers numbers → Sound own
+    → Did {K = K} Sound plan numbers.next [] (record { own = own; core = new_end plan numbers })
+begins-new {S} {K} laws plan fits Sound own numbers are sound =
+    record { sound = sound; is = (core.lawful {K = K} laws).begins plan numbers fits are }
+
+pub history-says :
+    {K : Type 0} (plan : EndPlan) (base : ℕ) (doings : List Doing) (e : EndView K) (what : Happening)
+    → IsHistoryOf plan base doings e → IsOfWorld what → IsHistoryOf plan base (Says what ∷ doings) e
+history-says plan base doings e what is world = record {
+  lawful = ((in-turn (own_of plan doings) (Says what) is.received, world-plain what world), is.lawful);
+  line = is.line;
+  received = is.received;
+  core = is.core;
+}
+
+-- a node at the start of a step, and what it has done by its end
+module _
+    {S K : Type 0} (laws : Laws) (plan : EndPlan) (base : ℕ) (fits : LinePlanFits plan.line) (Sound : S → Type 0)
+    (doings : List Doing) (now : ℕ) where
+  pub begins-at :
+      (s : Node S K) → Did Sound plan base doings s
+      → NodeAt laws plan base fits Sound doings now s.core.numbers.end (λ (made : List LineCall). made ≡ [])
+      (at_first s)
+  begins-at s did = record {
+    core = record {
+      at = record {
+        done = [];
+        called = refl;
+        drops = tt;
+        received = did.is.received;
+        course = record {
+          lawful = did.is.lawful;
+          line = did.is.line;
+          notes = sym (append-nil (noted_in doings));
+          written = sym (append-nil (written_in plan doings));
+        };
+        core = did.is.core;
+      };
+      limit_is = refl;
+    };
+    sound = did.sound;
+  }
+
+  pub does-more :
+      (limit : ℕ) (Such : List LineCall → Type 0) (step : Step (Node S K) Happening)
+      → NodeAt laws plan base fits Sound doings now limit Such step
+      → DoesMore plan (Did Sound plan) base doings now Such step
+  does-more limit Such step at =
+      let so = at.core.at in
+      record {
+        done = so.done;
+        is = record {
+          sound = at.sound;
+          is = record {
+            lawful = so.course.lawful;
+            received = so.received;
+            line = so.course.line;
+            core = so.core;
+          };
+        };
+        notes = so.course.notes;
+        written = so.course.written;
+        calls = so.called;
+        drops = so.drops;
+      }
+
 module _
     {S K C : Type 0} (laws : Laws) (plan : EndPlan) (fits : LinePlanFits plan.line) (Sound : S → Type 0)
     (design : Design S K C) (takes_it : C → Type 0) where
@@ -667,62 +789,25 @@ module _
       → DoesStep plan (Did Sound plan) base doings input now ((machine_of design).act s input now)
   does-step base doings s input now of_step did =
       go (after_parts Some (design.parts input now) (at_first s))
-      (at-step laws plan base fits Sound doings now input (design.parts input now) (at_first s) of_step first)
+      (at-step laws plan base fits Sound doings now s.core.numbers.end input (design.parts input now) (at_first s)
+      of_step
+      (begins-at laws plan base fits Sound doings now s did))
     where
-      first : NodeAt laws plan base fits Sound doings now (λ (made : List LineCall). made ≡ []) (at_first s)
-      first = record {
-        core = record {
-          done = [];
-          called = refl;
-          drops = tt;
-          received = did.is.received;
-          course = record {
-            lawful = did.is.lawful;
-            line = did.is.line;
-            notes = sym (append-nil (noted_in doings));
-            written = sym (append-nil (written_in plan doings));
-          };
-          core = did.is.core;
-        };
-        sound = did.sound;
-      }
-
-      more :
-          (Such : List LineCall → Type 0) (step : Step (Node S K) Happening)
-          → NodeAt laws plan base fits Sound doings now Such step
-          → DoesMore plan (Did Sound plan) base doings now Such step
-      more Such step at =
-          let so = at.core in
-          record {
-            done = so.done;
-            is = record {
-              sound = at.sound;
-              is = record {
-                lawful = so.course.lawful;
-                received = so.received;
-                line = so.course.line;
-                core = so.core;
-              };
-            };
-            notes = so.course.notes;
-            written = so.course.written;
-            calls = so.called;
-            drops = so.drops;
-          }
-
       go :
           (went : Went (Node S K) Happening)
-          → OnEither (Stepped laws plan base fits Sound doings now input)
-          (Begun laws plan base fits Sound doings now input) went
+          → OnEither (Stepped laws plan base fits Sound doings now s.core.numbers.end input)
+          (Begun laws plan base fits Sound doings now s.core.numbers.end input) went
           → DoesStep plan (Did Sound plan) base doings input now went
-      go (Goes step) at = more (AreOfStep input now) step at
-      go (Spent step) at = more (AreBegunOf input now) step at
+      go (Goes step) at =
+          does-more laws plan base fits Sound doings now s.core.numbers.end (AreOfStep input now) step at
+      go (Spent step) at =
+          does-more laws plan base fits Sound doings now s.core.numbers.end (AreBegunOf input now) step at
 
   -- the numbers that are left are above all drawn
   restarts-above :
       (again : (own : S) → Sound own → Sound (design.again own)) (same : (own : S) → Sound own → design.plan own ≡ plan)
       (base : ℕ) (doings : List Doing) (s : Node S K) (now : ℕ) → Did Sound plan base doings s
-      → OnRestart (HasRestarted plan (Did Sound plan) base doings) ((machine_of design).restart s now)
+      → OnStart (HasRestarted plan (Did Sound plan) base doings) ((machine_of design).restart s now)
   restarts-above again same base doings s now did = record {
     least = s.core.numbers.next;
     no_lower = did.is.core.numbers.least;
@@ -730,7 +815,7 @@ module _
     started =
         subst
         (λ (p : EndPlan).
-        HasStarted plan (Did Sound plan) s.core.numbers.next (started {K = K} p (design.again s.own) s.core.numbers))
+        HasStarted plan (Did Sound plan) s.core.numbers.next (started {K = K} p (design.again s.own) [] s.core.numbers))
         (sym (same s.own did.sound))
         (record {
           base = s.core.numbers.next;
@@ -752,8 +837,9 @@ module _
       → ((base : ℕ) (input : Input C) (now : ℕ) → MayTake takes_it input
       → IsStepOf plan base Sound input now (design.parts input now))
       → ((step : Step (Node S K) Happening)
-      → (machine_of design).act (started plan own (numbers_from 0 (2 ^ 32))).next Time 0 ≢ Spent step)
-      → KeepsLaw plan (Did Sound plan) takes_it (started plan own (numbers_from 0 (2 ^ 32))) (machine_of design)
+      → (machine_of design).act (started plan own [] (numbers_from 0 (2 ^ 32))).next Time 0 ≢ Spent step)
+      → KeepsLaw plan (Did Sound plan) takes_it (Goes (started plan own [] (numbers_from 0 (2 ^ 32))))
+      (machine_of design)
   node-lawful own sound again same steps begins = record {
     fits = fits;
     starts = record {
@@ -767,20 +853,21 @@ module _
       notes = refl;
       written = refl;
     };
-    begins = begins;
+    begins = λ first step is spent. begins step (ap (λ (s : Node S K). (machine_of design).act s Time 0)
+        (first-is first is) ∙ spent);
+    stops = λ base doings s input now did may front has. absurd has;
     keeps = λ base doings s did. record { lawful = did.is.lawful; line_is = did.is.line; received = did.is.received };
     goes_on = λ base doings s input now did may. does-step base doings s input now (steps base input now may) did;
-    says = λ base doings s what did world. record {
-      sound = did.sound;
-      is = record {
-        lawful = ((in-turn (own_of plan doings) (Says what) did.is.received, world-plain what world), did.is.lawful);
-        line = did.is.line;
-        received = did.is.received;
-        core = did.is.core;
-      };
-    };
+    says = λ base doings s what did world.
+        record { sound = did.sound; is = history-says plan base doings s.core what did.is world };
     restarts = λ base doings s now did. restarts-above again same base doings s now did;
   }
     where
       all_left : IsNumbers (numbers_from 0 (2 ^ 32))
       all_left = search rules
+
+      first-is :
+          (first : Step (Node S K) Happening) → Goes (started plan own [] (numbers_from 0 (2 ^ 32))) ≡ Goes first
+          → (started {K = K} plan own [] (numbers_from 0 (2 ^ 32))).next ≡ first.next
+      first-is first is =
+          ap (λ (went : Went (Node S K) Happening). next_of went) is

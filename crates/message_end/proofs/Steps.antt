@@ -134,7 +134,8 @@ AllCallNone (one ∷ commands) = CallsNone one × AllCallNone commands
 
 by-call :
     {K : Type 0} (P : Command K → Type 0) → ((one : Command K) → CallsNone one → P one)
-    → ((now : ℕ) → P (Command.Tick now)) → ((byte now : ℕ) → P (Command.Take byte now)) → ((now : ℕ) → P (Command.Offer now))
+    → ((now : ℕ) → P (Command.Tick now)) → ((byte now : ℕ) → P (Command.Take byte now))
+    → ((now : ℕ) → P (Command.Offer now))
     → (one : Command K) → P one
 by-call P none tick take offer (Command.Note what) = none (Command.Note what) tt
 by-call P none tick take offer (Command.Primary unsent) = none (Command.Primary unsent) tt
@@ -154,6 +155,7 @@ by-call P none tick take offer (Command.End system) = none (Command.End system) 
 by-call P none tick take offer (Command.Recall header) = none (Command.Recall header) tt
 by-call P none tick take offer (Command.Remove odd system) = none (Command.Remove odd system) tt
 by-call P none tick take offer Command.DropFront = none Command.DropFront tt
+by-call P none tick take offer Command.Halt = none Command.Halt tt
 
 none-called : {K : Type 0} (one : Command K) → CallsNone one → AreCallsOf one []
 none-called (Command.Note what) none = refl
@@ -174,6 +176,7 @@ none-called (Command.End system) none = refl
 none-called (Command.Recall header) none = refl
 none-called (Command.Remove odd system) none = refl
 none-called Command.DropFront none = refl
+none-called Command.Halt none = refl
 
 -- ---- when T4 drops
 
@@ -181,7 +184,8 @@ none-called Command.DropFront none = refl
 abbrev pub IsTheMoment : {K : Type 0} → List (Command K) → ℕ → Type 0
 IsTheMoment commands at = (now : ℕ) → AllDropAt now commands → at ≡ now
 
-own-dropped : {At Other : ℕ → Type 0} → ((at : ℕ) → At at → Other at) → (own : Own) → IsDropped At own → IsDropped Other own
+own-dropped : {At Other : ℕ → Type 0} → ((at : ℕ) → At at → Other at) → (own : Own) → IsDropped At own
+    → IsDropped Other own
 own-dropped less (DrewNumber number) is = tt
 own-dropped less (SentMessage message) is = tt
 own-dropped less (ReceivedMessage message) is = tt
@@ -221,6 +225,7 @@ at-moment all (Command.End system) is = tt
 at-moment all (Command.Recall header) is = tt
 at-moment all (Command.Remove odd system) is = tt
 at-moment all Command.DropFront is = tt
+at-moment all Command.Halt is = tt
 
 pub all-at-moment :
     {K : Type 0} (all commands : List (Command K)) → ((now : ℕ) → AllDropAt now all → AllDropAt now commands)
@@ -261,7 +266,11 @@ record IsReply (asked function : ℕ) : Type 0 where
   is : ((function == asked + 1) || (function == 0)) ≡ true
 
 reply-next : (asked : ℕ) → (asked % 2 == 1) ≡ true → asked < 256 → IsReply asked (reply_function asked)
-reply-next asked odd below = record { even = grind (arith, nat_tests, odd); byte = omega arith; is = grind (arith, nat_tests, odd, below) }
+reply-next asked odd below = record {
+  even = grind (arith, nat_tests, odd);
+  byte = omega arith;
+  is = grind (arith, nat_tests, odd, below);
+}
 
 reply-abort : (asked : ℕ) → IsReply asked 0
 reply-abort asked = record { even = refl; byte = omega arith; is = or-right (0 == asked + 1) }
@@ -304,7 +313,8 @@ entries-frame framed own = ap (λ (f : Folds). f.entries) (folds-frame framed ow
 whole-told :
     (receiver : Receiver) (call : LineCall) (line : LineState) (own : List Own) (block : BlockView)
     → (line_step line call).event ≡ Arrived block
-    → whole_in (with_call receiver call line own) ≡ whole_of (flow_after receiver (met_of receiver (entries_in own)) block)
+    → whole_in (with_call receiver call line own) ≡ whole_of (flow_after receiver (met_of receiver (entries_in own))
+    block)
 whole-told receiver call line own block told =
     ap (λ (ev : LineEvent). whole_in (with_hearing receiver ev (moment_of call) framed)) told
     ∙ ap (λ es. whole_of (flow_after receiver (met_of receiver es) block))
@@ -323,7 +333,8 @@ receiver-fits plan fits = record {
 }
 
 met-given :
-    (standing : StandingGoesOn) (plan : EndPlan) (entries : List FlowEntry) (a : AssemblyView) (block : BlockView) (now : ℕ) → IsBlock block → IsMet plan entries a
+    (standing : StandingGoesOn) (plan : EndPlan) (entries : List FlowEntry) (a : AssemblyView) (block : BlockView)
+    (now : ℕ) → IsBlock block → IsMet plan entries a
     → IsMet plan (Given block now ∷ entries) (with_block a block now)
 met-given standing plan entries a block now is_block is = record {
   receiver = is.receiver;
@@ -367,7 +378,8 @@ module _ {K : Type 0} (laws : Laws) (plan : EndPlan) (base : ℕ) (fits : LinePl
   }
 
   at-transactions :
-      (step : Step (EndView K) Happening) (t : TransactionsView K) → (is : At step) → AreTransactionsOf plan (sent_in (own-of is)) t
+      (step : Step (EndView K) Happening) (t : TransactionsView K) → (is : At step)
+      → AreTransactionsOf plan (sent_in (own-of is)) t
       → At (with_end (with_transactions t step.next) step)
   at-transactions step t is open_is = at-changed step (with_transactions t step.next) refl is (record {
     line = is.core.line;
@@ -428,7 +440,8 @@ module _ {K : Type 0} (laws : Laws) (plan : EndPlan) (base : ℕ) (fits : LinePl
       core = record {
         line = is.core.line;
         numbers = new.after;
-        spare = spare-drawn (drawn_in own) (sent_in own) step.next.numbers step.next.drawn number new.higher is.core.spare;
+        spare = spare-drawn (drawn_in own) (sent_in own) step.next.numbers step.next.drawn number new.higher
+            is.core.spare;
         outgoing = is.core.outgoing;
         waiting = is.core.waiting;
         held = is.core.held;
@@ -478,7 +491,10 @@ module _ {K : Type 0} (laws : Laws) (plan : EndPlan) (base : ℕ) (fits : LinePl
         (course-did plan base doings is.done step (SentMessage message) _ is.course
         (in-turn own (Does (SentMessage message)) is.received)
         (record {
-          primary = λ odd. record { drawn = ready.drawn_is; new = λ sent has primary same. ready.free sent has primary same };
+          primary = λ odd. record {
+            drawn = ready.drawn_is;
+            new = λ sent has primary same. ready.free sent has primary same;
+          };
           reply = λ even. let e = sym asks.odd ∙ even in absurd (cc);
         })
         refl);
@@ -505,9 +521,11 @@ module _ {K : Type 0} (laws : Laws) (plan : EndPlan) (base : ℕ) (fits : LinePl
       message : Message
       message = primary_of unsent system
 
-      last : last_header_of step.next.outgoing message ≡ header_of plan.side plan.line.device message (block_count message)
+      last : last_header_of step.next.outgoing message ≡ header_of plan.side plan.line.device message
+          (block_count message)
       last =
-          ap (λ (side : Side). header_of side step.next.outgoing.device message (block_count message)) is.core.outgoing.side
+          ap (λ (side : Side). header_of side step.next.outgoing.device message (block_count message))
+          is.core.outgoing.side
           ∙ ap (λ device. header_of plan.side device message (block_count message)) is.core.outgoing.device
 
       own : List Own
@@ -525,7 +543,8 @@ module _ {K : Type 0} (laws : Laws) (plan : EndPlan) (base : ℕ) (fits : LinePl
       draw None e = is
       draw (Some number) e =
           let drawn = after-draw step number is e in
-          at-sends unsent number (with_end (with_numbers (after_draw step.next.numbers) step.next) step) asks drawn.at drawn.ready
+          at-sends unsent number (with_end (with_numbers (after_draw step.next.numbers) step.next) step) asks drawn.at
+          drawn.ready
 
       go : (crowded : Bool)
           → OnWent At (if crowded then Goes (noted Some (Happening.Full (unsent_name unsent)) step)
@@ -534,7 +553,8 @@ module _ {K : Type 0} (laws : Laws) (plan : EndPlan) (base : ℕ) (fits : LinePl
       go false = draw (next_number step.next.numbers) refl
 
   -- a number is drawn by itself
-  at-draw : (step : Step (EndView K) Happening) → At step → OnWent At (draws (next_number step.next.numbers) keeps_drawn step)
+  at-draw : (step : Step (EndView K) Happening) → At step
+      → OnWent At (draws (next_number step.next.numbers) keeps_drawn step)
   at-draw step is = go (next_number step.next.numbers) refl
     where
       go : (next : Option ℕ) → next_number step.next.numbers ≡ next → OnWent At (draws next keeps_drawn step)
@@ -548,7 +568,8 @@ module _ {K : Type 0} (laws : Laws) (plan : EndPlan) (base : ℕ) (fits : LinePl
             numbers = core.numbers;
             spare = λ spare kept.
                 let same : number ≡ spare = same_Some _ _ kept in
-                subst (λ (n : ℕ). IsSpare (drawn_in (own-of drawn.at)) (sent_in (own-of drawn.at)) (after_draw step.next.numbers) n) same
+                subst (λ (n : ℕ). IsSpare (drawn_in (own-of drawn.at)) (sent_in (own-of drawn.at))
+                (after_draw step.next.numbers) n) same
                 (record { drawn_is = ready.drawn_is; below = ready.below; free = ready.free });
             outgoing = core.outgoing;
             waiting = core.waiting;
@@ -626,7 +647,8 @@ module _ {K : Type 0} (laws : Laws) (plan : EndPlan) (base : ℕ) (fits : LinePl
 
       choose : (full : Bool) (title : Title) → step.next.asked ≡ Some title
           → let message = reply_of title (function title.name.function) body in
-          At (if full then noted Some (Happening.Full (message_name message)) (with_end (with_asked None step.next) step)
+          At (if full then noted Some (Happening.Full (message_name message))
+          (with_end (with_asked None step.next) step)
           else queues Some message (with_end (with_asked None step.next) step))
       choose true title e =
           at-said (with_end (with_asked None step.next) step) (Happening.Full _) tt
@@ -665,7 +687,8 @@ module _ {K : Type 0} (laws : Laws) (plan : EndPlan) (base : ℕ) (fits : LinePl
           } in
           record {
             done = Does (SentMessage message) ∷ is.done;
-            course = course-changed plan base doings _ _ (queues Some message (with_end (with_asked None step.next) step)).next refl
+            course = course-changed plan base doings _ _
+                (queues Some message (with_end (with_asked None step.next) step)).next refl
                 (course-did plan base doings is.done step (SentMessage message) _ is.course
                 (in-turn own (Does (SentMessage message)) is.received)
                 (record {
@@ -684,7 +707,8 @@ module _ {K : Type 0} (laws : Laws) (plan : EndPlan) (base : ℕ) (fits : LinePl
             drops = (tt, is.drops);
             core = record {
               line = is.core.line;
-              numbers = numbers-replied base (drawn_in own) (sent_in own) step.next.numbers message secondary is.core.numbers;
+              numbers = numbers-replied base (drawn_in own) (sent_in own) step.next.numbers message secondary
+                  is.core.numbers;
               spare = spare-sent (drawn_in own) (sent_in own) step.next.numbers step.next.drawn message
                   (λ odd spare kept same. let wrong = sym odd ∙ secondary in absurd (cc)) is.core.spare;
               outgoing = record { side = is.core.outgoing.side; device = is.core.outgoing.device };
@@ -749,7 +773,8 @@ module _ {K : Type 0} (laws : Laws) (plan : EndPlan) (base : ℕ) (fits : LinePl
   at-times-out test None step is = is
   at-times-out test (Some begun) step is =
       at-said (with_end (without_begun test step.next) step) (Happening.TimedOut (header_title begun.header)) tt
-      (at-transactions step _ is (open-less plan (sent_in (own-of is)) test step.next.transactions is.core.transactions))
+      (at-transactions step _ is (open-less plan (sent_in (own-of is)) test step.next.transactions
+      is.core.transactions))
 
   at-answers :
       (header : Header) (found : Option (Begun K)) (step : Step (EndView K) Happening) → At step
@@ -792,6 +817,7 @@ module _ {K : Type 0} (laws : Laws) (plan : EndPlan) (base : ℕ) (fits : LinePl
       at-waits step _ is (waiting-less _ _ _ step.next.outgoing.waiting (is_named primary system) is.core.waiting)
   at-carry Command.DropFront step none at may is =
       at-waits step _ is (waiting-cut _ _ _ step.next.outgoing.waiting 0 1 (omega arith) is.core.waiting)
+  at-carry Command.Halt step none at may is = is
 
   pub at-carried :
       (commands : List (Command K)) (step : Step (EndView K) Happening) → AllCallNone commands → AllDrop Moment commands
@@ -849,7 +875,8 @@ module _ {K : Type 0} (laws : Laws) (plan : EndPlan) (base : ℕ) (fits : LinePl
     drops = is.drops;
     core =
         let same : folds_of (with_call (receiver_of plan) call before own) ≡ folds_of own =
-        folds-call (receiver_of plan) call before own ∙ quiet (line_step before call).event _ (folds_of own) none_told in
+        folds-call (receiver_of plan) call before own ∙ quiet (line_step before call).event _ (folds_of own) none_told
+        in
         subst (λ (f : Folds). IsCore plan base f (with_line (line_step step.next.line call).next step.next)) (sym same)
         (core-called (folds_of own) step.next call no_send can bytes is.core);
   }
@@ -902,7 +929,11 @@ module _ {K : Type 0} (laws : Laws) (plan : EndPlan) (base : ℕ) (fits : LinePl
       go : (waiting : List Waiting) → AreWaiting plan.side f.sents f.gave f.heard waiting
           → IsDone made (Command.Offer now) (gives (next_block_of out.side out.device waiting).0 now
           (with_end (turned (next_block_of out.side out.device waiting).1) step))
-      go [] are = record { newer = []; are = tt; at = at-waits laws plan base fits doings Moment (Exactly made) step [] is are }
+      go [] are = record {
+        newer = [];
+        are = tt;
+        at = at-waits laws plan base fits doings Moment (Exactly made) step [] is are;
+      }
       go (first ∷ rest) are = record {
         newer = Send block now ∷ [];
         are = refl;
@@ -926,7 +957,8 @@ module _ {K : Type 0} (laws : Laws) (plan : EndPlan) (base : ℕ) (fits : LinePl
                     ∙ ap (λ (m : Message). numbered_block plan.side plan.line.device m (first.gone + 1)) same;
                 can = can;
                 in_block = laws.in_blocks out.side out.device first.message (first.gone + 1)
-                    (subst (λ d. d < 32768) (sym is.core.outgoing.device) fits.device) next.fits (omega arith) next.last;
+                    (subst (λ d. d < 32768) (sym is.core.outgoing.device) fits.device) next.fits (omega arith)
+                    next.last;
               });
           received = is.received;
           called = ap (λ (calls : List LineCall). Send block now ∷ calls) is.called;
@@ -949,7 +981,8 @@ module _ {K : Type 0} (laws : Laws) (plan : EndPlan) (base : ℕ) (fits : LinePl
                   newest = refl;
                   sent = next.sent;
                   device = out.device;
-                  header = ap (λ (s : Side). header_of s out.device first.message (first.gone + 1)) is.core.outgoing.side;
+                  header = ap (λ (s : Side). header_of s out.device first.message (first.gone + 1))
+                      is.core.outgoing.side;
                   open_is = next.open_is;
                 });
             asked = is.core.asked;
@@ -999,9 +1032,17 @@ module _ {K : Type 0} (laws : Laws) (plan : EndPlan) (base : ℕ) (fits : LinePl
     drops : AreDropped Moment done
 
   -- no message is whole
-  abbrev at-no-whole : (made : List LineCall) (step : Step (EndView K) Happening) → IsHeard made step None → AtMade made step
+  abbrev at-no-whole : (made : List LineCall) (step : Step (EndView K) Happening) → IsHeard made step None
+      → AtMade made step
   at-no-whole made step is =
-      record { done = is.done; course = is.course; received = is.whole_is; core = is.core; called = is.called; drops = is.drops }
+      record {
+        done = is.done;
+        course = is.course;
+        received = is.whole_is;
+        core = is.core;
+        called = is.called;
+        drops = is.drops;
+      }
 
   record IsHeardBy
       (made : List LineCall) (byte now : ℕ) (step : Step (EndView K) Happening) (whole : Option Message) : Type 0 where
@@ -1035,7 +1076,8 @@ module _ {K : Type 0} (laws : Laws) (plan : EndPlan) (base : ℕ) (fits : LinePl
       taken = calls call step
 
       waits : Bool
-      waits = is_waiting_answered block.header step.next.outgoing (waiting_primary block.header.system step.next.outgoing)
+      waits = is_waiting_answered block.header step.next.outgoing
+          (waiting_primary block.header.system step.next.outgoing)
 
       back : Bool → EndView K
       back held =
@@ -1059,14 +1101,17 @@ module _ {K : Type 0} (laws : Laws) (plan : EndPlan) (base : ℕ) (fits : LinePl
       line = line-call laws.small laws.kept step.next.line call is.core.line tt bytes
 
       held_is : HeldIs plan.side f.sents f.gave f.heard taken.next.line.held
-      held_is = held-call f.sents f.gave f.heard step.next.line.held _ call tt (laws.small step.next.line call).held is.core.held
+      held_is = held-call f.sents f.gave f.heard step.next.line.held _ call tt (laws.small step.next.line call).held
+          is.core.held
 
-      outgoing_is : (answered : Bool) → IsOutgoingOf plan (without_answered answered block.header.system step.next.outgoing)
+      outgoing_is : (answered : Bool)
+          → IsOutgoingOf plan (without_answered answered block.header.system step.next.outgoing)
       outgoing_is true = record { side = is.core.outgoing.side; device = is.core.outgoing.device }
       outgoing_is false = is.core.outgoing
 
       folds_are : folds_of (with_call (receiver_of plan) call before own) ≡ heard_more block now f
-      folds_are = folds-call (receiver_of plan) call before own ∙ ap (λ (ev : LineEvent). folds_told ev now f) told_before
+      folds_are = folds-call (receiver_of plan) call before own ∙ ap (λ (ev : LineEvent). folds_told ev now f)
+          told_before
 
       whole_is : whole_in (with_call (receiver_of plan) call before own)
           ≡ whole_of (flow_after (receiver_of plan) (met_of (receiver_of plan) (entries_in own)) block)
@@ -1106,7 +1151,8 @@ module _ {K : Type 0} (laws : Laws) (plan : EndPlan) (base : ℕ) (fits : LinePl
           whole_is = whole_is;
           course = course-changed plan base doings _ taken (back false) refl course;
           core = subst (λ (g : Folds). IsCore plan base g (back false)) (sym folds_are)
-              (core false taken.next.line line (held-answered f.sents f.gave f.heard taken.next.line.held block.header e held_is));
+              (core false taken.next.line line (held-answered f.sents f.gave f.heard taken.next.line.held block.header e
+              held_is));
         };
       }
       go true e = record {
@@ -1118,7 +1164,8 @@ module _ {K : Type 0} (laws : Laws) (plan : EndPlan) (base : ℕ) (fits : LinePl
           drops = is.drops;
           whole_is = whole_is;
           course = course-cancelled plan base doings _ taken (cancels true (back true)) refl course can;
-          core = subst (λ (g : Folds). IsCore plan base g (with_line (line_step taken.next.line Cancel).next (back true)))
+          core = subst (λ (g : Folds). IsCore plan base g (with_line (line_step taken.next.line Cancel).next
+              (back true)))
               (sym folds_are)
               (core true (line_step taken.next.line Cancel).next
               (line-call laws.small laws.kept taken.next.line Cancel line can (All-nil (λ b. b < 256)))
@@ -1138,12 +1185,14 @@ module _ {K : Type 0} (laws : Laws) (plan : EndPlan) (base : ℕ) (fits : LinePl
   at-judges made header Part step whole is =
       let at = at-no-whole made step is in
       at-transactions laws plan base fits doings Moment (Exactly made) step _ at
-      (open-timed plan (sent_in (own_of plan (is.done ++ doings))) (is_answered_by header) None step.next.transactions is.core.transactions)
+      (open-timed plan (sent_in (own_of plan (is.done ++ doings))) (is_answered_by header) None step.next.transactions
+      is.core.transactions)
   at-judges made header (Whole message) step whole is = record {
     done = Does (ReceivedMessage message) ∷ is.done;
     course = course-changed plan base doings _ _ (with_asked (asked_by message) step.next) refl
         (course-did plan base doings is.done step (ReceivedMessage message) _ is.course
-        (subst (λ (o : Option Message). IsInTurn o (Does (ReceivedMessage message))) (sym is.whole_is) tt) is.whole_is refl);
+        (subst (λ (o : Option Message). IsInTurn o (Does (ReceivedMessage message))) (sym is.whole_is) tt) is.whole_is
+        refl);
     received = refl;
     called = is.called;
     drops = (tt, is.drops);
@@ -1166,17 +1215,29 @@ module _ {K : Type 0} (laws : Laws) (plan : EndPlan) (base : ℕ) (fits : LinePl
       asks false wait odd waits title e = absurd (cc)
       asks true false odd waits title e = absurd (cc)
       asks true true odd waits title e =
-          record { message = message; is = refl; primary = odd; wait = waits; title = sym (same_Some _ _ e); fits = whole message refl }
+          record {
+            message = message;
+            is = refl;
+            primary = odd;
+            wait = waits;
+            title = sym (same_Some _ _ e);
+            fits = whole message refl;
+          }
   at-judges made header Duplicate step whole is =
-      at-said laws plan base fits doings Moment (Exactly made) step (Happening.Duplicate header) tt (at-no-whole made step is)
+      at-said laws plan base fits doings Moment (Exactly made) step (Happening.Duplicate header) tt
+      (at-no-whole made step is)
   at-judges made header (Foreign address) step whole is =
-      at-said laws plan base fits doings Moment (Exactly made) step (Happening.Foreign header) tt (at-no-whole made step is)
+      at-said laws plan base fits doings Moment (Exactly made) step (Happening.Foreign header) tt
+      (at-no-whole made step is)
   at-judges made header Unexpected step whole is =
-      at-said laws plan base fits doings Moment (Exactly made) step (Happening.Unexpected header) tt (at-no-whole made step is)
+      at-said laws plan base fits doings Moment (Exactly made) step (Happening.Unexpected header) tt
+      (at-no-whole made step is)
   at-judges made header TooLong step whole is =
-      at-said laws plan base fits doings Moment (Exactly made) step (Happening.TooLongBlock header) tt (at-no-whole made step is)
+      at-said laws plan base fits doings Moment (Exactly made) step (Happening.TooLongBlock header) tt
+      (at-no-whole made step is)
   at-judges made header Crowded step whole is =
-      at-said laws plan base fits doings Moment (Exactly made) step (Happening.Crowded header) tt (at-no-whole made step is)
+      at-said laws plan base fits doings Moment (Exactly made) step (Happening.Crowded header) tt
+      (at-no-whole made step is)
 
   at-hears :
       (made : List LineCall) (byte now : ℕ) (step : Step (EndView K) Happening) (block : BlockView) → byte < 256
@@ -1197,7 +1258,8 @@ module _ {K : Type 0} (laws : Laws) (plan : EndPlan) (base : ℕ) (fits : LinePl
       entries : List FlowEntry
       entries = entries_in (own-in is)
 
-      flow_is : flow_to step.next.assembly block ≡ flow_after (receiver_of plan) (met_of (receiver_of plan) entries) block
+      flow_is : flow_to step.next.assembly block ≡ flow_after (receiver_of plan) (met_of (receiver_of plan) entries)
+          block
       flow_is =
           (laws.standing step.next.assembly entries is.core.met.stands).flow block
           ∙ ap (λ (r : Receiver). flow_after r (met_of r entries) block) is.core.met.receiver
@@ -1212,7 +1274,8 @@ module _ {K : Type 0} (laws : Laws) (plan : EndPlan) (base : ℕ) (fits : LinePl
 
       fits_whole : (message : Message) → flow_to step.next.assembly block ≡ Whole message → IsMessage message
       fits_whole message e =
-          (laws.whole (receiver_of plan) entries block message (receiver-fits plan fits) is.core.met.blocks is_block (sym flow_is ∙ e)).0
+          (laws.whole (receiver_of plan) entries block message (receiver-fits plan fits) is.core.met.blocks is_block
+          (sym flow_is ∙ e)).0
 
   pub take-made :
       (made : List LineCall) (byte now : ℕ) (step : Step (EndView K) Happening) → byte < 256 → AtMade made step
@@ -1235,8 +1298,10 @@ module _ {K : Type 0} (laws : Laws) (plan : EndPlan) (base : ℕ) (fits : LinePl
       go (Arrived block) e = at-hears made byte now step block below e is
       go Sent e =
           let at = taken (λ block told. let w = sym e ∙ told in absurd (cc)) in
-          done (at-transactions laws plan base fits doings Moment (Exactly (LineCall.Take byte now ∷ made)) (calls (LineCall.Take byte now) step) _ at
-          (open-acknowledged plan (sent_in (own-in at)) (held_header step.next.line.held) now step.next.transactions at.core.transactions))
+          done (at-transactions laws plan base fits doings Moment (Exactly (LineCall.Take byte now ∷ made))
+          (calls (LineCall.Take byte now) step) _ at
+          (open-acknowledged plan (sent_in (own-in at)) (held_header step.next.line.held) now step.next.transactions
+          at.core.transactions))
       go Nothing e = done (taken (λ block told. let w = sym e ∙ told in absurd (cc)))
       go Failed e = done (taken (λ block told. let w = sym e ∙ told in absurd (cc)))
       go (Refused cause) e = done (taken (λ block told. let w = sym e ∙ told in absurd (cc)))
@@ -1265,10 +1330,11 @@ module _ {K : Type 0} (laws : Laws) (plan : EndPlan) (base : ℕ) (fits : LinePl
       one moment may
 
   -- these commands have made the newer calls
-  record IsBehind (made : List LineCall) (Such : List LineCall → Type 0) (step : Step (EndView K) Happening) : Type 0 where
-    newer : List LineCall
-    are : Such newer
-    at : AtMade (newer ++ made) step
+  record IsBehind (made : List LineCall) (Such : List LineCall → Type 0) (step : Step (EndView K) Happening) : Type 0
+    where
+      newer : List LineCall
+      are : Such newer
+      at : AtMade (newer ++ made) step
 
   abbrev OnBehind : List LineCall → List (Command K) → Went (EndView K) Happening → Type 0
   OnBehind made commands (Goes step) = IsBehind made (AreCallsOfAll commands) step

@@ -28,9 +28,11 @@ module _ {K : Type 0} (laws : Laws) (plan : EndPlan) (base : ℕ) (fits : LinePl
   pub at-tick :
       (now : ℕ) (step : Step (EndView K) Happening) {Before : List LineCall
       → Type 0} (is : IsAt plan base doings Moment Before step)
-      → Called (LineCall.Tick now ∷ calls_in is.done) → IsAt plan base doings Moment Called (calls (LineCall.Tick now) step)
+      → Called (LineCall.Tick now ∷ calls_in is.done) → IsAt plan base doings Moment Called
+      (calls (LineCall.Tick now) step)
   at-tick now step is so =
-      at-such Called _ _ so (tick-made laws plan base fits doings Moment (calls_in is.done) now step (at-exactly step is))
+      at-such Called _ _ so (tick-made laws plan base fits doings Moment (calls_in is.done) now step
+      (at-exactly step is))
 
   pub at-takes :
       (byte now : ℕ) (step : Step (EndView K) Happening) → byte < 256
@@ -40,7 +42,8 @@ module _ {K : Type 0} (laws : Laws) (plan : EndPlan) (base : ℕ) (fits : LinePl
       → IsAt plan base doings Moment Called (takes Some byte now step)
   at-takes byte now step below is so = go taken.newer taken.are taken.at
     where
-      taken : IsDone laws plan base fits doings Moment (calls_in is.done) (Command.Take byte now) (takes Some byte now step)
+      taken : IsDone laws plan base fits doings Moment (calls_in is.done) (Command.Take byte now)
+          (takes Some byte now step)
       taken = take-made laws plan base fits doings Moment (calls_in is.done) byte now step below (at-exactly step is)
 
       go : (newer : List LineCall) → AreCallsOf {K = K} (Command.Take byte now) newer

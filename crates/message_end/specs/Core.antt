@@ -80,6 +80,8 @@ pub data Command (K : Type 0) : Type 0 where
   Recall : (header : Header) → Command K
   Remove : (primary : Bool) (system : ℕ) → Command K
   DropFront : Command K
+  -- do nothing more: a number is wanting that isn't drawn from those of the end (this profile)
+  Halt : Command K
 
 -- ---- a step in its course
 
@@ -93,6 +95,11 @@ pub record Step (S N : Type 0) : Type 0 where
 pub data Went (S N : Type 0) : Type 0 where
   Goes : (step : Step S N) → Went S N
   Spent : (step : Step S N) → Went S N
+
+-- the step as far as it came
+abbrev pub step_in : {S N : Type 0} → Went S N → Step S N
+step_in (Goes step) = step
+step_in (Spent step) = step
 
 -- what is done next, unless the numbers are spent
 abbrev pub and_then : {S N : Type 0} → Went S N → (Step S N → Went S N) → Went S N
@@ -424,6 +431,7 @@ carry say (Remove primary system) step =
 carry say DropFront step =
     let out = step.next.outgoing in
     Goes (waits (with_waiting out (drop 1 out.waiting)) step)
+carry say Halt step = Spent step
 
 -- one command after the other
 abbrev pub carried :

@@ -1,6 +1,6 @@
 -- What an end of the line is to those above: what it is given in a step, what it makes of that, and the law that it
 -- keeps.
-use Rattle.std.specs.Prelude.{◌≡◌, ◌≢◌, ◌<◌, ◌≤◌, ℕ, List, [], ◌∷◌, ◌++◌, None, Result, Ok, Err}
+use Rattle.std.specs.Prelude.{◌≡◌, ◌≢◌, ◌⊎◌, ◌+◌, ◌<◌, ◌≤◌, ℕ, List, [], ◌∷◌, ◌++◌, None, Result, Ok, Err}
 use Rattle.std.specs.List.{filter_map}
 use Rattle.line_end.specs.Plan.{LinePlanFits}
 use Rattle.line_end.specs.State.{LineState}
@@ -16,7 +16,7 @@ use Rattle.trace_log.specs.Names.{Spooled}
 use Rattle.trace_log.specs.Text.{printed_note}
 use Rattle.message_end.specs.declared.end.Stop.{Stop}
 use Rattle.message_end.specs.declared.end.Stop.TheVariants as stop
-use Rattle.message_end.specs.Core.{Step, Went}
+use Rattle.message_end.specs.Core.{Step, Went, step_in}
 use Rattle.message_end.specs.Core.Went.{Goes, Spent}
 use Rattle.message_end.specs.Doings.{AreLawful, Doing, line_of, own_of}
 use Rattle.message_end.specs.Doings.Doing.{Says}
@@ -33,11 +33,28 @@ pub data Input (C : Type 0) : Type 0 where
   Time : Input C
   Command : (command : C) → Input C
 
--- what an end makes of its state in a step at a moment, and when it starts anew without power; and its line
+-- how many calls of a disk, and how many bytes that these write
+pub record Asked : Type 0 where
+  pub calls : ℕ
+  pub bytes : ℕ
+
+abbrev pub none_asked : Asked
+none_asked = record { calls = 0; bytes = 0 }
+
+abbrev pub asked_both : Asked → Asked → Asked
+asked_both one two = record { calls = one.calls + two.calls; bytes = one.bytes + two.bytes }
+
+-- what an end makes of its state in a step at a moment, and when it starts anew without power; and its line. Its disk
+-- may stop a step, or a start, with these notes: one list for each piece of work that it asks of the disk, in their
+-- order; and all of them ask so much of it
 pub record Machine (S C : Type 0) : Type 0 where
   pub act : S → Input C → ℕ → Went S Happening
   pub restart : S → ℕ → Went S Happening
   pub line : S → LineState
+  pub stops : S → Input C → ℕ → List (List Happening)
+  pub start_stops : List (List Happening)
+  pub asks : S → Input C → ℕ → Asked
+  pub start_asks : Asked
 
 -- ---- what the code is given, and what it gives
 
@@ -76,11 +93,66 @@ pub record HasSpent {S : Type 0} (went : Went S Happening) (out : StepOut) : Typ
   pub notes : out.notes ≡ printed step.notes
   pub quiet : out.line.items ≡ []
 
--- a step goes on, or the numbers are spent. Where memory runs out nothing is sent, and no more is said
-abbrev pub Leaves : {S : Type 0} → Went S Happening → S → StepOut → Result (Unit {0}) Stop → Type 0
-Leaves went next out (Ok done) = HasGone went next out
-Leaves went next out (Err stop.NumbersSpent) = HasSpent went out
-Leaves went next out (Err stop.NoMemory) = out.line.items ≡ []
+-- these notes are the first ones of those
+pub record IsFront (front notes : List Happening) : Type 0 where
+  pub rest : List Happening
+  pub whole : notes ≡ front ++ rest
+
+-- its disk has stopped it with some of these notes, which are its first ones: they are there, and nothing is sent
+pub record HasStopped {S : Type 0} (fronts : List (List Happening)) (went : Went S Happening) (out : StepOut)
+    : Type 0 where
+  pub front : List Happening
+  pub may : Has fronts front
+  pub first : IsFront front (step_in went).notes
+  pub notes : out.notes ≡ printed front
+  pub quiet : out.line.items ≡ []
+
+-- a step goes on, or the numbers are spent, or the disk stops it with some of these notes. Where memory runs out
+-- nothing is sent, and no more is said
+abbrev pub Leaves :
+    {S : Type 0} → List (List Happening) → Went S Happening → S → StepOut → Result (Unit {0}) Stop → Type 0
+Leaves fronts went next out (Ok done) = HasGone went next out
+Leaves fronts went next out (Err stop.NumbersSpent) = HasSpent went out
+Leaves fronts went next out (Err stop.DiskFailed) = HasStopped fronts went out
+Leaves fronts went next out (Err stop.NoMemory) = out.line.items ≡ []
+
+-- the same of a first start, which gives an end
+abbrev pub Starts :
+    {E S : Type 0} → List (List Happening) → Went S Happening → (E → S) → StepOut → Result E Stop → Type 0
+Starts fronts went means out (Ok end) = HasGone went (means end) out
+Starts fronts went means out (Err stop.NumbersSpent) = HasSpent went out
+Starts fronts went means out (Err stop.DiskFailed) = HasStopped fronts went out
+Starts fronts went means out (Err stop.NoMemory) = out.line.items ≡ []
+
+-- ---- what a disk has room for
+
+-- of this room at least so much is left as wasn't asked
+pub record IsLeft (room asked left : Asked) : Type 0 where
+  pub calls : room.calls ≤ left.calls + asked.calls
+  pub bytes : room.bytes ≤ left.bytes + asked.bytes
+
+-- there is no room for so much
+abbrev pub IsShort : Asked → Asked → Type 0
+IsShort room asked = (room.calls < asked.calls) ⊎ (room.bytes < asked.bytes)
+
+-- a step that asks for so much uses up no more, and its disk stops it only where there is no room for that
+abbrev pub Uses : Asked → Asked → Asked → Result (Unit {0}) Stop → Type 0
+Uses room asked left (Ok done) = IsLeft room asked left
+Uses room asked left (Err stop.DiskFailed) = IsShort room asked
+Uses room asked left (Err stop.NumbersSpent) = Unit {0}
+Uses room asked left (Err stop.NoMemory) = Unit {0}
+
+-- the same of a first start, which gives an end
+abbrev pub StartUses : {E : Type 0} → Asked → Asked → (E → Asked) → Result E Stop → Type 0
+StartUses room asked room_of (Ok end) = IsLeft room asked (room_of end)
+StartUses room asked room_of (Err stop.DiskFailed) = IsShort room asked
+StartUses room asked room_of (Err stop.NumbersSpent) = Unit {0}
+StartUses room asked room_of (Err stop.NoMemory) = Unit {0}
+
+-- there are numbers to start with
+abbrev pub Opens : {S : Type 0} → Went S Happening → Type 0
+Opens (Goes step) = Unit {0}
+Opens (Spent step) = ⊥
 
 -- ---- the law
 
@@ -151,9 +223,9 @@ pub record HasRestarted {S : Type 0}
   pub started : HasStarted plan did least step
 
 -- where there are no more numbers an end doesn't start, and notes nothing
-abbrev pub OnRestart : {S : Type 0} → (Step S Happening → Type 0) → Went S Happening → Type 0
-OnRestart P (Goes step) = P step
-OnRestart P (Spent step) = step.notes ≡ []
+abbrev pub OnStart : {S : Type 0} → (Step S Happening → Type 0) → Went S Happening → Type 0
+OnStart P (Goes step) = P step
+OnStart P (Spent step) = step.notes ≡ []
 
 -- these doings keep the law of histories, and have made of the line what it is; no message that is whole is left to be
 -- received
@@ -171,20 +243,26 @@ IsOfWorld _ = ⊥
 -- the law of an end, where `did base doings s` says that these doings since a start, which may draw numbers from the
 -- base on, have made the state s: whatever it is given, it keeps the law of histories (this profile)
 pub record KeepsLaw {S C : Type 0}
-    (plan : EndPlan) (did : ℕ → List Doing → S → Type 0) (takes : C → Type 0) (start : Step S Happening)
+    (plan : EndPlan) (did : ℕ → List Doing → S → Type 0) (takes : C → Type 0) (start : Went S Happening)
     (machine : Machine S C) : Type 0 where
   pub fits : LinePlanFits plan.line
-  pub starts : HasStarted plan did 0 start
+  pub starts : OnStart (HasStarted plan did 0) start
   -- the first step of the first start has numbers to draw
-  pub begins : (step : Step S Happening) → machine.act start.next Time 0 ≢ Spent step
+  pub begins :
+      (first step : Step S Happening) → start ≡ Goes first → machine.act first.next Time 0 ≢ Spent step
   pub keeps : (base : ℕ) (doings : List Doing) (s : S) → did base doings s → IsMadeOf plan base doings (machine.line s)
   pub goes_on :
       (base : ℕ) (doings : List Doing) (s : S) (input : Input C) (now : ℕ) → did base doings s → MayTake takes input
       → DoesStep plan did base doings input now (machine.act s input now)
+  -- where its disk stops a step, what was noted are the first notes of the step
+  pub stops :
+      (base : ℕ) (doings : List Doing) (s : S) (input : Input C) (now : ℕ) → did base doings s → MayTake takes input
+      → (front : List Happening) → Has (machine.stops s input now) front
+      → IsFront front (step_in (machine.act s input now)).notes
   -- the world notes some of what becomes of it
   pub says :
       (base : ℕ) (doings : List Doing) (s : S) (what : Happening) → did base doings s → IsOfWorld what
       → did base (Says what ∷ doings) s
   pub restarts :
       (base : ℕ) (doings : List Doing) (s : S) (now : ℕ) → did base doings s
-      → OnRestart (HasRestarted plan did base doings) (machine.restart s now)
+      → OnStart (HasRestarted plan did base doings) (machine.restart s now)

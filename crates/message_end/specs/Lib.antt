@@ -6,6 +6,7 @@ pub mod Drops
 pub mod Duties
 pub mod Endings
 pub mod Ends
+pub mod Fronts
 pub mod History
 pub mod Laws
 pub mod LineCalls

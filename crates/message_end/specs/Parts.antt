@@ -3,14 +3,15 @@ use Rattle.std.specs.Prelude.{◌≡◌, ℕ, List, [], ◌∷◌, Option, Some,
 use Rattle.message_flow.specs.declared.step.Note.{Note}
 use Rattle.message_flow.specs.declared.step.StepOut.{StepOut}
 use Rattle.trace_log.specs.Log.{Happening}
+use Rattle.trace_log.specs.Names.{Spooled}
 use Rattle.trace_log.specs.Text.{printed_note}
 use Rattle.message_end.specs.declared.end.Stop.{Stop}
-use Rattle.message_end.specs.declared.end.Stop.TheVariants.{NoMemory, NumbersSpent}
+use Rattle.message_end.specs.declared.end.Stop.TheVariants.{DiskFailed, NoMemory, NumbersSpent}
 use Rattle.message_end.specs.Core.{Command, EndView, Step, Went, and_then, at_first, carried, carry}
 use Rattle.message_end.specs.Core.Went.{Goes, Spent}
 use Rattle.message_end.specs.Doings.{Doing}
 use Rattle.message_end.specs.Duties.{Duty, all_done}
-use Rattle.message_end.specs.Ends.{Input, Machine}
+use Rattle.message_end.specs.Ends.{Input, Machine, none_asked}
 use Rattle.message_end.specs.History.{IsHistoryOf}
 use Rattle.message_end.specs.Laws.{new_end}
 use Rattle.message_end.specs.Log.{start_of}
@@ -80,11 +81,11 @@ after_parts say (part ∷ parts) step =
 
 -- ---- a node as an end
 
--- a start with these numbers, which finds nothing stored
-abbrev pub started : {S K : Type 0} → EndPlan → S → NumbersView → Step (Node S K) Happening
-started plan own numbers = record {
+-- a start with these numbers, which finds these messages stored
+abbrev pub started : {S K : Type 0} → EndPlan → S → List (ℕ × Spooled) → NumbersView → Step (Node S K) Happening
+started plan own found numbers = record {
   next = record { own = own; core = new_end plan numbers };
-  notes = start_of plan.side [] numbers.next ∷ [];
+  notes = start_of plan.side found numbers.next ∷ [];
   written = [];
 }
 
@@ -95,12 +96,16 @@ pub record Design (S K C : Type 0) : Type 0 where
   pub again : S → S
   pub parts : Input C → ℕ → List (Part S K)
 
--- a start anew goes on with the numbers that are left
+-- a start anew goes on with the numbers that are left. There is no disk
 abbrev pub machine_of : {S K C : Type 0} → Design S K C → Machine (Node S K) C
 machine_of design = record {
   act = λ s input now. after_parts Some (design.parts input now) (at_first s);
-  restart = λ s now. Goes (started (design.plan s.own) (design.again s.own) s.core.numbers);
+  restart = λ s now. Goes (started (design.plan s.own) (design.again s.own) [] s.core.numbers);
   line = λ s. s.core.line;
+  stops = λ s input now. [];
+  start_stops = [];
+  asks = λ s input now. none_asked;
+  start_asks = none_asked;
 }
 
 -- these doings since a start have made the core what it is, and what is kept beside it is sound
@@ -116,10 +121,11 @@ pub record Did
 abbrev pub on_the_way : {S : Type 0} → S → StepOut → Step S Note
 on_the_way s out = record { next = s; notes = out.notes; written = out.line.items }
 
--- unless memory runs out, this is what comes of it
+-- unless memory runs out, this is what comes of it. No part of a step asks a disk
 abbrev pub ComesTo : {A S : Type 0} → Went S Note → S → StepOut → Result A Stop → Type 0
 ComesTo went new out (Ok done) = went ≡ Goes (on_the_way new out)
 ComesTo went new out (Err NumbersSpent) = went ≡ Spent (on_the_way new out)
+ComesTo went new out (Err DiskFailed) = ⊥
 ComesTo went new out (Err NoMemory) = Unit {0}
 
 -- the commands are carried out, and the duties are done

@@ -6,9 +6,8 @@ use Rattle.message_flow.specs.declared.message.Message.{Message}
 use Rattle.trace_log.specs.Log.{Happening}
 use Rattle.transact.specs.Numbers.{numbers_from}
 use Rattle.message_end.specs.declared.unsent.Unsent.{Unsent}
-use Rattle.message_end.specs.Core.{Command, EndView, Step, Went, MayCarryAll, at_first, carried}
+use Rattle.message_end.specs.Core.{Command, EndView, Step, MayCarryAll, at_first, carried, step_in}
 use Rattle.message_end.specs.Core.Command.{Offer, Primary, Take}
-use Rattle.message_end.specs.Core.Went.{Goes, Spent}
 use Rattle.message_end.specs.Laws.{new_end}
 use Rattle.message_end.specs.Plan.{EndPlan}
 
@@ -50,12 +49,8 @@ yielding = Primary asking ∷ Offer 0 ∷ taking (4 ∷ 21 ∷ 5 ∷ [])
 abbrev pub hearing : List (Command ℕ)
 hearing = yielding ++ taking answer_frame
 
-abbrev pub step_of : Went (EndView ℕ) Happening → Step (EndView ℕ) Happening
-step_of (Goes step) = step
-step_of (Spent step) = step
-
 abbrev pub after : List (Command ℕ) → Step (EndView ℕ) Happening
-after commands = step_of (carried Some commands (at_first (new_end host (numbers_from 0 16))))
+after commands = step_in (carried Some commands (at_first (new_end host (numbers_from 0 16))))
 
 -- the question is held until its answer has come, and no longer, though it was never acknowledged; the answer is
 -- delivered

@@ -40,6 +40,8 @@ pub enum Stop {
     NoMemory,
     /// A number must be drawn, and all are drawn.
     NumbersSpent,
+    /// A call of its disk failed. A core has none.
+    DiskFailed,
 }
 
 impl From<NoMemory> for Stop {

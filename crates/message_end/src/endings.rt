@@ -12,20 +12,17 @@ use std::alloc::Global;
 use trace_log::{Title, failed_note};
 
 impl<K: Copy> MessageEnd<K> {
-    /// Ends the transaction that began first, with the note of its primary, which waits no longer. The answer is its
-    /// kind; `None` exactly where none is open.
-    pub fn end_first(&mut self, alloc: Global, out: &mut StepOut) -> Result<Option<K>, NoMemory>
-        ensures ends { IfOk result (λ kind. EndsFirst kind self.old out.old self.new out.new) }
-        ensures line { out.new.line ≡ out.old.line }
+    /// Ends the transaction that began first, and lets its primary wait no longer. The answer is the header and the
+    /// kind of that primary, of which nothing is noted yet; `None` exactly where none is open.
+    pub fn end_first(&mut self) -> Option<(Header, K)>
+        ensures { EndsFirst result self.old self.new }
     {
         let Some(primary) = self.first() else {
-            return Ok(None);
+            return None;
         };
         self.end(primary.0.system);
         self.remove(true, primary.0.system);
-        out.notes
-            .push(failed_note(alloc, Title::of_block(&primary.0))?)?;
-        Ok(Some(primary.1))
+        Some(primary)
     }
 
     /// Ends the message whose block with this header failed, with its note, unless it has ended with its transaction.

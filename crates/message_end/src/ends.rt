@@ -1,15 +1,13 @@
-ghost use Rattle.std.specs.Prelude.{◌≡◌, ◌<◌, ◌^◌, ℕ, List, IfOk, OnOk};
+ghost use Rattle.std.specs.Prelude.{◌≡◌, ◌<◌, ◌^◌, ℕ, List, Option, IfOk};
 ghost use Rattle.line_end.specs.Step.{is_due};
 ghost use Rattle.line_end.specs.State.{LineState};
 ghost use Rattle.trace_log.specs.Log.{Happening};
-ghost use Rattle.message_end.specs.Core.{Step};
-ghost use Rattle.message_end.specs.Core.Went.{Goes};
+ghost use Rattle.message_end.specs.Core.{Went};
 ghost use Rattle.message_end.specs.Doings.{Doing};
-ghost use Rattle.message_end.specs.Ends.{HasGone, IsEmpty, KeepsLaw, Leaves, Machine, MayTake, input_of};
+ghost use Rattle.message_end.specs.Ends.{Asked, IsEmpty, KeepsLaw, Leaves, Machine, MayTake, StartUses, Starts, Uses, input_of};
 ghost use Rattle.message_end.specs.Plan.{EndPlan};
 
 use crate::end::Stop;
-use gl_base::NoMemory;
 use line_end::Phase;
 use message_flow::{NodeInput, StepOut};
 use std::alloc::Global;
@@ -20,6 +18,8 @@ pub trait End: Drop {
     type Plan;
     /// What its own side tells it.
     type Command;
+    /// What it starts with beside its plan: its spool, if it has one.
+    type Store: Drop;
 
     // What a value stands for, and what steps need and keep of the value itself.
     ghost State: { Type 0 };
@@ -32,21 +32,39 @@ pub trait End: Drop {
 
     ghost takes: { Self.Command → Type 0 };
 
+    // What it may start with.
+    ghost holds: { Self.Store → Type 0 };
+
     ghost plan_of: { Self.Plan → EndPlan };
 
     // What a start leaves, and what steps and later starts make of a state.
-    ghost start: { Self.Plan → Step State Happening };
+    ghost start: { Self.Plan → Self.Store → Went State Happening };
 
     ghost machine: { Machine State Self.Command };
 
     // These doings since a start, which may draw numbers from a base on, have made the state.
     ghost did: { Self.Plan → ℕ → List Doing → State → Type 0 };
 
+    // When a state acts next by itself.
+    ghost due: { State → Option ℕ };
+
+    // How much its disk has room for; and that of a store before a start.
+    ghost room: { Self → Asked };
+
+    ghost store_room: { Self.Store → Asked };
+
     /// The first start. The plan is copied where it is kept.
-    fn start(alloc: Global, plan: &Self::Plan, out: &mut StepOut) -> Result<Self, NoMemory>
+    fn start(
+        alloc: Global,
+        plan: &Self::Plan,
+        store: Self::Store,
+        out: &mut StepOut,
+    ) -> Result<Self, Stop>
         requires plan { fits plan.now }
+        requires store { holds store }
         requires out { IsEmpty out.old }
-        ensures start { IfOk result (λ end. HasGone (Goes (start plan.now)) (means end) out.new) }
+        ensures start { Starts machine.start_stops (start plan.now store) means out.new result }
+        ensures room { StartUses (store_room store) machine.start_asks room result }
         ensures sound { IfOk result (λ end. sound end) };
 
     /// A start without all that was lost with the power.
@@ -54,7 +72,12 @@ pub trait End: Drop {
         requires now { now < 2 ^ 62 }
         requires sound { sound self.old }
         requires out { IsEmpty out.old }
-        ensures start { Leaves (machine.restart (means self.old) now) (means self.new) out.new result }
+        ensures start { Leaves
+            machine.start_stops
+            (machine.restart (means self.old) now)
+            (means self.new)
+            out.new
+            result }
         ensures sound { sound self.new };
 
     /// One step.
@@ -70,11 +93,21 @@ pub trait End: Drop {
         requires input { MayTake takes (input_of input) }
         requires out { IsEmpty out.old }
         ensures step { Leaves
+            (machine.stops (means self.old) (input_of input.entry) now)
             (machine.act (means self.old) (input_of input.entry) now)
             (means self.new)
             out.new
             result }
+        ensures room { Uses
+            (room self.old)
+            (machine.asks (means self.old) (input_of input.entry) now)
+            (room self.new)
+            result }
         ensures sound { sound self.new };
+
+    /// When it acts next by itself.
+    fn deadline(&self) -> Option<u64>
+        ensures { result ≡ due (means self.now) };
 
     /// The phase of its line.
     fn phase(&self) -> Phase
@@ -84,5 +117,6 @@ pub trait End: Drop {
     fn is_late(&self, now: u64) -> bool
         ensures { result ≡ is_due (machine.line (means self.now)).deadline now };
 
-    ghost lawful: { (plan : Self.Plan) → fits plan → KeepsLaw (plan_of plan) (did plan) takes (start plan) machine };
+    ghost lawful: { (plan : Self.Plan) → (store : Self.Store) → fits plan → holds store
+        → KeepsLaw (plan_of plan) (did plan) takes (start plan store) machine };
 }

@@ -1,6 +1,8 @@
+ghost use Rattle.message_end.specs.Fronts.{StopsAreLawful};
 ghost use Rattle.message_end.specs.Laws.{EndsAreLawful, NotesAreRead};
 ghost use Rattle.message_end.specs.Worked.{IsSilent};
 
+use crate::ends::End;
 use line_end::{states_are_kept, steps_are_small};
 use message_flow::{messages_go_in_blocks, standing_goes_on, whole_messages_fit};
 
@@ -20,6 +22,13 @@ pub fn ends_are_lawful<K: Copy>()
     whole_messages_fit();
     messages_go_in_blocks();
 }
+
+/// Wherever a step of an end stops early, what was noted by then is what the end has done by then, lawfully, and its
+/// calls of the line are the first ones of the step.
+pub fn stops_are_lawful<E: End>()
+    ensures { (plan : E.Plan) → (store : E.Store) → E.fits plan → E.holds store
+        → StopsAreLawful (E.plan_of plan) (E.did plan) E.takes E.machine }
+{}
 
 /// An end that notes lines does and notes the same as one that notes what happens, read line by line.
 pub fn notes_are_read<K: Copy, N>()

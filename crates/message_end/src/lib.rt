@@ -11,5 +11,5 @@ mod unsent;
 
 pub use end::{MessageEnd, Stop, Took, least};
 pub use ends::End;
-pub use laws::{ends_are_lawful, notes_are_read, worked_run};
+pub use laws::{ends_are_lawful, notes_are_read, stops_are_lawful, worked_run};
 pub use unsent::Unsent;

@@ -180,6 +180,26 @@ fn spends_numbers(alloc: Global) -> bool {
         && end.end(5) == Some(7)
 }
 
+// A question ends before it goes out, and nothing is noted of that.
+fn ends_unnoted(alloc: Global) -> bool {
+    let mut out = nothing_yet(alloc);
+    let Ok(mut host) = MessageEnd::new(alloc, Side::Host, &PLAN, 0, 0x1_0000_0000) else {
+        return false;
+    };
+    if !sends(alloc, &mut host, &mut out) {
+        return false;
+    }
+    let Some(primary) = host.end_first() else {
+        return false;
+    };
+    primary.0.system == 0
+        && primary.1 == 7
+        && host.open() == 0
+        && host.len() == 0
+        && out.notes.as_slice().len() == 1
+        && host.end_first().is_none()
+}
+
 #[test]
 fn asks_and_is_answered(rt: HostRuntime) -> Result<(), Fail> {
     assert!(rt; is_answered(rt.alloc()));
@@ -201,5 +221,11 @@ fn replies_once(rt: HostRuntime) -> Result<(), Fail> {
 #[test]
 fn draws_a_number_by_itself(rt: HostRuntime) -> Result<(), Fail> {
     assert!(rt; spends_numbers(rt.alloc()));
+    Ok(())
+}
+
+#[test]
+fn ends_without_a_note(rt: HostRuntime) -> Result<(), Fail> {
+    assert!(rt; ends_unnoted(rt.alloc()));
     Ok(())
 }

@@ -1,0 +1,263 @@
+-- What an end has done where a step stops early: the first ones of its doings, up to a note.
+use Rattle.std.proofs.Common.{◌≡◌, inr, refl, sym, ap, subst, ◌∙◌, append_assoc, append-nil, ℕ, List, [], ◌∷◌, ◌++◌}
+use Rattle.std.proofs.lemmas.List.{append_cancel_left, same_from_push}
+use Rattle.line_end.specs.declared.event.LineEvent.{LineEvent}
+use Rattle.line_end.specs.declared.event.LineEvent.TheVariants.{Arrived, Failed, Nothing, Refused, Sent}
+use Rattle.line_end.specs.Step.{LineCall, line_step}
+use Rattle.trace_log.specs.Log.{Happening}
+use Rattle.message_end.specs.Core.{Step, Went, step_in}
+use Rattle.message_end.specs.Core.Went.{Goes, Spent}
+use Rattle.message_end.specs.Doings.{AreLawful, Doing, line_of, moment_of, own_of, with_call}
+use Rattle.message_end.specs.Doings.Doing.{Calls, Does, Gives, Says}
+use Rattle.message_end.specs.Drops.{AreDroppedAt}
+use Rattle.message_end.specs.Ends.{AreBegunOf, AreOfStep, DoesMore, DoesStep, Input, IsFront, KeepsLaw, Machine}
+use Rattle.message_end.specs.Fronts.{DoesFront, StopsAreLawful}
+use Rattle.message_end.specs.History.{Folds, folds_of, noted_in, notes_of_own}
+use Rattle.message_end.specs.LineCalls.{calls_in}
+use Rattle.message_end.specs.Own.{Has, Own, drawn_in}
+use Rattle.message_end.specs.Own.Own.{DrewNumber, DroppedMessage, GaveBlock, HeardBlock, ReceivedMessage, SentMessage, WroteFrame}
+use Rattle.message_end.specs.Plan.{EndPlan, receiver_of}
+use Rattle.message_end.proofs.Courses.{folds-call, folds_told}
+
+-- ---- what is noted
+
+-- later notes stand behind the earlier ones
+pub noted-behind : (done doings : List Doing) → noted_in (done ++ doings) ≡ noted_in doings ++ noted_in done
+noted-behind [] doings = sym (append-nil (noted_in doings))
+noted-behind (Gives place number block at ∷ before) doings = noted-behind before doings
+noted-behind (Calls call ∷ before) doings = noted-behind before doings
+noted-behind (Does own ∷ before) doings =
+    ap (λ (ns : List Happening). ns ++ notes_of_own own) (noted-behind before doings)
+    ∙ append_assoc (noted_in doings) (noted_in before) (notes_of_own own)
+noted-behind (Says what ∷ before) doings =
+    ap (λ (ns : List Happening). ns ++ what ∷ []) (noted-behind before doings)
+    ∙ append_assoc (noted_in doings) (noted_in before) (what ∷ [])
+
+-- doings in two parts: the notes of the earlier ones are these
+record AreParted (done : List Doing) (front : List Happening) : Type 0 where
+  later : List Doing
+  older : List Doing
+  whole : done ≡ later ++ older
+  notes : noted_in older ≡ front
+
+parted-more : (doing : Doing) (done : List Doing) (front : List Happening) → AreParted done front
+    → AreParted (doing ∷ done) front
+parted-more doing done front is = record {
+  later = doing ∷ is.later;
+  older = is.older;
+  whole = ap (λ (ds : List Doing). doing ∷ ds) is.whole;
+  notes = is.notes;
+}
+
+-- the last of some notes, where there is one
+pub data Ending : List Happening → Type 0 where
+  is_nothing : Ending []
+  is_behind : (first : List Happening) (last : Happening) → Ending (first ++ last ∷ [])
+
+ending-of : (notes : List Happening) → Ending notes
+ending-of [] = is_nothing
+ending-of (what ∷ notes) = more (ending-of notes)
+  where
+    more : {notes : List Happening} → Ending notes → Ending (what ∷ notes)
+    more is_nothing = is_behind [] what
+    more (is_behind first last) = is_behind (what ∷ first) last
+
+-- one doing more adds one note at most, so that each front of all notes is that of some first doings
+parted-at :
+    (doing : Doing) (done : List Doing) (front rest : List Happening) (last : Happening)
+    → ((more : List Happening) → noted_in done ≡ front ++ more → AreParted done front)
+    → noted_in (doing ∷ done) ≡ noted_in done ++ last ∷ [] → noted_in (doing ∷ done) ≡ front ++ rest
+    → AreParted (doing ∷ done) front
+parted-at doing done front rest last earlier adds is = go (ending-of rest) is
+  where
+    go : {rest : List Happening} → Ending rest → noted_in (doing ∷ done) ≡ front ++ rest
+        → AreParted (doing ∷ done) front
+    go is_nothing is =
+        record { later = []; older = doing ∷ done; whole = refl; notes = is ∙ append-nil front }
+    go (is_behind first other) is =
+        parted-more doing done front (earlier first
+        (same_from_push (noted_in done) (front ++ first) last other
+        (sym adds ∙ is ∙ sym (append_assoc front first (other ∷ [])))).0)
+
+parted : (done : List Doing) (front rest : List Happening) → noted_in done ≡ front ++ rest → AreParted done front
+parted [] front rest is = record { later = []; older = []; whole = refl; notes = none front is }
+  where
+    none : (front : List Happening) → [] ≡ front ++ rest → [] ≡ front
+    none [] is = refl
+    none (what ∷ front) is = absurd (cc)
+parted (Gives place number block at ∷ before) front rest is =
+    parted-more (Gives place number block at) before front (parted before front rest is)
+parted (Calls call ∷ before) front rest is = parted-more (Calls call) before front (parted before front rest is)
+parted (Says what ∷ before) front rest is =
+    parted-at (Says what) before front rest what (λ more. parted before front more) refl is
+parted (Does own ∷ before) front rest is = go own (λ more. parted before front more) is
+  where
+    quiet :
+        (own : Own) → ((more : List Happening) → noted_in before ≡ front ++ more → AreParted before front)
+        → noted_in before ++ [] ≡ front ++ rest → AreParted (Does own ∷ before) front
+    quiet own earlier is = parted-more (Does own) before front (earlier rest (sym (append-nil (noted_in before)) ∙ is))
+
+    go :
+        (own : Own) → ((more : List Happening) → noted_in before ≡ front ++ more → AreParted before front)
+        → noted_in before ++ notes_of_own own ≡ front ++ rest → AreParted (Does own ∷ before) front
+    go (SentMessage message) earlier is =
+        parted-at (Does (SentMessage message)) before front rest (Happening.Sent message) earlier refl is
+    go (ReceivedMessage message) earlier is =
+        parted-at (Does (ReceivedMessage message)) before front rest (Happening.Received message) earlier refl is
+    go (DrewNumber number) earlier is = quiet (DrewNumber number) earlier is
+    go (GaveBlock place number) earlier is = quiet (GaveBlock place number) earlier is
+    go (WroteFrame place number) earlier is = quiet (WroteFrame place number) earlier is
+    go (HeardBlock block now flow) earlier is = quiet (HeardBlock block now flow) earlier is
+    go (DroppedMessage header now) earlier is = quiet (DroppedMessage header now) earlier is
+
+-- ---- what holds of first doings
+
+lawful-before :
+    (plan : EndPlan) (base : ℕ) (later older : List Doing) → AreLawful plan base (later ++ older)
+    → AreLawful plan base older
+lawful-before plan base [] older is = is
+lawful-before plan base (doing ∷ later) older is = lawful-before plan base later older is.1
+
+dropped-before : (at : ℕ) (later older : List Doing) → AreDroppedAt at (later ++ older) → AreDroppedAt at older
+dropped-before at [] older is = is
+dropped-before at (Does own ∷ later) older is = dropped-before at later older is.1
+dropped-before at (Gives place number block now ∷ later) older is = dropped-before at later older is
+dropped-before at (Calls call ∷ later) older is = dropped-before at later older is
+dropped-before at (Says what ∷ later) older is = dropped-before at later older is
+
+calls-behind : (later older : List Doing) → calls_in (later ++ older) ≡ calls_in later ++ calls_in older
+calls-behind [] older = refl
+calls-behind (Does own ∷ later) older = calls-behind later older
+calls-behind (Says what ∷ later) older = calls-behind later older
+calls-behind (Calls call ∷ later) older = ap (λ (cs : List LineCall). call ∷ cs) (calls-behind later older)
+calls-behind (Gives place number block now ∷ later) older =
+    ap (λ (cs : List LineCall). LineCall.Send block now ∷ cs) (calls-behind later older)
+
+begun-before :
+    {C : Type 0} (input : Input C) (now : ℕ) (later older : List Doing)
+    → AreBegunOf input now (calls_in (later ++ older)) → AreBegunOf input now (calls_in older)
+begun-before input now later older is = record {
+  later = is.later ++ calls_in later;
+  whole =
+      subst (λ (cs : List LineCall). AreOfStep input now cs)
+      (ap (λ (cs : List LineCall). is.later ++ cs) (calls-behind later older)
+      ∙ sym (append_assoc is.later (calls_in later) (calls_in older)))
+      is.whole;
+}
+
+-- no number that was drawn by then has come undone
+drawn-told : (event : LineEvent) (now : ℕ) (f : Folds) → (folds_told event now f).drawn ≡ f.drawn
+drawn-told (Arrived block) now f = refl
+drawn-told Nothing now f = refl
+drawn-told Sent now f = refl
+drawn-told Failed now f = refl
+drawn-told (Refused cause) now f = refl
+
+pub drawn-later :
+    (plan : EndPlan) (later older : List Doing) (number : ℕ) → Has (drawn_in (own_of plan older)) number
+    → Has (drawn_in (own_of plan (later ++ older))) number
+drawn-later plan [] older number has = has
+drawn-later plan (Says what ∷ later) older number has = drawn-later plan later older number has
+drawn-later plan (Gives place k block now ∷ later) older number has = drawn-later plan later older number has
+drawn-later plan (Calls call ∷ later) older number has =
+    subst (λ (drawn : List ℕ). Has drawn number) (sym same) (drawn-later plan later older number has)
+  where
+    before : List Doing
+    before = later ++ older
+
+    same : drawn_in (with_call (receiver_of plan) call (line_of plan before) (own_of plan before))
+        ≡ drawn_in (own_of plan before)
+    same =
+        ap (λ (f : Folds). f.drawn) (folds-call (receiver_of plan) call (line_of plan before) (own_of plan before))
+        ∙ drawn-told (line_step (line_of plan before) call).event (moment_of call) (folds_of (own_of plan before))
+drawn-later plan (Does own ∷ later) older number has = go own (drawn-later plan later older number has)
+  where
+    go : (own : Own) → Has (drawn_in (own_of plan (later ++ older))) number
+        → Has (drawn_in (own ∷ own_of plan (later ++ older))) number
+    go (DrewNumber drawn) has = inr has
+    go (SentMessage message) has = has
+    go (GaveBlock place k) has = has
+    go (WroteFrame place k) has = has
+    go (HeardBlock block now flow) has = has
+    go (DroppedMessage header now) has = has
+    go (ReceivedMessage message) has = has
+
+-- ---- a step of an end
+
+module _
+    {S C : Type 0} (plan : EndPlan) (did : ℕ → List Doing → S → Type 0) (base : ℕ) (doings : List Doing)
+    (input : Input C) (now : ℕ) where
+  -- each front of its notes is that of some first doings, whether it goes on or not
+  pub front-done :
+      (front : List Happening) (step : Step S Happening)
+      (more : DoesMore plan did base doings now (AreBegunOf input now) step)
+      → AreLawful plan base (more.done ++ doings) → IsFront front step.notes
+      → DoesFront plan base doings more.done now (AreBegunOf input now) front
+  front-done front step more lawful is = record {
+    later = parts.later;
+    done = parts.older;
+    whole = parts.whole;
+    lawful =
+        lawful-before plan base parts.later (parts.older ++ doings)
+        (subst (λ (ds : List Doing). AreLawful plan base ds) all_is lawful);
+    notes =
+        noted-behind parts.older doings ∙ ap (λ (ns : List Happening). noted_in doings ++ ns) parts.notes;
+    calls =
+        begun-before input now parts.later parts.older
+        (subst (λ (ds : List Doing). AreBegunOf input now (calls_in ds)) parts.whole more.calls);
+    drops =
+        dropped-before now parts.later parts.older
+        (subst (λ (ds : List Doing). AreDroppedAt now ds) parts.whole more.drops);
+    drawn = λ number has.
+        subst (λ (ds : List Doing). Has (drawn_in (own_of plan ds)) number) (sym all_is)
+        (drawn-later plan parts.later (parts.older ++ doings) number has);
+  }
+    where
+      noted : noted_in more.done ≡ step.notes
+      noted =
+          append_cancel_left (noted_in doings) (noted_in more.done) step.notes
+          (sym (noted-behind more.done doings) ∙ more.notes)
+
+      parts : AreParted more.done front
+      parts = parted more.done front is.rest (noted ∙ is.whole)
+
+      all_is : more.done ++ doings ≡ parts.later ++ (parts.older ++ doings)
+      all_is =
+          ap (λ (ds : List Doing). ds ++ doings) parts.whole ∙ append_assoc parts.later parts.older doings
+
+  -- a whole step is one that has begun
+  begun-whole :
+      (step : Step S Happening) → DoesMore plan did base doings now (AreOfStep input now) step
+      → DoesMore plan did base doings now (AreBegunOf input now) step
+  begun-whole step more = record {
+    done = more.done;
+    is = more.is;
+    notes = more.notes;
+    written = more.written;
+    calls = record { later = []; whole = more.calls };
+    drops = more.drops;
+  }
+
+  pub begun-step :
+      (went : Went S Happening) → DoesStep plan did base doings input now went
+      → DoesMore plan did base doings now (AreBegunOf input now) (step_in went)
+  begun-step (Goes step) more = begun-whole step more
+  begun-step (Spent step) more = more
+
+pub stops-lawful :
+    {S C : Type 0} (plan : EndPlan) (did : ℕ → List Doing → S → Type 0) (takes : C → Type 0)
+    (start : Went S Happening) (machine : Machine S C) → KeepsLaw plan did takes start machine
+    → StopsAreLawful plan did takes machine
+stops-lawful {S} {C} plan did takes start machine law base doings s input now is may front first =
+    record { all = more.done; does = does }
+  where
+    more : DoesMore plan did base doings now (AreBegunOf input now) (step_in (machine.act s input now))
+    more =
+        begun-step plan did base doings input now (machine.act s input now)
+        (law.goes_on base doings s input now is may)
+
+    does : DoesFront plan base doings more.done now (AreBegunOf input now) front
+    does =
+        front-done plan did base doings input now front (step_in (machine.act s input now)) more
+        (law.keeps base (more.done ++ doings) (step_in (machine.act s input now)).next more.is).lawful
+        first
