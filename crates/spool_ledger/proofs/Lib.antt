@@ -1,2 +1,2 @@
-mod Following
-mod Keeping
+pub mod Following
+pub mod Keeping

@@ -76,4 +76,5 @@ Books booked old out_old new out_new (Ok done) =
     option_map (account_of out_old.notes) booked ≡ Some (record { ledger = new; notes = out_new.notes })
 Books booked old out_old new out_new (Err stop.NumbersSpent) =
     (booked ≡ None) × (new ≡ old) × (out_new ≡ out_old)
+Books booked old out_old new out_new (Err stop.DiskFailed) = ⊥
 Books booked old out_old new out_new (Err stop.NoMemory) = Unit {0}

@@ -14,3 +14,4 @@ mod unloading;
 
 pub use laws::ledgers_are_lawful;
 pub use ledger::Ledger;
+pub use unload::WaitingText;

@@ -99,6 +99,7 @@ fn aside(stopped: Result<(), Stop>) -> Result<&'static [u8], NoMemory> {
     match stopped {
         Ok(()) => Ok(b""),
         Err(Stop::NumbersSpent) => Ok(b"!"),
+        Err(Stop::DiskFailed) => Ok(b"disk"),
         Err(Stop::NoMemory) => Err(NoMemory),
     }
 }
@@ -215,9 +216,9 @@ fn ends(alloc: Global) -> bool {
     all_go(alloc, &mut ledger, &LAST)
 }
 
-fn is_text(text: Option<Row<u8>>, bytes: &[u8]) -> bool {
+fn is_text(text: Option<WaitingText>, bytes: &[u8]) -> bool {
     match text {
-        Some(text) => text.as_slice() == bytes,
+        Some(text) => text.into_body().as_slice() == bytes,
         None => false,
     }
 }
@@ -228,7 +229,7 @@ fn takes_up(alloc: Global, ledger: &mut Ledger) -> Result<(), NoMemory> {
         line: ArrayVec::new(),
         notes: Row::new(alloc),
     };
-    let text = Row::of(alloc, &[1, 0])?;
+    let text = WaitingText::new(Row::of(alloc, &[1, 0])?);
     ledger.begin_unload();
     ledger.take_up(alloc, 5, 42, Some(text), &mut out)
 }

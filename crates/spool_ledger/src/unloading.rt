@@ -4,8 +4,8 @@ ghost use Rattle.spool_ledger.specs.Ledger.{confirmed_of};
 ghost use Rattle.spool_ledger.specs.Unloading.{after_next, confirmed, counted, fresh, is_oldest_tried, let_go, next_number, settled, taken_up, tries, waiting_in, with_each, with_unload};
 
 use crate::ledger::Ledger;
-use crate::unload::{Tried, Unload};
-use gl_base::{NoMemory, Row};
+use crate::unload::{Tried, Unload, WaitingText};
+use gl_base::NoMemory;
 use message_flow::StepOut;
 use std::alloc::Global;
 use trace_log::{Cause, try_note};
@@ -60,7 +60,7 @@ impl Ledger {
         alloc: Global,
         number: u64,
         system: u32,
-        waiting: Option<Row<u8>>,
+        waiting: Option<WaitingText>,
         out: &mut StepOut,
     ) -> Result<(), NoMemory>
         ensures next { IfOk result (λ done. self.new ≡ (taken_up number system waiting self.old).next) }
@@ -76,7 +76,7 @@ impl Ledger {
     }
 
     /// The message under way may go: its text, where it waits for that.
-    pub fn granted(&mut self) -> Option<Row<u8>>
+    pub fn granted(&mut self) -> Option<WaitingText>
         ensures text { result ≡ waiting_in self.old.unload }
         ensures next { self.new ≡ with_each let_go self.old }
     {
