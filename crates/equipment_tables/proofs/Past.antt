@@ -26,6 +26,10 @@ use Rattle.gem_shapes.specs.declared.entries.Definition.{Definition}
 use Rattle.gem_shapes.specs.declared.entries.Linking.{Linking}
 use Rattle.gem_shapes.specs.declared.request.Request.{Request}
 use Rattle.gem_shapes.specs.declared.request.Request.TheVariants as request
+use Rattle.gem_shapes.specs.declared.entries.RuleEntry.{RuleEntry}
+use Rattle.gem_spool.specs.declared.rule.RuleAnswer.{RuleAnswer}
+use Rattle.gem_spool.specs.declared.rule.RuleAnswer.TheVariants.{Rejected, Replaced}
+use Rattle.gem_spool.specs.Rule.{answer_of, rule_by, rule_of}
 use Rattle.gem_vars.specs.declared.settings.Eac.{Eac}
 use Rattle.gem_vars.specs.declared.settings.Eac.TheVariants as eac
 use Rattle.gem_vars.specs.declared.settings.Setting.{Setting}
@@ -34,10 +38,10 @@ use Rattle.gem_vars.specs.Laws.{VarsAreLookedBackFor}
 use Rattle.gem_vars.specs.Settings.{eac_of, refusal_of}
 use Rattle.gem_vars.specs.Tables.{VarsTable, value_in}
 use Rattle.equipment_tables.specs.declared.plan.EquipmentPlan.{EquipmentPlan}
-use Rattle.equipment_tables.specs.Past.{Entries, alarms_count, asked_counts, command_counts, constants_count, definitions_count, entries_at, events_count, linkings_count, request_counts, set_counts, tables_at, tables_by, vars_by}
+use Rattle.equipment_tables.specs.Past.{Entries, alarms_count, asked_counts, command_counts, constants_count, definitions_count, entries_at, events_count, linkings_count, request_counts, rule_counts, set_counts, spooled_by, tables_at, tables_by, vars_by}
 use Rattle.equipment_tables.specs.Plan.{EquipmentPlanFits}
 use Rattle.equipment_tables.specs.Requests.{request_of}
-use Rattle.equipment_tables.specs.Tables.{after_command, after_past, alarms_by, asked_after, constants_by, definitions_by, events_by, linkings_by, set_by, tables_after, with_alarms, with_reports, with_vars}
+use Rattle.equipment_tables.specs.Tables.{after_command, after_past, alarms_by, asked_after, constants_by, definitions_by, events_by, linkings_by, set_by, tables_after, with_alarms, with_reports, with_rule, with_vars}
 
 module _ (vars : VarsAreLookedBackFor) (reports : ReportsGoByWhatStands) (alarms : AlarmsAreLookedBackFor)
     (plan : EquipmentPlan) (fits : EquipmentPlanFits plan) where
@@ -113,6 +117,13 @@ module _ (vars : VarsAreLookedBackFor) (reports : ReportsGoByWhatStands) (alarms
   alarms_same e ackc5.Done alid on = alarm_same e (EnableAlarm alid on)
   alarms_same e (ackc5.Unknown n) alid on = refl
 
+  rule_same :
+      (e : Entries) (answer : RuleAnswer) (list : List RuleEntry)
+      → tables_by plan (rule_counts answer list e)
+      ≡ with_rule (rule_by answer list (rule_of (spooled_by plan e))) (tables_by plan e)
+  rule_same e Replaced list = refl
+  rule_same e (Rejected faults) list = refl
+
   request_same :
       (e : Entries) (r : Request) → tables_by plan (request_counts plan r e) ≡ tables_after r (tables_by plan e)
   request_same e (request.SetConstants list) = constants_same e (eac_of (vars_by plan e) list) list
@@ -128,6 +139,7 @@ module _ (vars : VarsAreLookedBackFor) (reports : ReportsGoByWhatStands) (alarms
       ∙ ap (λ (a : Erack). events_by a on ceids (tables_by plan e)) (reports.erack plan.events e.reports ceids)
   request_same e (request.EnableAlarms on alid) =
       alarms_same e (ackc5_of (alarms_at plan.alarms e.alarms) alid) alid on
+  request_same e (request.ReplaceRule list) = rule_same e (answer_of list) list
   request_same e request.AreYouThere = refl
   request_same e (request.StatusValues ids) = refl
   request_same e (request.StatusNames ids) = refl
@@ -138,7 +150,6 @@ module _ (vars : VarsAreLookedBackFor) (reports : ReportsGoByWhatStands) (alarms
   request_same e (request.ConstantNames ids) = refl
   request_same e (request.Announce dataid len) = refl
   request_same e (request.Command name params) = refl
-  request_same e (request.ReplaceRule list) = refl
   request_same e (request.Alarms ids) = refl
   request_same e request.EnabledAlarms = refl
   request_same e (request.EventReport ceid) = refl

@@ -19,21 +19,23 @@ use Rattle.gem_reports.specs.Reporting.{Reporting, after_entry, drack_in, erack_
 use Rattle.gem_reports.specs.Tables.{ReportsView, StandsFor}
 use Rattle.gem_shapes.specs.declared.entries.Definition.{Definition}
 use Rattle.gem_shapes.specs.declared.entries.Linking.{Linking}
+use Rattle.gem_spool.specs.declared.rule.SpoolRule.{SpoolRule}
 use Rattle.gem_vars.specs.Tables.{VarsTable}
 use Rattle.equipment_tables.specs.Tables.{TablesState, definitions_by, events_by, linkings_by, with_reports}
 
 -- equal parts
 pub same_state :
-    {v w : VarsTable} {r s : Reporting} {a b : AlarmTable} {p q : RemotePlan} {m n x y : List ℕ}
-    → v ≡ w → r ≡ s → a ≡ b → p ≡ q → m ≡ n → x ≡ y
+    {v w : VarsTable} {r s : Reporting} {a b : AlarmTable} {p q : RemotePlan} {f g : SpoolRule}
+    {m n x y : List ℕ} → v ≡ w → r ≡ s → a ≡ b → p ≡ q → f ≡ g → m ≡ n → x ≡ y
     → ◌≡◌ {A = TablesState}
-    (record { vars = v; reports = r; alarms = a; remote = p; mdln = m; softrev = x })
-    (record { vars = w; reports = s; alarms = b; remote = q; mdln = n; softrev = y })
-same_state vars reports alarms remote mdln softrev = λ j. record {
+    (record { vars = v; reports = r; alarms = a; remote = p; rule = f; mdln = m; softrev = x })
+    (record { vars = w; reports = s; alarms = b; remote = q; rule = g; mdln = n; softrev = y })
+same_state vars reports alarms remote rule mdln softrev = λ j. record {
   vars = vars j;
   reports = reports j;
   alarms = alarms j;
   remote = remote j;
+  rule = rule j;
   mdln = mdln j;
   softrev = softrev j;
 }

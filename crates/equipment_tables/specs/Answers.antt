@@ -24,6 +24,8 @@ use Rattle.gem_reports.specs.Reporting.{drack_in, erack_in, event_body_in, lrack
 use Rattle.gem_shapes.specs.Answers.{code_item, identity_item, pair_item}
 use Rattle.gem_shapes.specs.declared.request.Request.{Request}
 use Rattle.gem_shapes.specs.declared.request.Request.TheVariants as request
+use Rattle.gem_spool.specs.Reply.{reply_item}
+use Rattle.gem_spool.specs.Rule.{answer_of as rule_answer}
 use Rattle.gem_vars.specs.declared.settings.Eac.{Eac}
 use Rattle.gem_vars.specs.declared.settings.Eac.TheVariants as eac
 use Rattle.gem_vars.specs.Listing.{constant_names_of, constant_values_of, status_names_of, status_values_of}
@@ -101,8 +103,8 @@ pub data Reply : Type 0 where
 abbrev pub code_reply : ℕ → Reply
 code_reply code = Body (code_item code)
 
--- The reply to each request, by the tables before it. S1F13, S1F15 and S1F17 are answered by the states, and S2F43 and
--- S6F23 by the spool; the tables have nothing to reply to them (SEMI E5; SEMI E30).
+-- The reply to each request, by the tables before it. S1F13, S1F15 and S1F17 are answered by the states, and S6F23 by
+-- the spool; the tables have nothing to reply to them (SEMI E5; SEMI E30).
 abbrev pub reply_to : TablesState → Bool → Request → Reply
 reply_to t is_local request.AreYouThere = Body (identity_of t)
 reply_to t is_local (request.StatusValues ids) = Body (status_values_of t.vars ids)
@@ -118,7 +120,7 @@ reply_to t is_local (request.Link dataid list) = code_reply (lrack_code (lrack_i
 reply_to t is_local (request.EnableEvents on ceids) = code_reply (erack_code (erack_in t.reports ceids))
 reply_to t is_local (request.Announce dataid length) = code_reply 0
 reply_to t is_local (request.Command name params) = Body (remoted_of_item t is_local name params).reply
-reply_to t is_local (request.ReplaceRule list) = Nothing
+reply_to t is_local (request.ReplaceRule list) = Body (reply_item (rule_answer list))
 reply_to t is_local (request.EnableAlarms on alid) = code_reply (ackc5_code (ackc5_of t.alarms alid))
 reply_to t is_local (request.Alarms ids) = Body (list_of t.alarms ids)
 reply_to t is_local request.EnabledAlarms = Body (enabled_list_of t.alarms)

@@ -22,8 +22,13 @@ use Rattle.gem_reports.specs.History.ReportEntry.{Enable as EnableEvents}
 use Rattle.gem_reports.specs.Reporting.{reporting_at}
 use Rattle.gem_shapes.specs.declared.entries.Definition.{Definition}
 use Rattle.gem_shapes.specs.declared.entries.Linking.{Linking}
+use Rattle.gem_shapes.specs.declared.entries.RuleEntry.{RuleEntry}
 use Rattle.gem_shapes.specs.declared.request.Request.{Request}
 use Rattle.gem_shapes.specs.declared.request.Request.TheVariants as request
+use Rattle.gem_spool.specs.declared.rule.RuleAnswer.{RuleAnswer}
+use Rattle.gem_spool.specs.declared.rule.RuleAnswer.TheVariants.{Rejected, Replaced}
+use Rattle.gem_spool.specs.Rule.{answer_of, rule_of}
+use Rattle.gem_tables.specs.History.{newest}
 use Rattle.gem_vars.specs.declared.settings.Eac.{Eac}
 use Rattle.gem_vars.specs.declared.settings.Eac.TheVariants as eac
 use Rattle.gem_vars.specs.declared.settings.Setting.{Setting}
@@ -35,15 +40,20 @@ use Rattle.equipment_tables.specs.declared.plan.EquipmentPlan.{EquipmentPlan}
 use Rattle.equipment_tables.specs.Requests.{request_of}
 use Rattle.equipment_tables.specs.Tables.{TablesState}
 
--- What counts of a history: what was accepted, of variables and constants, of reports and events, and of alarms. A
--- command for an alarm that isn't there says nothing of any that is.
+-- What counts of a history: what was accepted, of variables and constants, of reports and events, of alarms, and of
+-- what is spooled. A command for an alarm that isn't there says nothing of any that is.
 pub record Entries : Type 0 where
   pub vars : List VarsEntry
   pub reports : List ReportEntry
   pub alarms : List AlarmEntry
+  pub rules : List (List RuleEntry)
 
 abbrev pub vars_by : EquipmentPlan → Entries → VarsTable
 vars_by plan e = vars_at plan.vars e.vars
+
+-- the entries of the rule that holds: those of the newest one that counts, and otherwise the plan's (SEMI E5, S2F43)
+abbrev pub spooled_by : EquipmentPlan → Entries → List RuleEntry
+spooled_by plan e = newest Some plan.spooled e.rules
 
 -- the tables by what counts
 abbrev pub tables_by : EquipmentPlan → Entries → TablesState
@@ -52,6 +62,7 @@ tables_by plan e = record {
   reports = reporting_at plan.events e.reports;
   alarms = alarms_at plan.alarms e.alarms;
   remote = plan.remote;
+  rule = rule_of (spooled_by plan e);
   mdln = plan.mdln;
   softrev = plan.softrev;
 }
@@ -86,6 +97,10 @@ abbrev pub alarms_count : Ackc5 → Option ℕ → Bool → Entries → Entries
 alarms_count ackc5.Done alid on e = record e { alarms = EnableAlarm alid on ∷ e.alarms }
 alarms_count _ alid on e = e
 
+abbrev pub rule_counts : RuleAnswer → List RuleEntry → Entries → Entries
+rule_counts Replaced list e = record e { rules = list ∷ e.rules }
+rule_counts (Rejected faults) list e = e
+
 -- so does a request; none but these does
 abbrev pub request_counts : EquipmentPlan → Request → Entries → Entries
 request_counts plan (request.SetConstants list) e = constants_count (eac_of (vars_by plan e) list) list e
@@ -93,6 +108,7 @@ request_counts plan (request.Define dataid list) e =
     definitions_count (drack_of (value_in (vars_by plan e)) e.reports list) list e
 request_counts plan (request.Link dataid list) e = linkings_count (lrack_of plan.events e.reports list) list e
 request_counts plan (request.EnableEvents on ceids) e = events_count (erack_of plan.events ceids) on ceids e
+request_counts plan (request.ReplaceRule list) e = rule_counts (answer_of list) list e
 request_counts plan (request.EnableAlarms on alid) e =
     alarms_count (ackc5_of (alarms_at plan.alarms e.alarms) alid) alid on e
 request_counts plan _ e = e
@@ -107,7 +123,7 @@ entry_counts plan (Asked m) e = asked_counts plan (request_of m.stream m.functio
 
 -- what counts of a whole history, each of its entries judged by those before it
 abbrev pub entries_at : EquipmentPlan → List Past → Entries
-entries_at plan [] = record { vars = []; reports = []; alarms = [] }
+entries_at plan [] = record { vars = []; reports = []; alarms = []; rules = [] }
 entries_at plan (entry ∷ past) = entry_counts plan entry (entries_at plan past)
 
 -- the tables after a history: each variable, constant, report, event and alarm has what the newest entry that counts

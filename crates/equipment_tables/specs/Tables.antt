@@ -1,5 +1,5 @@
 -- The tables of the equipment, and what becomes of them.
-use Rattle.std.specs.Prelude.{ℕ, Bool, true, false, List, [], ◌*◌, Option, Some, None}
+use Rattle.std.specs.Prelude.{ℕ, Bool, true, false, not, ◌==◌, List, [], ◌*◌, Option, Some, None}
 use Rattle.std.specs.Option.{unwrap_or}
 use Rattle.secs_items.specs.declared.item.Item.{Item}
 use Rattle.trace_log.specs.declared.commands.ToolCommand.{ToolCommand}
@@ -24,6 +24,8 @@ use Rattle.gem_shapes.specs.declared.entries.Definition.{Definition}
 use Rattle.gem_shapes.specs.declared.entries.Linking.{Linking}
 use Rattle.gem_shapes.specs.declared.request.Request.{Request}
 use Rattle.gem_shapes.specs.declared.request.Request.TheVariants as request
+use Rattle.gem_spool.specs.declared.rule.SpoolRule.{SpoolRule}
+use Rattle.gem_spool.specs.Rule.{rule_after, rule_of}
 use Rattle.gem_tables.specs.Rows.{with_row}
 use Rattle.gem_vars.specs.declared.settings.Eac.{Eac}
 use Rattle.gem_vars.specs.declared.settings.Eac.TheVariants as eac
@@ -40,16 +42,18 @@ pub record TablesView : Type 0 where
   pub reports : ReportsView
   pub alarms : AlarmTable
   pub remote : RemotePlan
+  pub rule : SpoolRule
   pub mdln : List ℕ
   pub softrev : List ℕ
 
--- The tables: variables and constants; events and reports; alarms; remote commands and terminals; and what the
--- equipment is called.
+-- The tables: variables and constants; events and reports; alarms; remote commands and terminals; which primaries are
+-- spooled; and what the equipment is called.
 pub record TablesState : Type 0 where
   pub vars : VarsTable
   pub reports : Reporting
   pub alarms : AlarmTable
   pub remote : RemotePlan
+  pub rule : SpoolRule
   pub mdln : List ℕ
   pub softrev : List ℕ
 
@@ -60,6 +64,7 @@ state_of view = record {
   reports = reporting_of view.reports;
   alarms = view.alarms;
   remote = view.remote;
+  rule = view.rule;
   mdln = view.mdln;
   softrev = view.softrev;
 }
@@ -71,6 +76,7 @@ planned_tables plan = record {
   reports = reporting_at plan.events [];
   alarms = alarms_at plan.alarms [];
   remote = plan.remote;
+  rule = rule_of plan.spooled;
   mdln = plan.mdln;
   softrev = plan.softrev;
 }
@@ -88,9 +94,29 @@ with_reports reports t = record t { reports = reports }
 abbrev pub with_alarms : AlarmTable → TablesState → TablesState
 with_alarms alarms t = record t { alarms = alarms }
 
--- the constant EstablishCommunicationsTimeout, in milliseconds (SEMI E30, communications state model)
+abbrev pub with_rule : SpoolRule → TablesState → TablesState
+with_rule rule t = record t { rule = rule }
+
+-- ---- the constants that are built in, by their ECIDs (this profile)
+
+abbrev pub built_in : ℕ → TablesState → ℕ
+built_in ecid t = unwrap_or (constant_in t.vars ecid) 0
+
+-- EstablishCommunicationsTimeout, in milliseconds (SEMI E30, communications state model)
 abbrev pub delay_of : TablesState → ℕ
-delay_of t = unwrap_or (constant_in t.vars 1) 0 * 1000
+delay_of t = built_in 1 t * 1000
+
+-- EnableSpool: the spool may become active (SEMI E30, spooling; the name is this profile's)
+abbrev pub may_spool : TablesState → Bool
+may_spool t = not (built_in 2 t == 0)
+
+-- OverWriteSpool: in a full spool a message takes the place of the oldest (SEMI E30, spooling)
+abbrev pub overwrites : TablesState → Bool
+overwrites t = not (built_in 3 t == 0)
+
+-- MaxSpoolTransmit: how many messages may go to the host at one request; 0 is no bound (SEMI E30, spooling)
+abbrev pub most_transmitted : TablesState → ℕ
+most_transmitted t = built_in 4 t
 
 -- ---- what the tool commands
 
@@ -117,7 +143,8 @@ after_command (command.Set vid value) t = set_after vid value t
 after_command (command.Alarm alid is_set) t = alarm_after alid is_set t
 after_command _ t = t
 
--- ---- what the host asks for: a request that is refused changes nothing (SEMI E5, S2F15, S2F33, S2F35, S2F37, S5F3)
+-- ---- what the host asks for: a request that is refused changes nothing (SEMI E5, S2F15, S2F33, S2F35, S2F37, S2F43,
+-- S5F3)
 
 abbrev pub constants_by : Eac → List (ℕ × ℕ) → TablesState → TablesState
 constants_by eac.Done list t = with_vars (with_constants list t.vars) t
@@ -145,6 +172,7 @@ tables_after (request.SetConstants list) t = constants_by (eac_of t.vars list) l
 tables_after (request.Define dataid list) t = definitions_by (drack_in (value_of t) t.reports list) list t
 tables_after (request.Link dataid list) t = linkings_by (lrack_in t.reports list) list t
 tables_after (request.EnableEvents on ceids) t = events_by (erack_in t.reports ceids) on ceids t
+tables_after (request.ReplaceRule list) t = with_rule (rule_after list t.rule) t
 tables_after (request.EnableAlarms on alid) t = alarms_by (ackc5_of t.alarms alid) alid on t
 tables_after _ t = t
 

@@ -8,17 +8,20 @@ ghost use Rattle.secs_items.specs.Spelling.{shortest_spelling};
 ghost use Rattle.trace_log.specs.Text.{printed_note};
 ghost use Rattle.gem_alarms.specs.Alarms.{enabled_list_of, list_of};
 ghost use Rattle.gem_remote.specs.Commands.{Param, ackc10_of, params_item};
+ghost use Rattle.gem_spool.specs.Reply.{reply_item};
+ghost use Rattle.gem_spool.specs.Rule.{answer_of as rule_answer, rule_after};
 ghost use Rattle.gem_vars.specs.Listing.{constant_names_of, constant_values_of, status_names_of, status_values_of};
 ghost use Rattle.gem_remote.specs.declared.remote.Ackc10.TheVariants as ackc10;
 ghost use Rattle.equipment_tables.specs.Answers.{IsWithin, ackc10_code, ackc5_code, alarm_item_of, answer_by, answer_of, carried_lines, code_reply, drack_code, eac_code, erack_code, established_of, event_item, identity_of, lines_of, lrack_code, remoted_of_item, report_item_of, shown_lines, spelled_body};
 ghost use Rattle.equipment_tables.specs.Requests.{IsAsked, request_of};
-ghost use Rattle.equipment_tables.specs.Tables.{state_of, tables_after};
+ghost use Rattle.equipment_tables.specs.Tables.{state_of, tables_after, with_rule};
 
 use crate::tables::Tables;
 use gem_alarms::Ackc5;
 use gem_remote::{Ackc10, Remoted, parameters_are_read};
 use gem_reports::{Drack, Erack, Lrack, reports_go_by_what_stands};
 use gem_shapes::{Request, Text, code_item, identity_item, pair_item, read_request};
+use gem_spool::RuleEntry;
 use gem_vars::Eac;
 use gl_base::{NoMemory, Row};
 use message_flow::Note;
@@ -31,7 +34,7 @@ use trace_log::{carried_note, display_note};
 pub enum Answer {
     /// The body's bytes.
     Body(Row<u8>),
-    /// It would have more bytes than may be sent, or none spell it. It was not built where its length alone tells.
+    /// It would have more bytes than may be sent, or none spell it.
     TooLong,
     /// There is none: the request is answered with function 0.
     Abort,
@@ -83,8 +86,7 @@ pub(crate) fn spelled(alloc: Global, item: &Item) -> Result<Answer, NoMemory>
     }
 }
 
-/// The bytes of a body that was built, since it is known to be short: `TooLong` exactly where it has more than may be
-/// sent, or where none spell it.
+/// The bytes of a body that was built: `TooLong` exactly where it has more than may be sent, or where none spell it.
 #[tactic(auto, using(crate::proofs::Bodies::body_within))]
 pub fn bounded(alloc: Global, item: &Item, max_body: u32) -> Result<Answer, NoMemory>
     ensures body { IfOk result (λ answer. answer ≡ spelled_body max_body item.now) }
@@ -164,7 +166,7 @@ fn ackc10_code(ackc10: Ackc10) -> u8
 
 impl Tables {
     /// Answers a request of the host, which a message asked for, and does what it asks for. What the states and the
-    /// spool answer is `Abort` here: S1F13, S1F15, S1F17, S2F43 and S6F23.
+    /// spool answer is `Abort` here: S1F13, S1F15, S1F17 and S6F23.
     ///
     /// Of S2F41 it notes the command where HCACK is 0 or 4, and of S10F3 and S10F5 each text that a terminal displays.
     /// A request that is refused changes nothing.
@@ -254,7 +256,7 @@ impl Tables {
                     notes,
                 )
             }
-            Request::ReplaceRule(_) => Ok(Answer::Abort),
+            Request::ReplaceRule(list) => self.rule_reply(alloc, list.as_slice(), max_body),
             Request::EnableAlarms { on, alid } => {
                 code_answer(alloc, ackc5_code(self.enable_alarms(*on, *alid)), max_body)
             }
@@ -409,6 +411,21 @@ impl Tables {
             return Ok(Answer::TooLong);
         }
         spelled(alloc, &self.alarms.enabled_list(alloc)?)
+    }
+
+    /// S2F43.
+    fn rule_reply(
+        &mut self,
+        alloc: Global,
+        list: &[RuleEntry],
+        max_body: u32,
+    ) -> Result<Answer, NoMemory>
+        ensures answer { IfOk result (λ answer. answer ≡ spelled_body max_body (reply_item (rule_answer list.now))) }
+        ensures tables { OnOk result (state_of self.new ≡
+            with_rule (rule_after list.now (state_of self.old).rule) (state_of self.old)) }
+    {
+        let answer = self.replace_rule(alloc, list)?;
+        bounded(alloc, &answer.reply(alloc)?, max_body)
     }
 
     /// S2F41.

@@ -2,6 +2,7 @@ use super::*;
 use crate::answers::{Answer, request_of};
 use gem_alarms::AlarmPlan;
 use gem_remote::{CommandPlan, ParamPlan, RemotePlan};
+use gem_shapes::RuleEntry;
 use gem_states::ControlState;
 use gem_vars::{ConstantPlan, VariablePlan, VarsPlan};
 use gl_base::{NoMemory, Row};
@@ -58,7 +59,17 @@ fn planned_remote(alloc: Global) -> Result<RemotePlan, NoMemory> {
     })
 }
 
-// The same, and event 7.
+// S5F1 is spooled.
+fn planned_rule(alloc: Global) -> Result<Row<RuleEntry>, NoMemory> {
+    let mut spooled = Row::new(alloc);
+    spooled.push(RuleEntry {
+        stream: 5,
+        functions: Row::of(alloc, &[1])?,
+    })?;
+    Ok(spooled)
+}
+
+// All of these, and event 7.
 fn planned(alloc: Global) -> Result<EquipmentPlan, NoMemory> {
     Ok(EquipmentPlan {
         line: LinePlan {
@@ -76,7 +87,7 @@ fn planned(alloc: Global) -> Result<EquipmentPlan, NoMemory> {
         softrev: Row::of(alloc, b"1")?,
         enable: true,
         control: ControlState::Remote,
-        spooled: Row::new(alloc),
+        spooled: planned_rule(alloc)?,
         vars: planned_vars(alloc)?,
         events: Row::of(alloc, &[7])?,
         alarms: planned_alarms(alloc)?,
@@ -363,12 +374,103 @@ static COMMANDS: [Case; 8] = [
         Wanted::Body(b"\x21\x01\0"),
         2,
     ),
-    (2, 43, b"\x01\0", Wanted::Abort, 0),
+    (2, 43, b"\xA5\x01\x05", Wanted::Broken, 0),
     (6, 23, b"\xA5\x01\x01", Wanted::Abort, 0),
 ];
 
 #[test]
 fn commands_and_texts_are_answered(rt: HostRuntime) -> Result<(), Fail> {
     assert!(rt; first_wrong(rt.alloc(), &COMMANDS) == 8);
+    Ok(())
+}
+
+// What a message leaves: whether S5F1, S6F11 and S10F1 are spooled; whether the spool may become active, and takes the
+// place of the oldest message where it is full; and how many messages go to the host at one request.
+type Spooling = ([bool; 3], [bool; 2], u32);
+
+fn is_left(tables: &Tables, left: &Spooling) -> bool {
+    let (spooled, does, most) = left;
+    tables.covers(5, 1) == spooled[0]
+        && tables.covers(6, 11) == spooled[1]
+        && tables.covers(10, 1) == spooled[2]
+        && tables.may_spool() == does[0]
+        && tables.overwrites() == does[1]
+        && tables.most_transmitted() == *most
+}
+
+// The place of the first message that doesn't go as it is wanted, or how many there are.
+fn first_wrong_left(alloc: Global, cases: &[(Case, Spooling)]) -> usize {
+    let Some(mut tables) = tables_of(alloc) else {
+        return 0;
+    };
+    for i in 0..cases.len() {
+        let (case, left) = &cases[i];
+        if !goes(alloc, &mut tables, case) || !is_left(&tables, left) {
+            return i;
+        }
+    }
+    cases.len()
+}
+
+// S1F1, which leaves all as planned; an S2F43 that is accepted, and one that is refused beside a good entry; the
+// constants; and an S2F43 without entries.
+static SPOOLING: [(Case, Spooling); 5] = [
+    (
+        (
+            1,
+            1,
+            b"",
+            Wanted::Body(b"\x01\x02\x41\x07GEMLINE\x41\x011"),
+            0,
+        ),
+        ([true, false, false], [true, true], 0),
+    ),
+    (
+        (
+            2,
+            43,
+            b"\x01\x01\x01\x02\xA5\x01\x06\x01\x01\xA5\x01\x0B",
+            Wanted::Body(b"\x01\x02\x21\x01\0\x01\0"),
+            0,
+        ),
+        ([false, true, false], [true, true], 0),
+    ),
+    (
+        (
+            2,
+            43,
+            b"\x01\x02\x01\x02\xA5\x01\x0A\x01\0\x01\x02\xA5\x01\x06\x01\x01\xA5\x01\x0C",
+            Wanted::Body(
+                b"\x01\x02\x21\x01\x01\x01\x01\x01\x03\xA5\x01\x06\x21\x01\x04\x01\x01\xA5\x01\x0C",
+            ),
+            0,
+        ),
+        ([false, true, false], [true, true], 0),
+    ),
+    (
+        (
+            2,
+            15,
+            b"\x01\x03\x01\x02\xA5\x01\x02\xA5\x01\0\x01\x02\xA5\x01\x03\xA5\x01\0\x01\x02\xA5\x01\x04\xA5\x01\x07",
+            Wanted::Body(b"\x21\x01\0"),
+            0,
+        ),
+        ([false, true, false], [false, false], 7),
+    ),
+    (
+        (
+            2,
+            43,
+            b"\x01\0",
+            Wanted::Body(b"\x01\x02\x21\x01\0\x01\0"),
+            0,
+        ),
+        ([false, false, false], [false, false], 7),
+    ),
+];
+
+#[test]
+fn spooling_is_set(rt: HostRuntime) -> Result<(), Fail> {
+    assert!(rt; first_wrong_left(rt.alloc(), &SPOOLING) == 5);
     Ok(())
 }

@@ -5,33 +5,43 @@ ghost use Rattle.std.specs.Option.{option_copied};
 ghost use Rattle.gem_alarms.specs.Alarms.{ackc5_of, step_of};
 ghost use Rattle.gem_remote.specs.Commands.{ackc10_of};
 ghost use Rattle.gem_reports.specs.Reporting.{drack_in, erack_in, is_enabled_in, is_planned, lrack_in};
+ghost use Rattle.gem_spool.specs.Rule.{answer_of, covered, rule_after};
 ghost use Rattle.gem_vars.specs.Settings.{eac_of, refusal_of};
 ghost use Rattle.gem_vars.specs.Tables.{constant_in, value_in};
 ghost use Rattle.equipment_tables.specs.Plan.{EquipmentPlanFits};
-ghost use Rattle.equipment_tables.specs.Tables.{alarm_after, alarms_by, constants_by, definitions_by, delay_of, events_by, is_done, linkings_by, planned_tables, set_after, state_of, value_of};
+ghost use Rattle.equipment_tables.specs.Tables.{alarm_after, alarms_by, constants_by, definitions_by, delay_of, events_by, is_done, linkings_by, may_spool, most_transmitted, overwrites, planned_tables, set_after, state_of, value_of, with_rule};
 
 use crate::plan::EquipmentPlan;
 use gem_alarms::{Ackc5, AlarmStep, Alarms};
 use gem_remote::Remote;
 use gem_reports::{Drack, Erack, Lrack, Reports, reports_go_by_what_stands};
 use gem_shapes::{Definition, Linking};
+use gem_spool::{RuleAnswer, RuleEntry, SpoolRule};
 use gem_vars::{Eac, Setting, Vars};
 use gl_base::{NoMemory, Row};
 use secs_items::Item;
 use std::alloc::Global;
 use std::marker::Model;
 
-// The ECID of EstablishCommunicationsTimeout, in seconds.
+// The ECIDs of EstablishCommunicationsTimeout, in seconds, of EnableSpool and OverWriteSpool, each 0 or 1, and of
+// MaxSpoolTransmit.
 const TIMEOUT: u32 = 1;
 
-/// The tables of the equipment: variables and constants, events and reports, alarms, remote commands and terminals, and
-/// what the equipment is called. Their rows are on the heap.
+const ENABLE_SPOOL: u32 = 2;
+
+const OVERWRITE_SPOOL: u32 = 3;
+
+const MAX_TRANSMIT: u32 = 4;
+
+/// The tables of the equipment: variables and constants, events and reports, alarms, remote commands and terminals,
+/// which primaries are spooled, and what the equipment is called. Their rows are on the heap.
 #[derive(Drop)]
 pub struct Tables {
     pub(crate) vars: Vars,
     pub(crate) reports: Reports,
     pub(crate) alarms: Alarms,
     pub(crate) remote: Remote,
+    pub(crate) rule: SpoolRule,
     pub(crate) mdln: Row<u8>,
     pub(crate) softrev: Row<u8>,
 }
@@ -46,6 +56,8 @@ impl Model for Tables {
     ghost use Rattle.gem_reports.specs.contracts.reports.Reports as reports_code;
     ghost use Rattle.gem_reports.specs.Laws.{HasPast};
     ghost use Rattle.gem_reports.specs.Tables.{ReportsView};
+    ghost use Rattle.gem_spool.specs.contracts.rule.SpoolRule as rule_code;
+    ghost use Rattle.gem_spool.specs.declared.rule.SpoolRule.{SpoolRule};
     ghost use Rattle.gem_vars.specs.contracts.vars.Vars as vars_code;
     ghost use Rattle.gem_vars.specs.Tables.{VarsTable};
     ghost use Rattle.equipment_tables.specs.Tables.{TablesView};
@@ -53,17 +65,19 @@ impl Model for Tables {
     ghost Value = { TablesView };
 
     ghost coded = { code_by
-        (VarsTable × (ReportsView × (AlarmTable × (RemotePlan × (List ℕ × List ℕ)))))
+        (VarsTable × (ReportsView × (AlarmTable × (RemotePlan × (SpoolRule × (List ℕ × List ℕ))))))
         (coded× vars_code.the_row.coded (coded× reports_code.the_row.coded (coded× alarms_code.the_row.coded
-        (coded× remote_code.the_row.coded (coded× (coded_list coded_ℕ) (coded_list coded_ℕ))))))
-        (λ t. (t.vars, (t.reports, (t.alarms, (t.remote, (t.mdln, t.softrev))))))
+        (coded× remote_code.the_row.coded (coded× rule_code.the_row.coded
+        (coded× (coded_list coded_ℕ) (coded_list coded_ℕ)))))))
+        (λ t. (t.vars, (t.reports, (t.alarms, (t.remote, (t.rule, (t.mdln, t.softrev)))))))
         (λ p. record {
           vars = p.0;
           reports = p.1.0;
           alarms = p.1.1.0;
           remote = p.1.1.1.0;
-          mdln = p.1.1.1.1.0;
-          softrev = p.1.1.1.1.1;
+          rule = p.1.1.1.1.0;
+          mdln = p.1.1.1.1.1.0;
+          softrev = p.1.1.1.1.1.1;
         })
         (λ _. refl) };
 
@@ -72,6 +86,7 @@ impl Model for Tables {
       reports = inside.reports;
       alarms = inside.alarms;
       remote = inside.remote;
+      rule = inside.rule;
       mdln = inside.mdln;
       softrev = inside.softrev;
     } };
@@ -92,6 +107,8 @@ impl Tables {
         let planned = plan.alarms.as_slice();
         let alarms = Alarms::new(alloc, planned)?;
         let remote = Remote::new(alloc, &plan.remote)?;
+        let spooled = plan.spooled.as_slice();
+        let rule = SpoolRule::new(spooled);
         let model = plan.mdln.as_slice();
         let mdln = Row::of(alloc, model)?;
         let revision = plan.softrev.as_slice();
@@ -101,6 +118,7 @@ impl Tables {
             reports,
             alarms,
             remote,
+            rule,
             mdln,
             softrev,
         })
@@ -159,6 +177,34 @@ impl Tables {
         u64::from(self.vars.constant(TIMEOUT).unwrap_or(0)) * 1000
     }
 
+    /// Whether the spool may become active: EnableSpool is 1.
+    pub fn may_spool(&self) -> bool
+        ensures { result ≡ may_spool (state_of self.now) }
+    {
+        self.constant(ENABLE_SPOOL).unwrap_or(0) != 0
+    }
+
+    /// Whether a message that finds the spool full takes the place of the oldest: OverWriteSpool is 1.
+    pub fn overwrites(&self) -> bool
+        ensures { result ≡ overwrites (state_of self.now) }
+    {
+        self.constant(OVERWRITE_SPOOL).unwrap_or(0) != 0
+    }
+
+    /// How many messages may go to the host in answer to one request for the spool, MaxSpoolTransmit; 0 is no bound.
+    pub fn most_transmitted(&self) -> u32
+        ensures { result ≡ most_transmitted (state_of self.now) }
+    {
+        self.constant(MAX_TRANSMIT).unwrap_or(0)
+    }
+
+    /// Whether this primary is spooled: by the newest S2F43 that was accepted, and by the plan where none was.
+    pub fn covers(&self, stream: u8, function: u8) -> bool
+        ensures { result ≡ covered (state_of self.now).rule stream function }
+    {
+        self.rule.covers(stream, function)
+    }
+
     /// S2F15, as [`Vars::set_constants`] answers it.
     pub(crate) fn set_constants(&mut self, list: &[(u32, u32)]) -> Eac
         ensures answer { result ≡ eac_of self.old.vars list.now }
@@ -193,6 +239,19 @@ impl Tables {
     {
         reports_go_by_what_stands();
         self.reports.enable(on, ceids)
+    }
+
+    /// S2F43, as [`SpoolRule::replace`] answers it.
+    pub(crate) fn replace_rule(
+        &mut self,
+        alloc: Global,
+        list: &[RuleEntry],
+    ) -> Result<RuleAnswer, NoMemory>
+        ensures answer { IfOk result (λ answer. answer ≡ answer_of list.now) }
+        ensures table { OnOk result (state_of self.new ≡
+            with_rule (rule_after list.now (state_of self.old).rule) (state_of self.old)) }
+    {
+        self.rule.replace(alloc, list)
     }
 
     /// S5F3, as [`Alarms::enable`] answers it.

@@ -2,6 +2,8 @@ use Rattle.std.proofs.Common.{◌∙◌, ap, ℕ, List, []}
 use Rattle.gem_alarms.specs.declared.plan.AlarmPlan.{AlarmPlan}
 use Rattle.gem_alarms.specs.History.{alarms_at}
 use Rattle.gem_reports.specs.Reporting.{reporting_at}
+use Rattle.gem_shapes.specs.declared.entries.RuleEntry.{RuleEntry}
+use Rattle.gem_spool.specs.Rule.{rule_of}
 use Rattle.equipment_tables.proofs.ReportTables.{same_state}
 use Rattle.equipment_tables.proofs.tables.Tables.new.Goals as goal
 
@@ -15,5 +17,6 @@ returns c =
     ∙ ap (λ (events : List ℕ). reporting_at events []) c.as_slice-events.ensures)
     (c.in_ok-alarms.ensures ∙ ap (λ (plan : List AlarmPlan). alarms_at plan []) c.as_slice-planned.ensures)
     c.in_ok-remote.ensures
+    (c.new-rule.ensures ∙ ap (λ (plan : List RuleEntry). rule_of plan) c.as_slice-spooled.ensures)
     (c.in_ok-mdln.ensures ∙ c.as_slice-model.ensures)
     (c.in_ok-softrev.ensures ∙ c.as_slice-revision.ensures)
