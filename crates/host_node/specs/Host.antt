@@ -16,6 +16,7 @@ use Rattle.trace_log.specs.declared.commands.HostCommand.TheVariants as told
 use Rattle.trace_log.specs.declared.names.CommsName.{CommsName}
 use Rattle.trace_log.specs.declared.names.CommsName.TheVariants as name
 use Rattle.trace_log.specs.declared.names.Name.{Name}
+use Rattle.transact.specs.declared.begun.Begun.{Begun}
 use Rattle.message_end.specs.declared.end.Took.{Took}
 use Rattle.message_end.specs.declared.end.Took.TheVariants as took
 use Rattle.message_end.specs.declared.unsent.Unsent.{Unsent}
@@ -23,7 +24,7 @@ use Rattle.message_end.specs.Calls.{answered_by, dropped_now, failed_at, took_at
 use Rattle.message_end.specs.Core.{Command, EndView, reply_function}
 use Rattle.message_end.specs.Core.Command.{Abort, Answer, DropDue, Expire, GiveUp, Note, Offer, Primary, Reply, Take, Tick}
 use Rattle.message_end.specs.Duties.{Duty}
-use Rattle.message_end.specs.Endings.{ends_open}
+use Rattle.message_end.specs.Endings.{ends_open, notes_failed}
 use Rattle.message_end.specs.Ends.{Input, Machine}
 use Rattle.message_end.specs.Ends.Input.{Char, Command as Told, Time}
 use Rattle.message_end.specs.Parts.{Design, Node, Part, Turn, fixed_turn, leads, led_turn, machine_of}
@@ -88,9 +89,12 @@ ends_in own next first =
 
 -- ---- a block could not be sent, and what comes too late
 
--- all open messages end with no more than their notes
+-- all open messages end, each with its note
+abbrev pub fails : Begun Kind → List (Command Kind)
+fails begun = notes_failed begun.header
+
 abbrev pub ends_all : EndView Kind → Option Header → List (Duty Kind)
-ends_all e failed = ends_open (λ kind. []) e failed
+ends_all e failed = ends_open fails e failed
 
 -- a block with this header could not be sent: all open messages end, and with them the communication (SEMI E30)
 abbrev pub breaks : HostOwn → EndView Kind → Option Header → HostTurn

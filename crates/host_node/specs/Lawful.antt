@@ -26,7 +26,7 @@ use Rattle.message_end.specs.declared.end.Took.{Took}
 use Rattle.message_end.specs.declared.end.Took.TheVariants as took
 use Rattle.message_end.specs.Calls.{dropped_now, failed_at, took_at}
 use Rattle.message_end.specs.Core.{Command, EndView, IsText, Step}
-use Rattle.message_end.specs.Core.Went.{Spent}
+use Rattle.message_end.specs.Core.Went.{Goes, Spent}
 use Rattle.message_end.specs.Core.Command.{DropDue, GiveUp, Note, Offer, Primary, Take, Tick}
 use Rattle.message_end.specs.Duties.{Duty}
 use Rattle.message_end.specs.Endings.{ends_failed, ends_front, ends_one, is_of_open}
@@ -37,7 +37,7 @@ use Rattle.message_end.proofs.Lower.{lower}
 use Rattle.message_end.proofs.Parts.{AreDueDuties, AreQuietDuties, IsDue, IsInputPart, IsQuiet, IsQuietTurn, IsStepOf, led-turn, node-lawful}
 use Rattle.host_node.specs.declared.comms.HostComms.{HostComms}
 use Rattle.host_node.specs.declared.comms.HostComms.TheVariants as comms
-use Rattle.host_node.specs.Host.{HasPlan, HostOwn, HostTurn, Kind, breaks, brings, drops, ends_all, ends_in, ends_late, enabled_comms, end_plan, enters, expires, failed_comms, first_own, follows, function_with, given, gives_up, heeds, heeds_primary, heeds_secondary, host_design, host_machine, is_accepted, is_disabled, is_full, judges, late_duties, name_of, notes_comms, obeys, offers, parts, replies, sends, sends_reply, ticks, unsent_of}
+use Rattle.host_node.specs.Host.{HasPlan, HostOwn, HostTurn, Kind, breaks, brings, drops, ends_all, ends_in, ends_late, enabled_comms, end_plan, enters, expires, failed_comms, fails, first_own, follows, function_with, given, gives_up, heeds, heeds_primary, heeds_secondary, host_design, host_machine, is_accepted, is_disabled, is_full, judges, late_duties, name_of, notes_comms, obeys, offers, parts, replies, sends, sends_reply, ticks, unsent_of}
 use Rattle.host_node.specs.Replies.{is_acknowledged, is_establishing, is_question, no_identity, reply_item}
 use Rattle.host_node.specs.Spelled.{spelled_code, spelled_established, spelled_nothing}
 
@@ -47,7 +47,7 @@ none-quiet : IsQuiet {K = Kind} []
 none-quiet = record { calls = tt; may = tt }
 
 -- what ends together
-ones-quiet : (begun : List (Begun Kind)) → IsQuiet (flat_map (ends_one (λ kind. [])) begun)
+ones-quiet : (begun : List (Begun Kind)) → IsQuiet (flat_map (ends_one fails) begun)
 ones-quiet [] = none-quiet
 ones-quiet (one ∷ begun) =
     let rest = ones-quiet begun in
@@ -75,9 +75,9 @@ comms-quiet comms.Communicating comms.Disabled e = record { calls = (tt, tt); ma
 comms-quiet comms.Communicating comms.NotCommunicating e = record { calls = (tt, tt); may = (tt, tt) }
 
 drops-due : (now : ℕ) (dropped : Option Header) → IsDue {K = Kind} now (DropDue now ∷ gives_up dropped)
-drops-due now None = record { calls = (tt, tt); drops = (refl, tt); may = (tt, tt) }
+drops-due now None = record { calls = (tt, tt); drops = (refl, tt); adds = (tt, tt); may = (tt, tt) }
 drops-due now (Some header) =
-    record { calls = (tt, (tt, tt)); drops = (refl, (tt, tt)); may = (tt, (tt, tt)) }
+    record { calls = (tt, (tt, tt)); drops = (refl, (tt, tt)); adds = (tt, (tt, tt)); may = (tt, (tt, tt)) }
 
 -- the replies are short, and of bytes
 text-code : IsText (shortest_spelling (code_item 0))
@@ -190,7 +190,12 @@ module _ (plan : HostPlan) (base : ℕ) where
   late-due now =
       both-due now (replicate 16 (drops now)) (replicate 64 (expires now))
       (many-due now 16 (drops now) (λ e. drops-due now (dropped_now e now)))
-      (many-due now 64 (expires now) (λ e. record { calls = (tt, tt); drops = (tt, tt); may = (tt, tt) }))
+      (many-due now 64 (expires now) (λ e. record {
+        calls = (tt, tt);
+        drops = (tt, tt);
+        adds = (tt, tt);
+        may = (tt, tt);
+      }))
 
   -- ---- what came
 
@@ -338,15 +343,15 @@ module _ (plan : HostPlan) (base : ℕ) where
 -- nothing is to be drawn in the first step
 begins :
     (plan : HostPlan) (step : Step (Node HostOwn Kind) Happening)
-    → host_machine.act (started (end_plan plan) (first_own plan) (numbers_from 0 (2 ^ 32))).next Time 0 ≢ Spent step
+    → host_machine.act (started (end_plan plan) (first_own plan) [] (numbers_from 0 (2 ^ 32))).next Time 0 ≢ Spent step
 unfolding late_duties
 begins plan step same = absurd (cc)
 
 pub host_lawful :
-    (plan : HostPlan) → HostPlanFits plan
+    (plan : HostPlan) (store : Unit {0}) → HostPlanFits plan → Unit {0}
     → KeepsLaw (end_plan plan) (Did (HasPlan plan) (end_plan plan)) HostCommandFits
-    (started (end_plan plan) (first_own plan) (numbers_from 0 (2 ^ 32))) host_machine
-host_lawful plan fits =
+    (Goes (started (end_plan plan) (first_own plan) [] (numbers_from 0 (2 ^ 32)))) host_machine
+host_lawful plan store fits holds =
     node-lawful lower (end_plan plan) fits.line (HasPlan plan) host_design HostCommandFits (first_own plan) refl
     (λ own sound. sound) (λ own sound. ap end_plan sound) (λ base input now may. step-is plan base input now fits may)
     (λ step. begins plan step)

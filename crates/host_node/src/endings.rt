@@ -1,7 +1,7 @@
 //! All open messages end.
 
-ghost use Rattle.std.specs.Prelude.{◌≡◌, [], IfOk};
-ghost use Rattle.host_node.specs.Host.{ends_all};
+ghost use Rattle.std.specs.Prelude.{◌≡◌, IfOk};
+ghost use Rattle.host_node.specs.Host.{ends_all, fails};
 ghost use Rattle.message_end.specs.Endings.{ends_begun};
 ghost use Rattle.message_end.specs.Parts.{AreCarried, AreDone};
 
@@ -10,6 +10,7 @@ use gl_base::NoMemory;
 use message_end::MessageEnd;
 use message_flow::StepOut;
 use std::alloc::Global;
+use trace_log::{Title, failed_note};
 
 /// Ends all open messages, each with its note: those with a transaction first, then the one whose block failed, then
 /// those that wait still.
@@ -35,9 +36,12 @@ pub(crate) fn end_all(
 // Ends the messages whose transactions are open, in the order in which these began.
 fn end_begun(alloc: Global, core: &mut MessageEnd<()>, out: &mut StepOut) -> Result<(), NoMemory>
     ensures does { IfOk result
-        (λ done. AreCarried (ends_begun (λ kind. []) core.old) core.old out.old core.new out.new) }
+        (λ done. AreCarried (ends_begun fails core.old) core.old out.old core.new out.new) }
     ensures line { out.new.line ≡ out.old.line }
 {
-    'transactions: while let Some(_) = core.end_first(alloc, out)? {}
+    'transactions: while let Some(primary) = core.end_first() {
+        out.notes
+            .push(failed_note(alloc, Title::of_block(&primary.0))?)?;
+    }
     Ok(())
 }

@@ -4,7 +4,7 @@ ghost use Rattle.block_codec.specs.Protocol.{longest_text};
 ghost use Rattle.message_flow.specs.Assembly.{WholeFits};
 ghost use Rattle.trace_log.specs.Commands.{HostCommandFits, IsPrimaryName};
 ghost use Rattle.message_end.specs.Calls.{deadline_of_end};
-ghost use Rattle.message_end.specs.Ends.{IsEmpty, Leaves, MayTake, input_of};
+ghost use Rattle.message_end.specs.Ends.{IsEmpty, Leaves, MayTake, Uses, input_of, none_asked};
 ghost use Rattle.message_end.specs.Parts.{Takes, TakesAll, fixed_turn};
 ghost use Rattle.host_node.specs.Host.{breaks, ends_late, enters, follows, given, heeds, heeds_primary, heeds_secondary, host_machine, is_acceptance, judges, obeys, offers, parts, sends, takes, ticks};
 
@@ -50,8 +50,13 @@ impl End for Host {
 
     type Command = HostCommand;
 
-    ghost use Rattle.std.specs.Prelude.{◌^◌};
+    type Store = ();
+
+    ghost use Rattle.std.specs.Prelude.{◌^◌, []};
     ghost use Rattle.line_end.specs.Plan.{HostPlanFits};
+    ghost use Rattle.message_end.specs.Calls.{deadline_of_end};
+    ghost use Rattle.message_end.specs.Core.Went.{Goes};
+    ghost use Rattle.message_end.specs.Ends.{none_asked};
     ghost use Rattle.message_end.specs.Parts.{Did, Node, started};
     ghost use Rattle.trace_log.specs.Commands.{HostCommandFits};
     ghost use Rattle.transact.specs.Numbers.{numbers_from};
@@ -68,17 +73,25 @@ impl End for Host {
 
     ghost takes = { HostCommandFits };
 
+    ghost holds = { λ store. Unit {0} };
+
     ghost plan_of = { end_plan };
 
-    ghost start = { λ plan. started (end_plan plan) (first_own plan) (numbers_from 0 (2 ^ 32)) };
+    ghost start = { λ plan none. Goes (started (end_plan plan) (first_own plan) [] (numbers_from 0 (2 ^ 32))) };
 
     ghost machine = { host_machine };
 
     ghost did = { λ plan. Did (HasPlan plan) (end_plan plan) };
 
+    ghost due = { λ s. deadline_of_end s.core };
+
+    ghost room = { λ host. none_asked };
+
+    ghost store_room = { λ store. none_asked };
+
     ghost lawful = { host_lawful };
 
-    fn start(alloc: Global, plan: &HostPlan, out: &mut StepOut) -> Result<Host, NoMemory> {
+    fn start(alloc: Global, plan: &HostPlan, _: (), out: &mut StepOut) -> Result<Host, Stop> {
         let core = MessageEnd::new(alloc, Side::Host, &plan.line, 0, 1 << 32)?;
         out.notes.push(host_started_note(alloc)?)?;
         Ok(Host {
@@ -106,9 +119,14 @@ impl End for Host {
         requires now { now < 2 ^ 62 }
         requires input { MayTake HostCommandFits (input_of input) }
         requires out { IsEmpty out.old }
-        ensures step { Leaves (host_machine.act self.old (input_of input.entry) now) self.new out.new result }
+        ensures step { Leaves [] (host_machine.act self.old (input_of input.entry) now) self.new out.new result }
+        ensures room { Uses none_asked none_asked none_asked result }
     {
         self.step_on(alloc, input, now, out)
+    }
+
+    fn deadline(&self) -> Option<u64> {
+        self.core.deadline()
     }
 
     fn phase(&self) -> Phase {
@@ -142,7 +160,7 @@ impl Host {
         requires now { now < 2 ^ 62 }
         requires input { MayTake HostCommandFits (input_of input) }
         requires out { IsEmpty out.old }
-        ensures { Leaves (host_machine.act self.old (input_of input.entry) now) self.new out.new result }
+        ensures { Leaves [] (host_machine.act self.old (input_of input.entry) now) self.new out.new result }
     {
         match self.act(alloc, input, now, out) {
             Ok(()) => Ok(()),

@@ -637,7 +637,7 @@ fn runs(alloc: Global, cases: &[Case]) -> bool {
         return false;
     }
     let mut out = nothing_yet(alloc);
-    let Ok(mut host) = Host::start(alloc, &PLAN, &mut out) else {
+    let Ok(mut host) = Host::start(alloc, &PLAN, (), &mut out) else {
         return false;
     };
     for case in cases {

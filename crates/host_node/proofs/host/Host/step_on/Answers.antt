@@ -1,4 +1,4 @@
-use Rattle.std.proofs.Common.{refl}
+use Rattle.std.proofs.Common.{refl, []}
 use Rattle.message_end.specs.Ends.{input_of}
 use Rattle.message_end.proofs.Leaving.{leaves-gone, leaves-stopped}
 use Rattle.host_node.specs.Host.{parts}
@@ -14,4 +14,4 @@ pub returns-in-Err : goal.returns-in-Err
 returns-in-Err c =
     leaves-stopped (parts (input_of c.args.input) c.args.now) c.args.self.now c.args.out.now c.requires.out
     c.act.new.self c.act.new.out (record { line = c.clear.new.self; notes = c.act.new.out.notes }) c.in-Err.stop
-    c.in-Err.ensures refl c.clear.ensures
+    c.in-Err.ensures refl c.clear.ensures []
