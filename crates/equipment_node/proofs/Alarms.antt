@@ -73,10 +73,10 @@ pub same_so :
     (alid : ℕ) (is_set : Bool) (s : ToolNode) (tables : TablesState) (out : StepOut) (notes : List Note)
     → step_of s.own.tables.alarms alid is_set ≡ Same → tables ≡ alarm_after alid is_set s.own.tables
     → notes ≡ out.notes ++ note_of (Happening.Alarm alid is_set) ∷ []
-    → HasTaken (alarm_turn (step_of s.own.tables.alarms alid is_set) alid is_set s.own) s out
+    → HasTaken (alarm_turn (step_of s.own.tables.alarms alid is_set) alid is_set s.own s.core) s out
     (record { own = with_tables tables s.own; core = s.core }) (record { line = out.line; notes = notes })
 same_so alid is_set s tables out notes same stands noted =
-    ap (λ (step : AlarmStep). after_turn printed_note (alarm_turn step alid is_set s.own) (on_the_way s out)) same
+    ap (λ (step : AlarmStep). after_turn printed_note (alarm_turn step alid is_set s.own s.core) (on_the_way s out)) same
     ∙ ap (λ (t : TablesState). Goes (on_the_way (record { own = with_tables t s.own; core = s.core })
     (record { line = out.line; notes = out.notes ++ note_of (Happening.Alarm alid is_set) ∷ [] })))
     (sym (stands ∙ unchanged_same alid is_set s.own.tables same))

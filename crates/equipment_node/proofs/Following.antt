@@ -9,19 +9,16 @@ use Rattle.message_flow.specs.declared.step.StepOut.{StepOut}
 use Rattle.trace_log.specs.Log.{Happening}
 use Rattle.trace_log.specs.Text.{printed_note}
 use Rattle.message_end.specs.declared.end.Stop.{Stop}
-use Rattle.message_end.specs.declared.end.Stop.TheVariants.{NoMemory, NumbersSpent}
-use Rattle.message_end.specs.Core.{Command, EndView, Step, Went, and_then, at_first, carried, carry}
+use Rattle.message_end.specs.declared.end.Stop.TheVariants.{DiskFailed, NoMemory, NumbersSpent}
+use Rattle.message_end.specs.Core.{Command, EndView, Step, Went, and_then, carried, carry}
 use Rattle.message_end.specs.Core.Command.{Note as NoteThis}
 use Rattle.message_end.specs.Core.Went.{Goes, Spent}
 use Rattle.message_end.specs.Duties.{all_done}
-use Rattle.message_end.specs.Ends.{IsEmpty, Leaves}
 use Rattle.message_end.specs.Parts.{ComesTo, Takes, after_parts, after_turn, core_after, core_step, leads, on_the_way, went_with}
-use Rattle.message_end.proofs.Leaving.{leaves-stopped}
 use Rattle.message_end.proofs.Parts.{leads-behind}
 use Rattle.equipment_node.specs.declared.kind.Kind.{Kind}
 use Rattle.equipment_node.specs.Calls.{IsReached, Reaches, ReachesAll}
 use Rattle.equipment_node.specs.Own.{OwnView, ToolDuty, ToolPart, ToolTurn, turn_of}
-use Rattle.equipment_node.proofs.Taking.{duties_end}
 use Rattle.equipment_node.proofs.Turned.{HasTaken, ToolNode}
 
 abbrev pub node : OwnView → EndView Kind → ToolNode
@@ -50,7 +47,8 @@ pub reached :
     (A : Type 0) (went : Went ToolNode Note) (new : ToolNode) (out : StepOut) (result : Result A Stop)
     → ComesTo went new out result → IsReached went new out result
 reached A went new out (Ok done) is = is
-reached A went new out (Err NumbersSpent) is = (new.own, is)
+reached A went new out (Err NumbersSpent) is = record { own = new.own; ledger = refl; is = is }
+reached A went new out (Err DiskFailed) is = absurd is
 reached A went new out (Err NoMemory) is = tt
 
 -- parts, and those behind them
@@ -72,11 +70,14 @@ pub parts_stop :
     → IsReached {A = A} (after_parts printed_note first (on_the_way old out)) new out_new (Err end)
     → IsReached {A = B} (after_parts printed_note (first ++ second) (on_the_way old out)) new out_new (Err end)
 parts_stop A B first second old new out out_new NoMemory is = tt
-parts_stop A B first second old new out out_new NumbersSpent is = (
-  is.0,
-  parts_both first second (on_the_way old out)
-      ∙ ap (λ (w : Went ToolNode Note). and_then w (after_parts printed_note second)) is.1,
-)
+parts_stop A B first second old new out out_new DiskFailed is = absurd is
+parts_stop A B first second old new out out_new NumbersSpent is = record {
+  own = is.own;
+  ledger = is.ledger;
+  is =
+      parts_both first second (on_the_way old out)
+      ∙ ap (λ (w : Went ToolNode Note). and_then w (after_parts printed_note second)) is.is;
+}
 
 -- a part, and those behind it
 pub first_goes :
@@ -96,8 +97,12 @@ pub first_stops :
     → Reaches {A = A} (part old.own old.core) old out new out_new (Err end)
     → ReachesAll {A = B} (part ∷ rest) old out new out_new (Err end)
 first_stops A B part rest old new out out_new NoMemory is = tt
-first_stops A B part rest old new out out_new NumbersSpent is =
-    (is.0, ap (λ (w : Went ToolNode Note). and_then w (after_parts printed_note rest)) is.1)
+first_stops A B part rest old new out out_new DiskFailed is = absurd is
+first_stops A B part rest old new out out_new NumbersSpent is = record {
+  own = is.own;
+  ledger = is.ledger;
+  is = ap (λ (w : Went ToolNode Note). and_then w (after_parts printed_note rest)) is.is;
+}
 
 -- the last part
 pub last_part :
@@ -123,60 +128,16 @@ leads_reached A own lead turn old middle out out_middle new out_new result goes 
     (sym (leads-behind printed_note lead turn (on_the_way (node own old) out) (on_the_way middle out_middle) goes same))
     is
 
--- a command that ends the step
+-- a command that draws no number, and for which memory was wanting
 pub leads_stopped :
     (A B : Type 0) (own : OwnView) (lead : Command Kind) (turn : EndView Kind → ToolTurn) (old : EndView Kind)
-    (new : ToolNode) (out out_new : StepOut) (end : Stop)
+    (new : ToolNode) (out out_new : StepOut) (step : Step (EndView Kind) Note) (end : Stop)
+    → carry printed_note lead (on_the_way old out) ≡ Goes step
     → ComesTo {A = A} (carry printed_note lead (on_the_way old out)) new.core out_new (Err end)
     → Reaches {A = B} (leads lead turn old) (node own old) out new out_new (Err end)
-leads_stopped A B own lead turn old new out out_new NoMemory is = tt
-leads_stopped A B own lead turn old new out out_new NumbersSpent is =
-    let after = turn (core_after lead old) in (
-      after.own,
-      ap (λ (w : Went (EndView Kind) Note).
-          went_with after.own (and_then (and_then w (carried printed_note []))
-          (all_done printed_note after.duties))) is,
-    )
-
--- ---- duties in front of others
-
-with_other :
-    (one other : OwnView) (went : Went (EndView Kind) Note) (new : ToolNode) (out : StepOut)
-    → went_with one went ≡ Spent (on_the_way new out)
-    → went_with other went ≡ Spent (on_the_way (record new { own = other }) out)
-with_other one other (Goes step) new out is = absurd (cc)
-with_other one other (Spent step) new out is =
-    ap (λ (w : Went ToolNode Note). went_with other (core_of w)) is
-  where
-    core_of : Went ToolNode Note → Went (EndView Kind) Note
-    core_of (Goes step) = Goes (core_step step)
-    core_of (Spent step) = Spent (core_step step)
-
--- a turn that ends the step, before duties of another
-pub stops_first :
-    (A B : Type 0) (first : ToolTurn) (own : OwnView) (duties : List ToolDuty) (old new : ToolNode)
-    (out out_new : StepOut) (end : Stop)
-    → Takes {A = A} first old out new out_new (Err end)
-    → Reaches {A = B} (turn_of own (first.duties ++ duties)) old out new out_new (Err end)
-stops_first A B first own duties old new out out_new NoMemory is = tt
-stops_first A B first own duties old new out out_new NumbersSpent is = (
-  own,
-  with_other first.own own (all_done printed_note (first.duties ++ duties) (on_the_way old.core out)) new out_new
-      (duties_end A B first.own first.duties duties old new out out_new NumbersSpent is),
-)
-
--- ---- all of a step
-
--- whatever stops it, nothing is sent
-pub leaves_so :
-    (parts : List ToolPart) (s : ToolNode) (out : StepOut) → IsEmpty out
-    → (new : ToolNode) (middle after : StepOut) (end : Stop)
-    → ReachesAll {A = Unit {0}} parts s out new middle (Err end)
-    → after.notes ≡ middle.notes → after.line.items ≡ []
-    → Leaves (after_parts Some parts (at_first s)) new after (Err end)
-leaves_so parts s out empty new middle after NoMemory is notes quiet = quiet
-leaves_so parts s out empty new middle after NumbersSpent is notes quiet =
-    leaves-stopped parts s out empty (record new { own = is.0 }) middle after NumbersSpent is.1 notes quiet
+leads_stopped A B own lead turn old new out out_new step NoMemory goes is = tt
+leads_stopped A B own lead turn old new out out_new step DiskFailed goes is = absurd is
+leads_stopped A B own lead turn old new out out_new step NumbersSpent goes is = absurd (cc)
 
 -- ---- lines
 

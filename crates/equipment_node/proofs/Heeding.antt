@@ -32,7 +32,8 @@ use Rattle.equipment_node.specs.declared.kind.Kind.{Kind}
 use Rattle.equipment_node.specs.declared.kind.Kind.TheVariants as kind
 use Rattle.equipment_node.specs.Messages.{answer_turn, control_answer_duties, control_request_turn, dropped_turn, error_turn, established_duties, established_turn, is_establish_request, is_online_request, known_turn, offline_turn, own_request_commands, own_request_duty, primary_turn, read_turn, request_turn, stray_turn}
 use Rattle.equipment_node.specs.Own.{OwnView, ToolDuty, ToolTurn, is_communicating, is_online, turn_of, with_tables}
-use Rattle.equipment_node.specs.Sent.{answer_duties, unreported_turn}
+use Rattle.equipment_node.specs.Reports.{unreported_turn}
+use Rattle.equipment_node.specs.Sent.{answer_duties}
 use Rattle.equipment_node.specs.States.{comms_turn, control_commands, control_turn}
 use Rattle.equipment_node.proofs.Following.{behind_lines, node}
 use Rattle.equipment_node.proofs.Taking.{duties_end, turned}

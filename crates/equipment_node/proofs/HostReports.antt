@@ -49,14 +49,19 @@ use Rattle.equipment_node.specs.declared.kind.Kind.{Kind}
 use Rattle.equipment_node.specs.declared.kind.Kind.TheVariants as kind
 use Rattle.equipment_node.specs.Codes.{is_accepted_in, is_granted_in}
 use Rattle.equipment_node.specs.Messages.{answer_turn, control_answer_duties, control_request_turn, dropped_turn, error_turn, established_duties, established_turn, is_establish_request, is_online_request, known_turn, message_turn, offline_turn, primary_turn, read_turn, request_turn, stray_turn}
-use Rattle.equipment_node.specs.Own.{OwnView, ToolCommands, ToolDuty, ToolTurn, is_communicating, is_enabled_in as is_comms_enabled, is_local, is_online, with_tables}
-use Rattle.equipment_node.specs.Replies.{denied_turn, granted_turn, loss_turn, matched_turn, reply_turn, secondary_turn}
-use Rattle.equipment_node.specs.Reported.{HoldsItsValues, IsTextOf, count_of_events, is_of, past_in, reports_in, tables_in}
+use Rattle.equipment_node.specs.Own.{OwnView, ToolCommands, ToolDuty, ToolTurn, is_communicating, is_enabled_in as is_comms_enabled, is_local, is_online, turn_before, turn_of, waiting_report, with_ledger, with_tables, without_grant}
+use Rattle.equipment_node.specs.Replies.{granted_turn, loss_turn, matched_turn, reply_turn, secondary_turn}
+use Rattle.equipment_node.specs.Spooling.{booked_turn, leave_given_turn, purge_turn, rsda_duties, transmit_turn}
+use Rattle.spool_ledger.specs.Activity.{rsda_of}
+use Rattle.spool_ledger.specs.Storing.{all_out}
+use Rattle.spool_ledger.specs.Unloading.{confirmed, fresh, with_unload}
+use Rattle.equipment_node.proofs.LeavingReports.{leave-given-keeps, loss-keeps}
+use Rattle.equipment_node.specs.Reported.{HoldsItsValues, IsTextOf, count_of, count_of_events, is_of, past_in, reports_in, tables_in}
 use Rattle.equipment_node.specs.Sent as sent
 use Rattle.equipment_node.specs.States as states
 use Rattle.equipment_node.proofs.HeldReports.{Any, any-lasts, Ends, Free, Holds, IsSpelledSo, Keeps, KeepsAt, granted-keeps, holds-as, led-at, noted-so, plain, plain-at, so_far, spelled-so}
-use Rattle.equipment_node.proofs.PlainTurns.{IsPlain, count_waiting, answers-silent, abort-silent, comms-plain, control-lines, control-plain, denied-plain, dropped-plain, error-plain, itself, long-silent, loss-plain, nothing-plain, offline-plain, own-request-silent, stray-plain}
-use Rattle.equipment_node.proofs.QuietNotes.{AreSettled, IsAsBefore, IsNone, none-of, none-sent, IsQuietNote, is_report, one-behind, quiet-note, settled-more}
+use Rattle.equipment_node.proofs.PlainTurns.{IsPlain, count_waiting, answers-silent, abort-silent, all-out-quiet, before-plain, booked-plain, booked-stays, comms-plain, confirmed-quiet, control-lines, control-plain, dropped-plain, error-plain, itself, long-silent, nothing-plain, offline-plain, own-request-silent, stray-plain}
+use Rattle.equipment_node.proofs.QuietNotes.{AreSettled, IsAsBefore, IsNone, never-live, none-of, none-sent, IsQuietNote, is_report, one-behind, quiet-note, settled-more}
 use Rattle.equipment_node.proofs.SilentCommands.{AreSilent, AreSilentDuties, CoreStep, both-duties, either-then}
 
 -- ---- who asks
@@ -105,12 +110,15 @@ may-behind : (message : Message) → IsOther message → MayReply (IsNewest mess
 may-behind message other body notes waits fact = record {
   past = refl;
   events = refl;
-  reports = ap (λ (b : Bool). if b then out ∷ reports_in notes else reports_in notes) none.s6f11;
+  reports =
+      ap (λ (b : Bool). if b then out.body ∷ reports_in notes else reports_in notes)
+      (never-live out notes none.s6f11);
   next = refl;
+  tries = refl;
   keeps = λ plan so.
       settled-more plan (Happening.Sent out) notes refl
       (record {
-        s6f11 = λ is. let e = none.s6f11 in absurd (cc);
+        s6f11 = λ is. let e = never-live out notes none.s6f11 in absurd (cc);
         s6f16 = λ is. let e = none.s6f16 in absurd (cc);
         s6f20 = λ is. let e = none.s6f20 in absurd (cc);
         reply = λ is. record {
@@ -287,10 +295,10 @@ module _
     (said : List ToolCommand) (before : List Happening) where
   -- the request is noted right behind its delivery
   asked-noted :
-      (asks : Request) (message : Message) (own : OwnView) (notes earlier : List Happening) → Holds plan said own notes
+      {drawn : Option ℕ} (asks : Request) (message : Message) (own : OwnView) (notes earlier : List Happening) → Holds plan said own drawn notes
       → notes ≡ Happening.Received message ∷ earlier
       → request_of message.stream message.function message.body ≡ Some asks
-      → Holds plan said (requested asks own) (Happening.Recorded (Past.Asked message) ∷ notes)
+      → Holds plan said (requested asks own) drawn (Happening.Recorded (Past.Asked message) ∷ notes)
   asked-noted asks message own notes earlier holds newest is = record {
     plan_is = holds.plan_is;
     tables_are =
@@ -300,6 +308,8 @@ module _
     events_are = holds.events_are;
     commanded = holds.commanded;
     waits = holds.waits;
+    live = holds.live;
+    tried = holds.tried;
     settled =
         settled-more plan (Happening.Recorded (Past.Asked message)) notes refl (earlier, newest) refl holds.settled;
   }
@@ -341,6 +351,7 @@ module _
         tables_are = refl;
         events_are = refl;
         fewer = (itself (AsksOf message) (asks-none message) Fact lasts own).fewer;
+        live = λ one has is. has;
       };
     }
 
@@ -354,6 +365,39 @@ module _
       );
       less = itself (AsksOf message) (asks-none message) Fact lasts (requested asks own);
     }
+
+    -- S6F23
+    rsda-of : (own : OwnView) → SilentOf (rsda_duties message own)
+    rsda-of own = answers-of (sent.text_of own (code_item (rsda_of own.ledger)))
+
+    transmit-plain : (own : OwnView) → Plain own (transmit_turn message own)
+    transmit-plain own = go (rsda_of own.ledger == 0)
+      where
+        begins : OwnView
+        begins = with_ledger (with_unload (Some fresh) own.ledger) own
+
+        go : (may : Bool)
+            → Plain own
+            (if may then turn_of begins (rsda_duties message own) else turn_of own (rsda_duties message own))
+        go true = record {
+          silent = rsda-of own;
+          less = booked-stays (AsksOf message) (asks-none message) Fact lasts own (with_unload (Some fresh) own.ledger);
+        }
+        go false = record { silent = rsda-of own; less = itself (AsksOf message) (asks-none message) Fact lasts own }
+
+    purge-plain : (own : OwnView) → Plain own (purge_turn message own)
+    purge-plain own = go (rsda_of own.ledger == 0)
+      where
+        go : (may : Bool)
+            → Plain own
+            (if may then turn_before (rsda_duties message own) (booked_turn (all_out own.ledger) own)
+            else turn_of own (rsda_duties message own))
+        go true =
+            before-plain (AsksOf message) (asks-none message) Fact lasts own (rsda_duties message own)
+            (booked_turn (all_out own.ledger) own) (rsda-of own)
+            (booked-plain (AsksOf message) (asks-none message) Fact lasts own (all_out own.ledger)
+            (all-out-quiet own.ledger))
+        go false = record { silent = rsda-of own; less = itself (AsksOf message) (asks-none message) Fact lasts own }
 
     request-plain : (asks : Request) (own : OwnView) → Plain (requested asks own) (request_turn asks message own)
     request-plain request.GoOffline own = control-request-plain control_in.RequestOffline own
@@ -376,8 +420,8 @@ module _
     request-plain request.EnabledAlarms own = answer-plain request.EnabledAlarms own
     request-plain (request.EventReport ceid) own = answer-plain (request.EventReport ceid) own
     request-plain (request.Report rptid) own = answer-plain (request.Report rptid) own
-    request-plain request.TransmitSpool own = answer-plain request.TransmitSpool own
-    request-plain request.PurgeSpool own = answer-plain request.PurgeSpool own
+    request-plain request.TransmitSpool own = transmit-plain own
+    request-plain request.PurgeSpool own = purge-plain own
     request-plain (request.Display tid text) own = answer-plain (request.Display tid text) own
     request-plain (request.DisplayLines tid texts) own = answer-plain (request.DisplayLines tid texts) own
 
@@ -400,7 +444,7 @@ module _
     request-keeps :
         (asks : Request) (own : OwnView) (step : CoreStep) → AsksOf message step.next.asked
         → Fact (so_far plan said before step)
-        → Holds plan said (requested asks own) (so_far plan said before step)
+        → Holds plan said (requested asks own) step.next.drawn (so_far plan said before step)
         → Ends plan said before (request_turn asks message own).own (all_done Some (request_turn asks message
         own).duties step)
     request-keeps asks own step it fact holds =
@@ -417,9 +461,9 @@ module _
     pub values : HoldsItsValues plan (reply_of (title_of message) (reply_function message.function) text) notes
 
   answer-sent :
-      (message : Message) (text : List ℕ) (own : OwnView) (notes : List Happening) → Holds plan said own notes
+      {drawn : Option ℕ} (message : Message) (text : List ℕ) (own : OwnView) (notes : List Happening) → Holds plan said own drawn notes
       → MayAnswer message text notes
-      → Holds plan said own
+      → Holds plan said own drawn
       (Happening.Sent (reply_of (title_of message) (reply_function message.function) text) ∷ notes)
   answer-sent message text own notes holds may = record {
     plan_is = holds.plan_is;
@@ -429,11 +473,15 @@ module _
     waits = λ body.
         subst
         (λ (b : Bool).
-        length (filter (λ (m : Message). bytes_eq body m.body)
-        (if b then reply_of (title_of message) (reply_function message.function) text ∷ reports_in notes
-        else reports_in notes))
+        count_of body
+        (if b then (reply_of (title_of message) (reply_function message.function) text).body ∷ reports_in notes
+        else reports_in notes)
         + count_waiting body own.for_grant ≤ count_of_events plan body notes)
-        (sym may.no_event) (holds.waits body);
+        (sym
+        (never-live (reply_of (title_of message) (reply_function message.function) text) notes may.no_event))
+        (holds.waits body);
+    live = holds.live;
+    tried = holds.tried;
     settled =
         settled-more plan
         (Happening.Sent (reply_of (title_of message) (reply_function message.function) text)) notes refl may.values
@@ -442,25 +490,26 @@ module _
 
   reply-at :
       (message : Message) (text : List ℕ) (own : OwnView) (step : CoreStep) → AsksOf message step.next.asked
-      → Holds plan said own (so_far plan said before step) → MayAnswer message text (so_far plan said before step)
+      → Holds plan said own step.next.drawn (so_far plan said before step) → MayAnswer message text (so_far plan said before step)
       → Ends plan said before own (carried Some (Reply text ∷ []) step)
   reply-at message text own step asks holds may = go step.next.asked asks
     where
       out : Title → Message
       out title = reply_of title (reply_function title.name.function) text
 
-      sends : (title : Title) → title ≡ title_of message → Holds plan said own (Happening.Sent (out title)
+      sends : (title : Title) → title ≡ title_of message → Holds plan said own step.next.drawn (Happening.Sent (out title)
           ∷ so_far plan said before step)
       sends title is =
-          subst (λ (t : Title). Holds plan said own (Happening.Sent (out t) ∷ so_far plan said before step)) (sym is)
+          subst (λ (t : Title). Holds plan said own step.next.drawn (Happening.Sent (out t) ∷ so_far plan said before step)) (sym is)
           (answer-sent message text own (so_far plan said before step) holds may)
 
+      replied : Title → Bool → CoreStep
+      replied title full =
+          if full then noted Some (Happening.Full (message_name (out title))) (with_end (with_asked None step.next) step)
+          else queues Some (out title) (with_end (with_asked None step.next) step)
+
       room : (title : Title) → title ≡ title_of message → (full : Bool)
-          → Holds plan said own
-          (so_far plan said before
-          (if full then noted Some (Happening.Full (message_name (out title))) (with_end (with_asked None
-          step.next) step)
-          else queues Some (out title) (with_end (with_asked None step.next) step)))
+          → Holds plan said own (replied title full).next.drawn (so_far plan said before (replied title full))
       room title is true =
           noted-so plan said before own (Happening.Full (message_name (out title))) step
           (holds-as plan said own (so_far plan said before step)
@@ -469,13 +518,13 @@ module _
       room title is false = noted-so plan said before own (Happening.Sent (out title)) step (sends title is)
 
       go : (asked : Option Title) → AsksOf message asked
-          → Holds plan said own (so_far plan said before (replies Some asked reply_function text step))
+          → Holds plan said own (replies Some asked reply_function text step).next.drawn (so_far plan said before (replies Some asked reply_function text step))
       go None it = holds
       go (Some title) it = room title (it title refl).0 (nat_le 128 (length step.next.outgoing.waiting))
 
   answered-at :
       (message : Message) (text : Text) (own : OwnView) (step : CoreStep) → AsksOf message step.next.asked
-      → Holds plan said own (so_far plan said before step)
+      → Holds plan said own step.next.drawn (so_far plan said before step)
       → ((body : List ℕ) → text ≡ answer.Body body → message.wait ≡ true
       → MayAnswer message body (so_far plan said before step))
       → Ends plan said before own (all_done Some (sent.answer_duties text message) step)
@@ -505,9 +554,9 @@ module _
 
       by_text : (t : Text) → text ≡ t → Ends plan said before own (all_done Some (sent.answer_duties t message) step)
       by_text (answer.Body body) is =
-          either-then (λ next. Holds plan said own (so_far plan said before next))
+          either-then (λ next. Holds plan said own next.next.drawn (so_far plan said before next))
           (λ next. AreSettled plan (so_far plan said before next))
-          (λ next. Holds plan said own (so_far plan said before next))
+          (λ next. Holds plan said own next.next.drawn (so_far plan said before next))
           (carried Some (sent.body_duty body message step.next) step) (all_done Some [])
           (loud body is message.wait (sent.has_room step.next) refl) (λ next at. at)
       by_text answer.TooLong is =
@@ -528,7 +577,7 @@ module _
   event-answer ceid max message own text notes earlier is asks tables newest waits spelled = record {
     no_event = named_so 11;
     values = record {
-      s6f11 = λ e. let f = named_so 11 in absurd (cc);
+      s6f11 = λ e. let f = never-live out notes (named_so 11) in absurd (cc);
       s6f16 = λ e. (
         ceid,
         record {
@@ -581,7 +630,7 @@ module _
   report-answer rptid max message own text notes earlier is asks tables newest waits spelled = record {
     no_event = named_so 11;
     values = record {
-      s6f11 = λ e. let f = named_so 11 in absurd (cc);
+      s6f11 = λ e. let f = never-live out notes (named_so 11) in absurd (cc);
       s6f16 = λ e. let f = named_so 16 in absurd (cc);
       s6f20 = λ e. (
         rptid,
@@ -630,7 +679,7 @@ module _
   module _ (message : Message) (own : OwnView) (earlier : List Happening) (step : CoreStep)
       (it : AsksOf message step.next.asked)
       (newest : so_far plan said before step ≡ Happening.Received message ∷ earlier)
-      (holds : Holds plan said own (so_far plan said before step)) where
+      (holds : Holds plan said own step.next.drawn (so_far plan said before step)) where
     abbrev KeptBy : ToolTurn → Type 0
     KeptBy turn = Ends plan said before turn.own (all_done Some turn.duties step)
 
@@ -647,7 +696,7 @@ module _
     next-past = ap past_in (one-behind step.notes (Happening.Recorded (Past.Asked message)) before)
 
     next-holds : (asks : Request) → request_of message.stream message.function message.body ≡ Some asks
-        → Holds plan said (requested asks own) (so_far plan said before next)
+        → Holds plan said (requested asks own) next.next.drawn (so_far plan said before next)
     next-holds asks is =
         noted-so plan said before (requested asks own) (Happening.Recorded (Past.Asked message)) step
         (asked-noted asks message own (so_far plan said before step) earlier holds newest is)
@@ -836,30 +885,36 @@ module _
       go true = plain plan said before own (states.comms_turn comms_in.Accepted now own)
           (comms-plain Free tt Any any-lasts
           comms_in.Accepted now own)
-      go false = plain plan said before own (loss_turn now kind.Establish system own e)
-          (loss-plain Free tt Any any-lasts now
-          kind.Establish system own e)
+      go false = loss-keeps plan said before now kind.Establish system own e
   replied-keeps now kind.Attempt system body own e =
       plain plan said before own (states.control_turn control_in.AttemptDone own) (control-plain Free tt Any any-lasts
       control_in.AttemptDone own)
   replied-keeps now kind.Grant system body own e = go (is_granted_in body)
     where
-      go : (granted : Bool) → Keeps plan said before own (if granted then granted_turn system own
-          else denied_turn system own)
-      go true = granted-keeps plan said before system own
-      go false = plain plan said before own (denied_turn system own) (denied-plain Free tt Any any-lasts system own)
-  replied-keeps now kind.Report system body own e =
-      plain plan said before own (reply_turn now kind.Report system body own e)
-      (nothing-plain Free tt Any any-lasts own)
+      go : (granted : Bool)
+          → Keeps plan said before own
+          (if granted then granted_turn (waiting_report system own) (without_grant system own) e
+          else loss_turn now kind.Grant system own e)
+      go true = granted-keeps plan said before system own e
+      go false = loss-keeps plan said before now kind.Grant system own e
+  replied-keeps now kind.Report system body own e = loss-keeps plan said before now kind.Report system own e
+  replied-keeps now kind.Unload system body own e =
+      plain plan said before own (reply_turn now kind.Unload system body own e)
+      (booked-plain Free tt Any any-lasts own (confirmed own.ledger) (confirmed-quiet own.ledger))
+  replied-keeps now kind.UnloadGrant system body own e = go (is_granted_in body)
+    where
+      go : (granted : Bool)
+          → Keeps plan said before own
+          (if granted then leave_given_turn own e else loss_turn now kind.UnloadGrant system own e)
+      go true = leave-given-keeps plan said before own e
+      go false = loss-keeps plan said before now kind.UnloadGrant system own e
 
   matched-keeps :
       (now : ℕ) (found : Match Kind) (message : Message) (own : OwnView) (e : EndView Kind)
       → Keeps plan said before own (matched_turn now found message own e)
   matched-keeps now (match.Reply kind) message own e = replied-keeps now kind message.system message.body own e
   matched-keeps now (match.Abort kind) message own e =
-      plain plan said before own (loss_turn now kind message.system own e)
-      (loss-plain Free tt Any any-lasts now kind message.system
-      own e)
+      loss-keeps plan said before now kind message.system own e
   matched-keeps now match.Stranger message own e =
       plain plan said before own (matched_turn now match.Stranger message own e)
       (nothing-plain Free tt Any any-lasts own)

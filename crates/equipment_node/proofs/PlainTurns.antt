@@ -1,7 +1,7 @@
 -- Turns that say nothing of reports.
-use Rattle.std.proofs.Common.{◌≡◌, refl, sym, subst, arith, ◌≤◌, ◌%◌, ◌==◌, Bool, true, false, ℕ, List, [], ◌∷◌, length, Option, Some, None, cond, if◌then◌else◌}
-use Rattle.std.specs.Option.{option_map}
-use Rattle.std.specs.Prelude.{bytes_eq, filter, flat_map}
+use Rattle.std.proofs.Common.{◌≡◌, refl, sym, ap, subst, inl, inr, ◌⊎◌, arith, ◌≤◌, ◌+◌, ◌%◌, ◌==◌, ◌&&◌, not, Bool, true, false, ℕ, List, [], ◌∷◌, ◌++◌, length, Option, Some, None, cond, if◌then◌else◌}
+use Rattle.std.specs.Option.{option_map, option_map_or}
+use Rattle.std.specs.Prelude.{IfSome, bytes_eq, filter, flat_map}
 use Rattle.block_codec.specs.declared.header.Header.{Header}
 use Rattle.gem_states.specs.Comms.{CommsOutcome}
 use Rattle.gem_states.specs.Control.{ControlView, control_next}
@@ -19,15 +19,17 @@ use Rattle.message_flow.specs.declared.waiting.Waiting.{Waiting}
 use Rattle.trace_log.specs.declared.names.Name.{Name}
 use Rattle.trace_log.specs.declared.names.Title.{Title}
 use Rattle.trace_log.specs.Log.{Happening}
-use Rattle.trace_log.specs.Names.{message_name}
+use Rattle.trace_log.specs.Names.{Spooled, message_name, spooled_name}
+use Rattle.trace_log.specs.declared.names.Cause.TheVariants.{Confirmed, Purged}
+use Rattle.transact.specs.Numbers.{next_number}
 use Rattle.transact.specs.declared.begun.Begun.{Begun}
 use Rattle.transact.specs.Transactions.{primary_of as primary_with_kind}
 use Rattle.message_end.specs.declared.unsent.Unsent.{Unsent}
-use Rattle.message_end.specs.Calls.{answered_by}
-use Rattle.message_end.specs.Core.{Command, EndView, unsent_name}
-use Rattle.message_end.specs.Core.Command.{Abort, GiveUp, Note, Primary, Reply}
-use Rattle.message_end.specs.Endings.{ends_failed, ends_front, ends_one, ends_open, is_of_open}
-use Rattle.message_end.specs.Parts.{core_after, fixed_turn, led_turn}
+use Rattle.message_end.specs.Core.{Command, EndView, is_crowded_out}
+use Rattle.message_end.specs.Core.Command.{Abort, Halt, Note, Primary, Reply}
+use Rattle.message_end.specs.Endings.{ends_failed, ends_front, ends_one, ends_open, is_of_open, notes_failed}
+use Rattle.message_end.specs.Own.{Has}
+use Rattle.message_end.specs.Parts.{fixed_turn, led_turn}
 use Rattle.equipment_tables.specs.declared.answers.Answer.{Answer as Text}
 use Rattle.equipment_tables.specs.declared.answers.Answer.TheVariants as answer
 use Rattle.equipment_tables.specs.Answers.{identity_of}
@@ -35,8 +37,20 @@ use Rattle.equipment_node.specs.Grants.{GrantView}
 use Rattle.equipment_node.specs.declared.kind.Kind.{Kind}
 use Rattle.equipment_node.specs.declared.kind.Kind.TheVariants as kind
 use Rattle.equipment_node.specs.Messages.{dropped_turn, error_turn, first_request_commands, offline_turn, own_request_commands, stray_turn}
-use Rattle.equipment_node.specs.Own.{OwnView, ToolCommands, ToolDuty, ToolTurn, is_communicating, is_granted_by, is_online, quiet_turn, turn_before, turn_of, with_comms, with_control, without_grant}
-use Rattle.equipment_node.specs.Replies.{denied_turn, given_up_by_t4, given_up_turn, loss_turn, timeout_turn}
+use Rattle.equipment_node.specs.Live.{ReportView}
+use Rattle.equipment_node.specs.Own.{OwnView, ToolCommands, ToolDuty, ToolTurn, is_communicating, is_granted_by, is_online, is_report_of, quiet_turn, turn_before, turn_of, with_comms, with_control, with_ledger, with_report, without_grant, without_report, with_tried}
+use Rattle.equipment_node.specs.Replies.{denied_turn}
+use Rattle.equipment_node.specs.Reported.{is_event_report}
+use Rattle.equipment_node.specs.Reports.{made_turn, report_turn, text_turn, unreported_turn}
+use Rattle.equipment_node.specs.Spooling.{booked_turn, is_spooled, lines_commands, stored_turn}
+use Rattle.equipment_tables.specs.Tables.{overwrites}
+use Rattle.gem_spool.specs.declared.spool.Room.{Room}
+use Rattle.gem_spool.specs.declared.spool.Room.TheVariants as room
+use Rattle.gem_spool.specs.declared.works.Work.TheVariants as work
+use Rattle.spool_ledger.specs.Activity.{activated, changed, is_done, rested}
+use Rattle.spool_ledger.specs.Ledger.{Booked, LedgerView, and_then, owed, quiet, room_for}
+use Rattle.spool_ledger.specs.Storing.{all_out, oldest_out, stored, stored_by}
+use Rattle.spool_ledger.specs.Unloading.{confirmed, counted as counted_once, is_oldest_tried, settled, with_each}
 use Rattle.equipment_node.specs.Sent as sent
 use Rattle.equipment_node.specs.States as states
 use Rattle.equipment_node.proofs.QuietNotes.{IsAsBefore, IsQuietNote, counted, is_report}
@@ -48,12 +62,34 @@ use Rattle.equipment_node.proofs.SilentCommands.{AreSilent, AreSilentDuties, bot
 abbrev pub count_waiting : List ℕ → List GrantView → ℕ
 count_waiting body waiting = length (filter (λ one. bytes_eq body one.body) waiting)
 
--- the same is kept, with no more that wait
+-- the same is kept, with no more S6F11 that wait, or were sent
 pub record IsNoMore (own other : OwnView) : Type 0 where
   pub plan_is : other.plan ≡ own.plan
   pub tables_are : other.tables ≡ own.tables
   pub events_are : other.events ≡ own.events
   pub fewer : (body : List ℕ) → count_waiting body other.for_grant ≤ count_waiting body own.for_grant
+  pub live :
+      (one : ReportView) → Has other.reports one → is_event_report one.message ≡ true → Has own.reports one
+
+pub has-without : {X : Type 0} (test : X → Bool) (xs : List X) (x : X) → Has (without-first test xs) x → Has xs x
+has-without test [] x has = has
+has-without {X} test (first ∷ xs) x has = go (test first) has (λ later. has-without test xs x later)
+  where
+    go : (b : Bool) → Has (cond b xs (first ∷ without-first test xs)) x
+        → (Has (without-first test xs) x → Has xs x) → Has (first ∷ xs) x
+    go true has more = inr has
+    go false (inl same) more = inl same
+    go false (inr has) more = inr (more has)
+
+pub has-last : {X : Type 0} (xs : List X) (last x : X) → Has (xs ++ last ∷ []) x → Has xs x ⊎ (x ≡ last)
+has-last [] last x (inl same) = inr same
+has-last [] last x (inr none) = absurd none
+has-last (first ∷ xs) last x (inl same) = inl (inl same)
+has-last (first ∷ xs) last x (inr has) = go (has-last xs last x has)
+  where
+    go : Has xs x ⊎ (x ≡ last) → Has (first ∷ xs) x ⊎ (x ≡ last)
+    go (inl has) = inl (inr has)
+    go (inr same) = inr same
 
 pub at-most : (n : ℕ) → n ≤ n
 at-most n = omega arith
@@ -85,7 +121,87 @@ ungranted own system = record {
       subst (λ (waiting : List GrantView). count_waiting body waiting ≤ count_waiting body own.for_grant)
       (sym (removed (is_granted_by system) own.for_grant))
       (fewer-without (is_granted_by system) own.for_grant body);
+  live = λ one has is. has;
 }
+
+pub unreported : (own : OwnView) (system : ℕ) → IsNoMore own (without_report system own)
+unreported own system = record {
+  plan_is = refl;
+  tables_are = refl;
+  events_are = refl;
+  fewer = λ body. at-most (count_waiting body own.for_grant);
+  live = λ one has is.
+      has-without (is_report_of system) own.reports one
+      (subst (λ (live : List ReportView). Has live one) (removed (is_report_of system) own.reports) has);
+}
+
+-- a report that is no S6F11 was sent
+pub reported : (own : OwnView) (system : ℕ) (message : Spooled) → is_event_report message ≡ false
+    → IsNoMore own (with_report system message own)
+reported own system message none = record {
+  plan_is = refl;
+  tables_are = refl;
+  events_are = refl;
+  fewer = λ body. at-most (count_waiting body own.for_grant);
+  live = λ one has is. go one (has-last own.reports (record { system = system; message = message }) one has) is;
+}
+  where
+    go : (one : ReportView) → Has own.reports one ⊎ (one ≡ record { system = system; message = message })
+        → is_event_report one.message ≡ true → Has own.reports one
+    go one (inl has) is = has
+    go one (inr same) is =
+        let other = ap (λ (r : ReportView). is_event_report r.message) same in absurd (cc)
+
+-- ---- lines of the spool
+
+abbrev pub AreQuietLines : List Happening → Type 0
+AreQuietLines [] = Unit {0}
+AreQuietLines (what ∷ lines) = IsQuietNote what × AreQuietLines lines
+
+stored-quiet :
+    (found : Room) (overwriting : Bool) (message : Spooled) (v : LedgerView) → is_event_report message ≡ false
+    → IfSome (stored_by found overwriting message v) (λ (booked : Booked). AreQuietLines booked.lines)
+stored-quiet room.Fits overwriting message v none = (none, (tt, tt))
+stored-quiet room.Full true message v none = (tt, (tt, (none, (tt, tt))))
+stored-quiet room.Full false message v none = (tt, tt)
+stored-quiet room.TooLong overwriting message v none = (tt, tt)
+stored-quiet room.NumbersSpent overwriting message v none = tt
+
+pub all-out-quiet : (v : LedgerView) → AreQuietLines (all_out v).lines
+all-out-quiet v = go (v.len == 0)
+  where
+    left : Booked
+    left = record {
+      next = record v { first = v.first + v.len; len = 0; works = owed v work.Purge };
+      lines = Happening.Leaving v.first Purged ∷ Happening.Gone v.first ∷ [];
+    }
+
+    go : (none : Bool) → AreQuietLines (if none then quiet v else left).lines
+    go true = tt
+    go false = (tt, (tt, tt))
+
+pub confirmed-quiet : (v : LedgerView) → AreQuietLines (confirmed v).lines
+confirmed-quiet v = go (is_oldest_tried v)
+  where
+    go : (oldest : Bool)
+        → AreQuietLines (if oldest then and_then (oldest_out Confirmed v) (λ w. quiet (with_each counted_once w))
+        else quiet (with_each settled v)).lines
+    go true = (tt, (tt, tt))
+    go false = tt
+
+pub activated-quiet : (enabled : Bool) (v : LedgerView) → AreQuietLines (activated enabled v).lines
+activated-quiet enabled v = go (enabled && not v.is_active)
+  where
+    go : (begins : Bool) → AreQuietLines (if begins then changed true v else quiet v).lines
+    go true = (tt, tt)
+    go false = tt
+
+pub rested-quiet : (communicating : Bool) (v : LedgerView) → AreQuietLines (rested communicating v).lines
+rested-quiet communicating v = go (communicating && v.is_active && is_done v)
+  where
+    go : (ends : Bool) → AreQuietLines (if ends then changed false v else quiet v).lines
+    go true = (tt, tt)
+    go false = tt
 
 -- a primary of which nothing is said
 abbrev pub IsNoReport : Unsent Kind → Type 0
@@ -107,20 +223,32 @@ module _
     pub silent : AreSilentDuties Asks none Fact lasts turn.duties
     pub less : IsNoMore own turn.own
 
-  -- the same own but for its states
-  stays : (own other : OwnView) → other.plan ≡ own.plan → other.tables ≡ own.tables → other.events ≡ own.events
-      → other.for_grant ≡ own.for_grant → IsNoMore own other
-  stays own other plan tables events waiting = record {
+  -- the same own but for its states and its ledger
+  pub stays : (own other : OwnView) → other.plan ≡ own.plan → other.tables ≡ own.tables → other.events ≡ own.events
+      → other.for_grant ≡ own.for_grant → other.reports ≡ own.reports → IsNoMore own other
+  stays own other plan tables events waiting reports = record {
     plan_is = plan;
     tables_are = tables;
     events_are = events;
     fewer = λ body.
         subst (λ (all : List GrantView). count_waiting body all ≤ count_waiting body own.for_grant) (sym waiting)
         (at-most (count_waiting body own.for_grant));
+    live = λ one has is. subst (λ (all : List ReportView). Has all one) reports has;
   }
 
   pub itself : (own : OwnView) → IsNoMore own own
-  itself own = stays own own refl refl refl refl
+  itself own = stays own own refl refl refl refl refl
+
+  pub booked-stays : (own : OwnView) (ledger : LedgerView) → IsNoMore own (with_ledger ledger own)
+  booked-stays own ledger = stays own (with_ledger ledger own) refl refl refl refl refl
+
+  pub tried-stays : (own : OwnView) (ledger : LedgerView) (system : ℕ)
+      → IsNoMore own (with_tried system (with_ledger ledger own))
+  tried-stays own ledger system = stays own (with_tried system (with_ledger ledger own)) refl refl refl refl refl
+
+  pub lines-silent : (lines : List Happening) → AreQuietLines lines → Silent (lines_commands lines)
+  lines-silent [] are = tt
+  lines-silent (what ∷ lines) are = (are.0, lines-silent lines are.1)
 
   pub fixed-plain : (own other : OwnView) (commands : ToolCommands) → IsNoMore own other → Silent commands
       → IsPlain own (fixed_turn other commands)
@@ -151,29 +279,66 @@ module _
   sent-silent unsent other answer.TooLong = tt
   sent-silent unsent other answer.Abort = tt
 
-  pub report-plain :
-      (unsent : List ℕ → Unsent Kind)
-      → ((body : List ℕ) → IsNoReport (unsent body)) → (body : Text)
-      → (own : OwnView) → IsPlain own (sent.report_turn unsent body own)
-  report-plain unsent other body own = go body (is_online own) (is_communicating own)
-    where
-      name : Name
-      name = unsent_name (unsent [])
+  -- a change of the ledger with lines of which nothing is said
+  pub booked-plain : (own : OwnView) (booked : Booked) → AreQuietLines booked.lines
+      → IsPlain own (booked_turn booked own)
+  booked-plain own booked are =
+      fixed-plain own (with_ledger booked.next own) (lines_commands booked.lines) (booked-stays own booked.next)
+      (lines-silent booked.lines are)
 
-      go : (body : Text) (online communicating : Bool)
-          → IsPlain own
-          (if online then sent.text_turn name (λ body. fixed_turn own (Primary (unsent body) ∷ [])) body own
-          else sent.unreported_turn name own)
-      go body false communicating = note-plain own (Happening.Dropped name) tt
-      go (answer.Body body) true communicating = spoken (is_communicating own)
+  going-plain : (message : Spooled) → IsNoReport (sent.live_report message) → is_event_report message ≡ false
+      → (own : OwnView) (e : EndView Kind) → IsPlain own (sent.going_turn message own e)
+  going-plain message other none own e =
+      fixed-plain own (sent.live_own message own e) (Primary (sent.live_report message) ∷ [])
+      (go (is_crowded_out true e) (next_number e.numbers)) (other, tt)
+    where
+      go : (crowded : Bool) (next : Option ℕ) → IsNoMore own (if crowded then own else sent.kept_report next message own)
+      go true next = itself own
+      go false None = itself own
+      go false (Some system) = reported own system message none
+
+  stored-plain : (message : Spooled) → is_event_report message ≡ false → (own : OwnView)
+      → IsPlain own (stored_turn message own)
+  stored-plain message none own =
+      go (stored (overwrites own.tables) message own.ledger)
+      (stored-quiet (room_for own.ledger (length message.body)) (overwrites own.tables) message own.ledger none)
+    where
+      go : (found : Option Booked) → IfSome found (λ (booked : Booked). AreQuietLines booked.lines)
+          → IsPlain own (option_map_or (λ (booked : Booked). booked_turn booked own) found (fixed_turn own (Halt ∷ [])))
+      go None are = fixed-plain own own (Halt ∷ []) (itself own) (tt, tt)
+      go (Some booked) are = booked-plain own booked are
+
+  -- a report that is no S6F11
+  pub report-plain :
+      (report : List ℕ → Spooled) → ((body : List ℕ) → IsNoReport (sent.live_report (report body)))
+      → ((body : List ℕ) → is_event_report (report body) ≡ false) → (text : Text) (own : OwnView) (e : EndView Kind)
+      → IsPlain own (report_turn report text own e)
+  report-plain report other none text own e = go (is_online own)
+    where
+      going : Spooled → ToolTurn
+      going message = sent.going_turn message own e
+
+      made : (body : List ℕ) → IsPlain own (made_turn going (report body) own)
+      made body = by (is_spooled (report body) own) (is_communicating own)
         where
-          spoken : (b : Bool)
+          by : (spooled communicating : Bool)
               → IsPlain own
-              (if b then fixed_turn own (Primary (unsent body) ∷ []) else sent.unreported_turn name own)
-          spoken true = fixed-plain own own (Primary (unsent body) ∷ []) (itself own) (other body, tt)
-          spoken false = note-plain own (Happening.Dropped name) tt
-      go answer.TooLong true communicating = note-plain own (Happening.TooLong name) tt
-      go answer.Abort true communicating = nothing-plain own
+              (if spooled then stored_turn (report body) own else if communicating then going (report body)
+              else unreported_turn (spooled_name (report body)) own)
+          by true communicating = stored-plain (report body) (none body) own
+          by false true = going-plain (report body) (other body) (none body) own e
+          by false false = note-plain own (Happening.Dropped (spooled_name (report body))) tt
+
+      by_text : (text : Text) → IsPlain own (text_turn report going text own)
+      by_text (answer.Body body) = made body
+      by_text answer.TooLong = note-plain own (Happening.TooLong (spooled_name (report []))) tt
+      by_text answer.Abort = nothing-plain own
+
+      go : (online : Bool)
+          → IsPlain own
+          (if online then text_turn report going text own else unreported_turn (spooled_name (report [])) own)
+      go true = by_text text
+      go false = note-plain own (Happening.Dropped (spooled_name (report []))) tt
 
   pub error-silent : (function : ℕ) → (function % 2 == 1) ≡ true → (header : Header) (own : OwnView) (e : EndView Kind)
       → Silent (sent.error_duty function header own e)
@@ -226,35 +391,47 @@ module _
   comms-plain input now own =
       fixed-plain own (with_comms (states.comms_outcome input now own).next own)
       (states.comms_commands (states.comms_outcome input now own) own)
-      (stays own (with_comms (states.comms_outcome input now own).next own) refl refl refl refl)
+      (stays own (with_comms (states.comms_outcome input now own).next own) refl refl refl refl refl)
       (comms-commands (states.comms_outcome input now own) own)
 
   pub control-plain : (input : ControlIn) (own : OwnView) → IsPlain own (states.control_turn input own)
   control-plain input own =
       fixed-plain own (with_control (control_next own.control input) own) (states.control_commands input own.control)
-      (stays own (with_control (control_next own.control input) own) refl refl refl refl)
+      (stays own (with_control (control_next own.control input) own) refl refl refl refl refl)
       (control-lines own.control.state (control_next own.control input).state)
 
-  loss-silent : (control : ControlView) (lost : Kind) → Silent (states.loss_commands control lost)
-  loss-silent control kind.Establish = tt
-  loss-silent control kind.Attempt =
-      control-lines control.state (control_next control control_in.AttemptFailed).state
-  loss-silent control kind.Grant = (tt, tt)
-  loss-silent control kind.Report = tt
+  pub request-commands-silent : (out : CommsOut) (own : OwnView) → Silent (states.request_commands out own)
+  request-commands-silent out own = request-silent out own
 
-  begun-silent : (control : ControlView) (begun : List (Begun Kind))
-      → Silent (flat_map (ends_one (states.loss_commands control)) begun)
-  begun-silent control [] = tt
-  begun-silent control (first ∷ begun) = (
+  pub comms-lines-silent : (old new : CommsState) → Silent (states.comms_lines old new)
+  comms-lines-silent old new = comms-lines old new
+
+  unless-silent : (stored : Option Spooled) (commands : ToolCommands) → Silent commands
+      → Silent (states.unless_stored stored commands)
+  unless-silent None commands is = is
+  unless-silent (Some message) commands is = tt
+
+  ending-silent : (control : ControlView) (stored : Option Spooled) (lost : Kind) (header : Header)
+      → Silent (states.ending_commands control stored lost header)
+  ending-silent control stored kind.Establish header = (tt, tt)
+  ending-silent control stored kind.Attempt header =
+      (tt, control-lines control.state (control_next control control_in.AttemptFailed).state)
+  ending-silent control stored kind.Report header = unless-silent stored (notes_failed header) (tt, tt)
+  ending-silent control stored kind.Grant header = (tt, unless-silent stored states.notes_unsent (tt, tt))
+  ending-silent control stored kind.Unload header = (tt, tt)
+  ending-silent control stored kind.UnloadGrant header = (tt, (tt, tt))
+
+  begun-silent : (spools : Bool) (own : OwnView) (begun : List (Begun Kind))
+      → Silent (flat_map (ends_one (states.ends_report spools own)) begun)
+  begun-silent spools own [] = tt
+  begun-silent spools own (first ∷ begun) = (
     tt,
     (
       tt,
-      (
-        tt,
-        both-silent Asks none Fact lasts (states.loss_commands control first.kind)
-            (flat_map (ends_one (states.loss_commands control)) begun) (loss-silent control first.kind)
-            (begun-silent control begun),
-      ),
+      both-silent Asks none Fact lasts (states.ends_report spools own first)
+          (flat_map (ends_one (states.ends_report spools own)) begun)
+          (ending-silent own.control (states.stored_of spools own first) first.kind first.header)
+          (begun-silent spools own begun),
     ),
   )
 
@@ -266,75 +443,20 @@ module _
   failed-silent true header e = tt
   failed-silent false header e = (tt, (tt, tt))
 
-  open-silent : (control : ControlView) (e : EndView Kind) (failed : Option Header)
-      → SilentDuties (ends_open (states.loss_commands control) e failed)
-  open-silent control e None =
-      ((λ f asks. begun-silent control f.transactions.begun), ((λ f asks. fronts-silent f.outgoing.waiting), tt))
-  open-silent control e (Some header) = (
-    (λ f asks. begun-silent control f.transactions.begun),
+  pub open-silent : (spools : Bool) (own : OwnView) (e : EndView Kind) (failed : Option Header)
+      → SilentDuties (ends_open (states.ends_report spools own) e failed)
+  open-silent spools own e None =
+      ((λ f asks. begun-silent spools own f.transactions.begun), ((λ f asks. fronts-silent f.outgoing.waiting), tt))
+  open-silent spools own e (Some header) = (
+    (λ f asks. begun-silent spools own f.transactions.begun),
     ((λ f asks. failed-silent (is_of_open e header) header f), ((λ f asks. fronts-silent f.outgoing.waiting), tt)),
   )
 
-  left-plain : (outcome : CommsOutcome) (failed : Option Header) (own : OwnView) (e : EndView Kind)
-      → IsPlain own (states.left_turn outcome failed own e)
-  left-plain outcome failed own e = go (states.is_same_comms own.comms.state outcome.next.state)
-    where
-      ending : ToolTurn
-      ending = states.ending_turn failed (with_comms outcome.next own) e
-
-      go : (same : Bool)
-          → IsPlain own
-          (if same then quiet_turn own
-          else turn_before ((λ later. states.comms_commands outcome own) ∷ []) ending)
-      go true = nothing-plain own
-      go false =
-          before-plain own ((λ later. states.comms_commands outcome own) ∷ []) ending
-          ((λ f asks. comms-commands outcome own), tt)
-          (record {
-            silent = open-silent own.control e failed;
-            less = record { plan_is = refl; tables_are = refl; events_are = refl; fewer = λ body. omega arith };
-          })
-
-  pub leaving-plain : (input : CommsIn) (failed : Option Header) (now : ℕ) (own : OwnView) (e : EndView Kind)
-      → IsPlain own (states.leaving_turn input failed now own e)
-  leaving-plain input failed now own e = left-plain (states.comms_outcome input now own) failed own e
-
   -- ---- transactions of its own
 
-  pub denied-plain : (system : ℕ) (own : OwnView) → IsPlain own (denied_turn system own)
-  denied-plain system own =
-      fixed-plain own (without_grant system own) (Note (Happening.Denied states.event_name) ∷ [])
-      (ungranted own system) (tt, tt)
-
-  pub loss-plain : (now : ℕ) (lost : Kind) (system : ℕ) (own : OwnView) (e : EndView Kind)
-      → IsPlain own (loss_turn now lost system own e)
-  loss-plain now kind.Establish system own e = leaving-plain comms_in.Denied None now own e
-  loss-plain now kind.Attempt system own e = control-plain control_in.AttemptFailed own
-  loss-plain now kind.Grant system own e = denied-plain system own
-  loss-plain now kind.Report system own e = nothing-plain own
-
-  pub timeout-plain : (now : ℕ) (primary : Option (Header × Kind)) (own : OwnView) (e : EndView Kind)
-      → IsPlain own (timeout_turn now primary own e)
-  timeout-plain now None own e = nothing-plain own
-  timeout-plain now (Some primary) own e =
-      before-plain own
-      (sent.error_duty 9 primary.0 (loss_turn now primary.1 primary.0.system own e).own ∷ [])
-      (loss_turn now primary.1 primary.0.system own e)
-      (errors-silent 9 refl primary.0 (loss_turn now primary.1 primary.0.system own e).own)
-      (loss-plain now primary.1 primary.0.system own e)
-
-  pub given-up-plain : (now : ℕ) (header : Header) (own : OwnView) (e : EndView Kind)
-      → IsPlain own (given_up_turn now header own e)
-  given-up-plain now header own e =
-      led-plain own (GiveUp header)
-      (timeout_turn now (option_map primary_with_kind (answered_by e header)) own (core_after (GiveUp header) e))
-      (tt, tt)
-      (timeout-plain now (option_map primary_with_kind (answered_by e header)) own (core_after (GiveUp header) e))
-
-  pub by-t4-plain : (now : ℕ) (dropped : Option Header) (own : OwnView) (e : EndView Kind)
-      → IsPlain own (given_up_by_t4 now dropped own e)
-  by-t4-plain now None own e = nothing-plain own
-  by-t4-plain now (Some header) own e = given-up-plain now header own e
+  pub denied-plain : (own other : OwnView) → IsNoMore own other → IsPlain own (denied_turn other)
+  denied-plain own other less =
+      fixed-plain own other (Note (Happening.Denied states.event_name) ∷ []) less (tt, tt)
 
   -- ---- messages
 
@@ -359,6 +481,8 @@ module _
       go kind.Attempt = tt
       go kind.Grant = tt
       go kind.Report = tt
+      go kind.Unload = tt
+      go kind.UnloadGrant = tt
 
   -- ---- replies
 

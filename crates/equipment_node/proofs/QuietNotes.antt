@@ -1,12 +1,13 @@
 -- Notes of which nothing is said where reports are spoken of, and what follows behind others.
-use Rattle.std.proofs.Common.{◌≡◌, refl, sym, ap, subst, ◌∙◌, inl, inr, ◌⊎◌, ◌<◌, ◌+◌, arith, Bool, true, false, ℕ, ◌==◌, ◌&&◌, ◌||◌, List, [], ◌∷◌, ◌++◌, length, Some, None, cond, if◌then◌else◌}
+use Rattle.std.proofs.Common.{not, nat_eq, ◌≡◌, refl, sym, ap, subst, ◌∙◌, inl, inr, ◌⊎◌, ◌<◌, ◌+◌, arith, Bool, true, false, ℕ, ◌==◌, ◌&&◌, ◌||◌, List, [], ◌∷◌, ◌++◌, length, Some, None, cond, if◌then◌else◌}
+use Rattle.std.specs.List.{list_any}
 use Rattle.std.specs.Prelude.{filter}
 use Rattle.message_flow.specs.declared.message.Message.{Message}
 use Rattle.trace_log.specs.Log.{Happening}
 use Rattle.message_end.specs.Course.{noted_behind}
 use Rattle.message_end.specs.Own.{Has}
 use Rattle.equipment_tables.specs.declared.plan.EquipmentPlan.{EquipmentPlan}
-use Rattle.equipment_node.specs.Reported.{HoldsItsValues, IsReported, Reported, due_behind, events_in, is_answer, is_brought, is_of, next_dataid, past_in, reports_in}
+use Rattle.equipment_node.specs.Reported.{HoldsItsValues, IsReported, Reported, due_behind, events_in, is_answer, is_brought, is_event_report, is_live, is_of, next_dataid, past_in, reports_in, tries_in}
 
 -- ---- the messages of which something is said
 
@@ -40,11 +41,17 @@ none-of message none =
       s6f20 = ap (λ (a : Bool). a && (message.function == 20)) ea;
     }
 
+-- what is no S6F11 is none that goes out
+pub never-live : (message : Message) (notes : List Happening) → is_of 6 11 message ≡ false
+    → is_live message notes ≡ false
+never-live message notes none =
+    ap (λ (b : Bool). b && not (list_any (nat_eq message.system) (tries_in notes))) none
+
 pub nothing-said :
     (plan : EquipmentPlan) (message : Message) (before : List Happening) → IsNone message → is_answer message ≡ false
     → HoldsItsValues plan message before
 nothing-said plan message before none answer = record {
-  s6f11 = λ is. let e = none.s6f11 in absurd (cc);
+  s6f11 = λ is. let e = never-live message before none.s6f11 in absurd (cc);
   s6f16 = λ is. let e = none.s6f16 in absurd (cc);
   s6f20 = λ is. let e = none.s6f20 in absurd (cc);
   reply = λ is. absurd (cc);
@@ -60,6 +67,8 @@ IsQuietNote (Happening.Event ceid dataid) = ⊥
 IsQuietNote (Happening.Alarm alid is_set) = ⊥
 IsQuietNote Happening.Refused = ⊥
 IsQuietNote (Happening.Recorded entry) = ⊥
+IsQuietNote (Happening.Try number system) = ⊥
+IsQuietNote (Happening.Storing number message) = is_event_report message ≡ false
 IsQuietNote (Happening.Sent message) =
     (is_report message.stream message.function ≡ false) × (is_answer message ≡ false)
 IsQuietNote _ = Unit {0}
@@ -85,10 +94,12 @@ pub record IsAsBefore (old new : List Happening) : Type 0 where
   pub events : events_in new ≡ events_in old
   pub reports : reports_in new ≡ reports_in old
   pub next : next_dataid new ≡ next_dataid old
+  pub tries : tries_in new ≡ tries_in old
   pub keeps : (plan : EquipmentPlan) → AreSettled plan old → AreSettled plan new
 
 pub as-it-was : (notes : List Happening) → IsAsBefore notes notes
-as-it-was notes = record { past = refl; events = refl; reports = refl; next = refl; keeps = λ plan so. so }
+as-it-was notes =
+    record { past = refl; events = refl; reports = refl; next = refl; tries = refl; keeps = λ plan so. so }
 
 pub as-before-both : (one two three : List Happening) → IsAsBefore one two → IsAsBefore two three → IsAsBefore one three
 as-before-both one two three first second = record {
@@ -96,6 +107,7 @@ as-before-both one two three first second = record {
   events = second.events ∙ first.events;
   reports = second.reports ∙ first.reports;
   next = second.next ∙ first.next;
+  tries = second.tries ∙ first.tries;
   keeps = λ plan so. second.keeps plan (first.keeps plan so);
 }
 
@@ -105,8 +117,11 @@ pub none-sent : (message : Message) → IsNone message → is_answer message ≡
 none-sent message none answer notes = record {
   past = refl;
   events = refl;
-  reports = ap (λ (b : Bool). if b then message ∷ reports_in notes else reports_in notes) none.s6f11;
+  reports =
+      ap (λ (b : Bool). if b then message.body ∷ reports_in notes else reports_in notes)
+      (never-live message notes none.s6f11);
   next = refl;
+  tries = refl;
   keeps = λ plan so.
       settled-more plan (Happening.Sent message) notes refl (nothing-said plan message notes none answer) refl so;
 }
@@ -115,82 +130,84 @@ none-sent message none answer notes = record {
 quietly :
     (what : Happening) (notes : List Happening) → past_in (what ∷ notes) ≡ past_in notes
     → events_in (what ∷ notes) ≡ events_in notes → reports_in (what ∷ notes) ≡ reports_in notes
-    → next_dataid (what ∷ notes) ≡ next_dataid notes → is_brought what ≡ false
+    → next_dataid (what ∷ notes) ≡ next_dataid notes → tries_in (what ∷ notes) ≡ tries_in notes
+    → is_brought what ≡ false
     → ((plan : EquipmentPlan) → IsReported plan what notes)
     → ((plan : EquipmentPlan) → due_behind plan (what ∷ notes) ≡ None) → IsAsBefore notes (what ∷ notes)
-quietly what notes past events reports next other right none = record {
+quietly what notes past events reports next tries other right none = record {
   past = past;
   events = events;
   reports = reports;
   next = next;
+  tries = tries;
   keeps = λ plan so. settled-more plan what notes other (right plan) (none plan) so;
 }
 
 pub quiet-note : (what : Happening) → IsQuietNote what → (notes : List Happening) → IsAsBefore notes (what ∷ notes)
 quiet-note (Happening.EquipmentStarted found base) quiet notes = absurd quiet
 quiet-note Happening.HostStarted quiet notes =
-    quietly Happening.HostStarted notes refl refl refl refl refl (λ plan. tt) (λ plan. refl)
+    quietly Happening.HostStarted notes refl refl refl refl refl refl (λ plan. tt) (λ plan. refl)
 quiet-note Happening.Power quiet notes =
-    quietly Happening.Power notes refl refl refl refl refl (λ plan. tt) (λ plan. refl)
+    quietly Happening.Power notes refl refl refl refl refl refl (λ plan. tt) (λ plan. refl)
 quiet-note Happening.Closed quiet notes =
-    quietly Happening.Closed notes refl refl refl refl refl (λ plan. tt) (λ plan. refl)
+    quietly Happening.Closed notes refl refl refl refl refl refl (λ plan. tt) (λ plan. refl)
 quiet-note (Happening.Sent message) quiet notes = none-sent message (none-of message quiet.0) quiet.1 notes
 quiet-note (Happening.Received message) quiet notes =
-    quietly (Happening.Received message) notes refl refl refl refl refl (λ plan. tt) (λ plan. refl)
+    quietly (Happening.Received message) notes refl refl refl refl refl refl (λ plan. tt) (λ plan. refl)
 quiet-note (Happening.Wrote characters) quiet notes =
-    quietly (Happening.Wrote characters) notes refl refl refl refl refl (λ plan. tt) (λ plan. refl)
+    quietly (Happening.Wrote characters) notes refl refl refl refl refl refl (λ plan. tt) (λ plan. refl)
 quiet-note (Happening.Comms state) quiet notes =
-    quietly (Happening.Comms state) notes refl refl refl refl refl (λ plan. tt) (λ plan. refl)
+    quietly (Happening.Comms state) notes refl refl refl refl refl refl (λ plan. tt) (λ plan. refl)
 quiet-note (Happening.Control state) quiet notes =
-    quietly (Happening.Control state) notes refl refl refl refl refl (λ plan. tt) (λ plan. refl)
+    quietly (Happening.Control state) notes refl refl refl refl refl refl (λ plan. tt) (λ plan. refl)
 quiet-note (Happening.Spool active) quiet notes =
-    quietly (Happening.Spool active) notes refl refl refl refl refl (λ plan. tt) (λ plan. refl)
+    quietly (Happening.Spool active) notes refl refl refl refl refl refl (λ plan. tt) (λ plan. refl)
 quiet-note (Happening.Set vid) quiet notes = absurd quiet
 quiet-note (Happening.Event ceid dataid) quiet notes = absurd quiet
 quiet-note (Happening.Alarm alid set) quiet notes = absurd quiet
 quiet-note (Happening.Carried rcmd) quiet notes =
-    quietly (Happening.Carried rcmd) notes refl refl refl refl refl (λ plan. tt) (λ plan. refl)
+    quietly (Happening.Carried rcmd) notes refl refl refl refl refl refl (λ plan. tt) (λ plan. refl)
 quiet-note (Happening.Display tid text) quiet notes =
-    quietly (Happening.Display tid text) notes refl refl refl refl refl (λ plan. tt) (λ plan. refl)
+    quietly (Happening.Display tid text) notes refl refl refl refl refl refl (λ plan. tt) (λ plan. refl)
 quiet-note Happening.Refused quiet notes = absurd quiet
 quiet-note (Happening.Storing number message) quiet notes =
-    quietly (Happening.Storing number message) notes refl refl refl refl refl (λ plan. tt) (λ plan. refl)
+    quietly (Happening.Storing number message) notes refl refl refl refl refl refl
+    (λ plan is. absurd (cc)) (λ plan. refl)
 quiet-note (Happening.Stored number) quiet notes =
-    quietly (Happening.Stored number) notes refl refl refl refl refl (λ plan. tt) (λ plan. refl)
+    quietly (Happening.Stored number) notes refl refl refl refl refl refl (λ plan. tt) (λ plan. refl)
 quiet-note (Happening.Leaving number cause) quiet notes =
-    quietly (Happening.Leaving number cause) notes refl refl refl refl refl (λ plan. tt) (λ plan. refl)
+    quietly (Happening.Leaving number cause) notes refl refl refl refl refl refl (λ plan. tt) (λ plan. refl)
 quiet-note (Happening.Gone number) quiet notes =
-    quietly (Happening.Gone number) notes refl refl refl refl refl (λ plan. tt) (λ plan. refl)
-quiet-note (Happening.Try number system) quiet notes =
-    quietly (Happening.Try number system) notes refl refl refl refl refl (λ plan. tt) (λ plan. refl)
+    quietly (Happening.Gone number) notes refl refl refl refl refl refl (λ plan. tt) (λ plan. refl)
+quiet-note (Happening.Try number system) quiet notes = absurd quiet
 quiet-note (Happening.Duplicate header) quiet notes =
-    quietly (Happening.Duplicate header) notes refl refl refl refl refl (λ plan. tt) (λ plan. refl)
+    quietly (Happening.Duplicate header) notes refl refl refl refl refl refl (λ plan. tt) (λ plan. refl)
 quiet-note (Happening.Unexpected header) quiet notes =
-    quietly (Happening.Unexpected header) notes refl refl refl refl refl (λ plan. tt) (λ plan. refl)
+    quietly (Happening.Unexpected header) notes refl refl refl refl refl refl (λ plan. tt) (λ plan. refl)
 quiet-note (Happening.Foreign header) quiet notes =
-    quietly (Happening.Foreign header) notes refl refl refl refl refl (λ plan. tt) (λ plan. refl)
+    quietly (Happening.Foreign header) notes refl refl refl refl refl refl (λ plan. tt) (λ plan. refl)
 quiet-note (Happening.TooLongBlock header) quiet notes =
-    quietly (Happening.TooLongBlock header) notes refl refl refl refl refl (λ plan. tt) (λ plan. refl)
+    quietly (Happening.TooLongBlock header) notes refl refl refl refl refl refl (λ plan. tt) (λ plan. refl)
 quiet-note (Happening.Crowded header) quiet notes =
-    quietly (Happening.Crowded header) notes refl refl refl refl refl (λ plan. tt) (λ plan. refl)
+    quietly (Happening.Crowded header) notes refl refl refl refl refl refl (λ plan. tt) (λ plan. refl)
 quiet-note (Happening.DroppedByT4 header) quiet notes =
-    quietly (Happening.DroppedByT4 header) notes refl refl refl refl refl (λ plan. tt) (λ plan. refl)
+    quietly (Happening.DroppedByT4 header) notes refl refl refl refl refl refl (λ plan. tt) (λ plan. refl)
 quiet-note (Happening.Failed title) quiet notes =
-    quietly (Happening.Failed title) notes refl refl refl refl refl (λ plan. tt) (λ plan. refl)
+    quietly (Happening.Failed title) notes refl refl refl refl refl refl (λ plan. tt) (λ plan. refl)
 quiet-note (Happening.TimedOut title) quiet notes =
-    quietly (Happening.TimedOut title) notes refl refl refl refl refl (λ plan. tt) (λ plan. refl)
+    quietly (Happening.TimedOut title) notes refl refl refl refl refl refl (λ plan. tt) (λ plan. refl)
 quiet-note (Happening.Stranger title) quiet notes =
-    quietly (Happening.Stranger title) notes refl refl refl refl refl (λ plan. tt) (λ plan. refl)
+    quietly (Happening.Stranger title) notes refl refl refl refl refl refl (λ plan. tt) (λ plan. refl)
 quiet-note (Happening.Dropped name) quiet notes =
-    quietly (Happening.Dropped name) notes refl refl refl refl refl (λ plan. tt) (λ plan. refl)
+    quietly (Happening.Dropped name) notes refl refl refl refl refl refl (λ plan. tt) (λ plan. refl)
 quiet-note (Happening.Denied name) quiet notes =
-    quietly (Happening.Denied name) notes refl refl refl refl refl (λ plan. tt) (λ plan. refl)
+    quietly (Happening.Denied name) notes refl refl refl refl refl refl (λ plan. tt) (λ plan. refl)
 quiet-note (Happening.Discarded name) quiet notes =
-    quietly (Happening.Discarded name) notes refl refl refl refl refl (λ plan. tt) (λ plan. refl)
+    quietly (Happening.Discarded name) notes refl refl refl refl refl refl (λ plan. tt) (λ plan. refl)
 quiet-note (Happening.TooLong name) quiet notes =
-    quietly (Happening.TooLong name) notes refl refl refl refl refl (λ plan. tt) (λ plan. refl)
+    quietly (Happening.TooLong name) notes refl refl refl refl refl refl (λ plan. tt) (λ plan. refl)
 quiet-note (Happening.Full name) quiet notes =
-    quietly (Happening.Full name) notes refl refl refl refl refl (λ plan. tt) (λ plan. refl)
+    quietly (Happening.Full name) notes refl refl refl refl refl refl (λ plan. tt) (λ plan. refl)
 quiet-note (Happening.Recorded past) quiet notes = absurd quiet
 
 -- ---- notes behind notes

@@ -1,5 +1,12 @@
 -- That the equipment's reports are of their events, part by part of a step and over all its starts.
-use Rattle.std.proofs.Common.{◌≡◌, refl, sym, ap, subst, ◌∙◌, arith, Bool, true, false, not, ℕ, zero, suc, ◌&&◌, ◌||◌, List, [], ◌∷◌, ◌++◌, replicate, Option, Some, None, if◌then◌else◌}
+use Rattle.std.proofs.lemmas.List.Elements.{All-nil}
+use Rattle.std.specs.Prelude.{IfSome}
+use Rattle.spool_ledger.specs.Activity.{rested}
+use Rattle.spool_ledger.specs.Ledger.{LedgerView, carried_out, new_ledger}
+use Rattle.spool_slots.specs.Slot.{Message as Kept}
+use Rattle.equipment_node.specs.Grants.{GrantView}
+use Rattle.equipment_node.specs.Live.{ReportView}
+use Rattle.std.proofs.Common.{◌≡◌, refl, sym, ap, subst, ◌∙◌, ◌%◌, ◌==◌, length, arith, Bool, true, false, not, ℕ, zero, suc, ◌&&◌, ◌||◌, List, [], ◌∷◌, ◌++◌, replicate, Option, Some, None, if◌then◌else◌}
 use Rattle.block_codec.specs.declared.header.Header.{Header}
 use Rattle.gem_states.specs.declared.comms.CommsIn.TheVariants as comms_in
 use Rattle.line_end.specs.declared.event.LineEvent.{LineEvent}
@@ -12,10 +19,10 @@ use Rattle.message_flow.specs.Assembly.{flow_to, with_block}
 use Rattle.message_flow.specs.Message.{is_primary}
 use Rattle.trace_log.specs.declared.commands.ToolCommand.{ToolCommand}
 use Rattle.trace_log.specs.Log.{Happening}
-use Rattle.trace_log.specs.Names.{title_of}
+use Rattle.trace_log.specs.Names.{Spooled, title_of}
 use Rattle.message_end.specs.Calls.{dropped_now, due_now, failed_as, failed_at, took_by}
-use Rattle.message_end.specs.Core.{EndView, Step, Went, asked_by, at_first, calls, held_header, judges, takes_back, tells, with_assembly, with_end}
-use Rattle.message_end.specs.Core.Command.{DropDue, Expire, Offer, Take, Tick}
+use Rattle.message_end.specs.Core.{EndView, IsText, Step, Went, and_then, asked_by, at_first, calls, carried, held_header, judges, step_in, takes_back, tells, with_assembly, with_end}
+use Rattle.message_end.specs.Core.Command.{DropDue, Expire, Halt, Offer, Take, Tick}
 use Rattle.message_end.specs.Core.Went.{Goes, Spent}
 use Rattle.message_end.specs.Course.{Course, Meeting, course_of, noted_behind, went_on, with_meeting}
 use Rattle.message_end.specs.Course.Course.{Reached, Stopped}
@@ -28,19 +35,26 @@ use Rattle.equipment_tables.specs.declared.plan.EquipmentPlan.{EquipmentPlan}
 use Rattle.equipment_tables.specs.Laws.{TablesAreLookedBackFor}
 use Rattle.equipment_tables.specs.Plan.{EquipmentPlanFits}
 use Rattle.equipment_node.specs.declared.kind.Kind.{Kind}
-use Rattle.equipment_node.specs.Own.{OwnView, ToolPart, ToolTurn, quiet_turn, turn_of}
+use Rattle.equipment_node.specs.Own.{OwnView, ToolPart, ToolTurn, is_communicating, quiet_turn, turn_of}
 use Rattle.equipment_node.specs.Replies.{block_timer, given_up_by_t4, given_up_turn, reply_timer, timeout_turn}
 use Rattle.equipment_node.specs.Histories.{ReportsHold, commands_met, with_command}
 use Rattle.equipment_node.specs.Sent as sent
 use Rattle.equipment_node.specs.States as states
-use Rattle.equipment_node.specs.Step.{EquipmentView, begun, beginning, character, delay_timer, failed_turn, flow_turn, input_part, late_parts, line_timer, machine, new_own, offer, start, took_turn}
+use Rattle.equipment_node.specs.End.{machine}
+use Rattle.equipment_node.specs.Equipment.{EquipmentView, act, begun_step, ended_step, first_in, found_in, is_marked_out, needs_numbers, new_own, node_step, oldest_of, parts_done, reserved, settled, settled_own, settled_step, settled_went, started_on, starts, went_with_file}
+use Rattle.equipment_node.specs.Lawful.{IsGoodView, act-good, begun-good, oldest-good, settled-view-good}
+use Rattle.equipment_node.specs.Sound.{AllCanBeSent, CanBeSent}
+use Rattle.equipment_node.specs.SpoolSound.{new-good}
+use Rattle.equipment_node.specs.Spooling.{end_of_spooling, unload_part}
+use Rattle.equipment_node.specs.Step.{begun, beginning, character, delay_timer, failed_turn, first_parts, flow_turn, input_part, is_spent, last_parts, late_parts, line_timer, long_turn, offer, took_turn}
 use Rattle.equipment_node.specs.Tool.{told_turn}
 use Rattle.equipment_node.proofs.HostReports.{AsksOf, message-keeps}
 use Rattle.equipment_node.proofs.ToolReports.{told-keeps}
-use Rattle.equipment_node.proofs.HeldReports.{Any, any-lasts, Ends, Free, Holds, KeepsAt, holds-as, plain, so_far}
-use Rattle.equipment_node.proofs.PlainTurns.{IsPlain, by-t4-plain, comms-plain, error-plain, errors-silent, fixed-plain, given-up-plain, itself, leaving-plain, led-plain, nothing-plain, timeout-plain}
+use Rattle.equipment_node.proofs.HeldReports.{Any, any-lasts, Ends, Free, Holds, Keeps, KeepsAt, holds-as, holds-less, led-at, plain, quietly-holds, silent-at, so_far}
+use Rattle.equipment_node.proofs.LeavingReports.{by-t4-keeps, given-up-keeps, leaving-keeps, timeout-keeps, unload-keeps}
+use Rattle.equipment_node.proofs.PlainTurns.{IsPlain, booked-plain, booked-stays, comms-plain, error-plain, errors-silent, fixed-plain, itself, led-plain, nothing-plain, rested-quiet}
 use Rattle.equipment_node.proofs.QuietNotes.{AreSettled, adds-quiet, one-behind, quiet-note, settled-more}
-use Rattle.equipment_node.proofs.SilentCommands.{CoreStep, OnEither, either-then, told-quiet}
+use Rattle.equipment_node.proofs.SilentCommands.{CoreStep, OnEither, either-then, told-drawn, told-quiet}
 
 asks-newest : (message : Message) → AsksOf message (asked_by message)
 asks-newest message = go (is_primary message) message.wait refl
@@ -51,21 +65,21 @@ asks-newest message = go (is_primary message) message.wait refl
     go true false waits title is = absurd (cc)
     go false wait waits title is = absurd (cc)
 
-abbrev NodeStep : Type 0
+abbrev pub NodeStep : Type 0
 NodeStep = Step (Node OwnView Kind) Happening
 
 module _ (plan : EquipmentPlan) (fits : EquipmentPlanFits plan) (looked : TablesAreLookedBackFor) where
   module _ (said : List ToolCommand) (before : List Happening) where
-    abbrev HoldsStep : NodeStep → Type 0
-    HoldsStep step = Holds plan said step.next.own (noted_behind step.notes before)
+    abbrev pub HoldsStep : NodeStep → Type 0
+    HoldsStep step = Holds plan said step.next.own step.next.core.drawn (noted_behind step.notes before)
 
-    abbrev IsRight : NodeStep → Type 0
+    abbrev pub IsRight : NodeStep → Type 0
     IsRight step = AreSettled plan (noted_behind step.notes before)
 
-    abbrev NodeEnds : Went (Node OwnView Kind) Happening → Type 0
+    abbrev pub NodeEnds : Went (Node OwnView Kind) Happening → Type 0
     NodeEnds went = OnEither HoldsStep IsRight went
 
-    abbrev PartKeeps : ToolPart → Type 0
+    abbrev pub PartKeeps : ToolPart → Type 0
     PartKeeps part = (step : NodeStep) → HoldsStep step
         → NodeEnds (after_turn Some (part step.next.own step.next.core) step)
 
@@ -84,11 +98,11 @@ module _ (plan : EquipmentPlan) (fits : EquipmentPlanFits plan) (looked : Tables
         go (Goes next) at = at
         go (Spent next) at = at
 
-    of-turn : (turn : ToolTurn) (step : NodeStep) → KeepsAt plan said before step.next.own turn (core_step step)
+    pub of-turn : (turn : ToolTurn) (step : NodeStep) → KeepsAt plan said before step.next.own turn (core_step step)
         → HoldsStep step → NodeEnds (after_turn Some turn step)
     of-turn turn step keeps holds = of-ends turn step (keeps holds)
 
-    plain-part : (part : ToolPart)
+    pub plain-part : (part : ToolPart)
         → ((own : OwnView) (e : EndView Kind) → IsPlain Free tt Any any-lasts own (part own e))
         → PartKeeps part
     plain-part part are step holds =
@@ -113,22 +127,25 @@ module _ (plan : EquipmentPlan) (fits : EquipmentPlanFits plan) (looked : Tables
 
     -- ---- the line
 
-    failed-plain : (now : ℕ) (failed : Option Header) (own : OwnView) (e : EndView Kind)
-        → IsPlain Free tt Any any-lasts own (failed_turn now failed own e)
-    failed-plain now None own e = nothing-plain Free tt Any any-lasts own
-    failed-plain now (Some header) own e =
-        leaving-plain Free tt Any any-lasts comms_in.SendFailed (Some header) now own e
+    failed-keeps : (now : ℕ) (failed : Option Header) (own : OwnView) (e : EndView Kind)
+        → Keeps plan said before own (failed_turn now failed own e)
+    failed-keeps now None own e = λ step holds. holds
+    failed-keeps now (Some header) own e =
+        leaving-keeps plan said before comms_in.SendFailed (Some header) now own e
 
-    tick-plain : (now : ℕ) (own : OwnView) (e : EndView Kind) → IsPlain Free tt Any any-lasts own (line_timer now own e)
-    tick-plain now own e =
-        led-plain Free tt Any any-lasts own (Tick now)
-        (failed_turn now (failed_at e now) own (core_after (Tick now) e)) (tt, tt)
-        (failed-plain now (failed_at e now) own (core_after (Tick now) e))
+    pub tick-keeps : (now : ℕ) → PartKeeps (line_timer now)
+    tick-keeps now step holds =
+        of-turn (line_timer now step.next.own step.next.core) step
+        (λ held.
+        led-at plan said before (Tick now) step.next.own
+        (failed_turn now (failed_at step.next.core now) step.next.own (core_after (Tick now) step.next.core))
+        (core_step step) tt
+        (failed-keeps now (failed_at step.next.core now) step.next.own (core_after (Tick now) step.next.core)) held) holds
 
     -- a block has come, and was this
     came-keeps :
         (now : ℕ) (header : Header) (came : Flow) (own : OwnView) (e : EndView Kind) (old next : CoreStep)
-        → next ≡ judges Some header came old → Holds plan said own (so_far plan said before next)
+        → next ≡ judges Some header came old → Holds plan said own next.next.drawn (so_far plan said before next)
         → Ends plan said before (flow_turn now header came own e).own
         (all_done Some (flow_turn now header came own e).duties next)
     came-keeps now header flow.Part own e old next is =
@@ -142,24 +159,31 @@ module _ (plan : EquipmentPlan) (fits : EquipmentPlanFits plan) (looked : Tables
     came-keeps now header (flow.Foreign address) own e old next is =
         plain plan said before own (turn_of own (sent.error_duty 1 header own ∷ []))
         (error-plain Free tt Any any-lasts 1 refl header own) next
-    came-keeps now header flow.Unexpected own e old next is =
-        plain plan said before own (given_up_turn now header own e)
-        (given-up-plain Free tt Any any-lasts now header own e) next
-    came-keeps now header flow.TooLong own e old next is =
-        plain plan said before own (flow_turn now header flow.TooLong own e)
-        (let turn = given-up-plain Free tt Any any-lasts now header own e in
-        record {
-          silent = ((errors-silent Free tt Any any-lasts 11 refl header own).0, turn.silent);
-          less = turn.less;
-        }) next
-    came-keeps now header flow.Crowded own e old next is =
-        plain plan said before own (given_up_turn now header own e)
-        (given-up-plain Free tt Any any-lasts now header own e) next
+    came-keeps now header flow.Unexpected own e old next is = given-up-keeps plan said before now header own e next
+    came-keeps now header flow.TooLong own e old next is = go (is_spent e)
+      where
+        go : (spent : Bool)
+            → Holds plan said own next.next.drawn (so_far plan said before next)
+            → Ends plan said before (long_turn spent header own (given_up_turn now header own e)).own
+            (all_done Some (long_turn spent header own (given_up_turn now header own e)).duties next)
+        go true =
+            plain plan said before own (fixed_turn own (Halt ∷ []))
+            (fixed-plain Free tt Any any-lasts own own (Halt ∷ []) (itself Free tt Any any-lasts own) (tt, tt)) next
+        go false = λ holds.
+            either-then (λ last. Holds plan said own last.next.drawn (so_far plan said before last))
+            (λ last. AreSettled plan (so_far plan said before last))
+            (λ last. Holds plan said (given_up_turn now header own e).own last.next.drawn (so_far plan said before last))
+            (carried Some (sent.error_duty 11 header own next.next) next)
+            (all_done Some (given_up_turn now header own e).duties)
+            (silent-at plan said before own (sent.error_duty 11 header own next.next) next
+            ((errors-silent Free tt Any any-lasts 11 refl header own).0 next.next tt) holds)
+            (λ last at. given-up-keeps plan said before now header own e last at)
+    came-keeps now header flow.Crowded own e old next is = given-up-keeps plan said before now header own e next
 
     -- the line has told this of a character
     told-so :
         (now byte : ℕ) (happened : LineEvent) (own : OwnView) (e : EndView Kind) (step : CoreStep)
-        → Holds plan said own (so_far plan said before step)
+        → Holds plan said own step.next.drawn (so_far plan said before step)
         → Ends plan said before (took_turn now (took_by step.next happened) own e).own
         (all_done Some (took_turn now (took_by step.next happened) own e).duties
         (tells Some (held_header step.next.line.held) happened now (calls (LineCall.Take byte now) step)))
@@ -168,22 +192,21 @@ module _ (plan : EquipmentPlan) (fits : EquipmentPlanFits plan) (looked : Tables
         next : LineEvent → CoreStep
         next happened = tells Some (held_header step.next.line.held) happened now (calls (LineCall.Take byte now) step)
 
-        at : (happened : LineEvent) → Holds plan said own (so_far plan said before (next happened))
+        at : (happened : LineEvent) → Holds plan said own (next happened).next.drawn (so_far plan said before (next happened))
         at happened =
-            holds-as plan said own (so_far plan said before step) (so_far plan said before (next happened)) holds
+            quietly-holds plan said before own step (next happened)
             (adds-quiet before step.notes (next happened).notes
             (told-quiet (held_header step.next.line.held) happened now (calls (LineCall.Take byte now) step)))
+            (told-drawn (held_header step.next.line.held) happened now (calls (LineCall.Take byte now) step)) holds
 
-        failed : (header : Option Header) → Holds plan said own (so_far plan said before (next event.Failed))
+        failed : (header : Option Header) → Holds plan said own (next event.Failed).next.drawn (so_far plan said before (next event.Failed))
             → Ends plan said before (took_turn now (failed_as header) own e).own
             (all_done Some (took_turn now (failed_as header) own e).duties (next event.Failed))
         failed None = plain plan said before own (quiet_turn own) (nothing-plain Free tt Any any-lasts own)
             (next event.Failed)
-        failed (Some header) =
-            plain plan said before own (failed_turn now (Some header) own e) (failed-plain now (Some header) own e)
-            (next event.Failed)
+        failed (Some header) = failed-keeps now (Some header) own e (next event.Failed)
 
-        go : (happened : LineEvent) → Holds plan said own (so_far plan said before (next happened))
+        go : (happened : LineEvent) → Holds plan said own (next happened).next.drawn (so_far plan said before (next happened))
             → Ends plan said before (took_turn now (took_by step.next happened) own e).own
             (all_done Some (took_turn now (took_by step.next happened) own e).duties (next happened))
         go event.Nothing =
@@ -209,7 +232,7 @@ module _ (plan : EquipmentPlan) (fits : EquipmentPlanFits plan) (looked : Tables
 
     -- ---- a step
 
-    begin-plain : (now : ℕ) (own : OwnView) (e : EndView Kind) → IsPlain Free tt Any any-lasts own (beginning now own e)
+    pub begin-plain : (now : ℕ) (own : OwnView) (e : EndView Kind) → IsPlain Free tt Any any-lasts own (beginning now own e)
     begin-plain now own e = go (own.has_begun || not own.plan.enable)
       where
         as_begun : (turn : ToolTurn) → IsPlain Free tt Any any-lasts (begun own) turn
@@ -221,6 +244,7 @@ module _ (plan : EquipmentPlan) (fits : EquipmentPlanFits plan) (looked : Tables
             tables_are = is.less.tables_are;
             events_are = is.less.events_are;
             fewer = is.less.fewer;
+            live = is.less.live;
           };
         }
 
@@ -233,26 +257,33 @@ module _ (plan : EquipmentPlan) (fits : EquipmentPlanFits plan) (looked : Tables
             (comms-plain Free tt Any any-lasts comms_in.Enable now
             (begun own))
 
-    t4-plain : (now : ℕ) (own : OwnView) (e : EndView Kind) → IsPlain Free tt Any any-lasts own (block_timer now own e)
-    t4-plain now own e =
-        led-plain Free tt Any any-lasts own (DropDue now)
-        (given_up_by_t4 now (dropped_now e now) own (core_after (DropDue now) e))
-        (tt, tt) (by-t4-plain Free tt Any any-lasts now (dropped_now e now) own (core_after (DropDue now) e))
+    pub t4-keeps : (now : ℕ) → PartKeeps (block_timer now)
+    t4-keeps now step holds =
+        of-turn (block_timer now step.next.own step.next.core) step
+        (λ held.
+        led-at plan said before (DropDue now) step.next.own
+        (given_up_by_t4 now (dropped_now step.next.core now) step.next.own (core_after (DropDue now) step.next.core))
+        (core_step step) tt
+        (by-t4-keeps plan said before now (dropped_now step.next.core now) step.next.own
+        (core_after (DropDue now) step.next.core)) held) holds
 
-    t3-plain : (now : ℕ) (own : OwnView) (e : EndView Kind) → IsPlain Free tt Any any-lasts own (reply_timer now own e)
-    t3-plain now own e =
-        led-plain Free tt Any any-lasts own (Expire now)
-        (timeout_turn now (due_now e now) own (core_after (Expire now) e)) (tt, tt)
-        (timeout-plain Free tt Any any-lasts now (due_now e now) own (core_after (Expire now) e))
+    pub t3-keeps : (now : ℕ) → PartKeeps (reply_timer now)
+    t3-keeps now step holds =
+        of-turn (reply_timer now step.next.own step.next.core) step
+        (λ held.
+        led-at plan said before (Expire now) step.next.own
+        (timeout_turn now (due_now step.next.core now) step.next.own (core_after (Expire now) step.next.core))
+        (core_step step) tt
+        (timeout-keeps plan said before now (due_now step.next.core now) step.next.own
+        (core_after (Expire now) step.next.core)) held) holds
 
     late-keep : (now : ℕ) → AllKeep (late_parts now)
     unfolding late_parts
     late-keep now =
         both-keep (replicate 16 (block_timer now)) (replicate 64 (reply_timer now))
-        (many-keep 16 (block_timer now) (plain-part (block_timer now) (t4-plain now)))
-        (many-keep 64 (reply_timer now) (plain-part (reply_timer now) (t3-plain now)))
+        (many-keep 16 (block_timer now) (t4-keeps now)) (many-keep 64 (reply_timer now) (t3-keeps now))
 
-    offer-plain : (now : ℕ) (own : OwnView) (e : EndView Kind) → IsPlain Free tt Any any-lasts own (offer now own e)
+    pub offer-plain : (now : ℕ) (own : OwnView) (e : EndView Kind) → IsPlain Free tt Any any-lasts own (offer now own e)
     offer-plain now own e =
         led-plain Free tt Any any-lasts own (Offer now) (fixed_turn own []) (tt, tt)
         (fixed-plain Free tt Any any-lasts own own [] (itself Free tt Any any-lasts own) tt)
@@ -269,7 +300,7 @@ module _ (plan : EquipmentPlan) (fits : EquipmentPlanFits plan) (looked : Tables
       (after_turn Some (part step.next.own step.next.core) step) (after_parts Some (parts ++ rest)) (all.0 step holds)
       (λ next at. parts-then said to before parts rest all.1 next at more)
 
-  input-keeps :
+  pub input-keeps :
       (said : List ToolCommand) (before : List Happening) (input : Input ToolCommand) (now : ℕ) (step : NodeStep)
       → HoldsStep said before step
       → NodeEnds (with_command input said) before
@@ -281,55 +312,179 @@ module _ (plan : EquipmentPlan) (fits : EquipmentPlanFits plan) (looked : Tables
       of-ends (command ∷ said) before (told_turn command now step.next.own step.next.core) step
       (told-keeps plan fits looked said before command now step.next.own step.next.core (core_step step) holds)
 
-  step-keeps :
-      (said : List ToolCommand) (before : List Happening) (input : Input ToolCommand) (now : ℕ) (s : EquipmentView)
-      → Holds plan said s.own before → NodeEnds (with_command input said) before (machine.act s input now)
-  step-keeps said before input now s holds =
+  -- the first parts of a step
+  first-keeps :
+      (said : List ToolCommand) (before : List Happening) (input : Input ToolCommand) (now : ℕ) (step : NodeStep)
+      → HoldsStep said before step
+      → NodeEnds (with_command input said) before (after_parts Some (first_parts input now) step)
+  first-keeps said before input now step holds =
       parts-then said (with_command input said) before
       (beginning now ∷ line_timer now ∷ (late_parts now ++ delay_timer now ∷ []))
-      (input_part input now ∷ offer now ∷ []) (
+      (input_part input now ∷ []) (
         plain-part said before (beginning now) (begin-plain said before now),
         (
-          plain-part said before (line_timer now) (tick-plain said before now),
+          tick-keeps said before now,
           both-keep said before (late_parts now) (delay_timer now ∷ []) (late-keep said before now) (
             plain-part said before (delay_timer now)
                 (λ own e. comms-plain Free tt Any any-lasts comms_in.Time now own),
             tt,
           ),
         ),
-      ) (at_first s) holds
+      ) step holds
       (λ last at.
       either-then (HoldsStep (with_command input said) before) (IsRight said before)
       (HoldsStep (with_command input said) before)
-      (after_turn Some (input_part input now last.next.own last.next.core) last) (after_parts Some (offer now ∷ []))
-      (input-keeps said before input now last at)
-      (λ next held.
-      parts-keep (with_command input said) before (offer now ∷ [])
-      (plain-part (with_command input said) before (offer now) (offer-plain said before now), tt) next held))
+      (after_turn Some (input_part input now last.next.own last.next.core) last) (after_parts Some [])
+      (input-keeps said before input now last at) (λ next held. held))
+
+  -- and its last ones
+  last-keeps :
+      (said : List ToolCommand) (before : List Happening) (oldest : Option Spooled)
+      → IfSome oldest (λ message. (message.function % 2 == 1) ≡ true) → (now : ℕ) (step : NodeStep)
+      → HoldsStep said before step → NodeEnds said before (after_parts Some (last_parts oldest now) step)
+  last-keeps said before oldest odd now step holds =
+      parts-keep said before (last_parts oldest now) (
+        (λ at held.
+            of-turn said before (unload_part oldest at.next.own at.next.core) at
+            (unload-keeps plan said before oldest odd at.next.own (core_step at)) held),
+        (
+          plain-part said before end_of_spooling
+              (λ own e.
+              booked-plain Free tt Any any-lasts own (rested (is_communicating own) own.ledger)
+              (rested-quiet (is_communicating own) own.ledger)),
+          (plain-part said before (offer now) (offer-plain said before now), tt),
+        ),
+      ) step holds
+
+  -- ---- the whole step
+
+  abbrev FileStep : Type 0
+  FileStep = Step EquipmentView Happening
+
+  abbrev HoldsFile : List ToolCommand → List Happening → FileStep → Type 0
+  HoldsFile said before step =
+      Holds plan said step.next.node.own step.next.node.core.drawn (noted_behind step.notes before)
+
+  abbrev FileIsRight : List Happening → FileStep → Type 0
+  FileIsRight before step = AreSettled plan (noted_behind step.notes before)
+
+  abbrev FileEnds : List ToolCommand → List Happening → Went EquipmentView Happening → Type 0
+  FileEnds said before went = OnEither (HoldsFile said before) (FileIsRight before) went
+
+  with-file :
+      (said : List ToolCommand) (before : List Happening) (s : EquipmentView) (went : Went (Node OwnView Kind) Happening)
+      → NodeEnds said before went → FileEnds said before (went_with_file s went)
+  with-file said before s (Goes step) at = at
+  with-file said before s (Spent step) at = at
+
+  settled-so :
+      (said : List ToolCommand) (before : List Happening) (went : Went EquipmentView Happening)
+      → FileEnds said before went → FileEnds said before (settled_went went)
+  settled-so said before (Goes step) at =
+      holds-less plan said step.next.node.own (settled_own step.next.node.own) (noted_behind step.notes before) at
+      (booked-stays Free tt Any any-lasts step.next.node.own (carried_out step.next.node.own.ledger))
+  settled-so said before (Spent step) at = at
+
+  pub odd-of : (oldest : Option Spooled) → IfSome oldest CanBeSent
+      → IfSome oldest (λ message. (message.function % 2 == 1) ≡ true)
+  odd-of None can = tt
+  odd-of (Some message) can = can.odd
+
+  step-keeps :
+      (said : List ToolCommand) (before : List Happening) (input : Input ToolCommand) (now : ℕ) (s : EquipmentView)
+      → Holds plan said s.node.own s.node.core.drawn before → IsGoodView plan fits s
+      → FileEnds (with_command input said) before (act s input now)
+  step-keeps said before input now s holds good =
+      ends (begun_step s input now) (begun (needs_numbers s) (is_marked_out s.mark))
+      (begun-good plan fits s input now good)
+    where
+      to : List ToolCommand
+      to = with_command input said
+
+      begun : (needs spent : Bool)
+          → FileEnds to before
+          (and_then
+          (if needs then if spent then Spent (at_first s) else Goes (at_first (reserved s)) else Goes (at_first s))
+          (parts_done (first_parts input now)))
+      begun true true = holds.settled
+      begun true false =
+          with-file to before (reserved s) (after_parts Some (first_parts input now) (at_first (reserved s).node))
+          (first-keeps said before input now (at_first (reserved s).node) holds)
+      begun false spent =
+          with-file to before s (after_parts Some (first_parts input now) (at_first s.node))
+          (first-keeps said before input now (at_first s.node) holds)
+
+      ends : (went : Went EquipmentView Happening) → FileEnds to before went → IsGoodView plan fits (step_in went).next
+          → FileEnds to before (and_then (settled_went went) (ended_step now))
+      ends (Spent step) at so = at
+      ends (Goes step) at so =
+          with-file to before (settled step.next)
+          (after_parts Some (last_parts (oldest_of (settled step.next)) now) (node_step (settled_step step)))
+          (last-keeps to before (oldest_of (settled step.next))
+          (odd-of (oldest_of (settled step.next))
+          (oldest-good plan fits (settled step.next).list (settled-view-good plan fits step.next so).list)) now
+          (node_step (settled_step step)) (settled-so to before (Goes step) at))
 
   -- ---- over all starts
 
-  starts-so : (other : EquipmentPlan) (base : ℕ) (notes : List Happening) → other ≡ plan → AreSettled plan notes
-      → Holds plan [] (new_own other) (Happening.EquipmentStarted [] base ∷ notes)
-  starts-so other base notes same so =
-      subst (λ (p : EquipmentPlan). Holds plan [] (new_own p) (Happening.EquipmentStarted [] base ∷ notes)) (sym same)
+  starts-so :
+      (other : EquipmentPlan) (ledger : LedgerView) (found : List (ℕ × Spooled)) (base : ℕ) (notes : List Happening)
+      → other ≡ plan → AreSettled plan notes
+      → Holds plan [] (new_own other ledger) None (Happening.EquipmentStarted found base ∷ notes)
+  starts-so other ledger found base notes same so =
+      subst
+      (λ (p : EquipmentPlan). Holds plan [] (new_own p ledger) None (Happening.EquipmentStarted found base ∷ notes))
+      (sym same)
       (record {
         plan_is = refl;
         tables_are = sym (looked.first plan);
         events_are = refl;
         commanded = refl;
         waits = λ body. omega arith;
-        settled = settled-more plan (Happening.EquipmentStarted [] base) notes refl tt refl so;
+        live = λ one has is. absurd has;
+        tried = λ number is. absurd (cc);
+        settled = settled-more plan (Happening.EquipmentStarted found base) notes refl tt refl so;
       })
 
-  abbrev IsCourseSo : List ToolCommand → Course EquipmentView → Type 0
-  IsCourseSo said (Reached s notes) = Holds plan said s.own notes
+  pub record IsReachedSo (said : List ToolCommand) (s : EquipmentView) (notes : List Happening) : Type 0 where
+    pub holds : Holds plan said s.node.own s.node.core.drawn notes
+    pub good : IsGoodView plan fits s
+
+  abbrev pub IsCourseSo : List ToolCommand → Course EquipmentView → Type 0
+  IsCourseSo said (Reached s notes) = IsReachedSo said s notes
   IsCourseSo said (Stopped notes) = AreSettled plan notes
 
-  went-so : (said : List ToolCommand) (before : List Happening) (went : Went EquipmentView Happening)
-      → NodeEnds said before went → IsCourseSo said (went_on went before)
-  went-so said before (Goes step) at = at
-  went-so said before (Spent step) at = at
+  went-so :
+      (said : List ToolCommand) (before : List Happening) (went : Went EquipmentView Happening)
+      → FileEnds said before went → IsGoodView plan fits (step_in went).next → IsCourseSo said (went_on went before)
+  went-so said before (Goes step) at good = record { holds = at; good = good }
+  went-so said before (Spent step) at good = at
+
+  started-so :
+      (other : EquipmentPlan) (slots : ℕ) (list : List Kept) (mark : ℕ) (notes : List Happening) → other ≡ plan
+      → AllCanBeSent list → AreSettled plan notes
+      → IsCourseSo [] (went_on (starts other slots list mark) notes)
+  started-so other slots list mark notes same can so = go (is_marked_out mark)
+    where
+      go : (spent : Bool)
+          → IsCourseSo []
+          (went_on
+          (if spent then Spent (at_first (record (started_on other slots list mark).next { mark = mark }))
+          else Goes (started_on other slots list mark)) notes)
+      go true = so
+      go false = record {
+        holds =
+            starts-so other (new_ledger slots (first_in list) (length list)) (found_in list) mark notes same so;
+        good = record {
+          own = record {
+            plan_is = same;
+            texts = All-nil (λ (one : GrantView). IsText one.body);
+            reports = All-nil (λ (one : ReportView). CanBeSent one.message);
+            ledger = new-good slots (first_in list) (length list);
+          };
+          list = can;
+        };
+      }
 
   meeting-keeps :
       (meeting : Meeting ToolCommand) (meetings : List (Meeting ToolCommand)) (course : Course EquipmentView)
@@ -337,32 +492,56 @@ module _ (plan : EquipmentPlan) (fits : EquipmentPlanFits plan) (looked : Tables
       → IsCourseSo (commands_met (meeting ∷ meetings)) (with_meeting machine meeting course)
   meeting-keeps meeting meetings (Stopped notes) so = so
   meeting-keeps (Acts input now) meetings (Reached s notes) so =
-      went-so (with_command input (commands_met meetings)) notes (machine.act s input now)
-      (step-keeps (commands_met meetings) notes input now s so)
+      went-so (with_command input (commands_met meetings)) notes (act s input now)
+      (step-keeps (commands_met meetings) notes input now s so.holds so.good) (act-good plan fits s input now so.good)
   meeting-keeps (Restarts now) meetings (Reached s notes) so =
-      starts-so s.own.plan s.core.numbers.next notes so.plan_is so.settled
-  meeting-keeps (Writes characters) meetings (Reached s notes) so =
-      holds-as plan (commands_met meetings) s.own notes (Happening.Wrote characters ∷ notes) so
-      (quiet-note (Happening.Wrote characters) tt notes)
-  meeting-keeps LosesPower meetings (Reached s notes) so =
-      holds-as plan (commands_met meetings) s.own notes (Happening.Power ∷ notes) so
-      (quiet-note Happening.Power tt notes)
+      started-so s.node.own.plan s.node.own.ledger.slots s.list s.mark notes so.holds.plan_is so.good.list
+      so.holds.settled
+  meeting-keeps (Writes characters) meetings (Reached s notes) so = record {
+    holds =
+        holds-as plan (commands_met meetings) s.node.own notes (Happening.Wrote characters ∷ notes) so.holds
+        (quiet-note (Happening.Wrote characters) tt notes);
+    good = so.good;
+  }
+  meeting-keeps LosesPower meetings (Reached s notes) so = record {
+    holds =
+        holds-as plan (commands_met meetings) s.node.own notes (Happening.Power ∷ notes) so.holds
+        (quiet-note Happening.Power tt notes);
+    good = so.good;
+  }
 
-  course-so : (meetings : List (Meeting ToolCommand))
-      → IsCourseSo (commands_met meetings) (course_of (start plan) machine meetings)
-  course-so [] = starts-so plan 0 [] refl (record { reported = tt; none_due = refl })
-  course-so (meeting ∷ meetings) =
-      meeting-keeps meeting meetings (course_of (start plan) machine meetings) (course-so meetings)
+  pub course-so :
+      (slots : ℕ) (list : List Kept) (mark : ℕ) → AllCanBeSent list → (meetings : List (Meeting ToolCommand))
+      → IsCourseSo (commands_met meetings) (course_of (started_on plan slots list mark) machine meetings)
+  course-so slots list mark can [] = record {
+    holds =
+        starts-so plan (new_ledger slots (first_in list) (length list)) (found_in list) mark [] refl
+        (record { reported = tt; none_due = refl });
+    good = record {
+      own = record {
+        plan_is = refl;
+        texts = All-nil (λ (one : GrantView). IsText one.body);
+        reports = All-nil (λ (one : ReportView). CanBeSent one.message);
+        ledger = new-good slots (first_in list) (length list);
+      };
+      list = can;
+    };
+  }
+  course-so slots list mark can (meeting ∷ meetings) =
+      meeting-keeps meeting meetings (course_of (started_on plan slots list mark) machine meetings)
+      (course-so slots list mark can meetings)
 
-  pub reports-so : (meetings : List (Meeting ToolCommand))
-      → ReportsHold plan (course_of (start plan) machine meetings) (commands_met meetings)
-  reports-so meetings = go (course_of (start plan) machine meetings) (course-so meetings)
+  pub reports-so :
+      (slots : ℕ) (list : List Kept) (mark : ℕ) → AllCanBeSent list → (meetings : List (Meeting ToolCommand))
+      → ReportsHold plan (course_of (started_on plan slots list mark) machine meetings) (commands_met meetings)
+  reports-so slots list mark can meetings =
+      go (course_of (started_on plan slots list mark) machine meetings) (course-so slots list mark can meetings)
     where
       go : (course : Course EquipmentView) → IsCourseSo (commands_met meetings) course
           → ReportsHold plan course (commands_met meetings)
       go (Reached s notes) so = record {
-        reported = so.settled.reported;
-        counted = so.commanded;
-        done = so.settled.none_due;
+        reported = so.holds.settled.reported;
+        counted = so.holds.commanded;
+        done = so.holds.settled.none_due;
       }
       go (Stopped notes) so = record { reported = so.reported; counted = tt; done = so.none_due }

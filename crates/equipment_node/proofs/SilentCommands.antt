@@ -1,5 +1,5 @@
 -- Commands that note nothing of reports.
-use Rattle.std.proofs.Common.{◌≡◌, refl, ap, inl, inr, Bool, true, false, not, ℕ, ◌%◌, ◌==◌, ◌&&◌, nat_le, List, [], ◌∷◌, ◌++◌, length, Option, Some, None, if◌then◌else◌}
+use Rattle.std.proofs.Common.{◌≡◌, refl, ap, ◌∙◌, inl, inr, Bool, true, false, not, ℕ, ◌%◌, ◌==◌, ◌&&◌, nat_le, List, [], ◌∷◌, ◌++◌, length, Option, Some, None, if◌then◌else◌}
 use Rattle.std.specs.List.{find}
 use Rattle.std.specs.Prelude.{is_some}
 use Rattle.block_codec.specs.Block.{BlockView}
@@ -21,7 +21,7 @@ use Rattle.transact.specs.Numbers.{next_number}
 use Rattle.transact.specs.Transactions as transactions
 use Rattle.transact.specs.Transactions.{is_answered_by}
 use Rattle.message_end.specs.declared.unsent.Unsent.{Unsent}
-use Rattle.message_end.specs.Core.{Command, EndView, Step, Went, and_then, answers, carried, carry, draws, drops, gives, is_crowded_out, judges, keeps_drawn, noted, offers, primary_of, queues, replies, reply_function, reply_of, sends, takes_back, tells, times_out, unsent_name, with_asked, with_assembly, with_end, with_outgoing}
+use Rattle.message_end.specs.Core.{Command, EndView, Step, Went, and_then, answers, cancels, carried, carry, draws, drops, gives, is_crowded_out, is_held_answered, judges, noted, offers, primary_of, queues, replies, reply_function, reply_of, sends, takes_back, tells, times_out, unsent_name, with_asked, with_assembly, with_end, with_outgoing}
 use Rattle.message_end.specs.Core.Went.{Goes, Spent}
 use Rattle.message_end.specs.Course.{noted_behind}
 use Rattle.message_end.specs.Duties.{all_done}
@@ -66,6 +66,7 @@ module _
   IsSilent (Command.Note what) = IsQuietNote what
   IsSilent (Command.Primary unsent) =
       (is_report unsent.stream unsent.function ≡ false) × ((unsent.function % 2 == 1) ≡ true)
+  IsSilent Command.Draw = ⊥
   IsSilent (Command.DrawnPrimary unsent) = ⊥
   IsSilent (Command.Reply body) =
       (title : Title) → Asks (Some title) → (notes : List Happening) → Fact notes
@@ -97,9 +98,10 @@ module _
         (old : List Happening) (what : Happening) → IsQuietNote what → Follows before old (old ++ what ∷ [])
     one-note old what quiet = inr (what, quiet-note what quiet (noted_behind old before), refl)
 
-    -- one note more at most, and a quiet one
+    -- one note more at most, and a quiet one, with the number as it was drawn
     pub record Adds (step next : CoreStep) : Type 0 where
       pub quiet : Follows before step.notes next.notes
+      pub drawn : next.next.drawn ≡ step.next.drawn
       pub asks : Asks next.next.asked
 
     primary-silent :
@@ -114,10 +116,11 @@ module _
             (not odd && not (unsent.function == 0)) && not (is_of 1 14 (primary_of unsent number))) silent.1
 
         drawn : (number : Option ℕ) → OnEither (Adds step) (Adds step) (draws number (sends Some unsent) step)
-        drawn None = record { quiet = inl refl; asks = asks }
+        drawn None = record { quiet = inl refl; drawn = refl; asks = asks }
         drawn (Some number) =
             record {
               quiet = one-note step.notes (Happening.Sent (primary_of unsent number)) (silent.0, no_answer number);
+              drawn = refl;
               asks = asks;
             }
 
@@ -125,14 +128,8 @@ module _
             → OnEither (Adds step) (Adds step)
             (if crowded then Goes (noted Some (Happening.Full (unsent_name unsent)) step)
             else draws (next_number step.next.numbers) (sends Some unsent) step)
-        go true = record { quiet = one-note step.notes (Happening.Full (unsent_name unsent)) tt; asks = asks }
+        go true = record { quiet = one-note step.notes (Happening.Full (unsent_name unsent)) tt; drawn = refl; asks = asks }
         go false = drawn (next_number step.next.numbers)
-
-    draw-silent :
-        (number : Option ℕ) (step : CoreStep) → Asks step.next.asked
-        → OnEither (Adds step) (Adds step) (draws number keeps_drawn step)
-    draw-silent None step asks = record { quiet = inl refl; asks = asks }
-    draw-silent (Some number) step asks = record { quiet = inl refl; asks = asks }
 
     reply-silent :
         (function : ℕ → ℕ) (body : List ℕ) (step : CoreStep)
@@ -153,6 +150,7 @@ module _
         room title it true = record {
           quiet = one-note step.notes
               (Happening.Full (message_name (reply_of title (function title.name.function) body))) tt;
+          drawn = refl;
           asks = none;
         }
         room title it false = record {
@@ -161,67 +159,68 @@ module _
             silent title it (noted_behind step.notes before) fact,
             refl,
           );
+          drawn = refl;
           asks = none;
         }
 
         go : (asked : Option Title) → Asks asked → Adds step (replies Some asked function body step)
-        go None it = record { quiet = inl refl; asks = asks }
+        go None it = record { quiet = inl refl; drawn = refl; asks = asks }
         go (Some title) it = room title it (nat_le 128 (length step.next.outgoing.waiting))
 
     offer-silent :
         (at : Phase) (held : Option BlockView) (now : ℕ) (step : CoreStep) → Asks step.next.asked
         → Adds step (offers at held now step)
-    offer-silent phase.Idle (Some held) now step asks = record { quiet = inl refl; asks = asks }
+    offer-silent phase.Idle (Some held) now step asks = record { quiet = inl refl; drawn = refl; asks = asks }
     offer-silent phase.Idle None now step asks =
         go (next_block_of step.next.outgoing.side step.next.outgoing.device step.next.outgoing.waiting).0
       where
         go : (block : Option BlockView)
             → Adds step (gives block now (with_end (with_outgoing (next_turn step.next.outgoing) step.next) step))
-        go None = record { quiet = inl refl; asks = asks }
-        go (Some block) = record { quiet = inl refl; asks = asks }
-    offer-silent phase.AwaitEot held now step asks = record { quiet = inl refl; asks = asks }
-    offer-silent phase.AwaitAck held now step asks = record { quiet = inl refl; asks = asks }
-    offer-silent phase.AwaitLength held now step asks = record { quiet = inl refl; asks = asks }
-    offer-silent phase.Gathering held now step asks = record { quiet = inl refl; asks = asks }
-    offer-silent phase.Settling held now step asks = record { quiet = inl refl; asks = asks }
+        go None = record { quiet = inl refl; drawn = refl; asks = asks }
+        go (Some block) = record { quiet = inl refl; drawn = refl; asks = asks }
+    offer-silent phase.AwaitEot held now step asks = record { quiet = inl refl; drawn = refl; asks = asks }
+    offer-silent phase.AwaitAck held now step asks = record { quiet = inl refl; drawn = refl; asks = asks }
+    offer-silent phase.AwaitLength held now step asks = record { quiet = inl refl; drawn = refl; asks = asks }
+    offer-silent phase.Gathering held now step asks = record { quiet = inl refl; drawn = refl; asks = asks }
+    offer-silent phase.Settling held now step asks = record { quiet = inl refl; drawn = refl; asks = asks }
 
     drop-silent :
         (header : Option Header) (now : ℕ) (step : CoreStep) → Asks step.next.asked
         → Adds step (drops Some header now step)
-    drop-silent None now step asks = record { quiet = inl refl; asks = asks }
+    drop-silent None now step asks = record { quiet = inl refl; drawn = refl; asks = asks }
     drop-silent (Some header) now step asks =
-        record { quiet = one-note step.notes (Happening.DroppedByT4 header) tt; asks = asks }
+        record { quiet = one-note step.notes (Happening.DroppedByT4 header) tt; drawn = refl; asks = asks }
 
     time-silent :
         (test : Begun Kind → Bool) (found : Option (Begun Kind)) (step : CoreStep) → Asks step.next.asked
         → Adds step (times_out Some test found step)
-    time-silent test None step asks = record { quiet = inl refl; asks = asks }
+    time-silent test None step asks = record { quiet = inl refl; drawn = refl; asks = asks }
     time-silent test (Some begun) step asks =
-        record { quiet = one-note step.notes (Happening.TimedOut (header_title begun.header)) tt; asks = asks }
+        record { quiet = one-note step.notes (Happening.TimedOut (header_title begun.header)) tt; drawn = refl; asks = asks }
 
     answer-silent :
         (header : Header) (found : Option (Begun Kind)) (step : CoreStep) → Asks step.next.asked
         → Adds step (answers Some header found step)
     answer-silent header None step asks =
-        record { quiet = one-note step.notes (Happening.Stranger (header_title header)) tt; asks = asks }
-    answer-silent header (Some begun) step asks = record { quiet = inl refl; asks = asks }
+        record { quiet = one-note step.notes (Happening.Stranger (header_title header)) tt; drawn = refl; asks = asks }
+    answer-silent header (Some begun) step asks = record { quiet = inl refl; drawn = refl; asks = asks }
 
     carry-silent :
         (command : Command Kind) (step : CoreStep) → IsSilent command → Asks step.next.asked
         → Fact (noted_behind step.notes before) → OnEither (Adds step) (Adds step) (carry Some command step)
     carry-silent (Command.Note what) step silent asks fact =
-        record { quiet = one-note step.notes what silent; asks = asks }
+        record { quiet = one-note step.notes what silent; drawn = refl; asks = asks }
     carry-silent (Command.Primary unsent) step silent asks fact = primary-silent unsent step silent asks
-    carry-silent Command.Draw step silent asks fact = draw-silent (next_number step.next.numbers) step asks
+    carry-silent Command.Draw step silent asks fact = absurd silent
     carry-silent (Command.DrawnPrimary unsent) step silent asks fact = absurd silent
-    carry-silent (Command.More count) step silent asks fact = record { quiet = inl refl; asks = asks }
+    carry-silent (Command.More count) step silent asks fact = record { quiet = inl refl; drawn = refl; asks = asks }
     carry-silent (Command.Reply body) step silent asks fact = reply-silent reply_function body step silent asks fact
     carry-silent Command.Abort step silent asks fact =
         reply-silent (λ function. 0) [] step
         (λ title it notes fact.
         none-sent (reply_of title 0 [])
         (none-of (reply_of title 0 []) (never (title.name.stream == 6))) refl notes) asks fact
-    carry-silent (Command.Tick now) step silent asks fact = record { quiet = inl refl; asks = asks }
+    carry-silent (Command.Tick now) step silent asks fact = record { quiet = inl refl; drawn = refl; asks = asks }
     carry-silent (Command.Take byte now) step silent asks fact = absurd silent
     carry-silent (Command.Offer now) step silent asks fact =
         offer-silent step.next.line.phase step.next.line.held now step asks
@@ -233,16 +232,18 @@ module _
         answer-silent header (find (is_answered_by header) step.next.transactions.begun) step asks
     carry-silent (Command.GiveUp header) step silent asks fact =
         time-silent (is_answered_by header) (find (is_answered_by header) step.next.transactions.begun) step asks
-    carry-silent (Command.End system) step silent asks fact = record { quiet = inl refl; asks = asks }
-    carry-silent (Command.Recall header) step silent asks fact = record { quiet = inl refl; asks = asks }
-    carry-silent (Command.Remove primary system) step silent asks fact = record { quiet = inl refl; asks = asks }
-    carry-silent Command.DropFront step silent asks fact = record { quiet = inl refl; asks = asks }
+    carry-silent (Command.End system) step silent asks fact = record { quiet = inl refl; drawn = refl; asks = asks }
+    carry-silent (Command.Recall header) step silent asks fact = record { quiet = inl refl; drawn = refl; asks = asks }
+    carry-silent (Command.Remove primary system) step silent asks fact = record { quiet = inl refl; drawn = refl; asks = asks }
+    carry-silent Command.DropFront step silent asks fact = record { quiet = inl refl; drawn = refl; asks = asks }
+    carry-silent Command.Halt step silent asks fact = record { quiet = inl refl; drawn = refl; asks = asks }
 
     -- ---- many commands
 
     -- nothing that is read off the notes has changed
     pub record IsQuietly (step next : CoreStep) : Type 0 where
       pub notes : IsAsBefore (noted_behind step.notes before) (noted_behind next.notes before)
+      pub drawn : next.next.drawn ≡ step.next.drawn
       pub asks : Asks next.next.asked
 
     quietly-both : (one two three : CoreStep) → IsQuietly one two → IsQuietly two three → IsQuietly one three
@@ -250,6 +251,7 @@ module _
       notes =
           as-before-both (noted_behind one.notes before) (noted_behind two.notes before)
           (noted_behind three.notes before) first.notes second.notes;
+      drawn = second.drawn ∙ first.drawn;
       asks = second.asks;
     }
 
@@ -268,15 +270,23 @@ module _
     carry-quietly command step silent asks fact =
         either-less (Adds step) (Adds step) (IsQuietly step) (IsQuietly step) (carry Some command step)
         (carry-silent command step silent asks fact)
-        (λ next adds. record { notes = follows before step.notes next.notes adds.quiet; asks = adds.asks })
-        (λ next adds. record { notes = follows before step.notes next.notes adds.quiet; asks = adds.asks })
+        (λ next adds. record {
+          notes = follows before step.notes next.notes adds.quiet;
+          drawn = adds.drawn;
+          asks = adds.asks;
+        })
+        (λ next adds. record {
+          notes = follows before step.notes next.notes adds.quiet;
+          drawn = adds.drawn;
+          asks = adds.asks;
+        })
 
     pub carried-quietly :
         (commands : ToolCommands) (step : CoreStep) → AreSilent commands → Asks step.next.asked
         → Fact (noted_behind step.notes before)
         → OnEither (IsQuietly step) (IsQuietly step) (carried Some commands step)
     carried-quietly [] step silent asks fact =
-        record { notes = as-it-was (noted_behind step.notes before); asks = asks }
+        record { notes = as-it-was (noted_behind step.notes before); drawn = refl; asks = asks }
     carried-quietly (command ∷ commands) step silent asks fact =
         either-then (IsQuietly step) (IsQuietly step) (IsQuietly step) (carry Some command step)
         (carried Some commands) (carry-quietly command step silent.0 asks fact)
@@ -289,7 +299,7 @@ module _
         (duties : List ToolDuty) (step : CoreStep) → AreSilentDuties duties → Asks step.next.asked
         → Fact (noted_behind step.notes before)
         → OnEither (IsQuietly step) (IsQuietly step) (all_done Some duties step)
-    done-quietly [] step silent asks fact = record { notes = as-it-was (noted_behind step.notes before); asks = asks }
+    done-quietly [] step silent asks fact = record { notes = as-it-was (noted_behind step.notes before); drawn = refl; asks = asks }
     done-quietly (duty ∷ duties) step silent asks fact =
         either-then (IsQuietly step) (IsQuietly step) (IsQuietly step) (carried Some (duty step.next) step)
         (all_done Some duties) (carried-quietly (duty step.next) step (silent.0 step.next asks) asks fact)
@@ -298,6 +308,33 @@ module _
         (lasts (noted_behind step.notes before) (noted_behind next.notes before) first.notes fact)))
 
 -- ---- a character
+
+-- the number that was drawn by itself stays
+cancelled-drawn : (held : Bool) (e : EndView Kind) → (cancels held e).drawn ≡ e.drawn
+cancelled-drawn true e = refl
+cancelled-drawn false e = refl
+
+judged-drawn : (header : Header) (flow : Flow) (step : CoreStep)
+    → (judges Some header flow step).next.drawn ≡ step.next.drawn
+judged-drawn header flow.Part step = refl
+judged-drawn header (flow.Whole message) step = refl
+judged-drawn header flow.Duplicate step = refl
+judged-drawn header (flow.Foreign address) step = refl
+judged-drawn header flow.Unexpected step = refl
+judged-drawn header flow.TooLong step = refl
+judged-drawn header flow.Crowded step = refl
+
+pub told-drawn :
+    (held : Option Header) (happened : LineEvent) (now : ℕ) (step : CoreStep)
+    → (tells Some held happened now step).next.drawn ≡ step.next.drawn
+told-drawn held (event.Arrived block) now step =
+    judged-drawn block.header (flow_to step.next.assembly block)
+    (with_end (takes_back block.header now (with_assembly (with_block step.next.assembly block now) step.next)) step)
+    ∙ cancelled-drawn (is_held_answered block.header step.next.line.held) _
+told-drawn held event.Sent now step = refl
+told-drawn held event.Nothing now step = refl
+told-drawn held event.Failed now step = refl
+told-drawn held (event.Refused cause) now step = refl
 
 judged-quiet :
     (header : Header) (flow : Flow) (step : CoreStep) → AddsQuiet step.notes (judges Some header flow step).notes

@@ -1,9 +1,9 @@
 -- What a command of the tool leaves of what holds.
-use Rattle.std.proofs.Common.{◌≡◌, refl, sym, ap, subst, ◌∙◌, Bool, true, false, ℕ, nat_eq, nat_le, List, [], ◌∷◌, length, Option, Some, None, if◌then◌else◌}
+use Rattle.std.proofs.Common.{◌≡◌, refl, sym, ap, subst, ◌∙◌, ◌<◌, Bool, true, false, ℕ, nat_eq, nat_le, List, [], ◌∷◌, length, Option, Some, None, if◌then◌else◌}
 use Rattle.std.specs.Bool.{beq}
 use Rattle.std.specs.Map.{lookup, set_value}
 use Rattle.std.specs.Option.{option_map_or}
-use Rattle.std.specs.Prelude.{is_some}
+use Rattle.std.specs.Prelude.{filter, is_some}
 use Rattle.std.proofs.lemmas.Map.Steps.{set_value_same}
 use Rattle.gem_alarms.specs.declared.alarm.Alarm.{Alarm}
 use Rattle.gem_alarms.specs.declared.alarms.AlarmStep.{AlarmStep}
@@ -38,13 +38,18 @@ use Rattle.equipment_tables.specs.Past.{tables_at}
 use Rattle.equipment_tables.specs.Plan.{EquipmentPlanFits}
 use Rattle.equipment_tables.specs.Tables.{TablesState, after_command, alarm_after, set_by}
 use Rattle.equipment_node.specs.declared.kind.Kind.{Kind}
-use Rattle.equipment_node.specs.Own.{OwnView, ToolTurn, is_communicating, is_online, quiet_turn, with_control, with_tables}
-use Rattle.equipment_node.specs.Reported.{IsReported, brought_by, commands_in, due_behind, events_in, is_brought, next_dataid, past_in, reports_in, tables_in}
+use Rattle.equipment_node.specs.Own.{OwnView, ToolTurn, event_report, is_communicating, is_online, quiet_turn, with_control, with_tables}
+use Rattle.equipment_node.specs.Reports.{judged_turn, made_turn, text_turn, unreported_turn}
+use Rattle.equipment_node.specs.Spooling.{is_spooled, stored_turn}
+use Rattle.trace_log.specs.Names.{Spooled}
+use Rattle.message_end.specs.Own.{Has}
+use Rattle.equipment_node.specs.Reported.{Happened, IsReported, brought_by, commands_in, due_behind, events_in, is_brought, is_reported_by, next_dataid, past_in, reports_in, tables_in, tries_in}
 use Rattle.equipment_node.specs.Sent as sent
 use Rattle.equipment_node.specs.States as states
 use Rattle.equipment_node.specs.Tool.{alarm_report_turn, alarm_turn, attempt_turn, attempted_turn, command_turn, enabled_turn, known_event_turn, online_turn, refused_turn, set_turn, told_turn, with_event}
-use Rattle.equipment_node.proofs.HeldReports.{Any, any-lasts, Ends, Free, HasSpare, Holds, brought-settled, due-of, event-noted, event-spare, holds-less, noted-so, plain, reports-at, so_far, waits-as, with-waiting}
-use Rattle.equipment_node.proofs.PlainTurns.{IsPlain, at-most, comms-plain, control-lines, control-plain, count_waiting, fixed-plain, itself, leaving-plain, note-plain, nothing-plain, report-plain}
+use Rattle.equipment_node.proofs.HeldReports.{Any, any-lasts, Ends, Free, HasSpare, Holds, brought-settled, due-of, event-noted, event-spare, holds-less, noted-so, plain, reports-at, so_far, stored-keeps, waits-as, with-waiting}
+use Rattle.equipment_node.proofs.LeavingReports.{leaving-keeps}
+use Rattle.equipment_node.proofs.PlainTurns.{IsPlain, at-most, comms-plain, control-lines, control-plain, count_waiting, fixed-plain, itself, note-plain, nothing-plain, report-plain}
 use Rattle.equipment_node.proofs.QuietNotes.{one-behind, settled-more}
 use Rattle.equipment_node.proofs.SilentCommands.{CoreStep}
 
@@ -106,6 +111,7 @@ record IsOutcome (what : Happening) : Type 0 where
   events : (notes : List Happening) → events_in (what ∷ notes) ≡ events_in notes
   reports : (notes : List Happening) → reports_in (what ∷ notes) ≡ reports_in notes
   next : (notes : List Happening) → next_dataid (what ∷ notes) ≡ next_dataid notes
+  tries : (notes : List Happening) → tries_in (what ∷ notes) ≡ tries_in notes
   kind : is_brought what ≡ true
   right : (plan : EquipmentPlan) (notes : List Happening) → IsReported plan what notes
   none : (plan : EquipmentPlan) (notes : List Happening) → due_behind plan (what ∷ notes) ≡ None
@@ -116,6 +122,7 @@ set-outcome vid = record {
   events = λ notes. refl;
   reports = λ notes. refl;
   next = λ notes. refl;
+  tries = λ notes. refl;
   kind = refl;
   right = λ plan notes. tt;
   none = λ plan notes. refl;
@@ -127,6 +134,7 @@ alarm-outcome alid is_set = record {
   events = λ notes. refl;
   reports = λ notes. refl;
   next = λ notes. refl;
+  tries = λ notes. refl;
   kind = refl;
   right = λ plan notes. tt;
   none = λ plan notes. refl;
@@ -138,6 +146,7 @@ refused-outcome = record {
   events = λ notes. refl;
   reports = λ notes. refl;
   next = λ notes. refl;
+  tries = λ notes. refl;
   kind = refl;
   right = λ plan notes. tt;
   none = λ plan notes. refl;
@@ -179,6 +188,7 @@ module _
           tables_are = refl;
           events_are = refl;
           fewer = (itself Free tt Any any-lasts own).fewer;
+          live = λ one has is. has;
         };
       }
       go false = fixed-plain Free tt Any any-lasts own own (Primary sent.online_request ∷ [])
@@ -205,6 +215,7 @@ module _
           tables_are = rest.less.tables_are;
           events_are = rest.less.events_are;
           fewer = rest.less.fewer;
+          live = rest.less.live;
         };
       }
     where
@@ -215,7 +226,7 @@ module _
 
   asked-keeps :
       (asked : Text) (text : List ℕ) (own : OwnView) (e : EndView Kind) (step : CoreStep)
-      → Holds plan said own (so_far plan said before step) → HasSpare plan own (so_far plan said before step) text
+      → Holds plan said own step.next.drawn (so_far plan said before step) → HasSpare plan own (so_far plan said before step) text
       → Ends plan said before (sent.asking_turn asked text own e).own
       (all_done Some (sent.asking_turn asked text own e).duties step)
   asked-keeps (answer.Body asked) text own e step holds spare =
@@ -228,7 +239,7 @@ module _
     where
       go : (crowded : Bool)
           → Holds plan said (if crowded then own else sent.with_asked (next_number e.numbers) text own)
-          (so_far plan said before step)
+          step.next.drawn (so_far plan said before step)
       go true = holds
       go false = with-waiting plan said own (so_far plan said before step) text (next_number e.numbers) holds spare
   asked-keeps answer.TooLong text own e step holds spare = holds
@@ -236,48 +247,60 @@ module _
 
   event-keeps :
       (dataid : ℕ) (text : List ℕ) (own : OwnView) (e : EndView Kind) (step : CoreStep)
-      → Holds plan said own (so_far plan said before step) → HasSpare plan own (so_far plan said before step) text
+      → Holds plan said own step.next.drawn (so_far plan said before step)
+      → HasSpare plan own (so_far plan said before step) text
       → Ends plan said before (sent.event_turn dataid text own e).own
       (all_done Some (sent.event_turn dataid text own e).duties step)
   event-keeps dataid text own e step holds spare = go (nat_le (length text) 244)
     where
       turn_by : Bool → ToolTurn
       turn_by alone =
-          if alone then fixed_turn own (Primary (sent.event_report text) ∷ [])
-          else sent.grant_turn dataid text own e
+          if alone then sent.going_turn (event_report text) own e else sent.grant_turn dataid text own e
 
       go : (alone : Bool) → Ends plan said before (turn_by alone).own (all_done Some (turn_by alone).duties step)
-      go true = reports-at plan said before own text step holds spare
+      go true = reports-at plan said before own text e step holds spare
       go false =
           asked-keeps (sent.text_of own (sent.grant_item dataid (length text))) text own e step holds spare
 
-  text-keeps :
-      (dataid : ℕ) (text : Text) (own : OwnView) (e : EndView Kind) (step : CoreStep)
-      → Holds plan said own (so_far plan said before step)
-      → ((body : List ℕ) → text ≡ answer.Body body → HasSpare plan own (so_far plan said before step) body)
-      → Ends plan said before
-      (sent.judged_turn states.event_name (λ body. sent.event_turn dataid body own e) text own).own
-      (all_done Some
-      (sent.judged_turn states.event_name (λ body. sent.event_turn dataid body own e) text own).duties step)
-  text-keeps dataid text own e step holds spare = online (is_online own)
-    where
-      spoken_turn : Bool → List ℕ → ToolTurn
-      spoken_turn b body =
-          if b then sent.event_turn dataid body own e else sent.unreported_turn states.event_name own
+  -- what becomes of a report of an event
+  abbrev going : ℕ → OwnView → EndView Kind → Spooled → ToolTurn
+  going dataid own e message = sent.event_turn dataid message.body own e
 
-      spoken : (b : Bool) (body : List ℕ) → text ≡ answer.Body body
-          → Ends plan said before (spoken_turn b body).own (all_done Some (spoken_turn b body).duties step)
-      spoken true body is = event-keeps dataid body own e step holds (spare body is)
-      spoken false body is =
-          plain plan said before own (sent.unreported_turn states.event_name own)
+  made-keeps :
+      (dataid : ℕ) (text : List ℕ) (own : OwnView) (e : EndView Kind) (step : CoreStep)
+      → Holds plan said own step.next.drawn (so_far plan said before step)
+      → HasSpare plan own (so_far plan said before step) text
+      → Ends plan said before (made_turn (going dataid own e) (event_report text) own).own
+      (all_done Some (made_turn (going dataid own e) (event_report text) own).duties step)
+  made-keeps dataid text own e step holds spare = go (is_spooled (event_report text) own) (is_communicating own)
+    where
+      turn_by : Bool → Bool → ToolTurn
+      turn_by spooled communicating =
+          if spooled then stored_turn (event_report text) own
+          else if communicating then going dataid own e (event_report text)
+          else unreported_turn states.event_name own
+
+      go : (spooled communicating : Bool)
+          → Ends plan said before (turn_by spooled communicating).own
+          (all_done Some (turn_by spooled communicating).duties step)
+      go true communicating = stored-keeps plan said before own text step holds spare
+      go false true = event-keeps dataid text own e step holds spare
+      go false false =
+          plain plan said before own (unreported_turn states.event_name own)
           (note-plain Free tt Any any-lasts own (Happening.Dropped states.event_name) tt) step holds
 
+  text-keeps :
+      (dataid : ℕ) (text : Text) (own : OwnView) (e : EndView Kind) (step : CoreStep)
+      → Holds plan said own step.next.drawn (so_far plan said before step)
+      → ((body : List ℕ) → text ≡ answer.Body body → HasSpare plan own (so_far plan said before step) body)
+      → Ends plan said before (judged_turn event_report (going dataid own e) text own).own
+      (all_done Some (judged_turn event_report (going dataid own e) text own).duties step)
+  text-keeps dataid text own e step holds spare = online (is_online own)
+    where
       by_text : (t : Text) → text ≡ t
-          → Ends plan said before
-          (sent.text_turn states.event_name (λ body. sent.event_turn dataid body own e) t own).own
-          (all_done Some
-          (sent.text_turn states.event_name (λ body. sent.event_turn dataid body own e) t own).duties step)
-      by_text (answer.Body body) is = spoken (is_communicating own) body is
+          → Ends plan said before (text_turn event_report (going dataid own e) t own).own
+          (all_done Some (text_turn event_report (going dataid own e) t own).duties step)
+      by_text (answer.Body body) is = made-keeps dataid body own e step holds (spare body is)
       by_text answer.TooLong is =
           plain plan said before own (fixed_turn own (Note (Happening.TooLong states.event_name) ∷ []))
           (note-plain Free tt Any any-lasts own (Happening.TooLong states.event_name) tt) step holds
@@ -286,13 +309,12 @@ module _
 
       online_turn_by : Bool → ToolTurn
       online_turn_by b =
-          if b then sent.text_turn states.event_name (λ body. sent.event_turn dataid body own e) text own
-          else sent.unreported_turn states.event_name own
+          if b then text_turn event_report (going dataid own e) text own else unreported_turn states.event_name own
 
       online : (b : Bool) → Ends plan said before (online_turn_by b).own (all_done Some (online_turn_by b).duties step)
       online true = by_text text refl
       online false =
-          plain plan said before own (sent.unreported_turn states.event_name own)
+          plain plan said before own (unreported_turn states.event_name own)
           (note-plain Free tt Any any-lasts own (Happening.Dropped states.event_name) tt) step holds
 
 -- ---- a command as it is noted, in a step before which the tool has said this
@@ -302,7 +324,7 @@ module _
     (said : List ToolCommand) (before : List Happening) where
   -- the tables as the command leaves them are those that are looked back for
   told-tables :
-      (command : ToolCommand) (own : OwnView) (notes : List Happening) → Holds plan said own notes
+      {drawn : Option ℕ} (command : ToolCommand) (own : OwnView) (notes : List Happening) → Holds plan said own drawn notes
       → after_command command own.tables ≡ tables_in plan (recorded command ∷ notes)
   told-tables command own notes holds =
       ap (λ (t : TablesState). after_command command t) holds.tables_are
@@ -322,24 +344,26 @@ module _
 
   behind-so :
       (command : ToolCommand) (what : Happening) (own : OwnView) (step : CoreStep)
-      → Holds plan (command ∷ said) own (what ∷ recorded command ∷ so_far plan said before step)
-      → Holds plan (command ∷ said) own (so_far plan said before (behind command what step))
+      → Holds plan (command ∷ said) own step.next.drawn (what ∷ recorded command ∷ so_far plan said before step)
+      → Holds plan (command ∷ said) own (behind command what step).next.drawn (so_far plan said before (behind command what step))
   behind-so command what own step holds =
-      subst (λ (notes : List Happening). Holds plan (command ∷ said) own notes)
+      subst (λ (notes : List Happening). Holds plan (command ∷ said) own step.next.drawn notes)
       (sym (behind-is command what step)) holds
 
   -- ---- a command that brings none of these notes
 
   other-noted :
-      (command : ToolCommand) (own : OwnView) (notes : List Happening)
+      {drawn : Option ℕ} (command : ToolCommand) (own : OwnView) (notes : List Happening)
       → brought_by own.tables own.events command ≡ None → after_command command own.tables ≡ own.tables
-      → Holds plan said own notes → Holds plan (command ∷ said) own (recorded command ∷ notes)
+      → Holds plan said own drawn notes → Holds plan (command ∷ said) own drawn (recorded command ∷ notes)
   other-noted command own notes none same holds = record {
     plan_is = holds.plan_is;
     tables_are = sym same ∙ told-tables command own notes holds;
     events_are = holds.events_are;
     commanded = ap (λ (cs : List ToolCommand). command ∷ cs) holds.commanded;
     waits = holds.waits;
+    live = holds.live;
+    tried = holds.tried;
     settled =
         settled-more plan (recorded command) notes refl tt (due-of plan said own command notes holds ∙ none)
         holds.settled;
@@ -348,7 +372,7 @@ module _
   other-keeps :
       (command : ToolCommand) (own : OwnView) (turn : ToolTurn) (step : CoreStep)
       → brought_by own.tables own.events command ≡ None → after_command command own.tables ≡ own.tables
-      → IsPlain Free tt Any any-lasts own turn → Holds plan said own (so_far plan said before step)
+      → IsPlain Free tt Any any-lasts own turn → Holds plan said own step.next.drawn (so_far plan said before step)
       → Ends plan (command ∷ said) before turn.own
       (all_done Some (led_turn (Note (recorded command)) turn).duties step)
   other-keeps command own turn step none same is holds =
@@ -359,9 +383,9 @@ module _
   -- ---- a command with what came of it, where no event happens
 
   outcome-noted :
-      (command : ToolCommand) (what : Happening) (own : OwnView) (notes : List Happening) → IsOutcome what
-      → brought_by own.tables own.events command ≡ Some what → Holds plan said own notes
-      → Holds plan (command ∷ said) (commanded command own) (what ∷ recorded command ∷ notes)
+      {drawn : Option ℕ} (command : ToolCommand) (what : Happening) (own : OwnView) (notes : List Happening) → IsOutcome what
+      → brought_by own.tables own.events command ≡ Some what → Holds plan said own drawn notes
+      → Holds plan (command ∷ said) (commanded command own) drawn (what ∷ recorded command ∷ notes)
   outcome-noted command what own notes is brings holds = record {
     plan_is = holds.plan_is;
     tables_are =
@@ -374,6 +398,12 @@ module _
     waits =
         waits-as plan own.for_grant notes (what ∷ recorded command ∷ notes) (is.reports (recorded command ∷ notes))
         (is.events (recorded command ∷ notes)) holds.waits;
+    live = λ one has event.
+        subst (λ (happened : List Happened). 0 < length (filter (is_reported_by plan one.message.body) happened))
+        (sym (is.events (recorded command ∷ notes))) (holds.live one has event);
+    tried = λ number drawn.
+        subst (λ (tries : List ℕ). Has tries number) (sym (is.tries (recorded command ∷ notes)))
+        (holds.tried number drawn);
     settled =
         brought-settled plan said own command what notes holds brings is.kind
         (is.right plan (recorded command ∷ notes)) (is.none plan (recorded command ∷ notes));
@@ -381,9 +411,9 @@ module _
 
   -- the tables stay as they were
   unchanged-noted :
-      (command : ToolCommand) (what : Happening) (own : OwnView) (notes : List Happening) → IsOutcome what
+      {drawn : Option ℕ} (command : ToolCommand) (what : Happening) (own : OwnView) (notes : List Happening) → IsOutcome what
       → brought_by own.tables own.events command ≡ Some what → after_command command own.tables ≡ own.tables
-      → Holds plan said own notes → Holds plan (command ∷ said) own (what ∷ recorded command ∷ notes)
+      → Holds plan said own drawn notes → Holds plan (command ∷ said) own drawn (what ∷ recorded command ∷ notes)
   unchanged-noted command what own notes is brings same holds =
       holds-less plan (command ∷ said) (commanded command own) own (what ∷ recorded command ∷ notes)
       (outcome-noted command what own notes is brings holds)
@@ -392,12 +422,13 @@ module _
         tables_are = sym same;
         events_are = refl;
         fewer = λ body. at-most (count_waiting body own.for_grant);
+        live = λ one has is. has;
       })
 
   refused-keeps :
       (command : ToolCommand) (own : OwnView) (step : CoreStep)
       → brought_by own.tables own.events command ≡ Some Happening.Refused
-      → after_command command own.tables ≡ own.tables → Holds plan said own (so_far plan said before step)
+      → after_command command own.tables ≡ own.tables → Holds plan said own step.next.drawn (so_far plan said before step)
       → Ends plan (command ∷ said) before own
       (all_done Some (led_turn (Note (recorded command)) (refused_turn own)).duties step)
   refused-keeps command own step brings same holds =
@@ -408,7 +439,7 @@ module _
 
   set-keeps :
       (refusal : Option Setting) (vid : ℕ) (value : Item) (own : OwnView) (step : CoreStep)
-      → refusal_of own.tables.vars vid value ≡ refusal → Holds plan said own (so_far plan said before step)
+      → refusal_of own.tables.vars vid value ≡ refusal → Holds plan said own step.next.drawn (so_far plan said before step)
       → Ends plan (tool.Set vid value ∷ said) before (set_turn refusal vid value own).own
       (all_done Some
       (led_turn (Note (recorded (tool.Set vid value))) (set_turn refusal vid value own)).duties step)
@@ -439,21 +470,21 @@ module _
       (alarm-stays own.tables.alarms alid is_set found is no_change)
 
   alarm-keeps :
-      (found : AlarmStep) (alid : ℕ) (is_set : Bool) (own : OwnView) (step : CoreStep)
-      → step_of own.tables.alarms alid is_set ≡ found → Holds plan said own (so_far plan said before step)
-      → Ends plan (tool.Alarm alid is_set ∷ said) before (alarm_turn found alid is_set own).own
+      (found : AlarmStep) (alid : ℕ) (is_set : Bool) (own : OwnView) (e : EndView Kind) (step : CoreStep)
+      → step_of own.tables.alarms alid is_set ≡ found → Holds plan said own step.next.drawn (so_far plan said before step)
+      → Ends plan (tool.Alarm alid is_set ∷ said) before (alarm_turn found alid is_set own e).own
       (all_done Some
-      (led_turn (Note (recorded (tool.Alarm alid is_set))) (alarm_turn found alid is_set own)).duties step)
-  alarm-keeps alarm_step.Unknown alid is_set own step is holds =
+      (led_turn (Note (recorded (tool.Alarm alid is_set))) (alarm_turn found alid is_set own e)).duties step)
+  alarm-keeps alarm_step.Unknown alid is_set own e step is holds =
       refused-keeps (tool.Alarm alid is_set) own step (alarm-brings alarm_step.Unknown alid is_set own is)
       (alarm-same alarm_step.Unknown alid is_set own is tt) holds
-  alarm-keeps alarm_step.Same alid is_set own step is holds =
+  alarm-keeps alarm_step.Same alid is_set own e step is holds =
       behind-so (tool.Alarm alid is_set) (Happening.Alarm alid is_set) own step
       (unchanged-noted (tool.Alarm alid is_set) (Happening.Alarm alid is_set) own (so_far plan said before step)
       (alarm-outcome alid is_set) (alarm-brings alarm_step.Same alid is_set own is)
       (alarm-same alarm_step.Same alid is_set own is tt) holds)
-  alarm-keeps (alarm_step.Changed enabled) alid is_set own step is holds =
-      plain plan (tool.Alarm alid is_set ∷ said) before changed (alarm_report_turn enabled alid changed) (go enabled)
+  alarm-keeps (alarm_step.Changed enabled) alid is_set own e step is holds =
+      plain plan (tool.Alarm alid is_set ∷ said) before changed (alarm_report_turn enabled alid changed e) (go enabled)
       (behind (tool.Alarm alid is_set) (Happening.Alarm alid is_set) step)
       (behind-so (tool.Alarm alid is_set) (Happening.Alarm alid is_set) changed step
       (outcome-noted (tool.Alarm alid is_set) (Happening.Alarm alid is_set) own (so_far plan said before step)
@@ -462,17 +493,17 @@ module _
       changed : OwnView
       changed = with_tables (alarm_after alid is_set own.tables) own
 
-      go : (enabled : Bool) → IsPlain Free tt Any any-lasts changed (alarm_report_turn enabled alid changed)
+      go : (enabled : Bool) → IsPlain Free tt Any any-lasts changed (alarm_report_turn enabled alid changed e)
       go true =
-          report-plain Free tt Any any-lasts sent.alarm_report (λ body. (refl, refl))
-          (sent.text_of changed (alarm_item_of changed.tables alid)) changed
+          report-plain Free tt Any any-lasts sent.alarm_report (λ body. (refl, refl)) (λ body. refl)
+          (sent.text_of changed (alarm_item_of changed.tables alid)) changed e
       go false = nothing-plain Free tt Any any-lasts changed
 
   -- ---- events
 
   happened-keeps :
       (known : Bool) (ceid : ℕ) (own : OwnView) (e : EndView Kind) (step : CoreStep)
-      → is_planned own.tables.reports ceid ≡ known → Holds plan said own (so_far plan said before step)
+      → is_planned own.tables.reports ceid ≡ known → Holds plan said own step.next.drawn (so_far plan said before step)
       → Ends plan (tool.Event ceid ∷ said) before (known_event_turn known ceid own e).own
       (all_done Some (led_turn (Note (recorded (tool.Event ceid))) (known_event_turn known ceid own e)).duties step)
   happened-keeps false ceid own e step is holds =
@@ -483,7 +514,7 @@ module _
       next : CoreStep
       next = behind (tool.Event ceid) (Happening.Event ceid own.events) step
 
-      noted_event : Holds plan (tool.Event ceid ∷ said) (with_event own) (so_far plan said before next)
+      noted_event : Holds plan (tool.Event ceid ∷ said) (with_event own) next.next.drawn (so_far plan said before next)
       noted_event =
           behind-so (tool.Event ceid) (Happening.Event ceid own.events) (with_event own) step
           (event-noted plan said own ceid (so_far plan said before step) holds planned)
@@ -506,7 +537,7 @@ module _
 
   pub told-keeps :
       (command : ToolCommand) (now : ℕ) (own : OwnView) (e : EndView Kind) (step : CoreStep)
-      → Holds plan said own (so_far plan said before step)
+      → Holds plan said own step.next.drawn (so_far plan said before step)
       → Ends plan (command ∷ said) before (told_turn command now own e).own
       (all_done Some (told_turn command now own e).duties step)
   told-keeps (tool.Set vid value) now own e step holds =
@@ -514,13 +545,15 @@ module _
   told-keeps (tool.Event ceid) now own e step holds =
       happened-keeps (is_planned own.tables.reports ceid) ceid own e step refl holds
   told-keeps (tool.Alarm alid is_set) now own e step holds =
-      alarm-keeps (step_of own.tables.alarms alid is_set) alid is_set own step refl holds
+      alarm-keeps (step_of own.tables.alarms alid is_set) alid is_set own e step refl holds
   told-keeps tool.Enable now own e step holds =
       other-keeps tool.Enable own (command_turn tool.Enable now own e) step refl refl
       (comms-plain Free tt Any any-lasts comms_in.Enable now own) holds
   told-keeps tool.Disable now own e step holds =
-      other-keeps tool.Disable own (command_turn tool.Disable now own e) step refl refl
-      (leaving-plain Free tt Any any-lasts comms_in.Disable None now own e) holds
+      leaving-keeps plan (tool.Disable ∷ said) before comms_in.Disable None now own e
+      (noted Some (recorded tool.Disable) step)
+      (noted-so plan (tool.Disable ∷ said) before own (recorded tool.Disable) step
+      (other-noted tool.Disable own (so_far plan said before step) refl refl holds))
   told-keeps tool.Online now own e step holds =
       other-keeps tool.Online own (command_turn tool.Online now own e) step refl refl
       (online-plain plan fits looked said before own e) holds
@@ -535,5 +568,5 @@ module _
       (control-plain Free tt Any any-lasts control_in.ToRemote own) holds
   told-keeps (tool.Terminal tid text) now own e step holds =
       other-keeps (tool.Terminal tid text) own (command_turn (tool.Terminal tid text) now own e) step refl refl
-      (report-plain Free tt Any any-lasts sent.terminal_report (λ body. (refl, refl))
-      (sent.text_of own (sent.terminal_item tid text)) own) holds
+      (report-plain Free tt Any any-lasts sent.terminal_report (λ body. (refl, refl)) (λ body. refl)
+      (sent.text_of own (sent.terminal_item tid text)) own e) holds

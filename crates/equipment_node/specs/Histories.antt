@@ -8,7 +8,7 @@ use Rattle.message_end.specs.Ends.{Input}
 use Rattle.message_end.specs.Ends.Input.{Char, Command, Time}
 use Rattle.equipment_tables.specs.declared.plan.EquipmentPlan.{EquipmentPlan}
 use Rattle.equipment_node.specs.Reported.{Reported, commands_in, due_behind, past_in}
-use Rattle.equipment_node.specs.Step.{EquipmentView}
+use Rattle.equipment_node.specs.Equipment.{EquipmentView}
 
 -- the commands of the tool since the newest start, the newest first
 abbrev pub with_command : Input ToolCommand → List ToolCommand → List ToolCommand

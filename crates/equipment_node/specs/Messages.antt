@@ -27,6 +27,7 @@ use Rattle.equipment_node.specs.Own.{OwnView, ToolCommands, ToolDuty, ToolTurn, 
 use Rattle.equipment_node.specs.Replies.{secondary_turn}
 use Rattle.equipment_tables.specs.Requests.{request_of}
 use Rattle.equipment_node.specs.Sent.{abort_duty, answer_duties, error_duty, text_of}
+use Rattle.equipment_node.specs.Spooling.{purge_turn, transmit_turn}
 use Rattle.equipment_node.specs.States.{comms_turn, control_commands}
 use Rattle.equipment_tables.specs.Tables.{tables_after}
 
@@ -97,6 +98,8 @@ answer_turn request message own =
 abbrev pub request_turn : Request → Message → OwnView → ToolTurn
 request_turn request.GoOffline message own = control_request_turn RequestOffline message own
 request_turn request.GoOnline message own = control_request_turn RequestOnline message own
+request_turn request.TransmitSpool message own = transmit_turn message own
+request_turn request.PurgeSpool message own = purge_turn message own
 request_turn request message own = answer_turn request message own
 
 -- a request that has come as far as its action counts when the equipment looks back (this profile)

@@ -13,6 +13,9 @@ own_of own = record {
   comms = own.comms;
   control = own.control;
   for_grant = own.for_grant.items;
+  reports = own.reports.items;
+  ledger = own.ledger;
+  tried = own.tried;
   events = own.events;
   has_begun = own.has_begun;
 }

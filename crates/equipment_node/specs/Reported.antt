@@ -1,7 +1,9 @@
 -- What is said of the reports among all that the equipment has noted: each holds what its variables held as its event
 -- happened, or as it was asked for (SEMI E30, event data collection); and each event, like each setting, is of its
--- command. The newest comes first: what was noted before is the rest of the list.
-use Rattle.std.specs.Prelude.{◌≡◌, ◌<◌, ◌^◌, ◌%◌, ◌+◌, ◌==◌, ◌&&◌, ℕ, Bool, true, false, not, List, [], ◌∷◌, length, filter, bytes_eq, Option, Some, None, is_some, if◌then◌else◌}
+-- command. A report goes out at once, or it is put into the spool, or both; what goes out of the spool is what was put
+-- there, as the law of the spool says. The newest comes first: what was noted before is the rest of the list.
+use Rattle.std.specs.Prelude.{◌≡◌, ◌<◌, ◌^◌, ◌%◌, ◌+◌, ◌==◌, ◌&&◌, ℕ, Bool, true, false, not, nat_eq, List, [], ◌∷◌, length, filter, bytes_eq, Option, Some, None, is_some, if◌then◌else◌}
+use Rattle.std.specs.List.{list_any}
 use Rattle.gem_alarms.specs.Alarms.{alarm_in}
 use Rattle.gem_reports.specs.Reporting.{is_enabled_in, is_planned}
 use Rattle.gem_shapes.specs.declared.request.Request.{Request}
@@ -14,6 +16,7 @@ use Rattle.secs_items.specs.Spelling.{shortest_spelling}
 use Rattle.trace_log.specs.declared.commands.ToolCommand.{ToolCommand}
 use Rattle.trace_log.specs.declared.commands.ToolCommand.TheVariants as tool
 use Rattle.trace_log.specs.Log.{Happening, Past}
+use Rattle.trace_log.specs.Names.{Spooled}
 use Rattle.message_end.specs.Core.{reply_function}
 use Rattle.message_end.specs.Own.{Has}
 use Rattle.equipment_tables.specs.declared.plan.EquipmentPlan.{EquipmentPlan}
@@ -58,13 +61,28 @@ events_in (_ ∷ before) = events_in before
 abbrev pub is_of : ℕ → ℕ → Message → Bool
 is_of stream function message = (message.stream == stream) && (message.function == function)
 
--- the S6F11 that were sent
-abbrev pub reports_in : List Happening → List Message
+-- the system bytes with which messages of the spool go out
+abbrev pub tries_in : List Happening → List ℕ
+tries_in [] = []
+tries_in (Happening.EquipmentStarted found base ∷ before) = []
+tries_in (Happening.Try number system ∷ before) = system ∷ tries_in before
+tries_in (_ ∷ before) = tries_in before
+
+-- an S6F11 that was sent, and not out of the spool
+abbrev pub is_live : Message → List Happening → Bool
+is_live message before = is_of 6 11 message && not (list_any (nat_eq message.system) (tries_in before))
+
+-- the texts of these
+abbrev pub reports_in : List Happening → List (List ℕ)
 reports_in [] = []
 reports_in (Happening.EquipmentStarted found base ∷ before) = []
 reports_in (Happening.Sent message ∷ before) =
-    if is_of 6 11 message then message ∷ reports_in before else reports_in before
+    if is_live message before then message.body ∷ reports_in before else reports_in before
 reports_in (_ ∷ before) = reports_in before
+
+-- an S6F11 that is put into the spool
+abbrev pub is_event_report : Spooled → Bool
+is_event_report message = (message.stream == 6) && (message.function == 11)
 
 -- the DATAID of the next event: from 0 on, one after the other, and 0 again behind the last that four bytes hold (this
 -- profile)
@@ -95,24 +113,32 @@ is_reported_by plan body event =
     was_enabled plan event
     && (not (is_some (encode_fault (item_of plan event))) && bytes_eq body (shortest_spelling (item_of plan event)))
 
--- how many events have this text, and how many S6F11 were sent with it
+-- how many events have this text; and how often it is among some
 abbrev pub count_of_events : EquipmentPlan → List ℕ → List Happening → ℕ
 count_of_events plan body before = length (filter (is_reported_by plan body) (events_in before))
 
-abbrev pub count_of_reports : List ℕ → List Happening → ℕ
-count_of_reports body before = length (filter (λ message. bytes_eq body message.body) (reports_in before))
+abbrev pub count_of : List ℕ → List (List ℕ) → ℕ
+count_of body bodies = length (filter (bytes_eq body) bodies)
 
 -- ---- reports
 
--- an S6F11 tells of an event before it in the same start, one that was enabled, with that event's DATAID and with what
--- the variables held as it happened; and no more go out with one text than there are events that have it
-pub record IsOfEvent (plan : EquipmentPlan) (message : Message) (before : List Happening) : Type 0 where
-  pub wait : message.wait ≡ true
+-- the text of an S6F11 tells of an event before it in the same start, one that was enabled, with that event's DATAID
+-- and with what the variables held as it happened
+pub record IsOfEvent (plan : EquipmentPlan) (body : List ℕ) (before : List Happening) : Type 0 where
   pub event : Happened
   pub happened : Has (events_in before) event
   pub enabled : was_enabled plan event ≡ true
-  pub body : IsTextOf (item_of plan event) message.body
-  pub once : count_of_reports message.body before < count_of_events plan message.body before
+  pub text : IsTextOf (item_of plan event) body
+
+-- one that goes out has W; and no more go out with one text than there are events that have it
+pub record IsReport (plan : EquipmentPlan) (message : Message) (before : List Happening) : Type 0 where
+  pub wait : message.wait ≡ true
+  pub of_event : IsOfEvent plan message.body before
+  pub once : count_of message.body (reports_in before) < count_of_events plan message.body before
+
+-- so does one that is put into the spool, and goes out later, in this start or another one
+abbrev pub IsKeptReport : EquipmentPlan → Spooled → List Happening → Type 0
+IsKeptReport plan message before = is_event_report message ≡ true → IsOfEvent plan message.body before
 
 -- it answers the newest request that counts, a primary of stream 6 with this function that asks for this; and its text
 -- is that of the item
@@ -156,7 +182,7 @@ pub record IsReply (message : Message) (past : List Past) : Type 0 where
   pub system : message.system ≡ primary.system
 
 pub record HoldsItsValues (plan : EquipmentPlan) (message : Message) (before : List Happening) : Type 0 where
-  pub s6f11 : is_of 6 11 message ≡ true → IsOfEvent plan message before
+  pub s6f11 : is_live message before ≡ true → IsReport plan message before
   pub s6f16 : is_of 6 16 message ≡ true → AnswersForEvent plan message before
   pub s6f20 : is_of 6 20 message ≡ true → AnswersForReport plan message before
   pub reply : is_answer message ≡ true → IsReply message (past_in before)
@@ -205,6 +231,7 @@ IsRecorded (Past.Commanded command) before = Unit {0}
 -- what is said of a note by its kind
 abbrev pub IsReported : EquipmentPlan → Happening → List Happening → Type 0
 IsReported plan (Happening.Sent message) before = HoldsItsValues plan message before
+IsReported plan (Happening.Storing number message) before = IsKeptReport plan message before
 IsReported plan (Happening.Recorded entry) before = IsRecorded entry before
 IsReported plan _ before = Unit {0}
 

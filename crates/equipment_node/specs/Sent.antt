@@ -1,5 +1,5 @@
 -- What the equipment sends by itself.
-use Rattle.std.specs.Prelude.{ℕ, Bool, true, false, not, ◌+◌, ◌%◌, ◌==◌, nat_le, List, [], ◌∷◌, ◌++◌, length, Option, Some, None, is_some, if◌then◌else◌}
+use Rattle.std.specs.Prelude.{ℕ, Bool, true, false, not, nat_le, List, [], ◌∷◌, ◌++◌, length, Option, Some, None, if◌then◌else◌}
 use Rattle.std.specs.List.{count_by}
 use Rattle.block_codec.specs.declared.header.Header.{Header}
 use Rattle.block_codec.specs.Header.{header_bytes}
@@ -10,18 +10,18 @@ use Rattle.secs_items.specs.declared.item.Item.TheVariants as item
 use Rattle.secs_items.specs.Items.{number_item}
 use Rattle.trace_log.specs.declared.names.Name.{Name}
 use Rattle.trace_log.specs.Log.{Happening}
+use Rattle.trace_log.specs.Names.{Spooled}
 use Rattle.transact.specs.Numbers.{next_number}
 use Rattle.message_end.specs.declared.unsent.Unsent.{Unsent}
-use Rattle.message_end.specs.Core.{Command, EndView, is_crowded_out, reply_function, unsent_name}
+use Rattle.message_end.specs.Core.{Command, EndView, is_crowded_out, reply_function}
 use Rattle.message_end.specs.Core.Command.{Abort, Note, Primary, Reply}
 use Rattle.message_end.specs.Parts.{fixed_turn}
 use Rattle.equipment_node.specs.declared.kind.Kind.{Kind}
 use Rattle.equipment_node.specs.declared.kind.Kind.TheVariants as kind
-use Rattle.equipment_node.specs.Grants.{GrantView}
 use Rattle.equipment_tables.specs.declared.answers.Answer.{Answer}
 use Rattle.equipment_tables.specs.declared.answers.Answer.TheVariants as answer
 use Rattle.equipment_tables.specs.Answers.{identity_of, spelled_body}
-use Rattle.equipment_node.specs.Own.{OwnView, ToolCommands, ToolDuty, ToolTurn, is_communicating, is_online, quiet_turn, with_for_grant}
+use Rattle.equipment_node.specs.Own.{OwnView, ToolCommands, ToolDuty, ToolTurn, event_report, is_communicating, quiet_turn, with_for_grant, with_report}
 
 abbrev pub primary_of : ℕ → ℕ → Kind → List ℕ → Unsent Kind
 primary_of stream function kind body = record {
@@ -43,21 +43,15 @@ abbrev pub grant_request : List ℕ → Unsent Kind
 grant_request = primary_of 6 5 kind.Grant
 
 -- S5F1, S6F11 and S10F1, all with W (SEMI E5)
-abbrev pub alarm_report : List ℕ → Unsent Kind
-alarm_report = primary_of 5 1 kind.Report
+abbrev pub alarm_report : List ℕ → Spooled
+alarm_report body = record { stream = 5; function = 1; body = body }
 
-abbrev pub event_report : List ℕ → Unsent Kind
-event_report = primary_of 6 11 kind.Report
-
-abbrev pub terminal_report : List ℕ → Unsent Kind
-terminal_report = primary_of 10 1 kind.Report
+abbrev pub terminal_report : List ℕ → Spooled
+terminal_report body = record { stream = 10; function = 1; body = body }
 
 -- TID and the text (SEMI E5, S10F1)
 abbrev pub terminal_item : ℕ → List ℕ → Item
 terminal_item tid text = pair_item (item.B (tid ∷ [])) (item.A text)
-
-abbrev pub terminal_name : Name
-terminal_name = unsent_name (terminal_report [])
 
 -- S1F13 W, the request to establish communications: MDLN and SOFTREV (SEMI E5, S1F13)
 abbrev pub establish_request : List ℕ → Unsent Kind
@@ -144,6 +138,22 @@ answer_duties answer.Abort message = abort_duty message ∷ []
 
 -- ---- reports
 
+-- a report as a primary, with W (SEMI E5, S5F1, S6F11, S10F1)
+abbrev pub live_report : Spooled → Unsent Kind
+live_report message = primary_of message.stream message.function kind.Report message.body
+
+-- a report is kept until its transaction ends, under the number that it gets; unless it isn't sent
+abbrev pub kept_report : Option ℕ → Spooled → OwnView → OwnView
+kept_report None message own = own
+kept_report (Some system) message own = with_report system message own
+
+abbrev pub live_own : Spooled → OwnView → EndView Kind → OwnView
+live_own message own e = if is_crowded_out true e then own else kept_report (next_number e.numbers) message own
+
+-- it goes
+abbrev pub going_turn : Spooled → OwnView → EndView Kind → ToolTurn
+going_turn message own e = fixed_turn (live_own message own e) (Primary (live_report message) ∷ [])
+
 -- an S6F11 of several blocks waits for S6F6, under the number of its S6F5, unless that isn't sent: then it is dropped
 -- with it (SEMI E5, S6F5; the latter is this profile's)
 abbrev pub with_asked : Option ℕ → List ℕ → OwnView → OwnView
@@ -161,28 +171,7 @@ asking_turn _ body own e = quiet_turn own
 abbrev pub grant_turn : ℕ → List ℕ → OwnView → EndView Kind → ToolTurn
 grant_turn dataid body own e = asking_turn (text_of own (grant_item dataid (length body))) body own e
 
--- it goes, alone or behind S6F6 (SEMI E4, block; SEMI E5, S6F5)
+-- an S6F11 goes, alone or behind S6F6 (SEMI E4, block; SEMI E5, S6F5)
 abbrev pub event_turn : ℕ → List ℕ → OwnView → EndView Kind → ToolTurn
 event_turn dataid body own e =
-    if nat_le (length body) 244 then fixed_turn own (Primary (event_report body) ∷ [])
-    else grant_turn dataid body own e
-
--- a report of this name that is dropped
-abbrev pub unreported_turn : Name → OwnView → ToolTurn
-unreported_turn name own = fixed_turn own (Note (Happening.Dropped name) ∷ [])
-
--- one with this text goes where the communication is established (SEMI E30, establishing communications)
-abbrev pub text_turn : Name → (List ℕ → ToolTurn) → Answer → OwnView → ToolTurn
-text_turn name turn (answer.Body body) own = if is_communicating own then turn body else unreported_turn name own
-text_turn name turn answer.TooLong own = fixed_turn own (Note (Happening.TooLong name) ∷ [])
-text_turn name turn answer.Abort own = quiet_turn own
-
--- off-line a report is dropped, whatever its text; else one that is too long, else one without communication (SEMI E30,
--- OFF-LINE; the order is this profile's)
-abbrev pub judged_turn : Name → (List ℕ → ToolTurn) → Answer → OwnView → ToolTurn
-judged_turn name turn text own = if is_online own then text_turn name turn text own else unreported_turn name own
-
--- a report that goes alone, with W
-abbrev pub report_turn : (List ℕ → Unsent Kind) → Answer → OwnView → ToolTurn
-report_turn unsent text own =
-    judged_turn (unsent_name (unsent [])) (λ body. fixed_turn own (Primary (unsent body) ∷ [])) text own
+    if nat_le (length body) 244 then going_turn (event_report body) own e else grant_turn dataid body own e

@@ -1,6 +1,6 @@
 -- The two state models in a step: what they meet, and what is noted and sent then.
-use Rattle.std.specs.Prelude.{ℕ, Bool, true, false, List, [], ◌∷◌, ◌++◌, Option, if◌then◌else◌}
-use Rattle.std.specs.List.{list_any}
+use Rattle.std.specs.Prelude.{ℕ, Bool, true, false, ◌&&◌, [], ◌∷◌, ◌++◌, Option, Some, None, if◌then◌else◌}
+use Rattle.std.specs.List.{filter_map, list_any}
 use Rattle.block_codec.specs.declared.header.Header.{Header}
 use Rattle.gem_states.specs.declared.comms.CommsIn.{CommsIn}
 use Rattle.gem_states.specs.declared.comms.CommsOut.{CommsOut}
@@ -19,16 +19,22 @@ use Rattle.trace_log.specs.declared.names.ControlName.{ControlName}
 use Rattle.trace_log.specs.declared.names.ControlName.TheVariants as control_name
 use Rattle.trace_log.specs.declared.names.Name.{Name}
 use Rattle.trace_log.specs.Log.{Happening}
+use Rattle.trace_log.specs.Names.{Spooled}
 use Rattle.transact.specs.declared.begun.Begun.{Begun}
+use Rattle.transact.specs.Transactions.{system_of}
 use Rattle.message_end.specs.Core.{Command, EndView}
 use Rattle.message_end.specs.Core.Command.{Note}
-use Rattle.message_end.specs.Endings.{ends_open}
+use Rattle.message_end.specs.Endings.{ends_open, notes_failed}
 use Rattle.message_end.specs.Parts.{fixed_turn}
 use Rattle.equipment_node.specs.declared.kind.Kind.{Kind}
 use Rattle.equipment_node.specs.declared.kind.Kind.TheVariants as kind
-use Rattle.equipment_node.specs.Own.{OwnView, ToolCommands, ToolDuty, ToolTurn, quiet_turn, turn_before, turn_of, with_comms, with_control}
+use Rattle.equipment_node.specs.Own.{OwnView, ToolCommands, ToolTurn, quiet_turn, sent_report, turn_of, waiting_report, with_comms, with_control, with_ledger}
 use Rattle.equipment_node.specs.Sent.{establish_commands}
-use Rattle.equipment_tables.specs.Tables.{delay_of}
+use Rattle.equipment_node.specs.Spooling.{Stores, is_spooled, lines_commands, stores_all, stores_commands}
+use Rattle.spool_ledger.specs.Activity.{activated}
+use Rattle.spool_ledger.specs.Ledger.{Booked}
+use Rattle.spool_ledger.specs.Unloading.{with_unload}
+use Rattle.equipment_tables.specs.Tables.{delay_of, may_spool, overwrites}
 
 -- ---- communication
 
@@ -102,12 +108,48 @@ control_turn input own =
 abbrev pub event_name : Name
 event_name = record { stream = 6; function = 11; wait = true }
 
--- with its transaction an S6F11 that waits for S6F6 is dropped, and an attempt to be on-line has failed (this profile)
-abbrev pub loss_commands : ControlView → Kind → ToolCommands
-loss_commands control kind.Establish = []
-loss_commands control kind.Attempt = control_commands AttemptFailed control
-loss_commands control kind.Grant = Note (Happening.Dropped event_name) ∷ []
-loss_commands control kind.Report = []
+-- where the communication is lost, and where it can't be established, spooling begins (SEMI E30, spooling)
+abbrev pub begins_spooling : CommsState → CommsState → Bool
+begins_spooling comms.Communicating comms.WaitCra = true
+begins_spooling comms.WaitCra comms.WaitDelay = true
+begins_spooling _ _ = false
+
+-- the report of an open transaction is put then, where the spool is active and the rule covers it, also one that waits
+-- for leave; not a message that the spool has already (this profile)
+abbrev pub stored_one : OwnView → Option Spooled → Option Spooled
+stored_one own None = None
+stored_one own (Some message) = if is_spooled message own then Some message else None
+
+abbrev pub stored_by : OwnView → Kind → ℕ → Option Spooled
+stored_by own kind.Report system = stored_one own (sent_report system own)
+stored_by own kind.Grant system = stored_one own (waiting_report system own)
+stored_by own kind.Unload system = None
+stored_by own kind.UnloadGrant system = None
+stored_by own kind.Establish system = None
+stored_by own kind.Attempt system = None
+
+abbrev pub stored_of : Bool → OwnView → Begun Kind → Option Spooled
+stored_of spools own begun = if spools then stored_by own begun.kind (system_of begun) else None
+
+-- what ends otherwise is noted: a message, and an S6F11 that waits for leave behind its S6F5
+abbrev pub unless_stored : Option Spooled → ToolCommands → ToolCommands
+unless_stored None commands = commands
+unless_stored (Some message) commands = []
+
+abbrev pub notes_unsent : ToolCommands
+notes_unsent = Note (Happening.Dropped event_name) ∷ []
+
+-- with its transaction an attempt to be on-line has failed (this profile)
+abbrev pub ending_commands : ControlView → Option Spooled → Kind → Header → ToolCommands
+ending_commands control stored kind.Establish header = notes_failed header
+ending_commands control stored kind.Attempt header = notes_failed header ++ control_commands AttemptFailed control
+ending_commands control stored kind.Report header = unless_stored stored (notes_failed header)
+ending_commands control stored kind.Grant header = notes_failed header ++ unless_stored stored notes_unsent
+ending_commands control stored kind.Unload header = notes_failed header
+ending_commands control stored kind.UnloadGrant header = notes_failed header ++ notes_unsent
+
+abbrev pub ends_report : Bool → OwnView → Begun Kind → ToolCommands
+ends_report spools own begun = ending_commands own.control (stored_of spools own begun) begun.kind begun.header
 
 abbrev pub is_attempt_kind : Kind → Bool
 is_attempt_kind kind.Attempt = true
@@ -121,17 +163,34 @@ control_after_loss control e =
     if list_any is_attempt e.transactions.begun then control_next control AttemptFailed else control
 
 abbrev pub without_open : OwnView → EndView Kind → OwnView
-without_open own e = record own { control = control_after_loss own.control e; for_grant = [] }
+without_open own e = record own { control = control_after_loss own.control e; for_grant = []; reports = [] }
 
-abbrev pub ending_turn : Option Header → OwnView → EndView Kind → ToolTurn
-ending_turn failed own e = turn_of (without_open own e) (ends_open (loss_commands own.control) e failed)
+-- the change is noted, the spool's, what is put; and S1F13 goes behind it where the model says so
+abbrev pub left_commands : CommsOutcome → Booked → Stores → OwnView → ToolCommands
+left_commands outcome activity stores own =
+    comms_lines own.comms.state outcome.next.state ++ lines_commands activity.lines
+    ++ stores_commands stores (request_commands outcome.output own)
+
+-- the communication is left so: an unload ends, the spool may become active, the open messages end, and of the reports
+-- among them those that the rule covers are put, in the order in which their transactions began
+abbrev pub parted_turn : CommsOutcome → Bool → Booked → Option Header → OwnView → EndView Kind → ToolTurn
+parted_turn outcome spools activity failed own e =
+    let left = with_ledger activity.next (with_comms outcome.next own) in
+    let stores =
+    stores_all (overwrites own.tables) (filter_map (stored_of spools left) e.transactions.begun) activity.next in
+    turn_of (with_ledger stores.next (without_open left e))
+    (ends_open (ends_report spools left) e failed ++ (λ later. left_commands outcome activity stores own) ∷ [])
+
+abbrev pub activity_of : CommsOutcome → OwnView → Booked
+activity_of outcome own =
+    activated (begins_spooling own.comms.state outcome.next.state && may_spool own.tables) (with_unload None own.ledger)
 
 -- the communication meets an input that ends all open messages where it changes the state by it (SEMI E30,
 -- communications state model)
 abbrev pub left_turn : CommsOutcome → Option Header → OwnView → EndView Kind → ToolTurn
 left_turn outcome failed own e =
     if is_same_comms own.comms.state outcome.next.state then quiet_turn own
-    else turn_before ((λ later. comms_commands outcome own) ∷ []) (ending_turn failed (with_comms outcome.next own) e)
+    else parted_turn outcome (begins_spooling own.comms.state outcome.next.state) (activity_of outcome own) failed own e
 
 abbrev pub leaving_turn : CommsIn → Option Header → ℕ → OwnView → EndView Kind → ToolTurn
 leaving_turn input failed now own e = left_turn (comms_outcome input now own) failed own e

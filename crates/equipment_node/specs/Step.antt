@@ -1,32 +1,28 @@
--- A step of the equipment, in its parts, and the equipment as an end.
-use Rattle.std.specs.Prelude.{◌≡◌, ◌≤◌, ◌<◌, ◌^◌, ℕ, Bool, true, false, not, ◌||◌, List, [], ◌∷◌, ◌++◌, replicate, Option, Some, None, if◌then◌else◌}
+-- A step of the equipment, in its parts.
+use Rattle.std.specs.Prelude.{ℕ, Bool, true, false, not, ◌-◌, ◌==◌, ◌||◌, List, [], ◌∷◌, ◌++◌, replicate, Option, Some, None, if◌then◌else◌}
 use Rattle.block_codec.specs.declared.header.Header.{Header}
 use Rattle.gem_states.specs.declared.comms.CommsIn.TheVariants.{Enable, SendFailed, Time}
-use Rattle.gem_states.specs.Comms.{comms_after}
-use Rattle.gem_states.specs.Control.{new_control}
 use Rattle.gl_base.specs.declared.side.Side.TheVariants.{Equipment}
 use Rattle.message_flow.specs.declared.flow.Flow.{Flow}
 use Rattle.message_flow.specs.declared.flow.Flow.TheVariants as flow
 use Rattle.trace_log.specs.declared.commands.ToolCommand.{ToolCommand}
-use Rattle.trace_log.specs.Log.{Happening}
-use Rattle.transact.specs.Numbers.{NumbersView, numbers_from}
+use Rattle.trace_log.specs.Names.{Spooled}
 use Rattle.message_end.specs.declared.end.Took.{Took}
 use Rattle.message_end.specs.declared.end.Took.TheVariants as took
 use Rattle.message_end.specs.Calls.{deadline_of_end, failed_at, least, took_at}
-use Rattle.message_end.specs.Core.{Command, EndView, Step}
-use Rattle.message_end.specs.Core.Command.{Offer, Take, Tick}
-use Rattle.message_end.specs.Ends.{Input, Machine}
-use Rattle.message_end.specs.Laws.{new_end}
-use Rattle.message_end.specs.Parts.{Design, Node, fixed_turn, leads, led_turn, machine_of, started}
+use Rattle.message_end.specs.Core.{Command, EndView}
+use Rattle.message_end.specs.Core.Command.{Halt, Offer, Take, Tick}
+use Rattle.message_end.specs.Ends.{Input}
+use Rattle.message_end.specs.Parts.{Node, fixed_turn, leads, led_turn}
 use Rattle.message_end.specs.Plan.{EndPlan}
-use Rattle.equipment_node.specs.declared.kind.Kind.{Kind}
 use Rattle.equipment_tables.specs.declared.plan.EquipmentPlan.{EquipmentPlan}
+use Rattle.equipment_node.specs.declared.kind.Kind.{Kind}
+use Rattle.equipment_node.specs.Messages.{message_turn}
 use Rattle.equipment_node.specs.Own.{OwnView, ToolPart, ToolTurn, quiet_turn, turn_of}
 use Rattle.equipment_node.specs.Replies.{block_timer, given_up_turn, reply_timer}
-use Rattle.equipment_node.specs.Messages.{message_turn}
 use Rattle.equipment_node.specs.Sent.{error_duty}
+use Rattle.equipment_node.specs.Spooling.{end_of_spooling, unload_part}
 use Rattle.equipment_node.specs.States.{comms_turn, leaving_turn}
-use Rattle.equipment_tables.specs.Tables.{planned_tables}
 use Rattle.equipment_node.specs.Tool.{told_turn}
 
 -- ---- the line
@@ -36,6 +32,16 @@ abbrev pub failed_turn : ℕ → Option Header → OwnView → EndView Kind → 
 failed_turn now None own e = quiet_turn own
 failed_turn now (Some header) own e = leaving_turn SendFailed (Some header) now own e
 
+-- no system bytes are left (a step begins with 128 of them at least)
+abbrev pub is_spent : EndView Kind → Bool
+is_spent e = e.numbers.end - e.numbers.next == 0
+
+-- the host is told by S9F11 before a reply is given up; where no system bytes are left for that nothing more is done
+-- (SEMI E5, S9F11; the latter is this profile's)
+abbrev pub long_turn : Bool → Header → OwnView → ToolTurn → ToolTurn
+long_turn true header own turn = fixed_turn own (Halt ∷ [])
+long_turn false header own turn = turn_of turn.own (error_duty 11 header own ∷ turn.duties)
+
 -- a block came and was this: S9F1 answers a foreign one, S9F11 one that made its message too long; a reply that is no
 -- good is given up (SEMI E5, S9F1, S9F11; the latter is this profile's)
 abbrev pub flow_turn : ℕ → Header → Flow → OwnView → EndView Kind → ToolTurn
@@ -44,9 +50,7 @@ flow_turn now header (flow.Whole message) own e = message_turn now header messag
 flow_turn now header flow.Duplicate own e = quiet_turn own
 flow_turn now header (flow.Foreign address) own e = turn_of own (error_duty 1 header own ∷ [])
 flow_turn now header flow.Unexpected own e = given_up_turn now header own e
-flow_turn now header flow.TooLong own e =
-    let turn = given_up_turn now header own e in
-    turn_of turn.own (error_duty 11 header own ∷ turn.duties)
+flow_turn now header flow.TooLong own e = long_turn (is_spent e) header own (given_up_turn now header own e)
 flow_turn now header flow.Crowded own e = given_up_turn now header own e
 
 abbrev pub took_turn : ℕ → Took → OwnView → EndView Kind → ToolTurn
@@ -92,9 +96,14 @@ late_parts now = replicate 16 (block_timer now) ++ replicate 64 (reply_timer now
 abbrev pub due_parts : ℕ → List ToolPart
 due_parts now = line_timer now ∷ (late_parts now ++ delay_timer now ∷ [])
 
-abbrev pub step_parts : Input ToolCommand → ℕ → List ToolPart
-step_parts input now = beginning now ∷ line_timer now
-    ∷ ((late_parts now ++ delay_timer now ∷ []) ++ input_part input now ∷ offer now ∷ [])
+-- all that is due, and behind it what the equipment is given. What the spool owes then is done by the disk
+abbrev pub first_parts : Input ToolCommand → ℕ → List ToolPart
+first_parts input now = beginning now ∷ line_timer now
+    ∷ ((late_parts now ++ delay_timer now ∷ []) ++ input_part input now ∷ [])
+
+-- an unload goes on with the oldest message that the spool has by then, spooling ends, and it is the line's turn
+abbrev pub last_parts : Option Spooled → ℕ → List ToolPart
+last_parts oldest now = unload_part oldest ∷ end_of_spooling ∷ offer now ∷ []
 
 -- ---- the equipment as an end
 
@@ -104,36 +113,3 @@ end_plan plan = record { side = Equipment; line = plan.line }
 -- when it acts next by itself: when the line, T4, T3 or the delay does
 abbrev pub deadline_of : Node OwnView Kind → Option ℕ
 deadline_of s = least (deadline_of_end s.core) s.own.comms.deadline
-
--- at a start
-abbrev pub new_own : EquipmentPlan → OwnView
-new_own plan = record {
-  plan = plan;
-  tables = planned_tables plan;
-  comms = comms_after [];
-  control = new_control plan.control;
-  for_grant = [];
-  events = 0;
-  has_begun = false;
-}
-
-abbrev pub design : Design OwnView Kind ToolCommand
-design = record {
-  plan = λ own. end_plan own.plan;
-  again = λ own. new_own own.plan;
-  parts = step_parts;
-}
-
-abbrev pub EquipmentView : Type 0
-EquipmentView = Node OwnView Kind
-
--- at a start, with these numbers
-abbrev pub at_start : EquipmentPlan → NumbersView → EquipmentView
-at_start plan numbers = record { own = new_own plan; core = new_end (end_plan plan) numbers }
-
--- the first start: all system bytes are left
-abbrev pub start : EquipmentPlan → Step EquipmentView Happening
-start plan = started (end_plan plan) (new_own plan) (numbers_from 0 (2 ^ 32))
-
-abbrev pub machine : Machine EquipmentView ToolCommand
-machine = machine_of design

@@ -22,9 +22,10 @@ use Rattle.message_end.specs.Core.Command.{Note, Primary}
 use Rattle.message_end.specs.Parts.{fixed_turn, led_turn}
 use Rattle.equipment_node.specs.declared.kind.Kind.{Kind}
 use Rattle.equipment_tables.specs.Answers.{alarm_item_of, event_item}
-use Rattle.equipment_node.specs.Own.{OwnView, ToolTurn, is_communicating, quiet_turn, turn_behind, with_control, with_tables}
-use Rattle.equipment_node.specs.Sent.{alarm_report, event_turn, judged_turn, online_request, report_turn, terminal_item, terminal_report, text_of}
-use Rattle.equipment_node.specs.States.{comms_turn, control_commands, control_lines, control_turn, event_name, leaving_turn}
+use Rattle.equipment_node.specs.Own.{OwnView, ToolTurn, event_report, is_communicating, quiet_turn, turn_behind, with_control, with_tables}
+use Rattle.equipment_node.specs.Reports.{judged_turn, report_turn}
+use Rattle.equipment_node.specs.Sent.{alarm_report, event_turn, online_request, terminal_item, terminal_report, text_of}
+use Rattle.equipment_node.specs.States.{comms_turn, control_commands, control_lines, control_turn, leaving_turn}
 use Rattle.equipment_tables.specs.Tables.{alarm_after, set_after}
 
 abbrev pub refused_turn : OwnView → ToolTurn
@@ -46,7 +47,7 @@ with_event own = record own { events = (own.events + 1) % 2 ^ 32 }
 -- the report of an event that is enabled, with what its variables hold now (SEMI E30, event data collection)
 abbrev pub enabled_turn : Bool → ℕ → ℕ → OwnView → EndView Kind → ToolTurn
 enabled_turn true ceid dataid own e =
-    judged_turn event_name (λ body. event_turn dataid body own e)
+    judged_turn event_report (λ message. event_turn dataid message.body own e)
     (text_of own (event_item own.tables ceid dataid)) own
 enabled_turn false ceid dataid own e = quiet_turn own
 
@@ -65,24 +66,22 @@ abbrev pub alarm_line : ℕ → Bool → Command Kind
 alarm_line alid is_set = Note (Happening.Alarm alid is_set)
 
 -- an alarm whose state changes is reported where it is enabled (SEMI E5, S5F1)
-abbrev pub alarm_report_turn : Bool → ℕ → OwnView → ToolTurn
-alarm_report_turn true alid own =
-    report_turn alarm_report (text_of own (alarm_item_of own.tables alid)) own
-alarm_report_turn false alid own = quiet_turn own
+abbrev pub alarm_report_turn : Bool → ℕ → OwnView → EndView Kind → ToolTurn
+alarm_report_turn true alid own e = report_turn alarm_report (text_of own (alarm_item_of own.tables alid)) own e
+alarm_report_turn false alid own e = quiet_turn own
 
-abbrev pub alarm_turn : AlarmStep → ℕ → Bool → OwnView → ToolTurn
-alarm_turn Unknown alid is_set own = refused_turn own
-alarm_turn Same alid is_set own = fixed_turn own (alarm_line alid is_set ∷ [])
-alarm_turn (Changed enabled) alid is_set own =
+abbrev pub alarm_turn : AlarmStep → ℕ → Bool → OwnView → EndView Kind → ToolTurn
+alarm_turn Unknown alid is_set own e = refused_turn own
+alarm_turn Same alid is_set own e = fixed_turn own (alarm_line alid is_set ∷ [])
+alarm_turn (Changed enabled) alid is_set own e =
     led_turn (alarm_line alid is_set)
-    (alarm_report_turn enabled alid (with_tables (alarm_after alid is_set own.tables) own))
+    (alarm_report_turn enabled alid (with_tables (alarm_after alid is_set own.tables) own) e)
 
 -- ---- terminals
 
 -- the operator of a terminal has a text for the host (SEMI E5, S10F1)
-abbrev pub terminal_turn : ℕ → List ℕ → OwnView → ToolTurn
-terminal_turn tid text own =
-    report_turn terminal_report (text_of own (terminal_item tid text)) own
+abbrev pub terminal_turn : ℕ → List ℕ → OwnView → EndView Kind → ToolTurn
+terminal_turn tid text own e = report_turn terminal_report (text_of own (terminal_item tid text)) own e
 
 -- ---- control
 
@@ -111,14 +110,14 @@ online_turn own e =
 abbrev pub command_turn : ToolCommand → ℕ → OwnView → EndView Kind → ToolTurn
 command_turn (tool.Set vid value) now own e = set_turn (settings.refusal_of own.tables.vars vid value) vid value own
 command_turn (tool.Event ceid) now own e = known_event_turn (is_planned own.tables.reports ceid) ceid own e
-command_turn (tool.Alarm alid is_set) now own e = alarm_turn (step_of own.tables.alarms alid is_set) alid is_set own
+command_turn (tool.Alarm alid is_set) now own e = alarm_turn (step_of own.tables.alarms alid is_set) alid is_set own e
 command_turn tool.Enable now own e = comms_turn Enable now own
 command_turn tool.Disable now own e = leaving_turn Disable None now own e
 command_turn tool.Online now own e = online_turn own e
 command_turn tool.Offline now own e = control_turn Offline own
 command_turn tool.Local now own e = control_turn ToLocal own
 command_turn tool.Remote now own e = control_turn ToRemote own
-command_turn (tool.Terminal tid text) now own e = terminal_turn tid text own
+command_turn (tool.Terminal tid text) now own e = terminal_turn tid text own e
 
 -- a command counts when the equipment looks back, carried out or refused (this profile)
 abbrev pub told_turn : ToolCommand → ℕ → OwnView → EndView Kind → ToolTurn

@@ -1,53 +1,279 @@
-//! The equipment as an end.
+//! The equipment over the disk of its spool.
 
-ghost use Rattle.std.specs.Prelude.{◌≡◌, ◌<◌, ◌^◌, ◌++◌, ◌∷◌, [], IfOk, OnOk};
+ghost use Rattle.std.specs.Prelude.{◌≡◌, ◌+◌, ◌≤◌, ◌<◌, ◌^◌, IfOk, Some};
+ghost use Rattle.disk_base.specs.Story.{Story};
 ghost use Rattle.trace_log.specs.Commands.{ToolCommandFits};
-ghost use Rattle.trace_log.specs.Log.Happening.{EquipmentStarted};
-ghost use Rattle.trace_log.specs.Text.{note_of};
-ghost use Rattle.transact.specs.Numbers.{numbers_from};
-ghost use Rattle.message_end.specs.Core.Went.{Goes};
-ghost use Rattle.message_end.specs.Ends.{HasGone, IsEmpty, Leaves, MayTake, input_of};
+ghost use Rattle.message_end.specs.Ends.{IsEmpty, MayTake, input_of};
 ghost use Rattle.equipment_tables.specs.Plan.{EquipmentPlanFits};
+ghost use Rattle.equipment_node.specs.Amid.{IsReady};
+ghost use Rattle.equipment_node.specs.Held.{Begins, IsIn, Moves, starting_by};
 ghost use Rattle.equipment_node.specs.Node.{node_of};
-ghost use Rattle.equipment_node.specs.Step.{at_start, deadline_of, machine, start};
+ghost use Rattle.equipment_node.specs.StartOver.{BeginsOver, IsFresh, IsStartNoted, StartAsks, StartsOver, StartsWith, new_node};
+ghost use Rattle.equipment_node.specs.Step.{deadline_of};
 
+use crate::disk_step::{Ended, MORE};
+use crate::kind::Kind;
 use crate::own::{Own, Tool};
+use disk_base::{Disk, MemDisk};
 use equipment_tables::EquipmentPlan;
+use gem_spool::GemSpool;
 use gl_base::{NoMemory, Side};
 use line_end::Phase;
-use message_end::{End, MessageEnd, Stop, least};
-use message_flow::{NodeInput, Note, StepOut};
+use message_end::{MessageEnd, least};
+use message_flow::{NodeInput, StepOut};
+use spool_ledger::Ledger;
+use spool_slots::{NotSpool, Raw, Recovering, Spent};
 use std::alloc::Global;
+use std::marker::Model;
 use trace_log::{ToolCommand, equipment_started_note};
 
-/// The equipment: a GEM tool at its end of the line. It copies what it keeps of its plan. All that it keeps is on the
-/// heap, so that it is cheap to move.
+/// The equipment: a GEM tool at its end of the line, with the spool on its disk. All else that it keeps is on the heap,
+/// so that it is cheap to move.
 #[derive(Drop)]
-pub struct Equipment {
-    tool: Box<Tool>,
+pub struct Equipment<D: Disk> {
+    pub(crate) tool: Box<Tool>,
+    pub(crate) spool: GemSpool<D>,
 }
 
-impl Equipment {
-    /// When the equipment next acts by itself: the least moment of the line's, of T4, of T3 and of the delay.
-    pub fn deadline(&self) -> Option<u64>
-        ensures { result ≡ deadline_of (node_of self.now.tool.value) }
+impl<D: Disk> Model for Equipment<D> {
+    ghost use Rattle.equipment_node.specs.contracts.own.Tool as tool_code;
+    ghost use Rattle.equipment_node.specs.Amid.{IsReady};
+    ghost use Rattle.equipment_node.specs.Held.{Held, held_code};
+    ghost use Rattle.equipment_node.specs.Node.{node_of};
+
+    ghost Value = { Held D };
+
+    ghost coded = { held_code tool_code.the_row.coded D.code };
+
+    ghost view = { λ inside. record { tool = inside.tool.value; spool = inside.spool } };
+
+    ghost invariant = { λ inside. IsReady inside.spool.spool (node_of inside.tool.value) };
+}
+
+/// An equipment that has started.
+#[derive(Drop)]
+pub(crate) struct Seat<D: Disk> {
+    pub(crate) tool: Box<Tool>,
+    pub(crate) spool: GemSpool<D>,
+}
+
+/// Why an equipment didn't start. Its device is handed back.
+#[derive(Debug, Drop)]
+pub enum Starting<D> {
+    NoMemory(Spent<D>),
+    /// The device's bytes stand for no spool: the first place at which they break.
+    NotSpool(Raw<D>, NotSpool),
+    DiskFailed(Spent<D>),
+    /// No system bytes are left.
+    NumbersSpent(Spent<D>),
+}
+
+impl<D: Disk> Equipment<D> {
+    /// A start: the spool is taken up from its device, and system bytes are reserved there. The plan is copied where it
+    /// is kept, and must fit.
+    pub fn start(
+        alloc: Global,
+        plan: &EquipmentPlan,
+        raw: Raw<D>,
+        now: u64,
+        out: &mut StepOut,
+    ) -> Result<Equipment<D>, Starting<D>>
+        requires plan { EquipmentPlanFits plan.now }
+        requires out { IsEmpty out.old }
+        ensures { (s : Story) → D.told raw.disk ≡ Some s → Begins D.Disk plan.now s out.new result }
     {
-        least(self.tool.core.deadline(), self.tool.own.comms.deadline())
+        let _ = now;
+        match raw.recover() {
+            Ok(spool) => Equipment::start_on(alloc, plan, GemSpool::new(spool), out),
+            Err(unknown) => Err(why_not(unknown)),
+        }
     }
 
-    // The first start.
+    // A start with a spool that was just taken up.
     fn start_on(
         alloc: Global,
         plan: &EquipmentPlan,
+        spool: GemSpool<D>,
         out: &mut StepOut,
-    ) -> Result<Equipment, NoMemory>
+    ) -> Result<Equipment<D>, Starting<D>>
         requires plan { EquipmentPlanFits plan.now }
         requires out { IsEmpty out.old }
-        ensures { IfOk result (λ end. HasGone (Goes (start plan.now)) (node_of end.tool.value) out.new) }
+        ensures { IsFresh D.Disk spool → BeginsOver D.Disk plan.now spool out.new result }
     {
-        let started = Tool::start_on(alloc, plan, out)?;
-        let tool = boxed(alloc, started)?;
-        Ok(Equipment { tool })
+        match start_over(alloc, plan, spool, out) {
+            Ok(Seat { tool, spool }) => Ok(Equipment { tool, spool }),
+            Err(Ended::NoMemory(spent)) => Err(Starting::NoMemory(spent)),
+            Err(Ended::DiskFailed(spent)) => Err(Starting::DiskFailed(spent)),
+            Err(Ended::NumbersSpent(spent)) => Err(Starting::NumbersSpent(spent)),
+        }
+    }
+
+    /// One step. On an ending the notes keep what was noted before it, and no character is written. All that the disk
+    /// is asked in a step is done before its characters are sent.
+    pub fn step(
+        self,
+        alloc: Global,
+        input: NodeInput<'_, ToolCommand>,
+        now: u64,
+        out: &mut StepOut,
+    ) -> Result<Equipment<D>, Ended<D>>
+        requires now { now < 2 ^ 62 }
+        requires input { MayTake ToolCommandFits (input_of input) }
+        requires out { IsEmpty out.old }
+        ensures { IsIn D.Disk self → Moves D.Disk self (input_of input.entry) now out.new result }
+    {
+        let Equipment { mut tool, spool } = self;
+        match tool.step_on(alloc, spool, input, now, out) {
+            Ok(spool) => Ok(Equipment { tool, spool }),
+            Err(ended) => Err(ended),
+        }
+    }
+
+    /// When the equipment next acts by itself: the least moment of the line's, of T4, of T3 and of the delay.
+    pub fn deadline(&self) -> Option<u64>
+        ensures { result ≡ deadline_of (node_of self.now.tool) }
+    {
+        self.tool.deadline()
+    }
+
+    /// The phase of its line.
+    pub fn phase(&self) -> Phase
+        ensures { result ≡ self.now.tool.core.line.phase }
+    {
+        self.tool.core.phase()
+    }
+
+    /// Gives the device back as it is.
+    pub fn power_off(self) -> Spent<D>
+        ensures { result.disk ≡ self.spool.spool.disk }
+    {
+        self.spool.retire()
+    }
+}
+
+impl Equipment<MemDisk> {
+    /// Plans that the disk stops at a call, the next one for 1, and at none for 0.
+    pub fn arm(&mut self, call: u32)
+        ensures { self.new ≡ record self.old {
+          spool = record self.old.spool {
+            spool = record self.old.spool.spool {
+              disk = record self.old.spool.spool.disk {
+                plan = record self.old.spool.spool.disk.plan {
+                  stop_in = call;
+                };
+              };
+            };
+          };
+        } }
+    {
+        self.spool.arm(call);
+    }
+}
+
+// Why it doesn't start.
+fn why_not<D: Disk>(unknown: Recovering<D>) -> Starting<D>
+    ensures { result ≡ starting_by unknown }
+{
+    match unknown {
+        Recovering::NotSpool(raw, place) => Starting::NotSpool(raw, place),
+        Recovering::Failed(spent) => Starting::DiskFailed(spent),
+    }
+}
+
+/// A start over a spool that was taken up: system bytes are reserved.
+pub(crate) fn start_over<D: Disk>(
+    alloc: Global,
+    plan: &EquipmentPlan,
+    spool: GemSpool<D>,
+    out: &mut StepOut,
+) -> Result<Seat<D>, Ended<D>>
+    requires plan { EquipmentPlanFits plan.now }
+    requires out { IsEmpty out.old }
+    ensures ready { IfOk result (λ e. IsReady e.spool.spool (node_of e.tool.value)) }
+    ensures starts { IsFresh D.Disk spool → StartsOver D.Disk plan.now spool out.new result }
+    ensures asks { StartAsks D.Disk spool.spool.disk result }
+{
+    // (that it stands as it says is told by the call that counts its messages)
+    let _ = spool.len();
+    match spool.reserve() {
+        Ok((spool, base)) => match base {
+            Some(base) => start_with(alloc, plan, spool, base, out),
+            None => Err(Ended::NumbersSpent(spool.retire())),
+        },
+        Err(spent) => Err(Ended::DiskFailed(spent)),
+    }
+}
+
+// A start with the system bytes from a base on.
+fn start_with<D: Disk>(
+    alloc: Global,
+    plan: &EquipmentPlan,
+    spool: GemSpool<D>,
+    base: u32,
+    out: &mut StepOut,
+) -> Result<Seat<D>, Ended<D>>
+    requires plan { EquipmentPlanFits plan.now }
+    requires numbers { base + 4096 ≤ 2 ^ 32 }
+    ensures starts { StartsWith plan.now spool base out.old out.new result }
+    ensures line { out.new.line ≡ out.old.line }
+{
+    let count = spool.count();
+    let ledger = Ledger::new(alloc, count.slots, spool.first(), count.len);
+    match Tool::start_on(alloc, plan, ledger, base, out) {
+        Ok(tool) => Ok(Seat { tool, spool }),
+        Err(NoMemory) => Err(Ended::NoMemory(spool.retire())),
+    }
+}
+
+impl Tool {
+    /// A start, which is noted, with what is known of the spool and the system bytes from a base on.
+    pub(crate) fn start_on(
+        alloc: Global,
+        plan: &EquipmentPlan,
+        ledger: Ledger,
+        base: u32,
+        out: &mut StepOut,
+    ) -> Result<Box<Tool>, NoMemory>
+        requires plan { EquipmentPlanFits plan.now }
+        requires numbers { base + 4096 ≤ 2 ^ 32 }
+        ensures node { IfOk result (λ tool. node_of tool.value ≡ new_node plan.now ledger base) }
+        ensures noted { IfOk result (λ tool. IsStartNoted ledger.len base out.old out.new) }
+        ensures line { out.new.line ≡ out.old.line }
+    {
+        let len = u64::from(ledger.len());
+        let tool = boxed(alloc, Tool::start(alloc, plan, ledger, base)?)?;
+        note_start(alloc, len, u64::from(base), out)?;
+        Ok(tool)
+    }
+
+    // As it starts.
+    fn start(
+        alloc: Global,
+        plan: &EquipmentPlan,
+        ledger: Ledger,
+        base: u32,
+    ) -> Result<Tool, NoMemory>
+        requires plan { EquipmentPlanFits plan.now }
+        requires numbers { base + 4096 ≤ 2 ^ 32 }
+        ensures { IfOk result (λ tool. node_of tool ≡ new_node plan.now ledger base) }
+    {
+        let core: MessageEnd<Kind> = MessageEnd::new(
+            alloc,
+            Side::Equipment,
+            &plan.line,
+            base,
+            u64::from(MORE),
+        )?;
+        let copy = plan.copy(alloc)?;
+        let own = Own::new(alloc, copy, ledger)?;
+        Ok(Tool { core, own })
+    }
+
+    /// When it next acts by itself.
+    pub(crate) fn deadline(&self) -> Option<u64>
+        ensures { result ≡ deadline_of (node_of self.now) }
+    {
+        least(self.core.deadline(), self.own.comms.deadline())
     }
 }
 
@@ -61,140 +287,10 @@ fn boxed(alloc: Global, tool: Tool) -> Result<Box<Tool>, NoMemory>
     }
 }
 
-impl Tool {
-    // The first start, which is noted.
-    fn start_on(alloc: Global, plan: &EquipmentPlan, out: &mut StepOut) -> Result<Tool, NoMemory>
-        requires plan { EquipmentPlanFits plan.now }
-        requires out { IsEmpty out.old }
-        ensures { IfOk result (λ tool. HasGone (Goes (start plan.now)) (node_of tool) out.new) }
-    {
-        let tool = Tool::start(alloc, plan)?;
-        note_start(alloc, tool.core.next(), out)?;
-        Ok(tool)
-    }
-
-    // At the first start: all system bytes are left.
-    fn start(alloc: Global, plan: &EquipmentPlan) -> Result<Tool, NoMemory>
-        requires { EquipmentPlanFits plan.now }
-        ensures { IfOk result (λ tool. node_of tool ≡ at_start plan.now (numbers_from 0 (2 ^ 32))) }
-    {
-        let core = MessageEnd::new(alloc, Side::Equipment, &plan.line, 0, 1 << 32)?;
-        let copy = plan.copy(alloc)?;
-        let own = Own::new(alloc, copy)?;
-        Ok(Tool { core, own })
-    }
-
-    // At a start anew, with the numbers that are left.
-    fn renew(&mut self, alloc: Global) -> Result<(), NoMemory>
-        ensures { OnOk result (node_of self.new ≡ at_start self.old.own.plan self.old.core.numbers) }
-    {
-        let plan = self.own.plan.line();
-        self.own.renew(alloc)?;
-        self.core.restart(alloc, Side::Equipment, &plan);
-        Ok(())
-    }
-
-    /// A start anew, which is noted.
-    fn restart(&mut self, alloc: Global, now: u64, out: &mut StepOut) -> Result<(), Stop>
-        requires { IsEmpty out.old }
-        ensures { Leaves (machine.restart (node_of self.old) now) (node_of self.new) out.new result }
-    {
-        let _ = now;
-        let base = self.core.next();
-        self.renew(alloc)?;
-        note_start(alloc, base, out)?;
-        Ok(())
-    }
-}
-
-// Notes a start with this first number.
-fn note_start(alloc: Global, base: u64, out: &mut StepOut) -> Result<(), NoMemory>
-    ensures notes { OnOk result
-        (out.new.notes ≡ out.old.notes ++ note_of (EquipmentStarted [] base) ∷ []) }
-    ensures line { out.new.line.items ≡ out.old.line.items }
+// Notes a start that finds so many messages, with this first number.
+fn note_start(alloc: Global, len: u64, base: u64, out: &mut StepOut) -> Result<(), NoMemory>
+    ensures noted { IfOk result (λ done. IsStartNoted len base out.old out.new) }
+    ensures line { out.new.line ≡ out.old.line }
 {
-    out.notes.push(start_note(alloc, base)?)?;
-    Ok(())
-}
-
-// The line of a start that finds nothing stored.
-fn start_note(alloc: Global, base: u64) -> Result<Note, NoMemory>
-    ensures { IfOk result (λ note. note ≡ note_of (EquipmentStarted [] base)) }
-{
-    Ok(equipment_started_note(alloc, 0, base)?)
-}
-
-impl End for Equipment {
-    type Plan = EquipmentPlan;
-
-    type Command = ToolCommand;
-
-    ghost use Rattle.trace_log.specs.Commands.{ToolCommandFits};
-    ghost use Rattle.equipment_node.specs.Laws.{DidOf};
-    ghost use Rattle.equipment_node.specs.Lawful.{equipment_lawful};
-    ghost use Rattle.equipment_node.specs.Node.{node_of};
-    ghost use Rattle.equipment_tables.specs.Plan.{EquipmentPlanFits};
-    ghost use Rattle.equipment_node.specs.Step.{EquipmentView, end_plan, machine, start};
-
-    ghost State = { EquipmentView };
-
-    ghost means = { λ end. node_of end.tool.value };
-
-    ghost sound = { λ end. Unit {0} };
-
-    ghost fits = { EquipmentPlanFits };
-
-    ghost takes = { ToolCommandFits };
-
-    ghost plan_of = { end_plan };
-
-    ghost start = { start };
-
-    ghost machine = { machine };
-
-    ghost did = { DidOf };
-
-    ghost lawful = { equipment_lawful };
-
-    fn start(
-        alloc: Global,
-        plan: &EquipmentPlan,
-        out: &mut StepOut,
-    ) -> Result<Equipment, NoMemory> {
-        Equipment::start_on(alloc, plan, out)
-    }
-
-    fn restart(&mut self, alloc: Global, now: u64, out: &mut StepOut) -> Result<(), Stop> {
-        self.tool.restart(alloc, now, out)
-    }
-
-    fn step(
-        &mut self,
-        alloc: Global,
-        input: NodeInput<'_, ToolCommand>,
-        now: u64,
-        out: &mut StepOut,
-    ) -> Result<(), Stop>
-        requires now { now < 2 ^ 62 }
-        requires input { MayTake ToolCommandFits (input_of input) }
-        requires out { IsEmpty out.old }
-        ensures step { Leaves
-            (machine.act (node_of self.old.tool.value) (input_of input.entry) now)
-            (node_of self.new.tool.value)
-            out.new
-            result }
-    {
-        self.tool.step_on(alloc, input, now, out)
-    }
-
-    fn phase(&self) -> Phase {
-        self.tool.core.phase()
-    }
-
-    fn is_late(&self, now: u64) -> bool {
-        match self.tool.core.line_deadline() {
-            Some(deadline) => deadline <= now,
-            None => false,
-        }
-    }
+    out.notes.push(equipment_started_note(alloc, len, base)?)
 }

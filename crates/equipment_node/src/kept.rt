@@ -4,16 +4,17 @@ ghost use Rattle.std.specs.Prelude.{◌≡◌, ◌≤◌, ◌++◌, ◌∷◌, [
 ghost use Rattle.block_codec.specs.Protocol.{longest_text};
 ghost use Rattle.line_end.specs.Plan.{LinePlanFits};
 ghost use Rattle.equipment_node.specs.Node.{own_of};
-ghost use Rattle.equipment_node.specs.Own.{is_communicating_in, is_enabled_in, is_local_in, is_online_in, with_for_grant};
+ghost use Rattle.equipment_node.specs.Equipment.{new_own};
+ghost use Rattle.equipment_node.specs.Own.{is_communicating_in, is_enabled_in, is_local_in, is_online_in, with_for_grant, with_reports};
 ghost use Rattle.equipment_tables.specs.Plan.{EquipmentPlanFits};
-ghost use Rattle.equipment_node.specs.Step.{new_own};
 
-use crate::kind::ForGrant;
 use crate::own::{Own, Planned};
+use crate::report::{ForGrant, Live};
 use equipment_tables::{EquipmentPlan, Tables};
 use gem_states::{Comms, CommsState, Control, ControlState};
 use gl_base::NoMemory;
 use line_end::LinePlan;
+use spool_ledger::Ledger;
 use std::alloc::Global;
 
 impl Planned {
@@ -50,10 +51,10 @@ impl Planned {
 }
 
 impl Own {
-    /// What is kept at a start.
-    pub(crate) fn new(alloc: Global, plan: EquipmentPlan) -> Result<Own, NoMemory>
+    /// What is kept at a start, with what is known of the spool.
+    pub(crate) fn new(alloc: Global, plan: EquipmentPlan, ledger: Ledger) -> Result<Own, NoMemory>
         requires { EquipmentPlanFits plan }
-        ensures { IfOk result (λ own. own_of own ≡ new_own plan) }
+        ensures { IfOk result (λ own. own_of own ≡ new_own plan ledger) }
     {
         let tables = Tables::new(alloc, &plan)?;
         let control = Control::new(plan.control);
@@ -63,24 +64,12 @@ impl Own {
             comms: Comms::new(),
             control,
             for_grant: Vec::new(alloc),
+            reports: Vec::new(alloc),
+            ledger,
+            tried: None,
             events: 0,
             has_begun: false,
         })
-    }
-
-    /// A start anew, as planned.
-    pub(crate) fn renew(&mut self, alloc: Global) -> Result<(), NoMemory>
-        ensures { OnOk result (own_of self.new ≡ new_own self.old.plan) }
-    {
-        let plan = self.plan.get();
-        let control = plan.control;
-        self.tables = Tables::new(alloc, plan)?;
-        self.comms = Comms::new();
-        self.control = Control::new(control);
-        self.for_grant.clear();
-        self.events = 0;
-        self.has_begun = false;
-        Ok(())
     }
 
     /// The most bytes of a text.
@@ -129,6 +118,17 @@ impl Own {
             with_for_grant (self.old.for_grant.items ++ waiting ∷ []) (own_of self.old)) }
     {
         match self.for_grant.push(waiting) {
+            Ok(()) => Ok(()),
+            Err(_failed) => Err(NoMemory),
+        }
+    }
+
+    /// A report was sent, and awaits its answer.
+    pub(crate) fn await_answer(&mut self, live: Live) -> Result<(), NoMemory>
+        ensures { OnOk result (own_of self.new ≡
+            with_reports (self.old.reports.items ++ live ∷ []) (own_of self.old)) }
+    {
+        match self.reports.push(live) {
             Ok(()) => Ok(()),
             Err(_failed) => Err(NoMemory),
         }

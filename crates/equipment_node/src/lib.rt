@@ -1,25 +1,47 @@
-//! The equipment: a GEM tool at its end of the line.
+//! The equipment: a GEM tool at its end of the line, with its spool.
 #![tactic(auto)]
 
+#[cfg(test)]
+mod control_tests;
+mod disk_step;
+#[cfg(test)]
+mod disk_tests;
 mod endings;
 mod equipment;
+#[cfg(test)]
+mod error_tests;
+#[cfg(test)]
+mod establish_tests;
+mod in_memory;
 mod kept;
 mod kind;
 mod laws;
 mod messages;
+mod notes_cut;
 mod own;
+#[cfg(test)]
+mod planned_tool;
+#[cfg(test)]
+mod played_host;
 mod primaries;
 mod replies;
+mod report;
+#[cfg(test)]
+mod report_tests;
+mod reports;
 mod sending;
+mod spooling;
 mod states;
 mod step;
-#[cfg(test)]
-mod tests;
 mod told;
+mod unloading;
 
-pub use equipment::Equipment;
+pub use disk_step::Ended;
+pub use equipment::{Equipment, Starting};
 pub use equipment_tables::{EquipmentPlan, HostPlan, Plans};
+pub use in_memory::EquipmentEnd;
 pub use laws::{
     equipment_keeps_the_law, later_settings_are_not_reported, reports_are_of_their_events,
+    spool_is_kept, worked_spool_runs,
 };
 pub use trace_log::ToolCommand;

@@ -211,7 +211,7 @@ impl Tool {
                 self.core.end(system);
                 self.core.remove(true, system);
             }
-            Kind::Attempt | Kind::Grant | Kind::Report => {}
+            Kind::Attempt | Kind::Grant | Kind::Report | Kind::Unload | Kind::UnloadGrant => {}
         }
     }
 
@@ -241,13 +241,13 @@ impl Tool {
         }
         let body = message.body.as_slice();
         match request_of(alloc, message.stream, message.function, body)? {
-            Some(request) => self.carry_out(alloc, &request, message, out),
+            Some(request) => self.fulfil(alloc, &request, message, out),
             None => self.report_error(alloc, 7, header, out),
         }
     }
 
     // Carries a request out, and answers it.
-    fn carry_out(
+    fn fulfil(
         &mut self,
         alloc: Global,
         request: &Request<'_>,
@@ -267,6 +267,8 @@ impl Tool {
         match request {
             Request::GoOffline => self.ask_control(alloc, ControlIn::RequestOffline, message, out),
             Request::GoOnline => self.ask_control(alloc, ControlIn::RequestOnline, message, out),
+            Request::TransmitSpool => self.transmit(alloc, message, out),
+            Request::PurgeSpool => self.purge(alloc, message, out),
             _ => self.answer(alloc, request, message, out),
         }
     }
@@ -327,8 +329,8 @@ impl Tool {
         self.answer_by(alloc, answer, message, out)
     }
 
-    // Answers a message.
-    fn answer_by(
+    /// Answers a message.
+    pub(crate) fn answer_by(
         &mut self,
         alloc: Global,
         answer: Answer,

@@ -1,9 +1,11 @@
 //! What the equipment is between two calls.
 
-use crate::kind::{ForGrant, Kind};
+use crate::kind::Kind;
+use crate::report::{ForGrant, Live};
 use equipment_tables::{EquipmentPlan, Tables};
 use gem_states::{Comms, Control};
 use message_end::MessageEnd;
+use spool_ledger::Ledger;
 use std::marker::Model;
 
 /// A plan that fits.
@@ -33,8 +35,9 @@ pub(crate) struct Tool {
     pub(crate) own: Own,
 }
 
-/// What the equipment keeps beside the core: its plan and tables, its two state models, the reports that wait for leave
-/// to go, how many events have happened since the start, and whether its first step is over.
+/// What the equipment keeps beside the core: its plan and tables, its two state models, the reports that wait for
+/// leave to go, those that aren't answered yet, what becomes of the spool, the system bytes with which a message of it
+/// was tried last, how many events have happened since the start, and whether its first step is over.
 #[derive(Drop)]
 pub(crate) struct Own {
     pub(crate) plan: Planned,
@@ -42,6 +45,9 @@ pub(crate) struct Own {
     pub(crate) comms: Comms,
     pub(crate) control: Control,
     pub(crate) for_grant: Vec<ForGrant>,
+    pub(crate) reports: Vec<Live>,
+    pub(crate) ledger: Ledger,
+    pub(crate) tried: Option<u32>,
     pub(crate) events: u32,
     pub(crate) has_begun: bool,
 }

@@ -2,7 +2,8 @@
 
 ghost use Rattle.std.specs.Prelude.{◌≡◌, IfOk};
 ghost use Rattle.block_codec.specs.Header.{Fits};
-ghost use Rattle.equipment_node.specs.Sent.{alarm_report, error_item, error_report, establish_request, event_report, grant_item, grant_request, online_request, primary_of, terminal_item, terminal_report};
+ghost use Rattle.equipment_node.specs.Sent.{error_item, error_report, establish_request, grant_item, grant_request, online_request, primary_of, terminal_item};
+ghost use Rattle.equipment_node.specs.Spooling.{unload_request};
 
 use crate::kind::Kind;
 use block_codec::Header;
@@ -46,25 +47,18 @@ pub(crate) fn grant_item(alloc: Global, dataid: u32, len: u32) -> Result<Item, N
     pair_item(alloc, dataid, Item::number(alloc, len)?)
 }
 
-/// S6F5.
+/// S6F5, for a new report.
 pub(crate) fn grant_request(body: Row<u8>) -> Unsent<Kind>
     ensures { result ≡ grant_request body }
 {
     primary(6, 5, Kind::Grant, body)
 }
 
-/// S5F1.
-pub(crate) fn alarm_report(body: Row<u8>) -> Unsent<Kind>
-    ensures { result ≡ alarm_report body }
+/// S6F5, for a message of the spool.
+pub(crate) fn unload_request(body: Row<u8>) -> Unsent<Kind>
+    ensures { result ≡ unload_request body }
 {
-    primary(5, 1, Kind::Report, body)
-}
-
-/// S6F11.
-pub(crate) fn event_report(body: Row<u8>) -> Unsent<Kind>
-    ensures { result ≡ event_report body }
-{
-    primary(6, 11, Kind::Report, body)
+    primary(6, 5, Kind::UnloadGrant, body)
 }
 
 /// The text of S10F1.
@@ -73,13 +67,6 @@ pub(crate) fn terminal_item(alloc: Global, tid: u8, text: &[u8]) -> Result<Item,
 {
     let tid = Item::B(Row::of(alloc, &[tid])?);
     pair_item(alloc, tid, Item::text(alloc, text)?)
-}
-
-/// S10F1.
-pub(crate) fn terminal_report(body: Row<u8>) -> Unsent<Kind>
-    ensures { result ≡ terminal_report body }
-{
-    primary(10, 1, Kind::Report, body)
 }
 
 /// The text of a message of stream 9: the header of a block.

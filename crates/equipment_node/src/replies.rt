@@ -1,22 +1,21 @@
 //! What comes of the transactions that the equipment has begun.
 
-ghost use Rattle.std.specs.Prelude.{◌≡◌, ◌<◌, ◌^◌, false, replicate, if◌then◌else◌, IfOk, IfSome, Some, length};
-ghost use Rattle.std.specs.List.{find, position};
+ghost use Rattle.std.specs.Prelude.{◌≡◌, ◌<◌, ◌^◌, false, replicate, if◌then◌else◌, IfOk, Some};
 ghost use Rattle.block_codec.specs.Header.{Fits};
 ghost use Rattle.message_end.specs.Parts.{Takes, TakesAll};
 ghost use Rattle.gem_states.specs.declared.control.ControlIn.TheVariants.{AttemptDone, AttemptFailed};
 ghost use Rattle.equipment_node.specs.declared.kind.Kind.TheVariants as kind;
-ghost use Rattle.equipment_node.specs.Own.{is_granted_by, without_grant};
+ghost use Rattle.equipment_node.specs.Own.{waiting_report, without_grant};
+ghost use Rattle.equipment_node.specs.Spooling.{leave_given_turn, unloaded_own};
 ghost use Rattle.equipment_node.specs.Carried.{IsTaken};
 ghost use Rattle.equipment_node.specs.Codes.{is_accepted_in, is_accepting, is_granted_in, is_granting, is_zero_in};
 ghost use Rattle.equipment_node.specs.Node.{node_of, own_of};
 ghost use Rattle.equipment_node.specs.Replies.{block_timer, denied_turn, given_up_turn, granted_turn, loss_turn, reply_timer, reply_turn, secondary_turn, timeout_turn};
 ghost use Rattle.equipment_node.specs.States.{control_turn};
 
-use crate::endings::EVENT_NAME;
-use crate::kind::{ForGrant, Kind};
+use crate::kind::Kind;
 use crate::own::Tool;
-use crate::primaries::event_report;
+use crate::reports::EVENT_NAME;
 use block_codec::Header;
 use gem_states::{CommsIn, ControlIn};
 use gl_base::NoMemory;
@@ -253,7 +252,18 @@ impl Tool {
             Kind::Establish => self.leave(alloc, CommsIn::Denied, None, now, out),
             Kind::Attempt => self.fail_attempt(alloc, out),
             Kind::Grant => self.deny(alloc, system, out),
-            Kind::Report => Ok(()),
+            Kind::Report => {
+                let _ = self.take_sent(system);
+                Ok(())
+            }
+            Kind::Unload => {
+                self.own.ledger.end_unload();
+                Ok(())
+            }
+            Kind::UnloadGrant => {
+                self.deny_unload(alloc, out)?;
+                Ok(())
+            }
         }
     }
 
@@ -294,7 +304,7 @@ impl Tool {
     // The report whose S6F5 has these system bytes gets no leave.
     fn deny(&mut self, alloc: Global, system: u32, out: &mut StepOut) -> Result<(), Stop>
         ensures does { Takes
-            (denied_turn system (own_of self.old.own))
+            (denied_turn (without_grant system (own_of self.old.own)))
             (node_of self.old)
             out.old
             (node_of self.new)
@@ -302,7 +312,7 @@ impl Tool {
             result }
         ensures line { out.new.line ≡ out.old.line }
     {
-        let _ = self.take_report(system);
+        let _ = self.take_waiting(system);
         out.notes.push(denied_note(alloc, EVENT_NAME)?)?;
         Ok(())
     }
@@ -310,7 +320,7 @@ impl Tool {
     // The report whose S6F5 has these system bytes goes.
     fn grant(&mut self, alloc: Global, system: u32, out: &mut StepOut) -> Result<(), Stop>
         ensures does { Takes
-            (granted_turn system (own_of self.old.own))
+            (granted_turn (waiting_report system (own_of self.old.own)) (without_grant system (own_of self.old.own)) self.old.core)
             (node_of self.old)
             out.old
             (node_of self.new)
@@ -318,40 +328,10 @@ impl Tool {
             result }
         ensures line { out.new.line ≡ out.old.line }
     {
-        let Some(waiting) = self.take_report(system) else {
-            return Ok(());
-        };
-        match self
-            .core
-            .primary(alloc, event_report(waiting.into_body()), out)
-        {
-            Ok(_) => Ok(()),
-            Err(stop) => Err(stop),
+        match self.take_waiting(system) {
+            Some(report) => self.send_report(alloc, report, out),
+            None => Ok(()),
         }
-    }
-
-    // Takes out the report whose S6F5 has these system bytes.
-    fn take_report(&mut self, system: u32) -> Option<ForGrant>
-        ensures found { result ≡ find (is_granted_by system) self.old.own.for_grant.items }
-        ensures rest { own_of self.new.own ≡ without_grant system (own_of self.old.own) }
-        ensures core { self.new.core ≡ self.old.core }
-    {
-        let Some(place) = self.place_of(system) else {
-            return None;
-        };
-        Some(self.own.for_grant.remove(place))
-    }
-
-    // The place of the report whose S6F5 has these system bytes.
-    fn place_of(&self, system: u32) -> Option<usize>
-        ensures place { result ≡ position (is_granted_by system) self.now.own.for_grant.items }
-        ensures within { IfSome result (λ at. at < length self.now.own.for_grant.items) }
-    {
-        let system = u64::from(system);
-        self.own
-            .for_grant
-            .iter()
-            .position(|waiting| waiting.system() == system)
     }
 
     /// A whole secondary came, the last block of which has this header.
@@ -404,7 +384,15 @@ impl Tool {
             Kind::Establish => self.heed_establishing(alloc, message, now, out),
             Kind::Attempt => self.end_attempt(alloc, out),
             Kind::Grant => self.heed_leave(alloc, message, out),
-            Kind::Report => Ok(()),
+            Kind::Report => {
+                let _ = self.take_sent(message.system);
+                Ok(())
+            }
+            Kind::Unload => {
+                self.own.ledger.confirm(alloc, out)?;
+                Ok(())
+            }
+            Kind::UnloadGrant => self.heed_unload_leave(alloc, message, out),
         }
     }
 
@@ -440,8 +428,12 @@ impl Tool {
         out: &mut StepOut,
     ) -> Result<(), Stop>
         ensures does { Takes
-            (if is_granted_in message.now.body then granted_turn message.now.system (own_of self.old.own)
-            else denied_turn message.now.system (own_of self.old.own))
+            (if is_granted_in message.now.body
+            then granted_turn
+            (waiting_report message.now.system (own_of self.old.own))
+            (without_grant message.now.system (own_of self.old.own))
+            self.old.core
+            else denied_turn (without_grant message.now.system (own_of self.old.own)))
             (node_of self.old)
             out.old
             (node_of self.new)
@@ -453,6 +445,30 @@ impl Tool {
             return self.grant(alloc, message.system, out);
         }
         self.deny(alloc, message.system, out)
+    }
+
+    // The reply to the S6F5 for a message of the spool has come.
+    fn heed_unload_leave(
+        &mut self,
+        alloc: Global,
+        message: &Message,
+        out: &mut StepOut,
+    ) -> Result<(), Stop>
+        ensures does { Takes
+            (if is_granted_in message.now.body then leave_given_turn (own_of self.old.own) self.old.core
+            else denied_turn (unloaded_own (own_of self.old.own)))
+            (node_of self.old)
+            out.old
+            (node_of self.new)
+            out.new
+            result }
+        ensures line { out.new.line ≡ out.old.line }
+    {
+        if is_granted(alloc, message.body.as_slice())? {
+            return self.let_go(alloc, out);
+        }
+        self.deny_unload(alloc, out)?;
+        Ok(())
     }
 }
 

@@ -1,4 +1,4 @@
-//! Reports, replies and errors: what is sent only where there is room for it, or leave.
+//! Replies and errors, which are sent only where there is room for them.
 
 ghost use Rattle.std.specs.Prelude.{◌≡◌, ◌≤◌, ◌%◌, length, IfOk, ◌∷◌, [], ◌++◌};
 ghost use Rattle.block_codec.specs.Header.{Fits};
@@ -11,12 +11,13 @@ ghost use Rattle.trace_log.specs.Text.{printed_note};
 ghost use Rattle.equipment_node.specs.declared.kind.Kind.{Kind};
 ghost use Rattle.equipment_node.specs.Node.{node_of, own_of};
 ghost use Rattle.equipment_node.specs.Own.{OwnView, turn_of};
-ghost use Rattle.equipment_node.specs.Judged.{IsJudged, IsShort};
-ghost use Rattle.equipment_node.specs.Sent.{abort_duty, abort_name, body_duty, error_duty, error_item, error_name, error_report, event_turn, grant_request, grant_turn, granted_own, has_room, long_duties, primary_commands, reply_name, text_of, unreported_turn};
+ghost use Rattle.equipment_node.specs.Judged.{IsShort};
+ghost use Rattle.equipment_node.specs.Reports.{unreported_turn};
+ghost use Rattle.equipment_node.specs.Sent.{abort_duty, abort_name, body_duty, error_duty, error_item, error_name, error_report, has_room, long_duties, primary_commands, reply_name, text_of};
 
-use crate::kind::{ForGrant, Kind};
+use crate::kind::Kind;
 use crate::own::Tool;
-use crate::primaries::{error_item, error_report, event_report, grant_item, grant_request};
+use crate::primaries::{error_item, error_report};
 use block_codec::Header;
 use equipment_tables::{Answer, bounded};
 use gl_base::{NoMemory, Row};
@@ -27,9 +28,6 @@ use trace_log::{Name, dropped_note, full_note, too_long_note};
 
 // The most messages without W that wait.
 const MOST_WITHOUT_WAIT: usize = 64;
-
-// The longest text of one block.
-const ONE_BLOCK: usize = 244;
 
 /// The name of the reply to a message.
 pub(crate) fn reply_name(message: &Message) -> Name
@@ -243,109 +241,5 @@ impl Tool {
         }
         out.notes.push(too_long_note(alloc, reply_name(message))?)?;
         self.abort(alloc, message, out)
-    }
-
-    /// The text of a report of this name, where it may be sent; else it is noted why not.
-    pub(crate) fn judge_text(
-        &self,
-        alloc: Global,
-        name: Name,
-        text: Answer,
-        out: &mut StepOut,
-    ) -> Result<Option<Row<u8>>, NoMemory>
-        requires { IsShort text }
-        ensures judged { IfOk result (IsJudged name text (node_of self.now) out.old out.new) }
-        ensures line { out.new.line ≡ out.old.line }
-    {
-        match text {
-            Answer::Body(body) => {
-                if self.own.is_communicating() {
-                    return Ok(Some(body));
-                }
-                note_dropped(alloc, name, out)?;
-                Ok(None)
-            }
-            Answer::TooLong => {
-                out.notes.push(too_long_note(alloc, name)?)?;
-                Ok(None)
-            }
-            Answer::Abort => Ok(None),
-        }
-    }
-
-    /// Sends the report of an event, or asks for leave first where it takes several blocks.
-    pub(crate) fn report_event(
-        &mut self,
-        alloc: Global,
-        dataid: u32,
-        body: Row<u8>,
-        out: &mut StepOut,
-    ) -> Result<(), Stop>
-        requires { length body ≤ longest_text }
-        ensures does { Takes
-            (event_turn dataid body (own_of self.old.own) self.old.core)
-            (node_of self.old)
-            out.old
-            (node_of self.new)
-            out.new
-            result }
-        ensures line { out.new.line ≡ out.old.line }
-    {
-        if body.len() <= ONE_BLOCK {
-            return self.send(alloc, event_report(body), out);
-        }
-        self.ask_for_leave(alloc, dataid, body, out)
-    }
-
-    // Asks for leave to send the report of an event.
-    fn ask_for_leave(
-        &mut self,
-        alloc: Global,
-        dataid: u32,
-        body: Row<u8>,
-        out: &mut StepOut,
-    ) -> Result<(), Stop>
-        requires { length body ≤ longest_text }
-        ensures does { Takes
-            (grant_turn dataid body (own_of self.old.own) self.old.core)
-            (node_of self.old)
-            out.old
-            (node_of self.new)
-            out.new
-            result }
-        ensures line { out.new.line ≡ out.old.line }
-    {
-        let item = grant_item(alloc, dataid, body.len() as u32)?;
-        match bounded(alloc, &item, self.own.max_body())? {
-            Answer::Body(text) => self.ask_by(alloc, text, body, out),
-            Answer::TooLong | Answer::Abort => Ok(()),
-        }
-    }
-
-    // Asks for leave by this text, and keeps the report until it is granted.
-    fn ask_by(
-        &mut self,
-        alloc: Global,
-        text: Row<u8>,
-        body: Row<u8>,
-        out: &mut StepOut,
-    ) -> Result<(), Stop>
-        requires text { length text ≤ longest_text }
-        requires body { length body ≤ longest_text }
-        ensures does { Takes
-            (fixed_turn (granted_own body (own_of self.old.own) self.old.core) (Primary (grant_request text) ∷ []))
-            (node_of self.old)
-            out.old
-            (node_of self.new)
-            out.new
-            result }
-        ensures line { out.new.line ≡ out.old.line }
-    {
-        let system = self.core.next();
-        if !self.core.primary(alloc, grant_request(text), out)? {
-            return Ok(());
-        }
-        self.own.keep(ForGrant::new(system, body))?;
-        Ok(())
     }
 }

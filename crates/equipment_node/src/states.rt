@@ -44,8 +44,8 @@ impl Tool {
         self.show_comms(alloc, old, output, out)
     }
 
-    /// A change from the old state of communication is noted, and S1F13 sent where it is to be.
-    pub(crate) fn show_comms(
+    // A change from the old state of communication is noted, and S1F13 sent where it is to be.
+    fn show_comms(
         &mut self,
         alloc: Global,
         old: CommsState,
@@ -66,8 +66,13 @@ impl Tool {
         self.request(alloc, output, out)
     }
 
-    // Sends S1F13 where it is to be sent.
-    fn request(&mut self, alloc: Global, output: CommsOut, out: &mut StepOut) -> Result<(), Stop>
+    /// Sends S1F13 where it is to be sent.
+    pub(crate) fn request(
+        &mut self,
+        alloc: Global,
+        output: CommsOut,
+        out: &mut StepOut,
+    ) -> Result<(), Stop>
         ensures does { Takes
             (fixed_turn (own_of self.old.own) (request_commands output (own_of self.old.own)))
             (node_of self.old)
@@ -125,7 +130,8 @@ impl Tool {
     }
 }
 
-fn note_comms(
+/// A change of the state of communication is noted.
+pub(crate) fn note_comms(
     alloc: Global,
     old: CommsState,
     new: CommsState,

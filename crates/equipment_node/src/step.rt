@@ -7,50 +7,28 @@ ghost use Rattle.message_flow.specs.declared.flow.Flow.TheVariants as flow;
 ghost use Rattle.trace_log.specs.Commands.{ToolCommandFits};
 ghost use Rattle.trace_log.specs.Text.{printed_note};
 ghost use Rattle.message_end.specs.Core.Went.{Goes};
-ghost use Rattle.message_end.specs.Ends.{IsEmpty, Leaves, MayTake, input_of};
+ghost use Rattle.message_end.specs.Ends.{MayTake, input_of};
 ghost use Rattle.message_end.specs.Parts.{Takes, TakesAll, after_turn, on_the_way};
 ghost use Rattle.equipment_node.specs.Calls.{Reaches, ReachesAll};
 ghost use Rattle.equipment_node.specs.Node.{node_of, own_of};
 ghost use Rattle.equipment_node.specs.Tool.{told_turn};
-ghost use Rattle.equipment_node.specs.Step.{beginning, character, delay_timer, due_parts, flow_turn, input_part, late_parts, line_timer, machine, offer, step_parts};
+ghost use Rattle.equipment_node.specs.Spooling.{end_of_spooling};
+ghost use Rattle.equipment_node.specs.Step.{beginning, character, delay_timer, due_parts, first_parts, flow_turn, input_part, is_spent, late_parts, line_timer, offer};
+ghost use Rattle.equipment_node.specs.Stepping.{taking};
 
 use crate::own::Tool;
+use crate::report::Report;
 use block_codec::Header;
 use gem_states::CommsIn;
+use gl_base::NoMemory;
 use message_end::{Stop, Took};
 use message_flow::{Flow, NodeInput, StepOut};
 use std::alloc::Global;
 use trace_log::ToolCommand;
 
 impl Tool {
-    /// One step. Where it stops nothing is sent.
-    pub(crate) fn step_on(
-        &mut self,
-        alloc: Global,
-        input: NodeInput<'_, ToolCommand>,
-        now: u64,
-        out: &mut StepOut,
-    ) -> Result<(), Stop>
-        requires now { now < 2 ^ 62 }
-        requires input { MayTake ToolCommandFits (input_of input) }
-        requires out { IsEmpty out.old }
-        ensures { Leaves
-            (machine.act (node_of self.old) (input_of input.entry) now)
-            (node_of self.new)
-            out.new
-            result }
-    {
-        match self.act(alloc, input, now, out) {
-            Ok(()) => Ok(()),
-            Err(stop) => {
-                out.line.clear();
-                Err(stop)
-            }
-        }
-    }
-
-    // All parts of a step.
-    fn act(
+    /// What comes before the works of the spool: all that is due, and what it is given.
+    pub(crate) fn do_first(
         &mut self,
         alloc: Global,
         input: NodeInput<'_, ToolCommand>,
@@ -60,13 +38,14 @@ impl Tool {
         requires now { now < 2 ^ 62 }
         requires input { MayTake ToolCommandFits (input_of input) }
         requires room { array_vec_len out.old.line ≡ 0 }
-        ensures { ReachesAll
-            (step_parts (input_of input.entry) now)
+        ensures does { ReachesAll
+            (first_parts (input_of input.entry) now)
             (node_of self.old)
             out.old
             (node_of self.new)
             out.new
             result }
+        ensures at_most { array_vec_len out.new.line ≤ 514 }
     {
         match self.begin(alloc, now, out) {
             Ok(()) => self.go_on(alloc, input, now, out),
@@ -74,7 +53,7 @@ impl Tool {
         }
     }
 
-    // What is due, and all behind it.
+    // All that is due, and what it is given.
     fn go_on(
         &mut self,
         alloc: Global,
@@ -85,45 +64,86 @@ impl Tool {
         requires now { now < 2 ^ 62 }
         requires input { MayTake ToolCommandFits (input_of input) }
         requires room { array_vec_len out.old.line ≡ 0 }
-        ensures { ReachesAll
-            (due_parts now ++ input_part (input_of input.entry) now ∷ offer now ∷ [])
+        ensures does { ReachesAll
+            (due_parts now ++ input_part (input_of input.entry) now ∷ [])
             (node_of self.old)
             out.old
             (node_of self.new)
             out.new
             result }
+        ensures at_most { array_vec_len out.new.line ≤ 514 }
     {
         match self.do_due(alloc, now, out) {
-            Ok(()) => self.end_step(alloc, input, now, out),
+            Ok(()) => self.meet_input(alloc, input, now, out),
             Err(stop) => Err(stop),
         }
     }
 
-    // What it is given, and the line's turn.
-    fn end_step(
+    /// What comes behind the works of the spool: the oldest message, which was read, goes to the host where it was to
+    /// be taken up; spooling may end; and the line gets its turn.
+    pub(crate) fn do_last(
         &mut self,
         alloc: Global,
-        input: NodeInput<'_, ToolCommand>,
+        oldest: Option<(u64, Report)>,
         now: u64,
         out: &mut StepOut,
     ) -> Result<(), Stop>
         requires now { now < 2 ^ 62 }
-        requires input { MayTake ToolCommandFits (input_of input) }
-        requires room { array_vec_len out.old.line ≤ 257 }
-        ensures { ReachesAll
-            (input_part (input_of input.entry) now ∷ offer now ∷ [])
+        requires room { array_vec_len out.old.line ≤ 514 }
+        ensures does { ReachesAll
+            (taking oldest ∷ end_of_spooling ∷ offer now ∷ [])
             (node_of self.old)
             out.old
             (node_of self.new)
             out.new
             result }
     {
-        match self.meet_input(alloc, input, now, out) {
+        match self.unload(alloc, oldest, out) {
+            Ok(()) => self.end_step(alloc, now, out),
+            Err(stop) => Err(stop),
+        }
+    }
+
+    // The oldest message goes to the host, where it was read for that.
+    fn unload(
+        &mut self,
+        alloc: Global,
+        oldest: Option<(u64, Report)>,
+        out: &mut StepOut,
+    ) -> Result<(), Stop>
+        ensures does { Takes
+            (taking oldest (own_of self.old.own) self.old.core)
+            (node_of self.old)
+            out.old
+            (node_of self.new)
+            out.new
+            result }
+        ensures line { out.new.line ≡ out.old.line }
+    {
+        match oldest {
+            Some((number, report)) => self.take_up(alloc, number, report, out),
+            None => Ok(()),
+        }
+    }
+
+    // Spooling may end, and the line gets its turn.
+    fn end_step(&mut self, alloc: Global, now: u64, out: &mut StepOut) -> Result<(), Stop>
+        requires now { now < 2 ^ 62 }
+        requires room { array_vec_len out.old.line ≤ 514 }
+        ensures does { ReachesAll
+            (end_of_spooling ∷ offer now ∷ [])
+            (node_of self.old)
+            out.old
+            (node_of self.new)
+            out.new
+            result }
+    {
+        match self.end_spooling(alloc, out) {
             Ok(()) => {
                 self.give_turn(now, out);
                 Ok(())
             }
-            Err(stop) => Err(stop),
+            Err(NoMemory) => Err(Stop::NoMemory),
         }
     }
 
@@ -311,7 +331,8 @@ impl Tool {
         }
     }
 
-    // A block made its message too long: the host is told so, and a reply is given up.
+    // A block made its message too long: the host is told so, and a reply is given up. (That a number is wanting is looked
+    // at before all else: what is kept then is what it was.)
     fn give_up_long(
         &mut self,
         alloc: Global,
@@ -321,7 +342,7 @@ impl Tool {
     ) -> Result<(), Stop>
         requires now { now < 2 ^ 62 }
         requires header { Fits header.now }
-        ensures does { Reaches
+        ensures does { Takes
             (flow_turn now header.now flow.TooLong (own_of self.old.own) self.old.core)
             (node_of self.old)
             out.old
@@ -330,10 +351,20 @@ impl Tool {
             result }
         ensures line { out.new.line ≡ out.old.line }
     {
+        if self.is_spent() {
+            return Err(Stop::NumbersSpent);
+        }
         match self.report_error(alloc, 11, header, out) {
             Ok(()) => self.give_up(alloc, header, now, out),
             Err(stop) => Err(stop),
         }
+    }
+
+    // Whether no system bytes are left.
+    fn is_spent(&self) -> bool
+        ensures { result ≡ is_spent self.now.core }
+    {
+        self.core.left() == 0
     }
 
     // Gives the line its turn.

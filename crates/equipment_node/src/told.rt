@@ -1,20 +1,22 @@
 //! The commands of the tool.
 
 ghost use Rattle.std.specs.Prelude.{IfOk, true, ◌≡◌, ◌<◌, ◌^◌, ◌∷◌, [], ◌++◌};
-ghost use Rattle.message_end.specs.Parts.{Takes, fixed_turn};
+ghost use Rattle.message_end.specs.Parts.{Takes};
 ghost use Rattle.equipment_node.specs.Node.{node_of, own_of};
 ghost use Rattle.gem_alarms.specs.Alarms.{step_of};
 ghost use Rattle.gem_reports.specs.Reporting.{is_planned};
 ghost use Rattle.gem_vars.specs.Settings.{refusal_of};
 ghost use Rattle.equipment_node.specs.Judged.{IsShort};
-ghost use Rattle.equipment_node.specs.Sent.{terminal_item, terminal_name, terminal_report, text_of, text_turn};
-ghost use Rattle.message_end.specs.Core.Command.{Primary};
+ghost use Rattle.equipment_node.specs.Own.{is_online};
+ghost use Rattle.equipment_node.specs.Reports.{report_turn};
+ghost use Rattle.equipment_node.specs.Sent.{terminal_item, terminal_report, text_of};
 ghost use Rattle.equipment_node.specs.States.{control_turn};
 ghost use Rattle.equipment_node.specs.Tool.{alarm_report_turn, alarm_turn, attempt_turn, command_turn, enabled_turn, known_event_turn, online_turn, set_turn, terminal_turn, told_turn};
 
-use crate::endings::EVENT_NAME;
 use crate::own::Tool;
-use crate::primaries::{alarm_report, online_request, terminal_item, terminal_report};
+use crate::primaries::{online_request, terminal_item};
+use crate::report::Report;
+use crate::reports::{ALARM_NAME, EVENT_NAME, TERMINAL_NAME};
 use crate::sending::note_dropped;
 use equipment_tables::{Answer, bounded};
 use gem_alarms::AlarmStep;
@@ -24,20 +26,7 @@ use message_end::Stop;
 use message_flow::StepOut;
 use secs_items::Item;
 use std::alloc::Global;
-use trace_log::{Name, ToolCommand, alarm_note, event_note, refused_note, set_note};
-
-// The names of an alarm's report and of a terminal's.
-const ALARM_NAME: Name = Name {
-    stream: 5,
-    function: 1,
-    wait: true,
-};
-
-const TERMINAL_NAME: Name = Name {
-    stream: 10,
-    function: 1,
-    wait: true,
-};
+use trace_log::{ToolCommand, alarm_note, event_note, refused_note, set_note};
 
 impl Tool {
     /// Carries out a command of the tool.
@@ -175,7 +164,7 @@ impl Tool {
         out: &mut StepOut,
     ) -> Result<(), Stop>
         ensures does { Takes
-            (alarm_turn (step_of self.old.own.tables.alarms alid is_set) alid is_set (own_of self.old.own))
+            (alarm_turn (step_of self.old.own.tables.alarms alid is_set) alid is_set (own_of self.old.own) self.old.core)
             (node_of self.old)
             out.old
             (node_of self.new)
@@ -208,7 +197,7 @@ impl Tool {
         out: &mut StepOut,
     ) -> Result<(), Stop>
         ensures does { Takes
-            (alarm_report_turn enabled alid (own_of self.old.own))
+            (alarm_report_turn enabled alid (own_of self.old.own) self.old.core)
             (node_of self.old)
             out.old
             (node_of self.new)
@@ -226,7 +215,7 @@ impl Tool {
         let max_body = self.own.max_body();
         let text = self.own.tables.alarm_body(alloc, alid, max_body)?;
         match self.judge_text(alloc, ALARM_NAME, text, out)? {
-            Some(body) => self.send(alloc, alarm_report(body), out),
+            Some(body) => self.send_report(alloc, Report::named(ALARM_NAME, body), out),
             None => Ok(()),
         }
     }
@@ -234,7 +223,7 @@ impl Tool {
     // The operator of a terminal has a text for the host.
     fn write(&mut self, alloc: Global, tid: u8, text: &[u8], out: &mut StepOut) -> Result<(), Stop>
         ensures does { Takes
-            (terminal_turn tid text.now (own_of self.old.own))
+            (terminal_turn tid text.now (own_of self.old.own) self.old.core)
             (node_of self.old)
             out.old
             (node_of self.new)
@@ -252,12 +241,10 @@ impl Tool {
 
     // Sends a terminal's report of this text, where it may be sent.
     fn send_terminal(&mut self, alloc: Global, text: Answer, out: &mut StepOut) -> Result<(), Stop>
-        requires { IsShort text }
+        requires short { IsShort text }
+        requires online { is_online (own_of self.old.own) ≡ true }
         ensures does { Takes
-            (text_turn terminal_name
-            (λ body. fixed_turn (own_of self.old.own) (Primary (terminal_report body) ∷ []))
-            text
-            (own_of self.old.own))
+            (report_turn terminal_report text (own_of self.old.own) self.old.core)
             (node_of self.old)
             out.old
             (node_of self.new)
@@ -266,7 +253,7 @@ impl Tool {
         ensures line { out.new.line ≡ out.old.line }
     {
         match self.judge_text(alloc, TERMINAL_NAME, text, out)? {
-            Some(body) => self.send(alloc, terminal_report(body), out),
+            Some(body) => self.send_report(alloc, Report::named(TERMINAL_NAME, body), out),
             None => Ok(()),
         }
     }

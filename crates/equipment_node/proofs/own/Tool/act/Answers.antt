@@ -1,21 +1,38 @@
-use Rattle.std.proofs.Common.{[], ◌∷◌, ◌++◌}
+use Rattle.std.proofs.Common.{◌∙◌}
 use Rattle.message_end.specs.Ends.{input_of}
-use Rattle.std.specs.Prelude.{Err}
 use Rattle.equipment_node.specs.Node.{node_of}
-use Rattle.equipment_node.specs.Step.{beginning, due_parts, input_part, offer}
-use Rattle.equipment_node.proofs.Following.{first_goes, first_stops, reached}
+use Rattle.equipment_node.proofs.Asking.{reserve-fallen, step-asked}
+use Rattle.equipment_node.proofs.OverDisk.{not-opened}
 use Rattle.equipment_node.proofs.own.Tool.act.Goals as goal
 
-pub returns-in-Ok : goal.returns-in-Ok
-returns-in-Ok c =
-    first_goes (Unit {0}) (beginning c.args.now)
-    (due_parts c.args.now ++ input_part (input_of c.args.input) c.args.now ∷ offer c.args.now ∷ [])
-    (node_of c.args.self.now) (node_of c.begin.new.self) (node_of c.go_on.new.self) c.args.out.now c.begin.new.out
-    c.go_on.new.out c.go_on.result c.in-Ok.ensures.does c.go_on.ensures
+pub act_on-requires : goal.act_on-requires
+act_on-requires g c = record {
+  now = c.requires.now;
+  input = c.requires.input;
+  out = record {
+    line = c.in-Ok.ensures.line ∙ c.requires.out.line;
+    notes = c.in-Ok.ensures.notes ∙ c.requires.out.notes;
+  };
+  ready = c.in-Ok.ensures.ready;
+}
 
-pub returns-in-Err : goal.returns-in-Err
-returns-in-Err c =
-    first_stops (Unit {0}) (Unit {0}) (beginning c.args.now)
-    (due_parts c.args.now ++ input_part (input_of c.args.input) c.args.now ∷ offer c.args.now ∷ [])
-    (node_of c.args.self.now) (node_of c.begin.new.self) c.args.out.now c.begin.new.out c.in-Err.stop
-    (reached (Unit {0}) _ (node_of c.begin.new.self) c.begin.new.out (Err c.in-Err.stop) c.in-Err.ensures.does)
+pub returns-in-Ok-clause-acts : goal.returns-in-Ok-clause-acts
+returns-in-Ok-clause-acts g c s node_is on told =
+    c.act_on.ensures.acts s (c.in-Ok.ensures.opens s node_is on told)
+
+pub returns-in-Err-clause-acts : goal.returns-in-Err-clause-acts
+returns-in-Err-clause-acts g c s node_is on told =
+    not-opened g.D.Disk s (input_of c.args.input) c.args.now (node_of c.reserve.new.self) (node_of c.reserve.new.self)
+    c.reserve.new.out c.in-Err.ended (c.in-Err.ensures.notes ∙ c.requires.out.notes) on.clear.owes
+    (c.in-Err.ensures.opens s node_is on told)
+
+pub returns-in-Ok-clause-asks : goal.returns-in-Ok-clause-asks
+returns-in-Ok-clause-asks g c s node_is on told =
+    let begin = c.in-Ok.ensures.opens s node_is on told in
+    step-asked g.D.Disk s (input_of c.args.input) c.args.now c.args.spool.spool.disk c.in-Ok.spool.spool.disk
+    c.act_on.result begin.went (c.in-Ok.ensures.asks s node_is on told) (c.act_on.ensures.asks s begin)
+
+pub returns-in-Err-clause-asks : goal.returns-in-Err-clause-asks
+returns-in-Err-clause-asks g c s node_is on told =
+    reserve-fallen g.D.Disk s (input_of c.args.input) c.args.now c.args.spool.spool.disk c.in-Err.ended
+    (c.in-Err.ensures.asks s node_is on told)

@@ -12,6 +12,6 @@ returns-in-Terminal-clause-does c =
     subst
     (λ (t : ToolTurn).
     Takes t (node_of c.args.self.now) c.args.out.now (node_of c.write.new.self) c.write.new.out c.write.result)
-    (ap (λ (text : List ℕ). terminal_turn c.in-Terminal.tid text own) c.as_slice.ensures
+    (ap (λ (text : List ℕ). terminal_turn c.in-Terminal.tid text own c.args.self.now.core) c.as_slice.ensures
     ∙ ap (λ (command : ToolCommand). command_turn command c.args.now own c.args.self.now.core) (sym c.in-Terminal.is))
     c.write.ensures.does

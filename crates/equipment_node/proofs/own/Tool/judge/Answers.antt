@@ -24,3 +24,9 @@ returns-in-Crowded-clause-does c =
     (reached (Unit {0}) _ (node_of c.give_up-in-Crowded.new.self) c.give_up-in-Crowded.new.out
     c.give_up-in-Crowded.result
     c.give_up-in-Crowded.ensures.does)
+
+pub returns-in-TooLong-clause-does : goal.returns-in-TooLong-clause-does
+returns-in-TooLong-clause-does c =
+    rw c.in-TooLong.is
+    (reached (Unit {0}) _ (node_of c.give_up_long.new.self) c.give_up_long.new.out c.give_up_long.result
+    c.give_up_long.ensures.does)

@@ -1,20 +1,32 @@
-use Rattle.std.proofs.Common.{refl}
-use Rattle.message_flow.specs.declared.step.StepOut.{StepOut}
+use Rattle.std.proofs.Common.{refl, sym}
 use Rattle.message_end.specs.Ends.{input_of}
-use Rattle.message_end.proofs.Leaving.{leaves-gone}
-use Rattle.equipment_node.specs.Node.{node_of}
-use Rattle.equipment_node.specs.Step.{step_parts}
-use Rattle.equipment_node.proofs.Following.{leaves_so}
+use Rattle.equipment_node.specs.Equipment.{EquipmentView}
+use Rattle.equipment_node.proofs.Making.{next-made}
 use Rattle.equipment_node.proofs.own.Tool.step_on.Goals as goal
 
-pub returns-in-Ok : goal.returns-in-Ok
-returns-in-Ok c =
-    leaves-gone (step_parts (input_of c.args.input) c.args.now) (node_of c.args.self.now) c.args.out.now
-    c.requires.out (node_of c.act.new.self) c.act.new.out c.in-Ok.ensures
+pub returns-in-Ok-clause-steps : goal.returns-in-Ok-clause-steps
+returns-in-Ok-clause-steps g c s node_is on told =
+    let acted = c.in-Ok.ensures.acts s node_is on told in
+    record {
+      step = acted.step;
+      is = acted.is;
+      node_is = sym acted.at.node_is;
+      on = record {
+        clear = acted.at.clear;
+        made = next-made s (input_of c.args.input) c.args.now acted.step on.made c.requires.input acted.is;
+      };
+      told = acted.at.told;
+      notes = acted.at.notes;
+      written = acted.at.written;
+    }
 
-pub returns-in-Err : goal.returns-in-Err
-returns-in-Err c =
-    leaves_so (step_parts (input_of c.args.input) c.args.now) (node_of c.args.self.now) c.args.out.now c.requires.out
-    (node_of c.act.new.self) c.act.new.out (record { line = c.clear.new.self; notes = c.act.new.out.notes })
-    c.in-Err.stop
-    c.in-Err.ensures refl c.clear.ensures
+pub returns-in-Err-clause-steps : goal.returns-in-Err-clause-steps
+returns-in-Err-clause-steps g c s node_is on told =
+    c.in-Err.ensures.acts s node_is on told (record { line = c.clear.new.self; notes = c.act.new.out.notes }) refl
+    c.clear.ensures
+
+pub returns-in-Ok-clause-asks : goal.returns-in-Ok-clause-asks
+returns-in-Ok-clause-asks g c s node_is on told = c.in-Ok.ensures.asks s node_is on told
+
+pub returns-in-Err-clause-asks : goal.returns-in-Err-clause-asks
+returns-in-Err-clause-asks g c s node_is on told = c.in-Err.ensures.asks s node_is on told

@@ -1,4 +1,4 @@
-use Rattle.std.proofs.Common.{sym, subst, ◌∙◌}
+use Rattle.std.proofs.Common.{refl, sym, subst, ◌∙◌}
 use Rattle.trace_log.specs.Text.{printed_note}
 use Rattle.message_end.specs.declared.end.Took.{Took}
 use Rattle.message_end.specs.Calls.{took_at}
@@ -49,4 +49,4 @@ returns-in-Err-clause-does c =
     let core : EndView Kind = c.args.self.now.core in
     leads_stopped Took (Unit {0}) own (Take c.args.byte c.args.now)
     (took_turn c.args.now (took_at core c.args.byte c.args.now) own) core (node own c.take.new.self) c.args.out.now
-    c.take.new.out c.in-Err.stop c.in-Err.ensures.carries
+    c.take.new.out _ c.in-Err.stop refl c.in-Err.ensures.carries

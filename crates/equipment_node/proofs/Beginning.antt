@@ -1,0 +1,205 @@
+-- That a start over a spool that was taken up comes to the start of the definition.
+use Rattle.std.proofs.Common.{◌≡◌, refl, sym, ap, subst, ◌∙◌, arith, inr, ℕ, suc, ◌+◌, List, [], ◌∷◌, ◌++◌, length, Some, None}
+use Rattle.std.proofs.lemmas.Bool.Decides.{nat_tests}
+use Rattle.std.proofs.lemmas.List.Elements.{All-nil}
+use Rattle.std.specs.Prelude.{IfOk, Result, Ok, Err}
+use Rattle.disk_base.specs.Story.{Story}
+use Rattle.disk_base.specs.Through.{EachImage, GoesThrough}
+use Rattle.disk_base.specs.declared.disk.Disk as disk
+use Rattle.gem_spool.specs.declared.count.Count.{Count}
+use Rattle.gem_spool.specs.declared.spool.GemSpool.{GemSpool}
+use Rattle.gem_spool.specs.Spool.{ReservesFrom}
+use Rattle.gem_spool.specs.Standing.{Standing, Stands, standing_of}
+use Rattle.gem_spool.specs.Works.{IsMarked, reserved}
+use Rattle.message_flow.specs.declared.step.Note.{Note}
+use Rattle.message_flow.specs.declared.step.StepOut.{StepOut}
+use Rattle.spool_slots.specs.Changes.{Reserves}
+use Rattle.spool_slots.specs.Slot.{Message}
+use Rattle.spool_slots.specs.Spool.{SpoolView}
+use Rattle.spool_slots.specs.declared.states.Reserving.TheVariants as reserving
+use Rattle.spool_slots.specs.declared.states.Spent.{Spent as Device}
+use Rattle.trace_log.specs.Log.{Happening}
+use Rattle.trace_log.specs.Log.Happening.{EquipmentStarted}
+use Rattle.trace_log.specs.Names.{Spooled}
+use Rattle.trace_log.specs.Text.{note_of}
+use Rattle.message_end.specs.Core.{Step}
+use Rattle.message_end.specs.Ends.{IsEmpty, printed}
+use Rattle.message_end.specs.Parts.{Node}
+use Rattle.spool_ledger.specs.Ledger.{LedgerView, new_ledger}
+use Rattle.equipment_tables.specs.declared.plan.EquipmentPlan.{EquipmentPlan}
+use Rattle.equipment_tables.specs.Plan.{EquipmentPlanFits}
+use Rattle.equipment_node.specs.declared.disk_step.Ended.{Ended}
+use Rattle.equipment_node.specs.declared.disk_step.Ended.TheVariants as ended
+use Rattle.equipment_node.specs.declared.equipment.Seat.{Seat}
+use Rattle.equipment_node.specs.declared.kind.Kind.{Kind}
+use Rattle.equipment_node.specs.Amid.{IsReady, Keeps}
+use Rattle.equipment_node.specs.Asked.{HasSpared}
+use Rattle.equipment_node.specs.Equipment.{EquipmentView, first_in, found_in, is_marked_out, spooled_of}
+use Rattle.equipment_node.specs.Grants.{GrantView}
+use Rattle.equipment_node.specs.Live.{ReportView}
+use Rattle.equipment_node.specs.Node.{node_of}
+use Rattle.equipment_node.specs.Own.{OwnView}
+use Rattle.equipment_node.specs.Sound.{CanBeSent}
+use Rattle.equipment_node.specs.SpoolSound.{new-good}
+use Rattle.equipment_node.specs.StartOver.{IsFresh, IsLeftMarked, IsStartNoted, StartAsks, StartsOver, StartsWith, new_node, started_over}
+use Rattle.equipment_node.specs.Stepping.{IsClear, IsTold}
+use Rattle.message_end.specs.Core.{IsText}
+use Rattle.equipment_node.proofs.Asking.{fallen-fault, spared-used}
+use Rattle.equipment_node.proofs.Opened.{at-last}
+use Rattle.equipment_node.proofs.OverDisk.{held, kept-of}
+
+-- ---- it is ready for its first step
+
+module _ {D : Type 0} (plan : EquipmentPlan) (fits : EquipmentPlanFits plan) where
+  new-ready :
+      (g : GemSpool D) (base : ℕ)
+      → IsReady g.spool (new_node plan (new_ledger g.spool.slots g.spool.first g.spool.len) base)
+  new-ready g base = record {
+    count = refl;
+    sound = record {
+      plan = plan;
+      fits = fits;
+      sound = record {
+        plan_is = refl;
+        texts = All-nil (λ (one : GrantView). IsText one.body);
+        reports = All-nil (λ (one : ReportView). CanBeSent one.message);
+        ledger = new-good g.spool.slots g.spool.first g.spool.len;
+      };
+    };
+  }
+
+  pub start-ready :
+      (g : GemSpool D) (base : ℕ) (out_old out_new : StepOut) (result : Result (Seat D) (Ended D))
+      → StartsWith plan g base out_old out_new result
+      → IfOk result (λ e. IsReady e.spool.spool (node_of e.tool.value))
+  start-ready g base out_old out_new (Err end) is = tt
+  start-ready g base out_old out_new (Ok e) is =
+      subst (λ (h : GemSpool D). IsReady h.spool (node_of e.tool.value)) (sym is.0)
+      (subst (λ (n : Node OwnView Kind). IsReady g.spool n) (sym is.1) (new-ready g base))
+
+-- ---- what it comes to
+
+found-long : (list : List Message) → length (found_in list) ≡ length list
+found-long [] = refl
+found-long (message ∷ list) = ap suc (found-long list)
+
+module _ {D : Type 0} (members : disk.Ghosts D) (plan : EquipmentPlan) (g : GemSpool D) (fresh : IsFresh members g)
+    (stands : Stands members g.spool (standing_of members g.spool)) (out_old out_new : StepOut) (empty : IsEmpty out_old)
+  where
+    abbrev st : Standing
+    st = standing_of members g.spool
+
+    abbrev next : EquipmentView
+    next = (started_over members plan g).next
+
+    len-is : g.spool.len ≡ length st.list
+    len-is = ap (λ (c : Count). c.len) stands.count
+
+    next-is : g.spool.first + g.spool.len ≡ first_in st.list + length st.list
+    next-is =
+        ap (λ (n : ℕ). n + g.spool.len) fresh.first ∙ ap (λ (n : ℕ). first_in st.list + n) len-is
+
+    -- no system bytes are left
+    pub none-left :
+        (h : GemSpool D) (spent : Device D) → ReservesFrom members g h None → spent.disk ≡ h.spool.disk
+        → StartsOver members plan g out_old (Err (ended.NumbersSpent spent))
+    none-left h spent done same = (
+      (let none = done.1 in grind (arith, nat_tests, none)),
+      empty.notes,
+      empty.line,
+      kept-of members g.spool st spent (same ∙ ap (λ (x : GemSpool D). x.spool.disk) done.0) stands,
+    )
+
+    -- the disk failed
+    pub start-failed :
+        (spent : Device D)
+        → ((s : Story) → members.told g.spool.disk ≡ Some s → GoesThrough s (members.told spent.disk) (IsMarked st))
+        → StartsOver members plan g out_old (Err (ended.DiskFailed spent))
+    start-failed spent moments = (
+      empty.notes,
+      empty.line,
+      record {
+        left = λ t is. at-last fresh.told.0 _ _ t (moments fresh.told.0 fresh.told.1) is;
+      },
+    )
+
+    module _ (h : GemSpool D) (base : ℕ) (done : ReservesFrom members g h (Some base))
+        (marked : Stands members h.spool (reserved st))
+        (moments : (s : Story) → members.told g.spool.disk ≡ Some s
+        → GoesThrough s (members.told h.spool.disk) (IsMarked st))
+        (line : out_new.line ≡ out_old.line)
+      where
+        ledger-is :
+            new_ledger h.spool.slots h.spool.first h.spool.len
+            ≡ new_ledger g.spool.slots (first_in st.list) (length st.list)
+        ledger-is =
+            ap (λ (v : SpoolView D). new_ledger v.slots v.first v.len) done.0.2
+            ∙ ap (λ (n : ℕ). new_ledger g.spool.slots n g.spool.len) fresh.first
+            ∙ ap (λ (n : ℕ). new_ledger g.spool.slots (first_in st.list) n) len-is
+
+        long-is : length (found_in st.list) ≡ h.spool.len
+        long-is = found-long st.list ∙ sym len-is ∙ sym (ap (λ (v : SpoolView D). v.len) done.0.2)
+
+        pub started :
+            (result : Result (Seat D) (Ended D)) → StartsWith plan h base out_old out_new result
+            → StartsOver members plan g out_new result
+        started (Ok e) is = record {
+          room = let left = done.0.0.left in grind (arith, nat_tests, left);
+          node_is =
+              is.1 ∙ ap (λ (l : LedgerView). new_node plan l base) ledger-is
+              ∙ ap (λ (n : ℕ). new_node plan (new_ledger g.spool.slots (first_in st.list) (length st.list)) n) done.0.1;
+          clear =
+              subst (λ (x : GemSpool D). IsClear members x.spool next) (sym is.0)
+              (record {
+                stands =
+                    subst
+                    (λ (n : ℕ). Stands members h.spool (record {
+                      slots = g.spool.slots;
+                      next = n;
+                      mark = g.spool.mark + 4096;
+                      list = st.list;
+                    }))
+                    next-is marked;
+                owes = refl;
+                len = refl;
+              });
+          told =
+              subst (λ (x : GemSpool D). IsTold (members.told x.spool.disk)) (sym is.0)
+              (let through = moments fresh.told.0 fresh.told.1 in (through.0, through.1));
+          notes =
+              is.2.notes ∙ ap (λ (notes : List Note). notes ++ is.2.note ∷ []) empty.notes
+              ∙ ap (λ (note : Note). note ∷ []) (is.2.is (found_in st.list) long-is)
+              ∙ ap (λ (n : ℕ). note_of (EquipmentStarted (found_in st.list) n) ∷ []) done.0.1;
+          quiet = ap (λ l. l.items) line ∙ empty.line;
+        }
+        started (Err (ended.NoMemory spent)) is = (
+          ap (λ l. l.items) line ∙ empty.line,
+          record {
+            left = λ t told image image_is.
+                inr (kept-of members h.spool (reserved st) spent is marked t told image image_is);
+          },
+        )
+        started (Err (ended.NumbersSpent spent)) is = absurd is
+        started (Err (ended.DiskFailed spent)) is = absurd is
+
+-- ---- what it asks of the disk
+
+module _ {D : Type 0} (members : disk.Ghosts D) (plan : EquipmentPlan) (g : GemSpool D) where
+  pub start-asked :
+      (h : GemSpool D) (base first : ℕ) (out_old out_new : StepOut) (result : Result (Seat D) (Ended D))
+      → ReservesFrom members g h (Some base) → StartsWith plan h first out_old out_new result
+      → StartAsks members g.spool.disk result
+  start-asked h base first out_old out_new (Ok e) done is =
+      subst
+      (λ (x : GemSpool D).
+      HasSpared (members.health g.spool.disk) (members.health x.spool.disk) (record { calls = 5; bytes = 9 }))
+      (sym is.0) (spared-used (members.health g.spool.disk) (members.health h.spool.disk) 5 9 done.0.0.cause)
+  start-asked h base first out_old out_new (Err (ended.NoMemory spent)) done is = tt
+  start-asked h base first out_old out_new (Err (ended.NumbersSpent spent)) done is = tt
+  start-asked h base first out_old out_new (Err (ended.DiskFailed spent)) done is = absurd is
+
+  pub start-fallen :
+      (spent : Device D) → Reserves members g.spool (Err (reserving.Failed spent))
+      → StartAsks members g.spool.disk (Err (ended.DiskFailed spent))
+  start-fallen spent done =
+      fallen-fault (members.health g.spool.disk) (members.health spent.disk) 5 9 _ (λ lacking. lacking) done.0.cause

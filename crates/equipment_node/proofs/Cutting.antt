@@ -1,0 +1,265 @@
+-- The notes up to the line of a work that failed: how the code counts them, and that they are those of the definition.
+use Rattle.std.proofs.Common.{◌≡◌, refl, sym, ap, subst, ◌∙◌, inl, inr, ◌⊎◌, arith, zero, suc, ◌+◌, ◌-◌, ◌<◌, ◌≤◌, Bool, true, false, ◌||◌, ℕ, List, [], ◌∷◌, ◌++◌, append_assoc, append-nil, codes, drop, get_or, length, map, take, Option, Some, None, if◌then◌else◌}
+use Rattle.std.proofs.Math.Seq.{drop-cons, take-suc}
+use Rattle.std.specs.List.{filter_map, cons_option, slice_get}
+use Rattle.gem_spool.specs.declared.works.Work.{Work}
+use Rattle.message_flow.specs.declared.step.Note.{Note}
+use Rattle.message_end.specs.Ends.{IsFront, printed}
+use Rattle.trace_log.specs.Log.{Happening}
+use Rattle.trace_log.specs.Log.Happening.{EquipmentStarted, HostStarted, Power, Closed, Sent, Received, Wrote, Comms, Control, Spool, Set, Event, Alarm, Carried, Display, Refused, Storing, Stored, Leaving, Gone, Try, Duplicate, Unexpected, Foreign, TooLongBlock, Crowded, DroppedByT4, Failed, TimedOut, Stranger, Dropped, Denied, Discarded, TooLong, Full, Recorded}
+use Rattle.trace_log.specs.Text.{note_of, printed_note}
+use Rattle.equipment_node.specs.Cut.{announces, cut_at, noted_to}
+use Rattle.equipment_node.specs.Disk.{DiskWork, behind_change, fronts_of, is_before_change, up_to_change}
+use Rattle.equipment_node.specs.Disk.DiskWork.{Change, ReadOldest}
+
+-- ---- the lines
+
+-- a line announces a work exactly where what was noted stands before one; what is recorded alone has none
+abbrev pub IsTold : Happening → Type 0
+IsTold what =
+    ((printed_note what ≡ None) × (is_before_change what ≡ false))
+    ⊎ ((printed_note what ≡ Some (note_of what)) × (announces (note_of what) ≡ is_before_change what))
+
+pub told : (what : Happening) → IsTold what
+told (EquipmentStarted found base) = inr (refl, refl)
+told HostStarted = inr (refl, refl)
+told Power = inr (refl, refl)
+told Closed = inr (refl, refl)
+told (Sent message) = inr (refl, refl)
+told (Received message) = inr (refl, refl)
+told (Wrote characters) = inr (refl, refl)
+told (Comms state) = inr (refl, refl)
+told (Control state) = inr (refl, refl)
+told (Spool active) = inr (refl, refl)
+told (Set vid) = inr (refl, refl)
+told (Event ceid dataid) = inr (refl, refl)
+told (Alarm alid set) = inr (refl, refl)
+told (Carried rcmd) = inr (refl, refl)
+told (Display tid text) = inr (refl, refl)
+told Refused = inr (refl, refl)
+told (Storing number message) = inr (refl, refl)
+told (Stored number) = inr (refl, refl)
+told (Leaving number cause) = inr (refl, refl)
+told (Gone number) = inr (refl, refl)
+told (Try number system) = inr (refl, refl)
+told (Duplicate header) = inr (refl, refl)
+told (Unexpected header) = inr (refl, refl)
+told (Foreign header) = inr (refl, refl)
+told (TooLongBlock header) = inr (refl, refl)
+told (Crowded header) = inr (refl, refl)
+told (DroppedByT4 header) = inr (refl, refl)
+told (Failed title) = inr (refl, refl)
+told (TimedOut title) = inr (refl, refl)
+told (Stranger title) = inr (refl, refl)
+told (Dropped name) = inr (refl, refl)
+told (Denied name) = inr (refl, refl)
+told (Discarded name) = inr (refl, refl)
+told (TooLong name) = inr (refl, refl)
+told (Full name) = inr (refl, refl)
+told (Recorded past) = inl (refl, refl)
+
+-- ---- up to one of them
+
+one-printed : (what : Happening) (notes : List Happening) (said : Option Note) → printed_note what ≡ said
+    → printed (what ∷ notes) ≡ cons_option said (printed notes)
+one-printed what notes said is = ap (λ (line : Option Note). cons_option line (printed notes)) is
+
+-- up to the first one
+pub first-cut : (notes : List Happening) → printed (up_to_change notes) ≡ cut_at 0 (printed notes)
+first-cut [] = refl
+first-cut (what ∷ notes) = go (is_before_change what) (told what) refl (first-cut notes)
+  where
+    rest : Bool → List Happening
+    rest is_one = if is_one then [] else up_to_change notes
+
+    go : (is_one : Bool) → IsTold what → is_before_change what ≡ is_one
+        → printed (up_to_change notes) ≡ cut_at 0 (printed notes)
+        → printed (what ∷ rest (is_before_change what)) ≡ cut_at 0 (printed (what ∷ notes))
+    go is_one (inl none) is more =
+        one-printed what (rest (is_before_change what)) None none.0
+        ∙ ap (λ (b : Bool). printed (rest b)) none.1
+        ∙ more
+        ∙ ap (cut_at 0) (sym (one-printed what notes None none.0))
+    go true (inr some) is more =
+        one-printed what (rest (is_before_change what)) (Some (note_of what)) some.0
+        ∙ ap (λ (b : Bool). note_of what ∷ printed (rest b)) is
+        ∙ ap (λ (b : Bool). note_of what ∷ (if b then [] else cut_at 0 (printed notes))) (sym (some.1 ∙ is))
+        ∙ ap (cut_at 0) (sym (one-printed what notes (Some (note_of what)) some.0))
+    go false (inr some) is more =
+        one-printed what (rest (is_before_change what)) (Some (note_of what)) some.0
+        ∙ ap (λ (b : Bool). note_of what ∷ printed (rest b)) is
+        ∙ ap (λ (lines : List Note). note_of what ∷ lines) more
+        ∙ ap (λ (b : Bool). note_of what ∷ (if b then [] else cut_at 0 (printed notes))) (sym (some.1 ∙ is))
+        ∙ ap (cut_at 0) (sym (one-printed what notes (Some (note_of what)) some.0))
+
+-- up to any
+pub cut-noted : (at : ℕ) (notes : List Happening) → printed (noted_to at notes) ≡ cut_at at (printed notes)
+cut-noted zero notes = first-cut notes
+cut-noted (suc at) [] = cut-noted at []
+cut-noted (suc at) (what ∷ notes) =
+    go (is_before_change what) (told what) refl (cut-noted at notes) (cut-noted (suc at) notes)
+  where
+    to : Bool → List Happening
+    to is_one =
+        (what ∷ (if is_one then [] else up_to_change notes))
+        ++ noted_to at (if is_one then notes else behind_change notes)
+
+    go : (is_one : Bool) → IsTold what → is_before_change what ≡ is_one
+        → printed (noted_to at notes) ≡ cut_at at (printed notes)
+        → printed (noted_to (suc at) notes) ≡ cut_at (suc at) (printed notes)
+        → printed (to (is_before_change what)) ≡ cut_at (suc at) (printed (what ∷ notes))
+    go is_one (inl none) is less more =
+        ap (λ (b : Bool). printed (to b)) none.1
+        ∙ one-printed what (noted_to (suc at) notes) None none.0
+        ∙ more
+        ∙ ap (cut_at (suc at)) (sym (one-printed what notes None none.0))
+    go true (inr some) is less more =
+        ap (λ (b : Bool). printed (to b)) is
+        ∙ one-printed what (noted_to at notes) (Some (note_of what)) some.0
+        ∙ ap (λ (lines : List Note). note_of what ∷ lines) less
+        ∙ ap (λ (b : Bool). note_of what ∷ (if b then cut_at at (printed notes) else cut_at (suc at) (printed notes)))
+        (sym (some.1 ∙ is))
+        ∙ ap (cut_at (suc at)) (sym (one-printed what notes (Some (note_of what)) some.0))
+    go false (inr some) is less more =
+        ap (λ (b : Bool). printed (to b)) is
+        ∙ one-printed what (noted_to (suc at) notes) (Some (note_of what)) some.0
+        ∙ ap (λ (lines : List Note). note_of what ∷ lines) more
+        ∙ ap (λ (b : Bool). note_of what ∷ (if b then cut_at at (printed notes) else cut_at (suc at) (printed notes)))
+        (sym (some.1 ∙ is))
+        ∙ ap (cut_at (suc at)) (sym (one-printed what notes (Some (note_of what)) some.0))
+
+-- ---- the fronts of the definition
+
+pub change-front :
+    (works : List Work) (rest : List DiskWork) (before notes : List Happening) (at : ℕ) (work : Work)
+    → slice_get works at ≡ Some work
+    → slice_get (fronts_of before (map Change works ++ rest) notes) at ≡ Some (before ++ noted_to at notes)
+change-front [] rest before notes at work is = absurd (cc)
+change-front (one ∷ works) rest before notes zero work is = refl
+change-front (one ∷ works) rest before notes (suc at) work is =
+    change-front works rest (before ++ up_to_change notes) (behind_change notes) at work is
+    ∙ ap (λ (all : List Happening). Some all)
+    (append_assoc before (up_to_change notes) (noted_to at (behind_change notes)))
+
+split-change : (notes : List Happening) → up_to_change notes ++ behind_change notes ≡ notes
+split-change [] = refl
+split-change (what ∷ rest) = go (is_before_change what) (split-change rest)
+  where
+    go : (is_one : Bool) → up_to_change rest ++ behind_change rest ≡ rest
+        → (what ∷ (if is_one then [] else up_to_change rest)) ++ (if is_one then rest else behind_change rest)
+        ≡ what ∷ rest
+    go true same = refl
+    go false same = ap (λ (ns : List Happening). what ∷ ns) same
+
+-- at the read, all is noted
+pub read-front :
+    (works : List Work) (before notes : List Happening)
+    → slice_get (fronts_of before (map Change works ++ ReadOldest ∷ []) notes) (length works) ≡ Some (before ++ notes)
+read-front [] before notes = refl
+read-front (one ∷ works) before notes =
+    read-front works (before ++ up_to_change notes) (behind_change notes)
+    ∙ ap (λ (all : List Happening). Some all)
+    (append_assoc before (up_to_change notes) (behind_change notes)
+    ∙ ap (λ (all : List Happening). before ++ all) (split-change notes))
+
+-- they are first ones of all
+pub noted-front : (at : ℕ) (notes : List Happening) → IsFront (noted_to at notes) notes
+noted-front zero notes = record { rest = behind_change notes; whole = sym (split-change notes) }
+noted-front (suc at) notes =
+    let more = noted-front at (behind_change notes) in
+    record {
+      rest = more.rest;
+      whole =
+          sym (split-change notes)
+          ∙ ap (λ (all : List Happening). up_to_change notes ++ all) more.whole
+          ∙ sym (append_assoc (up_to_change notes) (noted_to at (behind_change notes)) more.rest);
+    }
+
+-- ---- how the code counts
+
+cut-over : (left : ℕ) (one : Note) (rest : List Note) → announces one ≡ false → cut_at left (one ∷ rest) ≡ one ∷ cut_at left rest
+cut-over zero one rest no_work = ap (λ (b : Bool). one ∷ (if b then [] else cut_at zero rest)) no_work
+cut-over (suc left) one rest no_work =
+    ap (λ (b : Bool). one ∷ (if b then cut_at left rest else cut_at (suc left) rest)) no_work
+
+cut-past :
+    (left : ℕ) (one : Note) (rest : List Note) → announces one ≡ true → 0 < left
+    → cut_at left (one ∷ rest) ≡ one ∷ cut_at (left - 1) rest
+cut-past zero one rest work some = absurd (omega (arith, some))
+cut-past (suc left) one rest work some =
+    let less : left ≡ suc left - 1 = omega arith in
+    ap (λ (b : Bool). one ∷ (if b then cut_at left rest else cut_at (suc left) rest)) work
+    ∙ ap (λ (n : ℕ). one ∷ cut_at n rest) less
+
+-- the one at a place
+module _ (notes : List Note) (i : ℕ) (one : Note) (is : one ≡ get_or notes i one) (within : i < length notes)
+    (at left : ℕ) (whole : take i notes ++ cut_at left (drop i notes) ≡ cut_at at notes)
+  where
+    abbrev rest : List Note
+    rest = drop (suc i) notes
+
+    found : drop i notes ≡ one ∷ rest
+    found = drop-cons notes i one within ∙ ap (λ (x : Note). x ∷ rest) (sym is)
+
+    next : suc i ≡ i + 1
+    next = omega arith
+
+    front : take i notes ++ one ∷ [] ≡ take (i + 1) notes
+    front =
+        ap (λ (x : Note). take i notes ++ x ∷ []) is ∙ sym (take-suc notes i one within)
+        ∙ ap (λ (n : ℕ). take n notes) next
+
+    passes :
+        (left_now : ℕ) → cut_at left (one ∷ rest) ≡ one ∷ cut_at left_now rest
+        → take (i + 1) notes ++ cut_at left_now (drop (i + 1) notes) ≡ cut_at at notes
+    passes left_now goes =
+        ap (λ (xs : List Note). xs ++ cut_at left_now (drop (i + 1) notes)) (sym front)
+        ∙ append_assoc (take i notes) (one ∷ []) (cut_at left_now (drop (i + 1) notes))
+        ∙ ap (λ (n : ℕ). take i notes ++ one ∷ cut_at left_now (drop n notes)) (sym next)
+        ∙ ap (λ (xs : List Note). take i notes ++ xs) (sym goes ∙ ap (cut_at left) (sym found))
+        ∙ whole
+
+    pub cut-passes :
+        announces one ≡ false → take (i + 1) notes ++ cut_at left (drop (i + 1) notes) ≡ cut_at at notes
+    cut-passes no_work = passes left (cut-over left one rest no_work)
+
+    pub cut-counts :
+        announces one ≡ true → 0 < left
+        → take (i + 1) notes ++ cut_at (left - 1) (drop (i + 1) notes) ≡ cut_at at notes
+    cut-counts work some = passes (left - 1) (cut-past left one rest work some)
+
+    pub cut-found : announces one ≡ true → left ≡ 0 → take (i + 1) notes ≡ cut_at at notes
+    cut-found work none =
+        sym front
+        ∙ ap (λ (xs : List Note). take i notes ++ xs)
+        (sym (ap (λ (n : ℕ). cut_at n (one ∷ rest)) none
+        ∙ ap (λ (b : Bool). one ∷ (if b then [] else cut_at zero rest)) work)
+        ∙ ap (cut_at left) (sym found))
+        ∙ whole
+
+-- none is left
+pub cut-all :
+    (notes : List Note) (i at left : ℕ) → length notes ≤ i
+    → take i notes ++ cut_at left (drop i notes) ≡ cut_at at notes → take (length notes) notes ≡ cut_at at notes
+cut-all notes i at left past whole =
+    take-length notes ∙ sym (ap (λ (xs : List Note). xs ++ cut_at left (drop i notes)) (take-past i notes past)
+    ∙ ap (λ (xs : List Note). notes ++ cut_at left xs) (drop-past i notes past) ∙ nothing left) ∙ whole
+  where
+    take-length : (xs : List Note) → take (length xs) xs ≡ xs
+    take-length [] = refl
+    take-length (x ∷ xs) = ap (λ (ys : List Note). x ∷ ys) (take-length xs)
+
+    take-past : (n : ℕ) (xs : List Note) → length xs ≤ n → take n xs ≡ xs
+    take-past zero [] less = refl
+    take-past (suc n) [] less = refl
+    take-past zero (x ∷ xs) less = absurd (omega (arith, less))
+    take-past (suc n) (x ∷ xs) less = ap (λ (ys : List Note). x ∷ ys) (take-past n xs (omega (arith, less)))
+
+    drop-past : (n : ℕ) (xs : List Note) → length xs ≤ n → drop n xs ≡ []
+    drop-past zero [] less = refl
+    drop-past (suc n) [] less = refl
+    drop-past zero (x ∷ xs) less = absurd (omega (arith, less))
+    drop-past (suc n) (x ∷ xs) less = drop-past n xs (omega (arith, less))
+
+    nothing : (left : ℕ) → notes ++ cut_at left [] ≡ notes
+    nothing left = append-nil notes

@@ -1,0 +1,172 @@
+-- That the parts before the works come to what a step has begun.
+use Rattle.std.proofs.Common.{◌≡◌, refl, sym, ap, subst, ◌∙◌, ℕ, ◌+◌, List, [], ◌∷◌, Some}
+use Rattle.std.specs.Prelude.{Ok, Err}
+use Rattle.disk_base.specs.declared.disk.Disk as disk
+use Rattle.gem_spool.specs.declared.count.Count.{Count}
+use Rattle.gem_spool.specs.declared.spool.GemSpool.{GemSpool}
+use Rattle.gem_spool.specs.Standing.{count_of}
+use Rattle.message_flow.specs.declared.step.Note.{Note}
+use Rattle.message_flow.specs.declared.step.StepOut.{StepOut}
+use Rattle.trace_log.specs.declared.commands.ToolCommand.{ToolCommand}
+use Rattle.trace_log.specs.Log.{Happening}
+use Rattle.trace_log.specs.Text.{printed_note}
+use Rattle.message_end.specs.declared.end.Stop.{Stop}
+use Rattle.message_end.specs.declared.end.Stop.TheVariants as stop
+use Rattle.message_end.specs.Core.{Step, Went, and_then, at_first, step_in}
+use Rattle.message_end.specs.Core.Went.{Goes, Spent}
+use Rattle.message_end.specs.Ends.{Input, IsEmpty}
+use Rattle.message_end.specs.Laws.{read_as, went_as}
+use Rattle.message_end.specs.Parts.{Node, after_parts, on_the_way}
+use Rattle.message_end.proofs.Leaving.{read-parts}
+use Rattle.spool_slots.specs.Spool.{SpoolView}
+use Rattle.spool_ledger.specs.Ledger.{LedgerView, stood_count}
+use Rattle.spool_ledger.specs.declared.ledger.Stand.{Stand}
+use Rattle.equipment_node.specs.declared.kind.Kind.{Kind}
+use Rattle.equipment_node.specs.Amid.{HasOpened, IsBegun, IsBegunSpent, IsReady, IsSoundOwn, StopsAt, opened}
+use Rattle.equipment_node.specs.Calls.{IsReached, IsSpent}
+use Rattle.equipment_node.specs.Equipment.{EquipmentView, begun_step, file_step, parts_done, reserving, went_with_file}
+use Rattle.equipment_node.specs.Lawful.{first-sound, parts-sound, sound-self}
+use Rattle.equipment_node.specs.Own.{OwnView, ToolPart}
+use Rattle.equipment_node.specs.Sound.{IsSound}
+use Rattle.equipment_node.specs.Step.{first_parts}
+
+same-step : {S : Type 0} {a b : Step S Note} → Goes a ≡ Goes b → a ≡ b
+same-step same = cc
+
+same-spent : {S : Type 0} {a b : Step S Note} → Spent a ≡ Spent b → a ≡ b
+same-spent same = cc
+
+pub same-count :
+    (old new : LedgerView) → new.slots ≡ old.slots → new.stood ≡ old.stood → stood_count new ≡ stood_count old
+same-count old new slots stood =
+    ap (λ (n : ℕ). record { slots = n; next = new.stood.first + new.stood.len; len = new.stood.len }) slots
+    ∙ ap (λ (st : Stand). record { slots = old.slots; next = st.first + st.len; len = st.len }) stood
+
+module _ (input : Input ToolCommand) (now : ℕ) (old mid : Node OwnView Kind) (out middle : StepOut) (empty : IsEmpty out)
+    (sound : IsSoundOwn old.own)
+  where
+    abbrev parts : List ToolPart
+    parts = first_parts input now
+
+    abbrev pub code_went : Went (Node OwnView Kind) Note
+    code_went = after_parts printed_note parts (on_the_way old out)
+
+    abbrev went : Went (Node OwnView Kind) Happening
+    went = after_parts Some parts (at_first old)
+
+    start : on_the_way old out ≡ read_as printed_note (at_first old)
+    start =
+        ap (λ (notes : List Note). record { next = old; notes = notes; written = out.line.items }) empty.notes
+        ∙ ap (λ (written : List ℕ). record { next = old; notes = []; written = written }) empty.line
+
+    read : code_went ≡ went_as printed_note went
+    read =
+        ap (after_parts printed_note parts) start
+        ∙ read-parts {S = OwnView} {K = Kind} {N = Note} printed_note parts (at_first old)
+
+    -- ---- what is kept
+
+    -- it is sound over what the disk has
+    kept : IsSound sound.plan old.own.ledger.slots old.own.ledger.stood (step_in code_went).next.own
+    kept =
+        parts-sound sound.plan sound.fits old.own.ledger.slots old.own.ledger.stood printed_note parts
+        (on_the_way old out)
+        (first-sound sound.plan sound.fits old.own.ledger.slots old.own.ledger.stood input now) sound.sound
+
+    pub first-ready :
+        {D : Type 0} (v : SpoolView D) → IsReady v old → code_went ≡ Goes (on_the_way mid middle) → IsReady v mid
+    first-ready v ready done =
+        let is =
+        subst
+        (λ (w : Went (Node OwnView Kind) Note).
+        IsSound sound.plan old.own.ledger.slots old.own.ledger.stood (step_in w).next.own)
+        done kept in
+        record {
+          count = ready.count ∙ sym (same-count old.own.ledger mid.own.ledger is.ledger.slots_are is.ledger.stood_is);
+          sound = record {
+            plan = sound.plan;
+            fits = sound.fits;
+            sound = sound-self sound.plan old.own.ledger.slots old.own.ledger.stood mid.own is;
+          };
+        }
+
+    -- also where a number was wanting
+    pub spent-count :
+        {D : Type 0} (v : SpoolView D) → IsReady v old → (end : Stop)
+        → IsReached {A = Unit {0}} code_went mid middle (Err end) → end ≡ stop.NumbersSpent
+        → count_of v ≡ stood_count mid.own.ledger
+    spent-count v ready end reached same =
+        go (subst (λ (e : Stop). IsReached {A = Unit {0}} code_went mid middle (Err e)) same reached)
+      where
+        go : IsSpent code_went mid middle → count_of v ≡ stood_count mid.own.ledger
+        go spent =
+            let is =
+            subst
+            (λ (w : Went (Node OwnView Kind) Note).
+            IsSound sound.plan old.own.ledger.slots old.own.ledger.stood (step_in w).next.own)
+            spent.is kept in
+            ready.count
+            ∙ sym (same-count old.own.ledger spent.own.ledger is.ledger.slots_are is.ledger.stood_is)
+            ∙ ap stood_count spent.ledger
+
+    -- a step of the definition that comes to what the code has at NumbersSpent
+    record IsReadSpent : Type 0 where
+      pub step : Step (Node OwnView Kind) Happening
+      pub is : went ≡ Spent step
+      pub ledger : step.next.own.ledger ≡ mid.own.ledger
+      pub notes : middle.notes ≡ (read_as {N = Note} printed_note step).notes
+
+    spent-read : IsSpent code_went mid middle → IsReadSpent
+    spent-read spent = go went refl (sym read ∙ spent.is)
+      where
+        go : (w : Went (Node OwnView Kind) Happening) → went ≡ w
+            → went_as printed_note w ≡ Spent (on_the_way (record mid { own = spent.own }) middle) → IsReadSpent
+        go (Goes step) is whole = absurd (cc)
+        go (Spent step) is whole = record {
+          step = step;
+          is = is;
+          ledger = ap (λ (x : Step (Node OwnView Kind) Note). x.next.own.ledger) (same-spent whole) ∙ spent.ledger;
+          notes = sym (ap (λ (x : Step (Node OwnView Kind) Note). x.notes) (same-spent whole));
+        }
+
+    -- ---- what was begun
+
+    module _ {D : Type 0} (members : disk.Ghosts D) (s : EquipmentView) (g : GemSpool D) (begin : HasOpened members s old g)
+      where
+        begins : begun_step s input now ≡ went_with_file (opened s) went
+        begins =
+            ap (λ (w : Went EquipmentView Happening). and_then w (parts_done parts)) begin.went
+            ∙ ap (λ (node : Node OwnView Kind). went_with_file (opened s) (after_parts Some parts (at_first node)))
+            (sym begin.node_is)
+
+        pub begun-of : code_went ≡ Goes (on_the_way mid middle) → IsBegun s input now mid middle
+        begun-of done = go went refl (sym read ∙ done)
+          where
+            go : (w : Went (Node OwnView Kind) Happening) → went ≡ w
+                → went_as printed_note w ≡ Goes (on_the_way mid middle) → IsBegun s input now mid middle
+            go (Goes step) is whole = record {
+              step = file_step (opened s) step;
+              is = begins ∙ ap (went_with_file (opened s)) is;
+              node_is = ap (λ (x : Step (Node OwnView Kind) Note). x.next) (same-step whole);
+              list = refl;
+              mark = refl;
+              notes = sym (ap (λ (x : Step (Node OwnView Kind) Note). x.notes) (same-step whole));
+              written = sym (ap (λ (x : Step (Node OwnView Kind) Note). x.written) (same-step whole));
+            }
+            go (Spent step) is whole = absurd (cc)
+
+        pub stops-of :
+            (end : Stop) → IsReached {A = Unit {0}} code_went mid middle (Err end)
+            → StopsAt s input now mid middle end
+        stops-of stop.NumbersSpent reached =
+            let is = spent-read reached in
+            record {
+              step = file_step (opened s) is.step;
+              is = begins ∙ ap (went_with_file (opened s)) is.is;
+              ledger = is.ledger;
+              list = refl;
+              mark = refl;
+              notes = is.notes;
+            }
+        stops-of stop.DiskFailed reached = reached
+        stops-of stop.NoMemory reached = tt

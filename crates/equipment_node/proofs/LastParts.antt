@@ -1,0 +1,275 @@
+-- That the parts behind the works come to the end of a step.
+use Rattle.std.proofs.Common.{◌≡◌, refl, sym, ap, subst, ◌∙◌, arith, ℕ, ◌+◌, ◌<◌, ◌≤◌, ◌%◌, List, [], ◌∷◌, length, Option, Some, None}
+use Rattle.std.specs.Prelude.{Result, Ok, Err}
+use Rattle.std.specs.List.{slice_get}
+use Rattle.std.specs.Option.{option_map}
+use Rattle.disk_base.specs.Story.{Story}
+use Rattle.disk_base.specs.declared.disk.Disk as disk
+use Rattle.gem_spool.specs.Oldest.{ReadsOldest, message_in}
+use Rattle.gem_spool.specs.declared.count.Count.{Count}
+use Rattle.gem_spool.specs.declared.kept.Kept.{Kept}
+use Rattle.gem_spool.specs.declared.spool.GemSpool.{GemSpool}
+use Rattle.gem_spool.specs.declared.works.Work.{Work}
+use Rattle.gem_spool.specs.Standing.{Standing, Stands, file_of}
+use Rattle.message_flow.specs.declared.step.Note.{Note}
+use Rattle.message_flow.specs.declared.step.StepOut.{StepOut}
+use Rattle.spool_slots.specs.File.{SpoolFile, file_in}
+use Rattle.spool_slots.specs.Slot.{Message}
+use Rattle.spool_slots.specs.Spool.{SpoolView}
+use Rattle.spool_slots.specs.declared.states.Spent.{Spent as Device}
+use Rattle.trace_log.specs.Log.{Happening}
+use Rattle.trace_log.specs.Names.{Spooled}
+use Rattle.trace_log.specs.Text.{printed_note}
+use Rattle.message_end.specs.Core.{EndView, Step, Went, and_then, step_in}
+use Rattle.message_end.specs.Core.Went.{Goes, Spent}
+use Rattle.message_end.specs.Laws.{read_as, went_as}
+use Rattle.message_end.specs.Parts.{Node, after_parts, after_turn, on_the_way}
+use Rattle.message_end.proofs.Leaving.{read-parts}
+use Rattle.spool_ledger.specs.Ledger.{LedgerView, carried_out}
+use Rattle.spool_ledger.specs.Unloading.{next_number}
+use Rattle.spool_ledger.specs.declared.ledger.Stand.{Stand}
+use Rattle.equipment_tables.specs.Tables.{most_transmitted}
+use Rattle.equipment_node.specs.declared.disk_step.Ended.{Ended}
+use Rattle.equipment_node.specs.declared.disk_step.Ended.TheVariants as ended
+use Rattle.equipment_node.specs.declared.kind.Kind.{Kind}
+use Rattle.equipment_node.specs.Amid.{DoesLast, EndsSo, IsAt, asked_node}
+use Rattle.equipment_node.specs.Calls.{IsSpent}
+use Rattle.equipment_node.specs.Disk.{standing_in}
+use Rattle.equipment_node.specs.Equipment.{EquipmentView, ended_step, file_step, node_step, oldest_of, spooled_of, with_node, went_with_file}
+use Rattle.equipment_node.specs.Own.{OwnView, ToolPart, ToolTurn}
+use Rattle.equipment_node.specs.Spooling.{end_of_spooling, taking_turn, unload_part}
+use Rattle.equipment_node.specs.Step.{last_parts, offer}
+use Rattle.equipment_node.specs.Stepping.{IsClear, IsTold, taking}
+use Rattle.equipment_node.proofs.Found.{IsGood, oldest-good}
+use Rattle.equipment_node.proofs.OverDisk.{kept-of}
+use Rattle.equipment_node.proofs.Staying.{HasRested, last-rested}
+
+same-step : {S : Type 0} {a b : Step S Note} → Goes a ≡ Goes b → a ≡ b
+same-step same = cc
+
+same-spent : {S : Type 0} {a b : Step S Note} → Spent a ≡ Spent b → a ≡ b
+same-spent same = cc
+
+-- ---- the spool, where the list stays
+
+still-standing :
+    (s : EquipmentView) (node : Node OwnView Kind) → HasRested s.node.own.ledger node.own.ledger
+    → standing_in s ≡ standing_in (with_node s node)
+still-standing s node rested =
+    ap (λ (n : ℕ).
+    record { slots = n; next = s.node.own.ledger.first + s.node.own.ledger.len; mark = s.mark; list = s.list })
+    (sym rested.slots)
+    ∙ ap (λ (n : ℕ).
+    record { slots = node.own.ledger.slots; next = n + s.node.own.ledger.len; mark = s.mark; list = s.list })
+    (sym rested.first)
+    ∙ ap (λ (n : ℕ).
+    record { slots = node.own.ledger.slots; next = node.own.ledger.first + n; mark = s.mark; list = s.list })
+    (sym rested.len)
+
+abbrev stand_of : ℕ → ℕ → Stand
+stand_of first len = record { first = first; len = len }
+
+owes-none : (v : LedgerView) → stand_of v.first v.len ≡ v.stood → [] ≡ v.works → carried_out v ≡ v
+owes-none v stood works =
+    ap (λ (st : Stand). record v { stood = st; works = [] }) stood
+    ∙ ap (λ (all : List Work). record v { stood = v.stood; works = all }) works
+
+module _ {D : Type 0} (members : disk.Ghosts D) where
+  still-clear :
+      (v : SpoolView D) (s : EquipmentView) (node : Node OwnView Kind)
+      → HasRested s.node.own.ledger node.own.ledger → IsClear members v s → IsClear members v (with_node s node)
+  still-clear v s node rested clear = record {
+    stands = subst (λ (st : Standing). Stands members v st) (still-standing s node rested) clear.stands;
+    owes =
+        owes-none node.own.ledger
+        (ap (λ (n : ℕ). stand_of n node.own.ledger.len) rested.first
+        ∙ ap (λ (n : ℕ). stand_of s.node.own.ledger.first n) rested.len
+        ∙ ap (λ (l : LedgerView). l.stood) clear.owes ∙ sym rested.stood)
+        (ap (λ (l : LedgerView). l.works) clear.owes ∙ sym rested.works);
+    len = clear.len ∙ sym rested.len;
+  }
+
+  -- ---- the parts
+
+  module _ (now : ℕ) (t : Step EquipmentView Happening) (mid new : Node OwnView Kind) (out after : StepOut)
+      (g : GemSpool D) (oldest : Option (ℕ × Spooled)) (at : IsAt members t t.next.node out g)
+      (asked : mid ≡ asked_node t.next.node)
+      (same : unload_part (oldest_of t.next) t.next.node.own t.next.node.core
+      ≡ taking oldest (asked_node t.next.node).own t.next.node.core)
+    where
+      abbrev done : List ToolPart
+      done = taking oldest ∷ end_of_spooling ∷ offer now ∷ []
+
+      abbrev parts : List ToolPart
+      parts = last_parts (oldest_of t.next) now
+
+      abbrev went : Went (Node OwnView Kind) Happening
+      went = after_parts Some parts (node_step t)
+
+      start : on_the_way t.next.node out ≡ read_as printed_note (node_step t)
+      start =
+          ap (λ (notes : List Note). record { next = t.next.node; notes = notes; written = out.line.items }) at.notes
+          ∙ ap (λ (written : List ℕ). record {
+            next = t.next.node;
+            notes = (read_as {N = Note} printed_note (node_step t)).notes;
+            written = written;
+          }) at.written
+
+      read : after_parts printed_note done (on_the_way mid out) ≡ went_as printed_note went
+      read =
+          ap (λ (node : Node OwnView Kind). after_parts printed_note done (on_the_way node out)) asked
+          ∙ ap (λ (turn : ToolTurn).
+          and_then (after_turn printed_note turn (on_the_way t.next.node out))
+          (after_parts printed_note (end_of_spooling ∷ offer now ∷ []))) (sym same)
+          ∙ ap (after_parts printed_note parts) start
+          ∙ read-parts {S = OwnView} {K = Kind} {N = Note} printed_note parts (node_step t)
+
+      pub last-done :
+          (result : Result (GemSpool D) (Ended D)) → DoesLast members g done mid out new after result
+          → EndsSo members now t new after result
+      last-done (Ok h) does = go went refl (sym read ∙ does.1)
+        where
+          go : (w : Went (Node OwnView Kind) Happening) → went ≡ w
+              → went_as printed_note w ≡ Goes (on_the_way new after) → EndsSo members now t new after (Ok h)
+          go (Goes step) is whole = record {
+            step = file_step t.next step;
+            is = ap (went_with_file t.next) is;
+            at = record {
+              node_is = sym (ap (λ (x : Step (Node OwnView Kind) Note). x.next) (same-step whole));
+              clear =
+                  subst (λ (g2 : GemSpool D). IsClear members g2.spool (with_node t.next step.next)) (sym does.0)
+                  (still-clear g.spool t.next step.next
+                  (subst
+                  (λ (w2 : Went (Node OwnView Kind) Happening). HasRested t.next.node.own.ledger (step_in w2).next.own.ledger)
+                  is (last-rested (oldest_of t.next) now (node_step t)))
+                  at.clear);
+              told = subst (λ (g2 : GemSpool D). (s : Story) × (members.told g2.spool.disk ≡ Some s)) (sym does.0) at.told;
+              notes = sym (ap (λ (x : Step (Node OwnView Kind) Note). x.notes) (same-step whole));
+              written = sym (ap (λ (x : Step (Node OwnView Kind) Note). x.written) (same-step whole));
+            };
+          }
+          go (Spent step) is whole = absurd (cc)
+      last-done (Err (ended.NumbersSpent spent)) does = go went refl (sym read ∙ does.1.is)
+        where
+          go : (w : Went (Node OwnView Kind) Happening) → went ≡ w
+              → went_as printed_note w ≡ Spent (on_the_way (record new { own = does.1.own }) after)
+              → EndsSo members now t new after (Err (ended.NumbersSpent spent))
+          go (Goes step) is whole = absurd (cc)
+          go (Spent step) is whole = record {
+            step = file_step t.next step;
+            is = ap (went_with_file t.next) is;
+            notes = sym (ap (λ (x : Step (Node OwnView Kind) Note). x.notes) (same-spent whole));
+            keeps =
+                kept-of members g.spool (standing_in (with_node t.next step.next)) spent does.0
+                (subst (λ (st : Standing). Stands members g.spool st)
+                (still-standing t.next step.next
+                (subst
+                (λ (w2 : Went (Node OwnView Kind) Happening). HasRested t.next.node.own.ledger (step_in w2).next.own.ledger)
+                is (last-rested (oldest_of t.next) now (node_step t))))
+                at.clear.stands);
+          }
+      last-done (Err (ended.DiskFailed spent)) does = absurd does
+      last-done (Err (ended.NoMemory spent)) does =
+          kept-of members g.spool (standing_in t.next) spent does at.clear.stands
+
+  -- ---- how they begin
+
+  -- none is asked for
+  pub none-asked :
+      (t : Step EquipmentView Happening) → next_number (most_transmitted t.next.node.own.tables) t.next.node.own.ledger ≡ None
+      → unload_part (oldest_of t.next) t.next.node.own t.next.node.core
+      ≡ taking None (asked_node t.next.node).own t.next.node.core
+  none-asked t none =
+      ap (λ (number : Option ℕ).
+      taking_turn number (oldest_of t.next) (asked_node t.next.node).own t.next.node.core) none
+
+  -- none is there
+  pub none-there :
+      (t : Step EquipmentView Happening) (number : ℕ)
+      → next_number (most_transmitted t.next.node.own.tables) t.next.node.own.ledger ≡ Some number
+      → slice_get t.next.list 0 ≡ None
+      → unload_part (oldest_of t.next) t.next.node.own t.next.node.core
+      ≡ taking None (asked_node t.next.node).own t.next.node.core
+  none-there t number some none =
+      ap (λ (n : Option ℕ). taking_turn n (oldest_of t.next) (asked_node t.next.node).own t.next.node.core) some
+      ∙ ap (λ (m : Option Message).
+      taking_turn (Some number) (option_map spooled_of m) (asked_node t.next.node).own t.next.node.core) none
+
+  pub one-there :
+      (t : Step EquipmentView Happening) (number : ℕ) (m : Message) (report : Spooled)
+      → next_number (most_transmitted t.next.node.own.tables) t.next.node.own.ledger ≡ Some number
+      → slice_get t.next.list 0 ≡ Some m → report ≡ spooled_of m
+      → unload_part (oldest_of t.next) t.next.node.own t.next.node.core
+      ≡ taking (Some (number, report)) (asked_node t.next.node).own t.next.node.core
+  one-there t number m report some is same =
+      ap (λ (n : Option ℕ). taking_turn n (oldest_of t.next) (asked_node t.next.node).own t.next.node.core) some
+      ∙ ap (λ (x : Option Message).
+      taking_turn (Some number) (option_map spooled_of x) (asked_node t.next.node).own t.next.node.core) is
+      ∙ ap (λ (x : Spooled). taking_turn (Some number) (Some x) (asked_node t.next.node).own t.next.node.core) (sym same)
+
+  -- a message was read: it is the first one of the list, and can go
+  module _ (t : Step EquipmentView Happening) (number : ℕ) (v w : SpoolView D) (kept : Kept) (report : Spooled)
+      (clear : IsClear members v t.next) (told : IsTold (members.told v.disk))
+      (some : next_number (most_transmitted t.next.node.own.tables) t.next.node.own.ledger ≡ Some number)
+      (reads : ReadsOldest members v w (Ok kept))
+      (is : kept.stream < 128 → kept.function % 2 ≡ 1 → length kept.body ≤ 4081
+      → report ≡ record { stream = kept.stream; function = kept.function; body = kept.body })
+    where
+      first : slice_get (file_in told.0.now.bytes).list 0 ≡ Some (message_in v.first kept)
+      first = reads.2 told.0 told.1
+
+      good : IsGood (message_in v.first kept)
+      good =
+          oldest-good told.0.now.bytes (file_of (standing_in t.next)) (message_in v.first kept)
+          (clear.stands.file told.0 told.1).stands first
+
+      pub read-there :
+          unload_part (oldest_of t.next) t.next.node.own t.next.node.core
+          ≡ taking (Some (number, report)) (asked_node t.next.node).own t.next.node.core
+      read-there =
+          one-there t number (message_in v.first kept) report some
+          (ap (λ (file : SpoolFile). slice_get file.list 0) (clear.stands.file told.0 told.1).stands.is ∙ first)
+          (is good.stream good.odd good.short)
+
+  -- the list is empty
+  pub no-list : (t : Step EquipmentView Happening) (v : SpoolView D) → IsClear members v t.next → v.len ≡ 0
+      → slice_get t.next.list 0 ≡ None
+  no-list t v clear none = go t.next.list (sym (ap (λ (n : Count). n.len) clear.stands.count) ∙ none)
+    where
+      go : (list : List Message) → length list ≡ 0 → slice_get list 0 ≡ None
+      go [] none = refl
+      go (m ∷ list) none = absurd (omega (arith, none))
+
+  -- a step so far, as the code has it before it asks for the next message
+  pub with-node : (t : Step EquipmentView Happening) (node : Node OwnView Kind) (out : StepOut) (g : GemSpool D)
+      → IsAt members t node out g → IsAt members t t.next.node out g
+  with-node t node out g at =
+      record { node_is = refl; clear = at.clear; told = at.told; notes = at.notes; written = at.written }
+
+  -- a read leaves the spool as it is
+  pub read-at : (t : Step EquipmentView Happening) (out : StepOut) (g h : GemSpool D)
+      → IsAt members t t.next.node out g → Stands members h.spool (standing_in t.next)
+      → members.told h.spool.disk ≡ members.told g.spool.disk → IsAt members t t.next.node out h
+  read-at t out g h at stands same = record {
+    node_is = refl;
+    clear = record { stands = stands; owes = at.clear.owes; len = at.clear.len };
+    told = (at.told.0, same ∙ at.told.1);
+    notes = at.notes;
+    written = at.written;
+  }
+
+-- what was asked for
+pub asked-is :
+    (old new : Node OwnView Kind) (t : Step EquipmentView Happening) → old ≡ t.next.node
+    → new.own ≡ (asked_node old).own → new.core ≡ old.core → new ≡ asked_node t.next.node
+asked-is old new t same own core =
+    ap (λ (o : OwnView). record { own = o; core = new.core }) own
+    ∙ ap (λ (e : EndView Kind). record { own = (asked_node old).own; core = e }) core
+    ∙ ap asked_node same
+
+pub number-is :
+    (old : Node OwnView Kind) (t : Step EquipmentView Happening) → old ≡ t.next.node → (number : Option ℕ)
+    → number ≡ next_number (most_transmitted old.own.tables) old.own.ledger
+    → next_number (most_transmitted t.next.node.own.tables) t.next.node.own.ledger ≡ number
+number-is old t same number is =
+    sym (is ∙ ap (λ (n : Node OwnView Kind). next_number (most_transmitted n.own.tables) n.own.ledger) same)

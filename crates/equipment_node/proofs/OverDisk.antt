@@ -1,0 +1,632 @@
+-- That the pieces of a step over the disk come to the step.
+use Rattle.std.proofs.Common.{◌≡◌, refl, sym, ap, subst, ◌∙◌, inl, inr, ◌⊎◌, arith, zero, suc, ◌+◌, ◌-◌, ◌^◌, ◌<◌, ◌≤◌, ◌&&◌, not, nat_lt, Bool, true, false, ℕ, List, [], ◌∷◌, ◌++◌, append_assoc, fold, length, length-append, map, take, Option, Some, None, is_some, if◌then◌else◌}
+use Rattle.std.proofs.lemmas.Bool.Decides.{nat_tests}
+use Rattle.std.specs.Prelude.{Result, Ok, Err, min}
+use Rattle.std.specs.List.{slice_get}
+use Rattle.disk_base.specs.Story.{Story}
+use Rattle.disk_base.specs.Through.{EachImage}
+use Rattle.disk_base.specs.declared.disk.Disk as disk
+use Rattle.disk_base.proofs.Moments.{only_now}
+use Rattle.gem_spool.specs.declared.count.Count.{Count}
+use Rattle.gem_spool.specs.declared.spool.GemSpool.{GemSpool}
+use Rattle.gem_spool.specs.declared.works.Work.{Work}
+use Rattle.gem_spool.specs.declared.works.Work.TheVariants as work
+use Rattle.gem_spool.specs.Spool.{ReservesFrom, ReservesMore}
+use Rattle.gem_spool.specs.Standing.{Standing, Stands, count_in, count_of, file_of}
+use Rattle.gem_spool.specs.Works.{HasCarried, HasUndone, IsMarked, counts_after, len_after, list_after, lists_after, next_after, reserved as marked, standing_after, standing_after_reserve, standings_after}
+use Rattle.message_flow.specs.declared.step.Note.{Note}
+use Rattle.message_flow.specs.declared.step.StepOut.{StepOut}
+use Rattle.spool_slots.specs.File.{StandsFor}
+use Rattle.spool_slots.specs.Slot.{Message}
+use Rattle.spool_slots.specs.Spool.{SpoolView}
+use Rattle.spool_slots.specs.declared.states.Spent.{Spent as Device}
+use Rattle.trace_log.specs.declared.commands.ToolCommand.{ToolCommand}
+use Rattle.trace_log.specs.Log.{Happening}
+use Rattle.trace_log.specs.Text.{printed_note}
+use Rattle.message_end.specs.declared.end.Stop.TheVariants as stop
+use Rattle.message_end.specs.Core.{Command, EndView, Step, Went, and_then, at_first, step_in}
+use Rattle.message_end.specs.Core.Went.{Goes, Spent}
+use Rattle.message_end.specs.Ends.{HasSpent, HasStopped, Input, IsEmpty, IsFront, printed}
+use Rattle.message_end.specs.Own.{Has}
+use Rattle.message_end.specs.Parts.{Node, after_parts, core_after, on_the_way}
+use Rattle.message_end.proofs.Growing.{front-both, front-same, parts-grow}
+use Rattle.spool_ledger.specs.Ledger.{LedgerView, carried_out, next_of, stood_count}
+use Rattle.equipment_tables.specs.Tables.{most_transmitted}
+use Rattle.spool_ledger.specs.Unloading.{number_next}
+use Rattle.spool_ledger.specs.declared.unload.Unload.{Unload}
+use Rattle.equipment_node.specs.declared.disk_step.Ended.{Ended}
+use Rattle.equipment_node.specs.declared.disk_step.Ended.TheVariants as ended
+use Rattle.equipment_node.specs.declared.kind.Kind.{Kind}
+use Rattle.equipment_node.specs.Amid.{Acts, Carries, EndsSo, HasActed, HasCut, HasEnded, HasOpened, IsAt, IsBegun, IsBegunSpent, Keeps, Opens, opened, settled_node}
+use Rattle.equipment_node.specs.Cut.{cut_at, noted_to}
+use Rattle.equipment_node.specs.Disk.{DiskWork, IsAmidWork, behind_change, fronts_of, owed_in, read_works, reserve_works, standing_in, standings_behind, stops, takes_up, up_to_change, works_behind, works_of}
+use Rattle.equipment_node.specs.Disk.DiskWork.{Change, ReadOldest, Reserve}
+use Rattle.equipment_node.specs.Equipment.{EquipmentView, act, begun_step, ended_step, is_marked_out, needs_numbers, node_step, oldest_of, parts_done, reserved, reserving, settled, settled_list, settled_step, settled_went, with_core, went_with_file}
+use Rattle.equipment_node.specs.Left as left
+use Rattle.equipment_node.specs.Own.{OwnView, ToolPart}
+use Rattle.equipment_node.specs.Step.{first_parts, last_parts}
+use Rattle.equipment_node.specs.Stepping.{HasLeft, IsClear, IsTold, Steps}
+use Rattle.equipment_node.proofs.Cutting.{change-front, cut-noted, noted-front, read-front}
+
+-- ---- lists
+
+get-has : {X : Type 0} (xs : List X) (at : ℕ) (x : X) → slice_get xs at ≡ Some x → Has xs x
+get-has [] at x is = absurd (cc)
+get-has (one ∷ xs) zero x is = inl (cc)
+get-has (one ∷ xs) (suc at) x is = inr (get-has xs at x is)
+
+get-front : {X : Type 0} (xs more : List X) (at : ℕ) (x : X) → slice_get xs at ≡ Some x → slice_get (xs ++ more) at ≡ Some x
+get-front [] more at x is = absurd (cc)
+get-front (one ∷ xs) more zero x is = is
+get-front (one ∷ xs) more (suc at) x is = get-front xs more at x is
+
+get-behind : {X : Type 0} (xs more : List X) → slice_get (xs ++ more) (length xs) ≡ slice_get more 0
+get-behind [] more = refl
+get-behind (one ∷ xs) more = get-behind xs more
+
+get-changed : (works : List Work) (at : ℕ) (work : Work) → slice_get works at ≡ Some work
+    → slice_get (map Change works) at ≡ Some (Change work)
+get-changed [] at work is = absurd (cc)
+get-changed (one ∷ works) zero work is = ap (λ (x : Option Work). go x) is
+  where
+    go : Option Work → Option DiskWork
+    go None = None
+    go (Some x) = Some (Change x)
+get-changed (one ∷ works) (suc at) work is = get-changed works at work is
+
+map-long : (works : List Work) → length (map Change works) ≡ length works
+map-long [] = refl
+map-long (one ∷ works) = ap suc (map-long works)
+
+-- ---- how the disk stands
+
+module _ {D : Type 0} (members : disk.Ghosts D) where
+  -- whatever a crash leaves of a spool in hand is it
+  pub held : (v : SpoolView D) (st : Standing) → Stands members v st → (t : Story) → members.told v.disk ≡ Some t
+      → left.Holds st t.now
+  held v st stands t told image image_is =
+      let file = stands.file t told in
+      subst (λ (bytes : List ℕ). StandsFor bytes (file_of st)) (sym (only_now t.now image file.settled image_is)) file.stands
+
+  pub kept-of : (v : SpoolView D) (st : Standing) (spent : Device D) → spent.disk ≡ v.disk → Stands members v st
+      → Keeps members spent st
+  kept-of v st spent same stands t told =
+      held v st stands t (ap (λ (d : D). members.told d) (sym same) ∙ told)
+
+  -- the numbers of the spool are those of the ledger
+  pub counted : (v : SpoolView D) (s : EquipmentView) → IsClear members v s
+      → count_of v ≡ stood_count s.node.own.ledger
+  counted v s clear =
+      clear.stands.count
+      ∙ ap (λ (n : ℕ). record { slots = s.node.own.ledger.slots; next = next_of s.node.own.ledger; len = n }) clear.len
+      ∙ ap stood_count clear.owes
+
+take-all : {X : Type 0} (xs : List X) → take (length xs) xs ≡ xs
+take-all {X} [] = refl
+take-all {X} (x ∷ xs) = ap (λ (rest : List X). x ∷ rest) (take-all xs)
+
+-- the numbers of a list that works change are changed likewise
+pub same-len : (next : ℕ) (list : List Message) (one : Work) → len_after (length list) one ≡ length (list_after next list one)
+same-len next list (work.Put stream function body) =
+    sym (length-append list (record { number = next; stream = stream; function = function; body = body } ∷ []))
+same-len next [] work.DropOldest = refl
+same-len next (message ∷ list) work.DropOldest = omega arith
+same-len next list work.Purge = refl
+
+counts-keep :
+    (st : Standing) (works : List Work) → counts_after (count_in st) works ≡ count_in (standings_after st works)
+counts-keep st [] = refl
+counts-keep st (one ∷ works) =
+    ap (λ (n : ℕ). counts_after (record { slots = st.slots; next = next_after st.next one; len = n }) works)
+    (same-len st.next st.list one)
+    ∙ counts-keep (standing_after st one) works
+
+lists-are : (st : Standing) (works : List Work) → (standings_after st works).list ≡ lists_after st.next st.list works
+lists-are st [] = refl
+lists-are st (one ∷ works) = lists-are (standing_after st one) works
+
+marks-are : (st : Standing) (works : List Work) → (standings_after st works).mark ≡ st.mark
+marks-are st [] = refl
+marks-are st (one ∷ works) = marks-are (standing_after st one) works
+
+-- behind the works the disk has the list that was decided
+pub settled-standing :
+    (st : Standing) (ledger : LedgerView) → count_in st ≡ stood_count ledger
+    → counts_after (stood_count ledger) ledger.works ≡ stood_count (carried_out ledger)
+    → standings_after st ledger.works
+    ≡ record { slots = ledger.slots; next = next_of ledger; mark = st.mark; list = settled_list ledger st.list }
+settled-standing st ledger same come =
+    parts (standings_after st ledger.works) (ap (λ (c : Count). c.slots) counts) (ap (λ (c : Count). c.next) counts)
+    (marks-are st ledger.works)
+    (lists-are st ledger.works ∙ ap (λ (c : Count). lists_after c.next st.list ledger.works) same)
+  where
+    counts : count_in (standings_after st ledger.works) ≡ stood_count (carried_out ledger)
+    counts = sym (counts-keep st ledger.works) ∙ ap (λ (c : Count). counts_after c ledger.works) same ∙ come
+
+    parts : (x : Standing) → x.slots ≡ ledger.slots → x.next ≡ next_of ledger → x.mark ≡ st.mark
+        → x.list ≡ settled_list ledger st.list
+        → x ≡ record { slots = ledger.slots; next = next_of ledger; mark = st.mark; list = settled_list ledger st.list }
+    parts x slots next mark list =
+        ap (λ (n : ℕ). record { slots = n; next = x.next; mark = x.mark; list = x.list }) slots
+        ∙ ap (λ (n : ℕ). record { slots = ledger.slots; next = n; mark = x.mark; list = x.list }) next
+        ∙ ap (λ (n : ℕ). record { slots = ledger.slots; next = next_of ledger; mark = n; list = x.list }) mark
+        ∙ ap (λ (l : List Message). record { slots = ledger.slots; next = next_of ledger; mark = st.mark; list = l }) list
+
+pub settled-long :
+    (st : Standing) (ledger : LedgerView) → count_in st ≡ stood_count ledger
+    → counts_after (stood_count ledger) ledger.works ≡ stood_count (carried_out ledger)
+    → length (settled_list ledger st.list) ≡ ledger.len
+settled-long st ledger same come =
+    ap (λ (l : List Message). length l)
+    (sym (lists-are st ledger.works ∙ ap (λ (c : Count). lists_after c.next st.list ledger.works) same))
+    ∙ ap (λ (c : Count). c.len)
+    (sym (counts-keep st ledger.works) ∙ ap (λ (c : Count). counts_after c ledger.works) same ∙ come)
+
+-- ---- places among all works
+
+-- one is reserved first, or none
+abbrev pub place_of : Bool → ℕ → ℕ
+place_of true at = suc at
+place_of false at = at
+
+abbrev reserves : Bool → List DiskWork
+reserves is = if is then Reserve ∷ [] else []
+
+abbrev pub is_reserving : EquipmentView → Bool
+is_reserving s = needs_numbers s && not (is_marked_out s.mark)
+
+placed : (is : Bool) (works : List DiskWork) (at : ℕ) → slice_get (reserves is ++ works) (place_of is at) ≡ slice_get works at
+placed true works at = refl
+placed false works at = refl
+
+placed-front : (is : Bool) (works : List DiskWork) (notes : List Happening) (at : ℕ)
+    → slice_get (fronts_of [] (reserves is ++ works) notes) (place_of is at) ≡ slice_get (fronts_of [] works notes) at
+placed-front true works notes at = refl
+placed-front false works notes at = refl
+
+standings-change : (st : Standing) (works : List Work) (rest : List DiskWork) (at : ℕ) → at ≤ length works
+    → standings_behind st (take at (map Change works ++ rest)) ≡ standings_after st (take at works)
+standings-change st works rest zero within = refl
+standings-change st [] rest (suc at) within = absurd (omega (arith, within))
+standings-change st (one ∷ works) rest (suc at) within =
+    standings-change (standing_after st one) works rest at (omega (arith, within))
+
+placed-standing : (is : Bool) (st : Standing) (works : List DiskWork) (at : ℕ)
+    → standings_behind st (take (place_of is at) (reserves is ++ works))
+    ≡ standings_behind (if is then marked st else st) (take at works)
+placed-standing true st works at = refl
+placed-standing false st works at = refl
+
+-- where it was opened, the disk stands so behind the reserve
+abbrev opening : EquipmentView → Bool → Bool → Went EquipmentView Happening
+opening s needs out =
+    if needs then if out then Spent (at_first s) else Goes (at_first (reserved s)) else Goes (at_first s)
+
+abbrev opened_by : EquipmentView → Bool → EquipmentView
+opened_by s needs = if needs then reserved s else s
+
+pub opened-standing : (s : EquipmentView) → reserving s ≡ Goes (at_first (opened s))
+    → (if is_reserving s then marked (standing_in s) else standing_in s) ≡ standing_in (opened s)
+opened-standing s went = go (needs_numbers s) (is_marked_out s.mark) went
+  where
+    go : (needs out : Bool)
+        → opening s needs out ≡ Goes (at_first (opened_by s needs))
+        → (if needs && not out then marked (standing_in s) else standing_in s) ≡ standing_in (opened_by s needs)
+    go true true went = absurd (cc)
+    go true false went = refl
+    go false out went = refl
+
+-- ---- what was begun, and what comes of it
+
+act-grows : (went : Went EquipmentView Happening) (now : ℕ)
+    → IsFront (step_in went).notes (step_in (and_then (settled_went went) (ended_step now))).notes
+act-grows (Spent step) now = front-same step.notes
+act-grows (Goes step) now =
+    go (after_parts Some parts (node_step (settled_step step))) (parts-grow parts (node_step (settled_step step)))
+  where
+    parts : List ToolPart
+    parts = last_parts (oldest_of (settled step.next)) now
+
+    go : (went : Went (Node OwnView Kind) Happening) → IsFront step.notes (step_in went).notes
+        → IsFront step.notes (step_in (went_with_file (settled step.next) went)).notes
+    go (Goes next) grows = grows
+    go (Spent next) grows = grows
+
+module _ {D : Type 0} (members : disk.Ghosts D) (s : EquipmentView) (input : Input ToolCommand) (now : ℕ) where
+  -- ---- before anything is begun
+
+  -- nothing is begun where no system bytes are left
+  spent-at-once : reserving s ≡ Spent (at_first s) → act s input now ≡ Spent (settled_step (at_first s))
+  spent-at-once is =
+      ap (λ (w : Went EquipmentView Happening).
+      and_then (settled_went (and_then w (parts_done (first_parts input now)))) (ended_step now)) is
+
+  stands-still : carried_out s.node.own.ledger ≡ s.node.own.ledger → standing_in s ≡ standing_in (settled s)
+  stands-still owes =
+      ap (λ (works : List Work).
+      record {
+        slots = s.node.own.ledger.slots;
+        next = next_of s.node.own.ledger;
+        mark = s.mark;
+        list = lists_after (stood_count s.node.own.ledger).next s.list works;
+      }) (ap (λ (l : LedgerView). l.works) owes)
+
+  pub not-opened :
+      (node new : Node OwnView Kind) (out : StepOut) (end : Ended D) → out.notes ≡ []
+      → carried_out s.node.own.ledger ≡ s.node.own.ledger → Opens members s node (Err end)
+      → Acts members s input now new out (Err end)
+  not-opened node new out (ended.NumbersSpent spent) empty owes is after notes quiet = (
+    record { step = settled_step (at_first s); is = spent-at-once is.0; notes = notes ∙ empty; quiet = quiet },
+    λ t told. subst (λ (st : Standing). left.Holds st t.now)
+        (stands-still owes
+        ∙ ap (λ (w : Went EquipmentView Happening). standing_in (step_in w).next) (sym (spent-at-once is.0)))
+        (is.1 t told),
+  )
+  not-opened node new out (ended.DiskFailed spent) empty owes is after notes quiet = (
+    record {
+      front = [];
+      may = get-has (stops s input now) 0 [] front;
+      first = record { rest = (step_in (act s input now)).notes; whole = refl };
+      notes = notes ∙ empty;
+      quiet = quiet;
+    },
+    λ t told. record {
+      place = 0;
+      work = Reserve;
+      is = ap (λ (works : List DiskWork). slice_get (works ++ works_behind (begun_step s input now)) 0) is.0;
+      front = [];
+      front_is = front;
+      notes = notes ∙ empty;
+      left = is.1 t told;
+    },
+  )
+    where
+      front : slice_get (stops s input now) 0 ≡ Some []
+      front =
+          ap (λ (works : List DiskWork).
+          slice_get (fronts_of [] (works ++ works_behind (begun_step s input now)) (step_in (begun_step s input now)).notes) 0)
+          is.0
+  not-opened node new out (ended.NoMemory spent) empty owes is after notes quiet = absurd is
+
+  -- ---- behind the first parts
+
+  module _ (went : reserving s ≡ Goes (at_first (opened s))) where
+    -- memory was wanting
+    pub no-memory :
+        (g : GemSpool D) (new : Node OwnView Kind) (out : StepOut) (spent : Device D) → spent.disk ≡ g.spool.disk
+        → IsClear members g.spool (opened s) → Acts members s input now new out (Err (ended.NoMemory spent))
+    no-memory g new out spent same clear after notes quiet = (
+      quiet,
+      λ t told. record {
+        place = place_of (is_reserving s) 0;
+        left =
+            subst (λ (st : Standing). left.Holds st t.now)
+            (sym (placed-standing (is_reserving s) (standing_in s) (works_behind (begun_step s input now)) 0
+            ∙ opened-standing s went))
+            (kept-of members g.spool (standing_in (opened s)) spent same clear.stands t told);
+      },
+    )
+
+    module _ (begun : Went EquipmentView Happening) (is : begun_step s input now ≡ begun) where
+      abbrev rest : List DiskWork
+      rest = read_works begun
+
+      works-are : works_of s input now ≡ reserves (is_reserving s) ++ (map Change (owed_in begun) ++ rest)
+      works-are = ap (λ (w : Went EquipmentView Happening). reserve_works s ++ works_behind w) is
+
+      stops-are :
+          stops s input now
+          ≡ fronts_of [] (reserves (is_reserving s) ++ (map Change (owed_in begun) ++ rest)) (step_in begun).notes
+      stops-are =
+          ap (λ (works : List DiskWork). fronts_of [] works (step_in (begun_step s input now)).notes) works-are
+          ∙ ap (λ (w : Went EquipmentView Happening).
+          fronts_of [] (reserves (is_reserving s) ++ (map Change (owed_in begun) ++ rest)) (step_in w).notes) is
+
+      standing-is : (at : ℕ) → at ≤ length (owed_in begun)
+          → left.standing_at s input now (place_of (is_reserving s) at)
+          ≡ standings_after (standing_in (opened s)) (take at (owed_in begun))
+      standing-is at within =
+          ap (λ (works : List DiskWork). standings_behind (standing_in s) (take (place_of (is_reserving s) at) works))
+          works-are
+          ∙ placed-standing (is_reserving s) (standing_in s) (map Change (owed_in begun) ++ rest) at
+          ∙ ap (λ (st : Standing). standings_behind st (take at (map Change (owed_in begun) ++ rest)))
+          (opened-standing s went)
+          ∙ standings-change (standing_in (opened s)) (owed_in begun) rest at within
+
+      grows : (front : List Happening) → IsFront front (step_in begun).notes
+          → IsFront front (step_in (act s input now)).notes
+      grows front first =
+          front-both front (step_in begun).notes (step_in (act s input now)).notes first
+          (subst
+          (λ (w : Went EquipmentView Happening).
+          IsFront (step_in begun).notes (step_in (and_then (settled_went w) (ended_step now))).notes)
+          (sym is) (act-grows begun now))
+
+      get-within : (works : List Work) (at : ℕ) (work : Work) → slice_get works at ≡ Some work → at ≤ length works
+      get-within [] at work found = absurd (cc)
+      get-within (one ∷ works) zero work found = omega arith
+      get-within (one ∷ works) (suc at) work found =
+          let less = get-within works at work found in omega (arith, less)
+
+      -- the disk failed at a work
+      pub work-failed :
+          (g : GemSpool D) (new : Node OwnView Kind) (middle out : StepOut) (spent : Device D)
+          → IsClear members g.spool (opened s) → IsTold (members.told g.spool.disk)
+          → middle.notes ≡ printed (step_in begun).notes → HasCut members g (owed_in begun) middle out spent
+          → Acts members s input now new out (Err (ended.DiskFailed spent))
+      work-failed g new middle out spent clear told begun_notes cut after notes quiet = (
+        record {
+          front = front;
+          may = get-has (stops s input now) (place_of (is_reserving s) cut.at) front front-is;
+          first = grows front (noted-front cut.at (step_in begun).notes);
+          notes = noted;
+          quiet = quiet;
+        },
+        λ t now_told. record {
+          place = place_of (is_reserving s) cut.at;
+          work = Change cut.undone.failed;
+          is =
+              ap (λ (works : List DiskWork). slice_get works (place_of (is_reserving s) cut.at)) works-are
+              ∙ placed (is_reserving s) (map Change (owed_in begun) ++ rest) cut.at
+              ∙ get-front (map Change (owed_in begun)) rest cut.at (Change cut.undone.failed)
+              (get-changed (owed_in begun) cut.at cut.undone.failed cut.undone.is);
+          front = front;
+          front_is = front-is;
+          notes = noted;
+          left =
+              subst (λ (st : Standing). EachImage (IsAmidWork st (Change cut.undone.failed)) t.now)
+              (sym (standing-is cut.at (get-within (owed_in begun) cut.at cut.undone.failed cut.undone.is)))
+              (cut.undone.left (standing_in (opened s)) clear.stands told.0 t told.1 now_told);
+        },
+      )
+        where
+          front : List Happening
+          front = noted_to cut.at (step_in begun).notes
+
+          front-is : slice_get (stops s input now) (place_of (is_reserving s) cut.at) ≡ Some front
+          front-is =
+              ap (λ (fronts : List (List Happening)). slice_get fronts (place_of (is_reserving s) cut.at)) stops-are
+              ∙ placed-front (is_reserving s) (map Change (owed_in begun) ++ rest) (step_in begun).notes cut.at
+              ∙ change-front (owed_in begun) rest [] (step_in begun).notes cut.at cut.undone.failed cut.undone.is
+
+          noted : after.notes ≡ printed front
+          noted =
+              notes ∙ cut.notes ∙ ap (cut_at cut.at) begun_notes ∙ sym (cut-noted cut.at (step_in begun).notes)
+
+      -- the works are done
+      module _ (g h : GemSpool D) (clear : IsClear members g.spool (opened s))
+          (count : count_of g.spool ≡ stood_count (step_in begun).next.node.own.ledger)
+          (come : counts_after (stood_count (step_in begun).next.node.own.ledger) (owed_in begun)
+          ≡ stood_count (carried_out (step_in begun).next.node.own.ledger))
+          (list : (step_in begun).next.list ≡ (opened s).list)
+          (mark : (step_in begun).next.mark ≡ (opened s).mark)
+        where
+          abbrev ledger : LedgerView
+          ledger = (step_in begun).next.node.own.ledger
+
+          pub done-standing :
+              standings_after (standing_in (opened s)) (owed_in begun) ≡ standing_in (settled (step_in begun).next)
+          done-standing =
+              settled-standing (standing_in (opened s)) ledger (sym clear.stands.count ∙ count) come
+              ∙ ap (λ (m : ℕ).
+              record { slots = ledger.slots; next = next_of ledger; mark = m; list = settled_list ledger (opened s).list })
+              (sym mark)
+              ∙ ap (λ (l : List Message).
+              record { slots = ledger.slots; next = next_of ledger; mark = (step_in begun).next.mark; list = settled_list ledger l })
+              (sym list)
+
+          pub done-clear :
+              HasCarried members g (owed_in begun) h → IsClear members h.spool (settled (step_in begun).next)
+          done-clear carried = record {
+            stands =
+                subst (λ (st : Standing). Stands members h.spool st) done-standing
+                (carried.stands (standing_in (opened s)) clear.stands);
+            owes = refl;
+            len =
+                ap (λ (l : List Message). length (settled_list ledger l)) list
+                ∙ settled-long (standing_in (opened s)) ledger (sym clear.stands.count ∙ count) come;
+          }
+
+          pub still-told :
+              HasCarried members g (owed_in begun) h → IsTold (members.told g.spool.disk) → IsTold (members.told h.spool.disk)
+          still-told carried told =
+              let through = carried.goes_on.images (standing_in (opened s)) clear.stands told.0 told.1 in
+              (through.0, through.1)
+
+  -- a number was wanting before
+  pub spent-before :
+      (went : reserving s ≡ Goes (at_first (opened s))) (g h : GemSpool D) (node new : Node OwnView Kind)
+      (middle out : StepOut) (spent : Device D) (begun : IsBegunSpent s input now node middle)
+      → IsClear members g.spool (opened s) → count_of g.spool ≡ stood_count node.own.ledger
+      → counts_after (stood_count node.own.ledger) node.own.ledger.works ≡ stood_count (carried_out node.own.ledger)
+      → HasCarried members g node.own.ledger.works h → spent.disk ≡ h.spool.disk → out.notes ≡ middle.notes
+      → Acts members s input now new out (Err (ended.NumbersSpent spent))
+  spent-before went g h node new middle out spent begun clear count come carried same out_same after notes quiet = (
+    record { step = settled_step begun.step; is = act-is; notes = notes ∙ out_same ∙ begun.notes; quiet = quiet },
+    λ t told. subst (λ (w : Went EquipmentView Happening). left.Holds (standing_in (step_in w).next) t.now) (sym act-is)
+        (kept-of members h.spool (standing_in (settled begun.step.next)) spent same
+        (done-clear went (Spent begun.step) begun.is g h clear
+        (count ∙ ap stood_count (sym begun.ledger))
+        (subst (λ (l : LedgerView). counts_after (stood_count l) l.works ≡ stood_count (carried_out l)) (sym begun.ledger) come)
+        begun.list begun.mark
+        (subst (λ (l : LedgerView). HasCarried members g l.works h) (sym begun.ledger) carried)).stands t told),
+  )
+    where
+      act-is : act s input now ≡ Spent (settled_step begun.step)
+      act-is =
+          ap (λ (w : Went EquipmentView Happening). and_then (settled_went w) (ended_step now)) begun.is
+
+  -- ---- the last parts
+
+  pub takes-settled : (next : EquipmentView) → takes_up (settled next).node.own ≡ takes_up next.node.own
+  takes-settled next = go next.node.own.ledger.unload
+    where
+      most : ℕ
+      most = most_transmitted next.node.own.tables
+
+      go : (unload : Option Unload)
+          → is_some (number_next most (carried_out next.node.own.ledger) unload)
+          ≡ is_some (number_next most next.node.own.ledger unload)
+      go None = refl
+      go (Some unload) = refl
+
+  pub ends-acts :
+      (went : reserving s ≡ Goes (at_first (opened s))) (g : GemSpool D) (node new : Node OwnView Kind)
+      (middle out : StepOut) (begun : IsBegun s input now node middle) (result : Result (GemSpool D) (Ended D))
+      → IsClear members g.spool (opened s) → count_of g.spool ≡ stood_count node.own.ledger
+      → counts_after (stood_count node.own.ledger) node.own.ledger.works ≡ stood_count (carried_out node.own.ledger)
+      → EndsSo members now (settled_step begun.step) new out result → Acts members s input now new out result
+  ends-acts went g node new middle out begun result clear count come ends = go result ends
+    where
+      act-is : act s input now ≡ ended_step now (settled_step begun.step)
+      act-is =
+          ap (λ (w : Went EquipmentView Happening). and_then (settled_went w) (ended_step now)) begun.is
+
+      ledger-is : node.own.ledger ≡ begun.step.next.node.own.ledger
+      ledger-is = ap (λ (n : Node OwnView Kind). n.own.ledger) (sym begun.node_is)
+
+      works : List Work
+      works = begun.step.next.node.own.ledger.works
+
+      standing : standings_after (standing_in (opened s)) works ≡ standing_in (settled begun.step.next)
+      standing =
+          done-standing went (Goes begun.step) begun.is g g clear
+          (count ∙ ap stood_count ledger-is)
+          (subst (λ (l : LedgerView). counts_after (stood_count l) l.works ≡ stood_count (carried_out l)) ledger-is come)
+          begun.list begun.mark
+
+      at-end :
+          left.standing_at s input now (place_of (is_reserving s) (length works)) ≡ standing_in (settled begun.step.next)
+      at-end =
+          standing-is went (Goes begun.step) begun.is (length works) (omega arith)
+          ∙ ap (λ (ws : List Work). standings_after (standing_in (opened s)) ws) (take-all works)
+          ∙ standing
+
+      go : (result : Result (GemSpool D) (Ended D)) → EndsSo members now (settled_step begun.step) new out result
+          → Acts members s input now new out result
+      go (Ok h) ends = record { step = ends.step; is = act-is ∙ ends.is; at = ends.at }
+      go (Err (ended.NumbersSpent spent)) ends = λ after notes quiet. (
+        record { step = ends.step; is = act-is ∙ ends.is; notes = notes ∙ ends.notes; quiet = quiet },
+        λ t told. subst (λ (w : Went EquipmentView Happening). left.Holds (standing_in (step_in w).next) t.now)
+            (sym (act-is ∙ ends.is)) (ends.keeps t told),
+      )
+      go (Err (ended.DiskFailed spent)) ends = λ after notes quiet. (
+        record {
+          front = begun.step.notes;
+          may = get-has (stops s input now) (place_of (is_reserving s) (length works)) begun.step.notes front-is;
+          first = grows went (Goes begun.step) begun.is begun.step.notes (front-same begun.step.notes);
+          notes = notes ∙ ends.1;
+          quiet = quiet;
+        },
+        λ t told. record {
+          place = place_of (is_reserving s) (length works);
+          work = ReadOldest;
+          is =
+              ap (λ (all : List DiskWork). slice_get all (place_of (is_reserving s) (length works)))
+              (works-are went (Goes begun.step) begun.is)
+              ∙ placed (is_reserving s) (map Change works ++ read_works (Goes begun.step)) (length works)
+              ∙ ap (λ (n : ℕ). slice_get (map Change works ++ read_works (Goes begun.step)) n) (sym (map-long works))
+              ∙ get-behind (map Change works) (read_works (Goes begun.step))
+              ∙ ap (λ (all : List DiskWork). slice_get all 0) reads;
+          front = begun.step.notes;
+          front_is = front-is;
+          notes = notes ∙ ends.1;
+          left =
+              subst (λ (st : Standing). EachImage (λ image. StandsFor image (file_of st)) t.now) (sym at-end)
+              (ends.2 t told);
+        },
+      )
+        where
+          reads : read_works (Goes begun.step) ≡ ReadOldest ∷ []
+          reads =
+              ap (λ (b : Bool). if b then ReadOldest ∷ [] else []) (sym (takes-settled begun.step.next) ∙ ends.0)
+
+          front-is : slice_get (stops s input now) (place_of (is_reserving s) (length works)) ≡ Some begun.step.notes
+          front-is =
+              ap (λ (fronts : List (List Happening)). slice_get fronts (place_of (is_reserving s) (length works)))
+              (stops-are went (Goes begun.step) begun.is)
+              ∙ placed-front (is_reserving s) (map Change works ++ read_works (Goes begun.step)) begun.step.notes (length works)
+              ∙ ap (λ (all : List DiskWork).
+              slice_get (fronts_of [] (map Change works ++ all) begun.step.notes) (length works)) reads
+              ∙ read-front works [] begun.step.notes
+      go (Err (ended.NoMemory spent)) ends = λ after notes quiet. (
+        quiet,
+        λ t told. record {
+          place = place_of (is_reserving s) (length works);
+          left = subst (λ (st : Standing). left.Holds st t.now) (sym at-end) (ends t told);
+        },
+      )
+
+  -- the works are done, and the last parts begin
+  pub at-settled :
+      (went : reserving s ≡ Goes (at_first (opened s))) (g h : GemSpool D) (node next : Node OwnView Kind)
+      (middle out : StepOut) (begun : IsBegun s input now node middle)
+      → IsClear members g.spool (opened s) → IsTold (members.told g.spool.disk)
+      → count_of g.spool ≡ stood_count node.own.ledger
+      → counts_after (stood_count node.own.ledger) node.own.ledger.works ≡ stood_count (carried_out node.own.ledger)
+      → HasCarried members g node.own.ledger.works h → next ≡ settled_node node → out ≡ middle
+      → IsAt members (settled_step begun.step) next out h
+  at-settled went g h node next middle out begun clear told count come carried next_is same = record {
+    node_is = next_is ∙ ap settled_node (sym begun.node_is);
+    clear =
+        done-clear went (Goes begun.step) begun.is g h clear (count ∙ ap stood_count ledger-is) come-is begun.list
+        begun.mark carried-is;
+    told =
+        still-told went (Goes begun.step) begun.is g h clear (count ∙ ap stood_count ledger-is) come-is begun.list
+        begun.mark carried-is told;
+    notes = ap (λ (o : StepOut). o.notes) same ∙ begun.notes;
+    written = ap (λ (o : StepOut). o.line.items) same ∙ begun.written;
+  }
+    where
+      ledger-is : node.own.ledger ≡ begun.step.next.node.own.ledger
+      ledger-is = ap (λ (n : Node OwnView Kind). n.own.ledger) (sym begun.node_is)
+
+      come-is :
+          counts_after (stood_count begun.step.next.node.own.ledger) begun.step.next.node.own.ledger.works
+          ≡ stood_count (carried_out begun.step.next.node.own.ledger)
+      come-is =
+          subst (λ (l : LedgerView). counts_after (stood_count l) l.works ≡ stood_count (carried_out l)) ledger-is come
+
+      carried-is : HasCarried members g begun.step.next.node.own.ledger.works h
+      carried-is = subst (λ (l : LedgerView). HasCarried members g l.works h) ledger-is carried
+
+  -- the disk failed at a work of it
+  pub cut-acts :
+      (went : reserving s ≡ Goes (at_first (opened s))) (g : GemSpool D) (node new : Node OwnView Kind)
+      (middle out : StepOut) (spent : Device D) (begun : IsBegun s input now node middle)
+      → IsClear members g.spool (opened s) → IsTold (members.told g.spool.disk)
+      → HasCut members g node.own.ledger.works middle out spent
+      → Acts members s input now new out (Err (ended.DiskFailed spent))
+  cut-acts went g node new middle out spent begun clear told cut =
+      work-failed went (Goes begun.step) begun.is g new middle out spent clear told begun.notes
+      (subst (λ (n : Node OwnView Kind). HasCut members g n.own.ledger.works middle out spent) (sym begun.node_is) cut)
+
+  pub cut-spent :
+      (went : reserving s ≡ Goes (at_first (opened s))) (g : GemSpool D) (node new : Node OwnView Kind)
+      (middle out : StepOut) (spent : Device D) (begun : IsBegunSpent s input now node middle)
+      → IsClear members g.spool (opened s) → IsTold (members.told g.spool.disk)
+      → HasCut members g node.own.ledger.works middle out spent
+      → Acts members s input now new out (Err (ended.DiskFailed spent))
+  cut-spent went g node new middle out spent begun clear told cut =
+      work-failed went (Spent begun.step) begun.is g new middle out spent clear told begun.notes
+      (subst (λ (l : LedgerView). HasCut members g l.works middle out spent) (sym begun.ledger) cut)
+
+  pub carry-failed :
+      (went : reserving s ≡ Goes (at_first (opened s))) (g : GemSpool D) (node new : Node OwnView Kind)
+      (middle out : StepOut) (end : Ended D) (begun : IsBegun s input now node middle)
+      → IsClear members g.spool (opened s) → IsTold (members.told g.spool.disk)
+      → Carries members g node.own.ledger.works middle out (Err end) → Acts members s input now new out (Err end)
+  carry-failed went g node new middle out (ended.DiskFailed spent) begun clear told cut =
+      cut-acts went g node new middle out spent begun clear told cut
+  carry-failed went g node new middle out (ended.NumbersSpent spent) begun clear told cut = absurd cut
+  carry-failed went g node new middle out (ended.NoMemory spent) begun clear told cut = absurd cut
+
+  pub carry-spent-failed :
+      (went : reserving s ≡ Goes (at_first (opened s))) (g : GemSpool D) (node new : Node OwnView Kind)
+      (middle out : StepOut) (end : Ended D) (begun : IsBegunSpent s input now node middle)
+      → IsClear members g.spool (opened s) → IsTold (members.told g.spool.disk)
+      → Carries members g node.own.ledger.works middle out (Err end) → Acts members s input now new out (Err end)
+  carry-spent-failed went g node new middle out (ended.DiskFailed spent) begun clear told cut =
+      cut-spent went g node new middle out spent begun clear told cut
+  carry-spent-failed went g node new middle out (ended.NumbersSpent spent) begun clear told cut = absurd cut
+  carry-spent-failed went g node new middle out (ended.NoMemory spent) begun clear told cut = absurd cut

@@ -1,0 +1,140 @@
+-- That a start from a device comes to the start from what the device tells.
+use Rattle.std.proofs.Common.{◌≡◌, refl, sym, ap, subst, ◌∙◌, inl, inr, ℕ, ◌+◌, Bool, true, List, [], ◌∷◌, Option, Some, None}
+use Rattle.std.specs.Option.{option_map}
+use Rattle.std.specs.Prelude.{Result, Ok, Err}
+use Rattle.disk_base.specs.Story.{Story, with_sync}
+use Rattle.disk_base.specs.Through.{EachImage}
+use Rattle.disk_base.specs.declared.disk.Disk as disk
+use Rattle.gem_spool.specs.declared.spool.GemSpool.{GemSpool}
+use Rattle.gem_spool.specs.Standing.{Standing, file_of, list_told, standing_of}
+use Rattle.message_flow.specs.declared.step.StepOut.{StepOut}
+use Rattle.spool_slots.specs.Area.{first_of}
+use Rattle.spool_slots.specs.Changes.{Recovers, with_mark}
+use Rattle.spool_slots.specs.File.{SpoolFile, StandsFor, file_in}
+use Rattle.spool_slots.specs.Slot.{Message}
+use Rattle.spool_slots.specs.Spool.{Rests, SpoolView}
+use Rattle.spool_slots.specs.declared.reading.NotSpool.{NotSpool}
+use Rattle.spool_slots.specs.declared.states.Raw.{Raw}
+use Rattle.spool_slots.specs.declared.states.Recovering.{Recovering}
+use Rattle.spool_slots.specs.declared.states.Recovering.TheVariants as recovering
+use Rattle.spool_slots.specs.declared.states.Spent.{Spent as Device}
+use Rattle.message_end.specs.Ends.{HasGone, IsEmpty}
+use Rattle.equipment_tables.specs.declared.plan.EquipmentPlan.{EquipmentPlan}
+use Rattle.equipment_tables.specs.Plan.{EquipmentPlanFits}
+use Rattle.equipment_node.specs.declared.equipment.Starting.{Starting}
+use Rattle.equipment_node.specs.declared.equipment.Starting.TheVariants as starting
+use Rattle.equipment_node.specs.Equipment.{first_in, is_marked_out, starts}
+use Rattle.equipment_node.specs.Held.{Begins, HasMark, Held, IsUntouched, starting_by, view_in}
+use Rattle.equipment_node.specs.Sound.{AllCanBeSent}
+use Rattle.equipment_node.specs.StartOver.{BeginsOver, IsFresh}
+use Rattle.equipment_node.proofs.Seated.{start-gone, start-on}
+
+same-story : (a b : Story) → Some a ≡ Some b → a ≡ b
+same-story a b same = cc
+
+first-same : (list : List Message) → first_of list ≡ first_in list
+first-same [] = refl
+first-same (message ∷ list) = refl
+
+module _ {D : Type 0} (members : disk.Ghosts D) (old : D) (s : Story) (told : members.told old ≡ Some s) where
+  abbrev file : SpoolFile
+  file = file_in s.now.bytes
+
+  -- ---- the device stands for no spool, or failed
+
+  pub no-spool :
+      (plan : EquipmentPlan) (out : StepOut) (raw : Raw D) (break : NotSpool) → IsEmpty out
+      → Recovers members old (Err (recovering.NotSpool raw break))
+      → Begins members plan s out (Err (starting.NotSpool raw break))
+  no-spool plan out raw break empty is = (
+    empty,
+    is.1 s told,
+    λ t now. inr (same-story t (with_sync s) (sym now ∙ is.0.told ∙ ap (option_map with_sync) told)),
+  )
+
+  pub not-recovered :
+      (plan : EquipmentPlan) (out : StepOut) (spent : Device D) → IsEmpty out
+      → Recovers members old (Err (recovering.Failed spent))
+      → Begins members plan s out (Err (starting.DiskFailed spent))
+  not-recovered plan out spent empty (inl is) = (
+    empty,
+    λ t now. inl (inl (same-story t s (sym now ∙ is.told ∙ told))),
+  )
+  not-recovered plan out spent empty (inr is) = (
+    empty,
+    λ t now. inl (inr (same-story t (with_sync s) (sym now ∙ is.told ∙ ap (option_map with_sync) told))),
+  )
+
+  pub not-taken :
+      (plan : EquipmentPlan) (out : StepOut) (why : Recovering D) → IsEmpty out → Recovers members old (Err why)
+      → Begins members plan s out (Err (starting_by why))
+  not-taken plan out (recovering.NotSpool raw break) empty is = no-spool plan out raw break empty is
+  not-taken plan out (recovering.Failed spent) empty is = not-recovered plan out spent empty is
+
+  -- ---- it is taken up
+
+  module _ (v : SpoolView D) (is : Recovers members old (Ok v)) (g : GemSpool D) (same : g.spool ≡ v) where
+    now-told : members.told g.spool.disk ≡ Some (with_sync s)
+    now-told =
+        ap (λ (x : SpoolView D). members.told x.disk) same ∙ is.0.told ∙ ap (option_map with_sync) told
+
+    abbrev st : Standing
+    st = standing_of members g.spool
+
+    list-is : st.list ≡ file.list
+    list-is = ap (λ (tells : Option Story). list_told tells g.spool.first g.spool.len) now-told
+
+    rests : Rests (with_sync s) v.slots v.first v.len v.mark
+    rests = (is.1 s told).0
+
+    slots-are : g.spool.slots ≡ file.slots
+    slots-are = ap (λ (x : SpoolView D). x.slots) same ∙ rests.slots_are
+
+    mark-is : g.spool.mark ≡ file.mark
+    mark-is = ap (λ (x : SpoolView D). x.mark) same ∙ rests.mark_is
+
+    pub is-fresh : IsFresh members g
+    is-fresh = record {
+      told = (with_sync s, now-told);
+      first =
+          ap (λ (x : SpoolView D). x.first) same ∙ (is.1 s told).1 ∙ first-same file.list
+          ∙ ap first_in (sym list-is);
+    }
+
+    pub file-is : file_of st ≡ file
+    file-is =
+        ap (λ (n : ℕ). made n g.spool.mark st.list) slots-are
+        ∙ ap (λ (n : ℕ). made file.slots n st.list) mark-is
+        ∙ ap (λ (list : List Message). made file.slots file.mark list) list-is
+      where
+        made : ℕ → ℕ → List Message → SpoolFile
+        made slots mark list = record { slots = slots; mark = mark; list = list }
+
+    marked-is : (t : Story) → EachImage (HasMark (file_of st)) t.now → EachImage (HasMark file) t.now
+    marked-is t left = subst (λ (f : SpoolFile). EachImage (HasMark f) t.now) file-is left
+
+    pub begun-over :
+        (plan : EquipmentPlan) → EquipmentPlanFits plan → (out : StepOut) (result : Result (Held D) (Starting D))
+        → BeginsOver members plan g out result → Begins members plan s out result
+    begun-over plan fits out (Ok h) has = record {
+      gone =
+          subst
+          (λ (f : SpoolFile). HasGone (starts plan f.slots f.list f.mark) (view_in members h) out)
+          file-is (start-gone members plan fits g h.spool h.tool out has);
+      in_state = λ can. record {
+        on =
+            start-on members plan fits g h.spool h.tool out has
+            (subst (λ (f : SpoolFile). AllCanBeSent f.list) (sym file-is) can);
+        told = has.told;
+      };
+    }
+    begun-over plan fits out (Err (starting.NumbersSpent spent)) has = (
+      record { line = has.2; notes = has.1 },
+      subst (λ (f : SpoolFile). is_marked_out f.mark ≡ true) file-is has.0,
+      λ t now. subst (λ (f : SpoolFile). EachImage (λ image. StandsFor image f) t.now) file-is (has.3 t now),
+    )
+    begun-over plan fits out (Err (starting.DiskFailed spent)) has =
+        (record { line = has.1; notes = has.0 }, (λ t now. inr (marked-is t (has.2.left t now))))
+    begun-over plan fits out (Err (starting.NoMemory spent)) has =
+        (has.0, (λ t now. marked-is t (has.1.left t now)))
+    begun-over plan fits out (Err (starting.NotSpool raw break)) has = absurd has

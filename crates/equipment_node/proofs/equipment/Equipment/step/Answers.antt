@@ -1,0 +1,47 @@
+use Rattle.std.proofs.Common.{ap, subst, sym}
+use Rattle.std.specs.Prelude.{Err}
+use Rattle.message_end.specs.Ends.{input_of}
+use Rattle.equipment_node.specs.declared.own.Tool.{Tool}
+use Rattle.equipment_node.specs.Held.{HasMoved, IsIn, Moves, view_in}
+use Rattle.equipment_node.specs.Node.{node_of}
+use Rattle.equipment_node.proofs.Seated.{any-node, step-gone, step-on}
+use Rattle.equipment_node.proofs.equipment.Equipment.step.Goals as goal
+
+pub returns-in-Ok : goal.returns-in-Ok
+returns-in-Ok g c in_state =
+    let was = subst (λ h. IsIn g.D.Disk h) (sym c.self.view_is) in_state in
+    let is =
+    c.in-Ok.ensures.steps (view_in g.D.Disk (record { tool = c.self.inside.tool.value; spool = c.self.inside.spool }))
+    (ap (λ (t : Tool). node_of t) c.deref_mut.ensures.value) was.on was.told in
+    subst
+    (λ h.
+    HasMoved g.D.Disk h (input_of c.args.input) c.args.now c.step_on.new.out
+    (record { tool = c.step_on.new.self; spool = c.in-Ok.spool }))
+    c.self.view_is
+    (record {
+      gone =
+          step-gone g.D.Disk
+          (view_in g.D.Disk (record { tool = c.self.inside.tool.value; spool = c.self.inside.spool }))
+          (input_of c.args.input) c.args.now (node_of c.step_on.new.self) c.step_on.new.out c.in-Ok.spool is;
+      in_state = record {
+        on =
+            step-on g.D.Disk
+            (view_in g.D.Disk (record { tool = c.self.inside.tool.value; spool = c.self.inside.spool }))
+            (input_of c.args.input) c.args.now (node_of c.step_on.new.self) c.step_on.new.out c.in-Ok.spool is;
+        told = is.told;
+      };
+    })
+
+pub returns-in-Err : goal.returns-in-Err
+returns-in-Err g c in_state =
+    let was = subst (λ h. IsIn g.D.Disk h) (sym c.self.view_is) in_state in
+    subst
+    (λ h. Moves g.D.Disk h (input_of c.args.input) c.args.now c.step_on.new.out (Err c.in-Err.ended))
+    c.self.view_is
+    (any-node g.D.Disk
+    (view_in g.D.Disk (record { tool = c.self.inside.tool.value; spool = c.self.inside.spool }))
+    (input_of c.args.input) c.args.now (node_of c.step_on.new.self) (node_of c.self.inside.tool.value)
+    c.step_on.new.out c.in-Err.ended
+    (c.in-Err.ensures.steps
+    (view_in g.D.Disk (record { tool = c.self.inside.tool.value; spool = c.self.inside.spool }))
+    (ap (λ (t : Tool). node_of t) c.deref_mut.ensures.value) was.on was.told))

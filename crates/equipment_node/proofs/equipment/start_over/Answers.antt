@@ -1,0 +1,61 @@
+use Rattle.std.proofs.Common.{◌+◌, ◌≤◌, ◌^◌, ℕ, sym, subst, Option}
+use Rattle.gem_spool.specs.Spool.{ReservesFrom}
+use Rattle.gem_spool.specs.Standing.{Stands, standing_of}
+use Rattle.gem_spool.specs.Works.{standing_after_reserve}
+use Rattle.equipment_node.proofs.Beginning.{none-left, start-asked, start-failed, start-fallen, start-ready, started}
+use Rattle.equipment_node.proofs.equipment.start_over.Goals as goal
+
+pub start_with-requires : goal.start_with-requires
+start_with-requires g c =
+    let done =
+    subst (λ (b : Option ℕ). ReservesFrom g.D.Disk c.args.spool c.in-Ok.spool b) c.in-Some.is
+    c.in-Ok.ensures.reserve in
+    record {
+      plan = c.requires.plan;
+      numbers = subst (λ (n : ℕ). n + 4096 ≤ 2 ^ 32) (sym done.0.1) done.0.0.left;
+    }
+
+pub returns-in-Some-clause-ready : goal.returns-in-Some-clause-ready
+returns-in-Some-clause-ready g c =
+    start-ready c.args.plan.now c.requires.plan c.in-Ok.spool c.in-Some.base c.args.out.now c.start_with.new.out
+    c.start_with.result c.start_with.ensures.starts
+
+pub returns-in-Some-clause-starts : goal.returns-in-Some-clause-starts
+returns-in-Some-clause-starts g c fresh =
+    started g.D.Disk c.args.plan.now c.args.spool fresh c.len.ensures.stands c.args.out.now c.start_with.new.out
+    c.requires.out c.in-Ok.spool c.in-Some.base
+    (subst (λ (b : Option ℕ). ReservesFrom g.D.Disk c.args.spool c.in-Ok.spool b) c.in-Some.is
+    c.in-Ok.ensures.reserve)
+    (subst
+    (λ (b : Option ℕ).
+    Stands g.D.Disk c.in-Ok.spool.spool (standing_after_reserve b (standing_of g.D.Disk c.args.spool.spool)))
+    c.in-Some.is
+    (c.in-Ok.ensures.stands (standing_of g.D.Disk c.args.spool.spool) c.len.ensures.stands))
+    (λ s is. c.in-Ok.ensures.moments (standing_of g.D.Disk c.args.spool.spool) c.len.ensures.stands s is)
+    c.start_with.ensures.line c.start_with.result c.start_with.ensures.starts
+
+pub returns-in-None-clause-starts : goal.returns-in-None-clause-starts
+returns-in-None-clause-starts g c fresh =
+    none-left g.D.Disk c.args.plan.now c.args.spool fresh c.len.ensures.stands c.args.out.now c.args.out.now
+    c.requires.out c.in-Ok.spool c.retire.result
+    (subst (λ (b : Option ℕ). ReservesFrom g.D.Disk c.args.spool c.in-Ok.spool b) c.in-None.is
+    c.in-Ok.ensures.reserve)
+    c.retire.ensures.disk
+
+pub returns-in-Err-clause-starts : goal.returns-in-Err-clause-starts
+returns-in-Err-clause-starts g c fresh =
+    start-failed g.D.Disk c.args.plan.now c.args.spool fresh c.len.ensures.stands c.args.out.now c.args.out.now
+    c.requires.out c.in-Err.spent
+    (λ s is. c.in-Err.ensures.moments (standing_of g.D.Disk c.args.spool.spool) c.len.ensures.stands s is)
+
+pub returns-in-Some-clause-asks : goal.returns-in-Some-clause-asks
+returns-in-Some-clause-asks g c =
+    start-asked g.D.Disk c.args.plan.now c.args.spool c.in-Ok.spool c.in-Some.base c.in-Some.base c.args.out.now
+    c.start_with.new.out c.start_with.result
+    (subst (λ (b : Option ℕ). ReservesFrom g.D.Disk c.args.spool c.in-Ok.spool b) c.in-Some.is
+    c.in-Ok.ensures.reserve)
+    c.start_with.ensures.starts
+
+pub returns-in-Err-clause-asks : goal.returns-in-Err-clause-asks
+returns-in-Err-clause-asks g c =
+    start-fallen g.D.Disk c.args.plan.now c.args.spool c.in-Err.spent c.in-Err.ensures.reserve

@@ -1,0 +1,48 @@
+use Rattle.std.proofs.Common.{◌≤◌, sym, subst}
+use Rattle.arrayvec.specs.ArrayVec.{array_vec_len}
+use Rattle.equipment_node.specs.Node.{node_of}
+use Rattle.equipment_node.specs.Equipment.{settled_step}
+use Rattle.equipment_node.proofs.Asking.{behind-asked, behind-fallen}
+use Rattle.equipment_node.proofs.OverDisk.{at-settled, carry-failed, ends-acts}
+use Rattle.equipment_node.proofs.Readying.{settled-ready}
+use Rattle.equipment_node.proofs.own.Tool.act_behind.Goals as goal
+
+pub carry_out-requires : goal.carry_out-requires
+carry_out-requires g c = record { count = c.requires.ready.count }
+
+pub act_last-requires : goal.act_last-requires
+act_last-requires g c = record {
+  now = c.requires.now;
+  room = subst (λ line. array_vec_len line ≤ 514) (sym c.in-Ok.ensures.line) c.requires.room;
+  ready =
+      settled-ready c.args.spool.spool c.in-Ok.spool.spool (node_of c.args.self.now) (node_of c.carry_out.new.self)
+      c.requires.ready c.in-Ok.ensures.node c.in-Ok.ensures.works.0.count c.in-Ok.ensures.come_to;
+}
+
+pub returns-in-Ok-clause-acts : goal.returns-in-Ok-clause-acts
+returns-in-Ok-clause-acts g c s input begun begin =
+    ends-acts g.D.Disk s input c.args.now begin.went c.args.spool (node_of c.args.self.now) (node_of c.act_last.new.self)
+    c.args.out.now c.act_last.new.out begun c.act_last.result begin.clear c.requires.ready.count
+    c.in-Ok.ensures.come_to
+    (c.act_last.ensures.ends (settled_step begun.step)
+    (at-settled g.D.Disk s input c.args.now begin.went c.args.spool c.in-Ok.spool (node_of c.args.self.now)
+    (node_of c.carry_out.new.self) c.args.out.now c.carry_out.new.out begun begin.clear begin.told
+    c.requires.ready.count c.in-Ok.ensures.come_to c.in-Ok.ensures.works.0 c.in-Ok.ensures.node
+    c.in-Ok.ensures.works.1))
+
+pub returns-in-Err-clause-acts : goal.returns-in-Err-clause-acts
+returns-in-Err-clause-acts g c s input begun begin =
+    carry-failed g.D.Disk s input c.args.now begin.went c.args.spool (node_of c.args.self.now)
+    (node_of c.carry_out.new.self) c.args.out.now c.carry_out.new.out c.in-Err.ended begun begin.clear begin.told
+    c.in-Err.ensures.works
+
+pub returns-in-Ok-clause-asks : goal.returns-in-Ok-clause-asks
+returns-in-Ok-clause-asks g c s input begun begin =
+    behind-asked g.D.Disk s input c.args.now c.args.spool c.in-Ok.spool (node_of c.args.self.now)
+    (node_of c.carry_out.new.self) c.args.out.now begun c.act_last.result begin.clear c.in-Ok.ensures.works.0
+    c.in-Ok.ensures.node c.act_last.ensures.asks
+
+pub returns-in-Err-clause-asks : goal.returns-in-Err-clause-asks
+returns-in-Err-clause-asks g c s input begun begin =
+    behind-fallen g.D.Disk s input c.args.now c.args.spool (node_of c.args.self.now) c.args.out.now
+    c.carry_out.new.out begun c.in-Err.ended begin.clear c.in-Err.ensures.works

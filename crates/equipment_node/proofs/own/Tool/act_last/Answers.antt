@@ -1,0 +1,57 @@
+use Rattle.std.proofs.Common.{[], ◌∷◌, None, Some}
+use Rattle.equipment_node.specs.Asked.{read_asks}
+use Rattle.equipment_node.specs.Node.{node_of, own_of}
+use Rattle.equipment_node.specs.Spooling.{end_of_spooling}
+use Rattle.equipment_node.specs.Step.{offer}
+use Rattle.equipment_node.specs.Stepping.{taking}
+use Rattle.equipment_node.proofs.Asking.{last-asked, reads-one}
+use Rattle.equipment_node.proofs.LastParts.{asked-is, last-done, none-asked, number-is, with-node}
+use Rattle.equipment_node.proofs.Readying.{asked-ready}
+use Rattle.equipment_node.proofs.own.Tool.act_last.Goals as goal
+
+pub act_reading-requires : goal.act_reading-requires
+act_reading-requires g c = record {
+  now = c.requires.now;
+  room = c.requires.room;
+  ready =
+      asked-ready c.args.spool.spool (node_of c.args.self.now) (node_of c.next_unload.new.self) c.requires.ready
+      c.in-Some.ensures.own;
+}
+
+pub end_with-requires : goal.end_with-requires
+end_with-requires g c = record {
+  now = c.requires.now;
+  room = c.requires.room;
+  ready =
+      asked-ready c.args.spool.spool (node_of c.args.self.now) (node_of c.next_unload.new.self) c.requires.ready
+      c.in-None.ensures.own;
+  can = tt;
+}
+
+pub returns-in-Some-clause-ends : goal.returns-in-Some-clause-ends
+returns-in-Some-clause-ends g c t at =
+    c.act_reading.ensures.ends t
+    (asked-is (node_of c.args.self.now) (node_of c.next_unload.new.self) t at.node_is c.in-Some.ensures.own
+    c.in-Some.ensures.core)
+    (number-is (node_of c.args.self.now) t at.node_is (Some c.in-Some.number) c.in-Some.ensures.number)
+    (with-node g.D.Disk t (node_of c.args.self.now) c.args.out.now c.args.spool at)
+
+pub returns-in-None-clause-ends : goal.returns-in-None-clause-ends
+returns-in-None-clause-ends g c t at =
+    last-done g.D.Disk c.args.now t (node_of c.next_unload.new.self) (node_of c.end_with.new.self) c.args.out.now
+    c.end_with.new.out c.args.spool None
+    (with-node g.D.Disk t (node_of c.args.self.now) c.args.out.now c.args.spool at)
+    (asked-is (node_of c.args.self.now) (node_of c.next_unload.new.self) t at.node_is c.in-None.ensures.own
+    c.in-None.ensures.core)
+    (none-asked g.D.Disk t (number-is (node_of c.args.self.now) t at.node_is None c.in-None.ensures.number))
+    c.end_with.result c.end_with.ensures.ends
+
+pub returns-in-Some-clause-asks : goal.returns-in-Some-clause-asks
+returns-in-Some-clause-asks g c =
+    reads-one g.D.Disk (own_of c.args.self.now.own) c.in-Some.number c.args.spool.spool.disk c.act_reading.result
+    c.in-Some.ensures.number c.act_reading.ensures.asks
+
+pub returns-in-None-clause-asks : goal.returns-in-None-clause-asks
+returns-in-None-clause-asks g c =
+    last-asked g.D.Disk c.args.spool (taking None ∷ end_of_spooling ∷ offer c.args.now ∷ []) (node_of c.next_unload.new.self) (node_of c.end_with.new.self) c.args.out.now
+    c.end_with.new.out (read_asks (own_of c.args.self.now.own)) c.end_with.result c.end_with.ensures.ends

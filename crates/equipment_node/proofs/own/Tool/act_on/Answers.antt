@@ -1,0 +1,55 @@
+use Rattle.std.proofs.Common.{refl}
+use Rattle.message_end.specs.Ends.{input_of}
+use Rattle.equipment_node.specs.Node.{node_of}
+use Rattle.equipment_node.proofs.FirstParts.{begun-of, first-ready, spent-count, stops-of}
+use Rattle.equipment_node.proofs.own.Tool.act_on.Goals as goal
+
+pub act_behind-requires : goal.act_behind-requires
+act_behind-requires g c = record {
+  now = c.requires.now;
+  ready =
+      first-ready (input_of c.args.input) c.args.now (node_of c.args.self.now) (node_of c.do_first.new.self)
+      c.args.out.now c.do_first.new.out c.requires.out c.requires.ready.sound c.args.spool.spool c.requires.ready
+      c.in-Ok.ensures.does;
+  room = c.in-Ok.ensures.at_most;
+}
+
+pub returns-in-Ok-clause-acts : goal.returns-in-Ok-clause-acts
+returns-in-Ok-clause-acts g c s begin =
+    c.act_behind.ensures.acts s (input_of c.args.input)
+    (begun-of (input_of c.args.input) c.args.now (node_of c.args.self.now) (node_of c.do_first.new.self)
+    c.args.out.now c.do_first.new.out c.requires.out c.requires.ready.sound g.D.Disk s c.args.spool begin
+    c.in-Ok.ensures.does)
+    (record { went = begin.went; node_is = refl; clear = begin.clear; told = begin.told })
+
+pub stop-requires : goal.stop-requires
+stop-requires g c = record {
+  count = λ same.
+      spent-count (input_of c.args.input) c.args.now (node_of c.args.self.now) (node_of c.do_first.new.self)
+      c.args.out.now c.do_first.new.out c.requires.out c.requires.ready.sound c.args.spool.spool c.requires.ready
+      c.in-Err.stop c.in-Err.ensures.does same;
+}
+
+pub returns-in-Err-clause-acts : goal.returns-in-Err-clause-acts
+returns-in-Err-clause-acts g c s begin =
+    c.stop.ensures.acts s (input_of c.args.input) c.args.now
+    (stops-of (input_of c.args.input) c.args.now (node_of c.args.self.now) (node_of c.do_first.new.self)
+    c.args.out.now c.do_first.new.out c.requires.out c.requires.ready.sound g.D.Disk s c.args.spool begin
+    c.in-Err.stop c.in-Err.ensures.does)
+    (record { went = begin.went; node_is = refl; clear = begin.clear; told = begin.told })
+
+pub returns-in-Ok-clause-asks : goal.returns-in-Ok-clause-asks
+returns-in-Ok-clause-asks g c s begin =
+    c.act_behind.ensures.asks s (input_of c.args.input)
+    (begun-of (input_of c.args.input) c.args.now (node_of c.args.self.now) (node_of c.do_first.new.self)
+    c.args.out.now c.do_first.new.out c.requires.out c.requires.ready.sound g.D.Disk s c.args.spool begin
+    c.in-Ok.ensures.does)
+    (record { went = begin.went; node_is = refl; clear = begin.clear; told = begin.told })
+
+pub returns-in-Err-clause-asks : goal.returns-in-Err-clause-asks
+returns-in-Err-clause-asks g c s begin =
+    c.stop.ensures.asks s (input_of c.args.input) c.args.now
+    (stops-of (input_of c.args.input) c.args.now (node_of c.args.self.now) (node_of c.do_first.new.self)
+    c.args.out.now c.do_first.new.out c.requires.out c.requires.ready.sound g.D.Disk s c.args.spool begin
+    c.in-Err.stop c.in-Err.ensures.does)
+    (record { went = begin.went; node_is = refl; clear = begin.clear; told = begin.told })

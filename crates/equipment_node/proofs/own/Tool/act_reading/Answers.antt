@@ -1,0 +1,80 @@
+use Rattle.std.proofs.Common.{ap, subst, [], ◌∷◌, None, Some, is_some, Option, ℕ}
+use Rattle.std.specs.Prelude.{Err}
+use Rattle.gem_spool.specs.Oldest.{ReadsOldest}
+use Rattle.gem_spool.specs.declared.kept.Unread.{Unread}
+use Rattle.spool_slots.specs.Spool.{first_slot}
+use Rattle.equipment_node.specs.Disk.{standing_in}
+use Rattle.equipment_node.specs.Node.{node_of}
+use Rattle.equipment_node.specs.Spooling.{end_of_spooling}
+use Rattle.equipment_node.specs.Step.{offer}
+use Rattle.equipment_node.specs.Stepping.{taking}
+use Rattle.equipment_node.proofs.Asking.{look-fallen, looked-asked, unlooked-asked}
+use Rattle.equipment_node.proofs.LastParts.{last-done, no-list, none-there, read-at, read-there}
+use Rattle.equipment_node.proofs.OverDisk.{kept-of}
+use Rattle.equipment_node.proofs.own.Tool.act_reading.Goals as goal
+
+pub returns-in-Ok-clause-ends : goal.returns-in-Ok-clause-ends
+returns-in-Ok-clause-ends g c t asked some at =
+    last-done g.D.Disk c.args.now t (node_of c.args.self.now) (node_of c.end_with.new.self) c.args.out.now
+    c.end_with.new.out c.oldest_message.new.self (Some (c.args.number, c.report_of-report.result))
+    (read-at g.D.Disk t c.args.out.now c.args.spool c.oldest_message.new.self at
+    (c.in-Ok.ensures.stands (standing_in t.next) at.clear.stands) c.in-Ok.ensures.reads.0.told)
+    asked
+    (read-there g.D.Disk t c.args.number c.args.spool.spool c.oldest_message.new.self.spool c.in-Ok.kept
+    c.report_of-report.result at.clear at.told some c.in-Ok.ensures.reads c.report_of-report.ensures.is)
+    c.end_with.result c.end_with.ensures.ends
+
+pub returns-in-Err-Empty-clause-ends : goal.returns-in-Err-Empty-clause-ends
+returns-in-Err-Empty-clause-ends g c t asked some at =
+    let reads =
+    subst
+    (λ (why : Unread). ReadsOldest g.D.Disk c.args.spool.spool c.oldest_message.new.self.spool (Err why))
+    c.in-Err-Empty.field-0-is c.in-Err-Empty.ensures.reads in
+    last-done g.D.Disk c.args.now t (node_of c.args.self.now) (node_of c.end_with-in-Err-Empty.new.self) c.args.out.now
+    c.end_with-in-Err-Empty.new.out c.oldest_message.new.self None
+    (read-at g.D.Disk t c.args.out.now c.args.spool c.oldest_message.new.self at
+    (c.in-Err-Empty.ensures.stands (standing_in t.next) at.clear.stands)
+    (ap (λ v. g.D.Disk.told v.disk) reads.0))
+    asked
+    (none-there g.D.Disk t c.args.number some (no-list g.D.Disk t c.args.spool.spool at.clear reads.1))
+    c.end_with-in-Err-Empty.result c.end_with-in-Err-Empty.ensures.ends
+
+pub returns-in-Err-Failed-clause-ends : goal.returns-in-Err-Failed-clause-ends
+returns-in-Err-Failed-clause-ends g c t asked some at = (
+  ap (λ (n : Option ℕ). is_some n) some,
+  at.notes,
+  kept-of g.D.Disk c.oldest_message.new.self.spool (standing_in t.next) c.retire.result c.retire.ensures.disk
+      (c.in-Err-Failed.ensures.stands (standing_in t.next) at.clear.stands),
+)
+
+pub returns-in-Err-NoMemory-clause-ends : goal.returns-in-Err-NoMemory-clause-ends
+returns-in-Err-NoMemory-clause-ends g c t asked some at =
+    kept-of g.D.Disk c.oldest_message.new.self.spool (standing_in t.next) c.retire-in-Err-NoMemory.result
+    c.retire-in-Err-NoMemory.ensures.disk
+    (c.in-Err-NoMemory.ensures.stands (standing_in t.next) at.clear.stands)
+
+pub returns-in-Ok-clause-asks : goal.returns-in-Ok-clause-asks
+returns-in-Ok-clause-asks g c =
+    looked-asked g.D.Disk c.args.spool.spool c.oldest_message.new.self (first_slot c.args.spool.spool)
+    (taking (Some (c.args.number, c.report_of-report.result)) ∷ end_of_spooling ∷ offer c.args.now ∷ [])
+    (node_of c.args.self.now) (node_of c.end_with.new.self) c.args.out.now c.end_with.new.out c.end_with.result
+    c.in-Ok.ensures.reads.0 c.end_with.ensures.ends
+
+pub returns-in-Err-Empty-clause-asks : goal.returns-in-Err-Empty-clause-asks
+returns-in-Err-Empty-clause-asks g c =
+    let reads =
+    subst
+    (λ (why : Unread). ReadsOldest g.D.Disk c.args.spool.spool c.oldest_message.new.self.spool (Err why))
+    c.in-Err-Empty.field-0-is c.in-Err-Empty.ensures.reads in
+    unlooked-asked g.D.Disk c.args.spool.spool c.oldest_message.new.self
+    (taking None ∷ end_of_spooling ∷ offer c.args.now ∷ []) (node_of c.args.self.now)
+    (node_of c.end_with-in-Err-Empty.new.self) c.args.out.now c.end_with-in-Err-Empty.new.out
+    c.end_with-in-Err-Empty.result reads.0 c.end_with-in-Err-Empty.ensures.ends
+
+pub returns-in-Err-Failed-clause-asks : goal.returns-in-Err-Failed-clause-asks
+returns-in-Err-Failed-clause-asks g c =
+    let reads =
+    subst
+    (λ (why : Unread). ReadsOldest g.D.Disk c.args.spool.spool c.oldest_message.new.self.spool (Err why))
+    c.in-Err-Failed.field-0-is c.in-Err-Failed.ensures.reads in
+    look-fallen g.D.Disk c.args.spool.spool c.oldest_message.new.self.spool (first_slot c.args.spool.spool) reads.0

@@ -1,0 +1,25 @@
+use Rattle.std.proofs.Common.{sym}
+use Rattle.equipment_node.specs.Node.{node_of}
+use Rattle.equipment_node.proofs.Asking.{spared-none}
+use Rattle.equipment_node.proofs.Opened.{made-ordered, need, no-need, opened-plain}
+use Rattle.equipment_node.proofs.own.Tool.reserve.Goals as goal
+
+pub returns-then-has_enough-clause-opens : goal.returns-then-has_enough-clause-opens
+returns-then-has_enough-clause-opens g c s node_is on told =
+    opened-plain g.D.Disk s (node_of c.args.self.now) c.args.spool node_is
+    (no-need s (node_of c.args.self.now) node_is (sym c.if-has_enough.ensures)) on.clear told
+
+pub returns-clause-opens : goal.returns-clause-opens
+returns-clause-opens g c s node_is on told =
+    c.reserve_more.ensures.opens s node_is
+    (need s (node_of c.args.self.now) node_is (sym c.if-has_enough.ensures)
+    (made-ordered s on.made))
+    on told
+
+pub returns-then-has_enough-clause-asks : goal.returns-then-has_enough-clause-asks
+returns-then-has_enough-clause-asks g c s node_is on told = spared-none _ _
+
+pub returns-clause-asks : goal.returns-clause-asks
+returns-clause-asks g c s node_is on told =
+    c.reserve_more.ensures.asks s node_is
+    (need s (node_of c.args.self.now) node_is (sym c.if-has_enough.ensures) (made-ordered s on.made)) on

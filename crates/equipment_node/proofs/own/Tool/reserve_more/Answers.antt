@@ -1,0 +1,52 @@
+use Rattle.std.proofs.Common.{refl, sym, ap, subst, ◌∙◌, ◌+◌, ℕ, Option}
+use Rattle.gem_spool.specs.Spool.{ReservesFrom}
+use Rattle.gem_spool.specs.Standing.{Stands}
+use Rattle.gem_spool.specs.Works.{standing_after_reserve}
+use Rattle.message_end.specs.Core.{Command, EndView}
+use Rattle.message_end.specs.Parts.{Node, core_after}
+use Rattle.equipment_node.specs.declared.kind.Kind.{Kind}
+use Rattle.equipment_node.specs.Disk.{standing_in}
+use Rattle.equipment_node.specs.Equipment.{with_core}
+use Rattle.equipment_node.specs.Node.{node_of}
+use Rattle.equipment_node.specs.Own.{OwnView}
+use Rattle.equipment_node.proofs.Asking.{mark-fallen, mark-spared}
+use Rattle.equipment_node.proofs.Opened.{at-last, mark-failed, marked-out, more-core, more-line, more-notes, opened-more}
+use Rattle.equipment_node.proofs.Readying.{same-ready}
+use Rattle.equipment_node.proofs.own.Tool.reserve_more.Goals as goal
+
+pub returns-in-Ok-default-Some-clause-opens : goal.returns-in-Ok-default-Some-clause-opens
+returns-in-Ok-default-Some-clause-opens g c s node_is needs on told =
+    opened-more g.D.Disk s _ c.args.spool c.in-Ok-default-Some.spool _
+    (ap (λ (core : EndView Kind). with_core core (node_of c.args.self.now))
+    (more-core c.args.self.now.core c.more.new.self c.args.out.now c.more.new.out c.more.ensures)
+    ∙ ap (λ (node : Node OwnView Kind). with_core (core_after (Command.More 4096) node.core) node) node_is)
+    needs on.clear told (subst (λ (b : Option ℕ). ReservesFrom g.D.Disk c.args.spool c.in-Ok-default-Some.spool b) c.in-Ok-default-Some.field-0-1-is c.in-Ok-default-Some.ensures.reserve) (subst
+    (λ (b : Option ℕ).
+    Stands g.D.Disk c.in-Ok-default-Some.spool.spool (standing_after_reserve b (standing_in s)))
+    c.in-Ok-default-Some.field-0-1-is (c.in-Ok-default-Some.ensures.stands (standing_in s) on.clear.stands))
+    (λ t is. c.in-Ok-default-Some.ensures.moments (standing_in s) on.clear.stands t is)
+
+pub returns-in-Ok-default-Some-clause-ready : goal.returns-in-Ok-default-Some-clause-ready
+returns-in-Ok-default-Some-clause-ready g c =
+    same-ready c.args.spool.spool c.in-Ok-default-Some.spool.spool (c.args.spool.spool.mark + 4096) (node_of c.args.self.now) _
+    c.requires.ready refl (subst (λ (b : Option ℕ). ReservesFrom g.D.Disk c.args.spool c.in-Ok-default-Some.spool b) c.in-Ok-default-Some.field-0-1-is c.in-Ok-default-Some.ensures.reserve).0.2
+
+pub returns-in-Ok-default-None-clause-opens : goal.returns-in-Ok-default-None-clause-opens
+returns-in-Ok-default-None-clause-opens g c s node_is needs on told =
+    marked-out g.D.Disk s c.args.spool c.in-Ok-default-None.spool c.retire.result needs on.clear (subst (λ (b : Option ℕ). ReservesFrom g.D.Disk c.args.spool c.in-Ok-default-None.spool b) c.in-Ok-default-None.field-0-1-is c.in-Ok-default-None.ensures.reserve)
+    c.retire.ensures.disk
+
+pub returns-in-Err-clause-opens : goal.returns-in-Err-clause-opens
+returns-in-Err-clause-opens g c s node_is needs on told = (
+  mark-failed g.D.Disk s c.args.spool needs on.clear c.in-Err.ensures.reserve.0.left,
+  λ t is.
+      at-last told.0 _ _ t (c.in-Err.ensures.moments (standing_in s) on.clear.stands told.0 told.1) is,
+)
+
+pub returns-in-Ok-default-Some-clause-asks : goal.returns-in-Ok-default-Some-clause-asks
+returns-in-Ok-default-Some-clause-asks g c s node_is needs on =
+    mark-spared g.D.Disk s c.args.spool needs on.clear c.in-Ok-default-Some.spool _ (subst (λ (b : Option ℕ). ReservesFrom g.D.Disk c.args.spool c.in-Ok-default-Some.spool b) c.in-Ok-default-Some.field-0-1-is c.in-Ok-default-Some.ensures.reserve)
+
+pub returns-in-Err-clause-asks : goal.returns-in-Err-clause-asks
+returns-in-Err-clause-asks g c s node_is needs on =
+    mark-fallen g.D.Disk s c.args.spool needs on.clear c.in-Err.spent c.in-Err.ensures.reserve

@@ -1,0 +1,36 @@
+use Rattle.std.proofs.Common.{refl, subst}
+use Rattle.message_end.specs.declared.end.Stop.{Stop}
+use Rattle.equipment_node.specs.Amid.{StopsAt}
+use Rattle.equipment_node.specs.Node.{node_of}
+use Rattle.equipment_node.proofs.OverDisk.{no-memory}
+use Rattle.equipment_node.proofs.own.Tool.stop.Goals as goal
+
+pub stop_spent-requires : goal.stop_spent-requires
+stop_spent-requires g c = record { count = c.requires.count c.in-NumbersSpent.is }
+
+pub returns-in-NumbersSpent-clause-acts : goal.returns-in-NumbersSpent-clause-acts
+returns-in-NumbersSpent-clause-acts g c s input now stops begin =
+    c.stop_spent.ensures.acts s input now
+    (subst (λ (end : Stop). StopsAt s input now (node_of c.args.self.now) c.args.out.now end) c.in-NumbersSpent.is stops)
+    begin
+
+pub returns-in-NoMemory-clause-acts : goal.returns-in-NoMemory-clause-acts
+returns-in-NoMemory-clause-acts g c s input now stops begin after notes quiet =
+    no-memory g.D.Disk s input now begin.went c.args.spool (node_of c.args.self.now) after c.retire.result
+    c.retire.ensures.disk begin.clear after refl quiet
+
+pub returns-in-DiskFailed-clause-acts : goal.returns-in-DiskFailed-clause-acts
+returns-in-DiskFailed-clause-acts g c s input now stops begin =
+    absurd
+    (subst (λ (end : Stop). StopsAt s input now (node_of c.args.self.now) c.args.out.now end) c.in-DiskFailed.is stops)
+
+pub returns-in-NumbersSpent-clause-asks : goal.returns-in-NumbersSpent-clause-asks
+returns-in-NumbersSpent-clause-asks g c s input now stops begin =
+    c.stop_spent.ensures.asks s input now
+    (subst (λ (end : Stop). StopsAt s input now (node_of c.args.self.now) c.args.out.now end) c.in-NumbersSpent.is stops)
+    begin
+
+pub returns-in-DiskFailed-clause-asks : goal.returns-in-DiskFailed-clause-asks
+returns-in-DiskFailed-clause-asks g c s input now stops begin =
+    absurd
+    (subst (λ (end : Stop). StopsAt s input now (node_of c.args.self.now) c.args.out.now end) c.in-DiskFailed.is stops)

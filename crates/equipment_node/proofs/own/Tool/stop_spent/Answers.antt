@@ -1,0 +1,24 @@
+use Rattle.std.proofs.Common.{ap}
+use Rattle.message_flow.specs.declared.step.StepOut.{StepOut}
+use Rattle.equipment_node.specs.Node.{node_of}
+use Rattle.equipment_node.proofs.Asking.{spent-fallen}
+use Rattle.equipment_node.proofs.OverDisk.{carry-spent-failed, spent-before}
+use Rattle.equipment_node.proofs.own.Tool.stop_spent.Goals as goal
+
+pub returns-in-Ok-clause-acts : goal.returns-in-Ok-clause-acts
+returns-in-Ok-clause-acts g c s input now stops begin =
+    spent-before g.D.Disk s input now begin.went c.args.spool c.in-Ok.spool (node_of c.args.self.now)
+    (node_of c.carry_out.new.self) c.args.out.now c.carry_out.new.out c.retire.result stops begin.clear
+    c.requires.count c.in-Ok.ensures.come_to c.in-Ok.ensures.works.0 c.retire.ensures.disk
+    (ap (λ (out : StepOut). out.notes) c.in-Ok.ensures.works.1)
+
+pub returns-in-Err-clause-acts : goal.returns-in-Err-clause-acts
+returns-in-Err-clause-acts g c s input now stops begin =
+    carry-spent-failed g.D.Disk s input now begin.went c.args.spool (node_of c.args.self.now)
+    (node_of c.carry_out.new.self) c.args.out.now c.carry_out.new.out c.in-Err.ended stops begin.clear begin.told
+    c.in-Err.ensures.works
+
+pub returns-in-Err-clause-asks : goal.returns-in-Err-clause-asks
+returns-in-Err-clause-asks g c s input now stops begin =
+    spent-fallen g.D.Disk s input now c.args.spool (node_of c.args.self.now) c.args.out.now c.carry_out.new.out stops
+    c.in-Err.ended begin.clear c.in-Err.ensures.works

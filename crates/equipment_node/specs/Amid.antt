@@ -1,0 +1,209 @@
+-- What the code says of the pieces of a step over the disk.
+use Rattle.std.specs.Prelude.{◌≡◌, ℕ, true, List, [], ◌∷◌, Option, Some, None, Result, Ok, Err, if◌then◌else◌}
+use Rattle.disk_base.specs.Story.{Story}
+use Rattle.disk_base.specs.Through.{EachImage}
+use Rattle.disk_base.specs.declared.disk.Disk as disk
+use Rattle.gem_spool.specs.declared.spool.GemSpool.{GemSpool}
+use Rattle.gem_spool.specs.declared.works.Work.{Work}
+use Rattle.gem_spool.specs.Standing.{Standing, count_of}
+use Rattle.gem_spool.specs.Works.{HasCarried, HasUndone, IsMarked}
+use Rattle.message_flow.specs.declared.step.StepOut.{StepOut}
+use Rattle.spool_slots.specs.Spool.{SpoolView}
+use Rattle.spool_slots.specs.declared.states.Spent.{Spent}
+use Rattle.trace_log.specs.declared.commands.ToolCommand.{ToolCommand}
+use Rattle.trace_log.specs.Log.{Happening}
+use Rattle.trace_log.specs.Names.{Spooled}
+use Rattle.trace_log.specs.Text.{printed_note}
+use Rattle.message_end.specs.declared.end.Stop.{Stop}
+use Rattle.message_end.specs.declared.end.Stop.TheVariants as stop
+use Rattle.message_end.specs.Core.{Step, at_first}
+use Rattle.message_end.specs.Core.Went.{Goes, Spent as SpentAt}
+use Rattle.message_end.specs.Ends.{Input, printed}
+use Rattle.message_end.specs.Parts.{Node, after_parts, on_the_way}
+use Rattle.equipment_tables.specs.declared.plan.EquipmentPlan.{EquipmentPlan}
+use Rattle.equipment_tables.specs.Plan.{EquipmentPlanFits}
+use Rattle.equipment_tables.specs.Tables.{most_transmitted}
+use Rattle.spool_ledger.specs.Ledger.{stood_count}
+use Rattle.spool_ledger.specs.Unloading.{after_next}
+use Rattle.equipment_node.specs.declared.disk_step.Ended.{Ended}
+use Rattle.equipment_node.specs.declared.disk_step.Ended.TheVariants as ended
+use Rattle.equipment_node.specs.declared.kind.Kind.{Kind}
+use Rattle.equipment_node.specs.Calls.{IsSpent}
+use Rattle.equipment_node.specs.Cut.{cut_at}
+use Rattle.equipment_node.specs.Disk.{DiskWork, reserve_works, standing_in, takes_up}
+use Rattle.equipment_node.specs.Disk.DiskWork.{Reserve}
+use Rattle.equipment_node.specs.Equipment.{EquipmentView, act, begun_step, ended_step, needs_numbers, reserved, reserving, settled_own}
+use Rattle.equipment_node.specs.Left.{Holds}
+use Rattle.equipment_node.specs.Own.{OwnView, ToolPart, with_ledger}
+use Rattle.equipment_node.specs.Sound.{CanBeSent, IsSound}
+use Rattle.equipment_node.specs.Stepping.{IsClear, IsTold, Steps}
+
+-- ---- before a step
+
+-- what is kept beside the core is sound, by some plan
+pub record IsSoundOwn (own : OwnView) : Type 0 where
+  pub plan : EquipmentPlan
+  pub fits : EquipmentPlanFits plan
+  pub sound : IsSound plan own.ledger.slots own.ledger.stood own
+
+-- the spool in hand has as many messages as its ledger takes the disk to have, and what is kept is sound: so it is between
+-- two steps, whatever its disk tells
+pub record IsReady {D : Type 0} (v : SpoolView D) (node : Node OwnView Kind) : Type 0 where
+  pub count : count_of v ≡ stood_count node.own.ledger
+  pub sound : IsSoundOwn node.own
+
+-- ---- system bytes
+
+-- with more of them, where few are left
+abbrev pub opened : EquipmentView → EquipmentView
+opened s = if needs_numbers s then reserved s else s
+
+pub record HasOpened
+    {D : Type 0} (members : disk.Ghosts D) (s : EquipmentView) (node : Node OwnView Kind) (g : GemSpool D)
+    : Type 0 where
+  pub went : reserving s ≡ Goes (at_first (opened s))
+  pub node_is : node ≡ (opened s).node
+  pub clear : IsClear members g.spool (opened s)
+  pub told : IsTold (members.told g.spool.disk)
+
+-- the disk holds this, whatever a crash leaves, where it tells its bytes
+abbrev pub Keeps : {D : Type 0} → disk.Ghosts D → Spent D → Standing → Type 0
+Keeps members spent st = (t : Story) → members.told spent.disk ≡ Some t → Holds st t.now
+
+abbrev pub Opens :
+    {D : Type 0} → disk.Ghosts D → EquipmentView → Node OwnView Kind → Result (GemSpool D) (Ended D) → Type 0
+Opens members s node (Ok g) = HasOpened members s node g
+Opens members s node (Err (ended.NumbersSpent spent)) =
+    (reserving s ≡ SpentAt (at_first s)) × Keeps members spent (standing_in s)
+Opens members s node (Err (ended.DiskFailed spent)) =
+    (reserve_works s ≡ Reserve ∷ [])
+    × ((t : Story) → members.told spent.disk ≡ Some t → EachImage (IsMarked (standing_in s)) t.now)
+Opens members s node (Err (ended.NoMemory spent)) = ⊥
+
+-- ---- what was begun
+
+-- all that is due and given is done
+pub record IsBegun (s : EquipmentView) (input : Input ToolCommand) (now : ℕ) (node : Node OwnView Kind) (out : StepOut)
+    : Type 0 where
+  pub step : Step EquipmentView Happening
+  pub is : begun_step s input now ≡ Goes step
+  pub node_is : step.next.node ≡ node
+  pub list : step.next.list ≡ (opened s).list
+  pub mark : step.next.mark ≡ (opened s).mark
+  pub notes : out.notes ≡ printed step.notes
+  pub written : out.line.items ≡ step.written
+
+-- a number was wanting
+pub record IsBegunSpent
+    (s : EquipmentView) (input : Input ToolCommand) (now : ℕ) (node : Node OwnView Kind) (out : StepOut)
+    : Type 0 where
+  pub step : Step EquipmentView Happening
+  pub is : begun_step s input now ≡ SpentAt step
+  pub ledger : step.next.node.own.ledger ≡ node.own.ledger
+  pub list : step.next.list ≡ (opened s).list
+  pub mark : step.next.mark ≡ (opened s).mark
+  pub notes : out.notes ≡ printed step.notes
+
+-- where it stops before its works
+abbrev pub StopsAt :
+    EquipmentView → Input ToolCommand → ℕ → Node OwnView Kind → StepOut → Stop → Type 0
+StopsAt s input now node out stop.NumbersSpent = IsBegunSpent s input now node out
+StopsAt s input now node out stop.DiskFailed = ⊥
+StopsAt s input now node out stop.NoMemory = Unit {0}
+
+-- ---- the works
+
+abbrev pub settled_node : Node OwnView Kind → Node OwnView Kind
+settled_node node = record node { own = settled_own node.own }
+
+-- the disk failed at one of them, and the notes end with its line
+pub record HasCut
+    {D : Type 0} (members : disk.Ghosts D) (g : GemSpool D) (works : List Work) (out_old out_new : StepOut)
+    (spent : Spent D) : Type 0 where
+  pub at : ℕ
+  pub undone : HasUndone members g works (record { at = at; spent = spent })
+  pub notes : out_new.notes ≡ cut_at at out_old.notes
+
+abbrev pub Carries :
+    {D : Type 0} → disk.Ghosts D → GemSpool D → List Work → StepOut → StepOut → Result (GemSpool D) (Ended D)
+    → Type 0
+Carries members g works out_old out_new (Ok h) = HasCarried members g works h × (out_new ≡ out_old)
+Carries members g works out_old out_new (Err (ended.DiskFailed spent)) = HasCut members g works out_old out_new spent
+Carries members g works out_old out_new (Err (ended.NumbersSpent spent)) = ⊥
+Carries members g works out_old out_new (Err (ended.NoMemory spent)) = ⊥
+
+-- ---- what comes behind them
+
+-- what was read can be sent
+abbrev pub IsSendable : Option (ℕ × Spooled) → Type 0
+IsSendable None = Unit {0}
+IsSendable (Some oldest) = CanBeSent oldest.1
+
+-- the number of the next message was asked for
+abbrev pub asked_node : Node OwnView Kind → Node OwnView Kind
+asked_node node =
+    record node { own = with_ledger (after_next (most_transmitted node.own.tables) node.own.ledger) node.own }
+
+-- the last parts are done
+abbrev pub DoesLast :
+    {D : Type 0} → disk.Ghosts D → GemSpool D → List ToolPart → Node OwnView Kind → StepOut → Node OwnView Kind
+    → StepOut → Result (GemSpool D) (Ended D) → Type 0
+DoesLast members g parts old out_old new out_new (Ok h) =
+    (h ≡ g) × (after_parts printed_note parts (on_the_way old out_old) ≡ Goes (on_the_way new out_new))
+DoesLast members g parts old out_old new out_new (Err (ended.NumbersSpent spent)) =
+    (spent.disk ≡ g.spool.disk) × IsSpent (after_parts printed_note parts (on_the_way old out_old)) new out_new
+DoesLast members g parts old out_old new out_new (Err (ended.DiskFailed spent)) = ⊥
+DoesLast members g parts old out_old new out_new (Err (ended.NoMemory spent)) = spent.disk ≡ g.spool.disk
+
+-- a step so far, as the code has it
+pub record IsAt
+    {D : Type 0} (members : disk.Ghosts D) (t : Step EquipmentView Happening) (node : Node OwnView Kind) (out : StepOut)
+    (g : GemSpool D) : Type 0 where
+  pub node_is : node ≡ t.next.node
+  pub clear : IsClear members g.spool t.next
+  pub told : IsTold (members.told g.spool.disk)
+  pub notes : out.notes ≡ printed t.notes
+  pub written : out.line.items ≡ t.written
+
+pub record HasEnded
+    {D : Type 0} (members : disk.Ghosts D) (now : ℕ) (t : Step EquipmentView Happening) (node : Node OwnView Kind)
+    (out : StepOut) (g : GemSpool D) : Type 0 where
+  pub step : Step EquipmentView Happening
+  pub is : ended_step now t ≡ Goes step
+  pub at : IsAt members step node out g
+
+pub record HasEndedSpent
+    {D : Type 0} (members : disk.Ghosts D) (now : ℕ) (t : Step EquipmentView Happening) (out : StepOut)
+    (spent : Spent D) : Type 0 where
+  pub step : Step EquipmentView Happening
+  pub is : ended_step now t ≡ SpentAt step
+  pub notes : out.notes ≡ printed step.notes
+  pub keeps : Keeps members spent (standing_in step.next)
+
+abbrev pub EndsSo :
+    {D : Type 0} → disk.Ghosts D → ℕ → Step EquipmentView Happening → Node OwnView Kind → StepOut
+    → Result (GemSpool D) (Ended D) → Type 0
+EndsSo members now t node out (Ok g) = HasEnded members now t node out g
+EndsSo members now t node out (Err (ended.NumbersSpent spent)) = HasEndedSpent members now t out spent
+EndsSo members now t node out (Err (ended.DiskFailed spent)) =
+    (takes_up t.next.node.own ≡ true) × (out.notes ≡ printed t.notes) × Keeps members spent (standing_in t.next)
+EndsSo members now t node out (Err (ended.NoMemory spent)) = Keeps members spent (standing_in t.next)
+
+-- ---- all of it
+
+pub record HasActed
+    {D : Type 0} (members : disk.Ghosts D) (s : EquipmentView) (input : Input ToolCommand) (now : ℕ)
+    (node : Node OwnView Kind) (out : StepOut) (g : GemSpool D)
+    : Type 0 where
+  pub step : Step EquipmentView Happening
+  pub is : act s input now ≡ Goes step
+  pub at : IsAt members step node out g
+
+-- as it leaves a step, once the characters of one that has stopped are taken away
+abbrev pub Acts :
+    {D : Type 0} → disk.Ghosts D → EquipmentView → Input ToolCommand → ℕ → Node OwnView Kind → StepOut
+    → Result (GemSpool D) (Ended D) → Type 0
+Acts members s input now node out (Ok g) = HasActed members s input now node out g
+Acts members s input now node out (Err end) =
+    (after : StepOut) → after.notes ≡ out.notes → after.line.items ≡ []
+    → Steps members s input now node after (Err end)

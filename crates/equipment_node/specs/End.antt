@@ -1,0 +1,18 @@
+-- The equipment as an end of the line.
+use Rattle.std.specs.Prelude.{[], ◌∷◌}
+use Rattle.trace_log.specs.declared.commands.ToolCommand.{ToolCommand}
+use Rattle.message_end.specs.Ends.{Machine}
+use Rattle.equipment_node.specs.Disk.{asks, reserve_asks, stops}
+use Rattle.equipment_node.specs.Equipment.{EquipmentView, act, restarts}
+
+-- at a start the disk is asked before anything is noted
+abbrev pub machine : Machine EquipmentView ToolCommand
+machine = record {
+  act = act;
+  restart = restarts;
+  line = λ s. s.node.core.line;
+  stops = stops;
+  start_stops = [] ∷ [];
+  asks = asks;
+  start_asks = reserve_asks;
+}

@@ -1,0 +1,101 @@
+-- The equipment over its disk as a value of the program, and what the code says of it as a whole.
+use Rattle.std.specs.Prelude.{◌≡◌, ◌⊎◌, refl, ℕ, ◌+◌, Bool, true, List, [], Some, Result, Ok, Err}
+use Rattle.std.specs.Coded.{Coded, code_by, coded×, coded_bool}
+use Rattle.disk_base.specs.Story.{Story, with_sync}
+use Rattle.disk_base.specs.Through.{EachImage}
+use Rattle.disk_base.specs.declared.disk.Disk as disk
+use Rattle.gem_spool.specs.declared.spool.GemSpool.{GemSpool}
+use Rattle.message_flow.specs.declared.step.StepOut.{StepOut}
+use Rattle.spool_slots.specs.Changes.{with_mark}
+use Rattle.spool_slots.specs.File.{SpoolFile, StandsFor, file_in, spool_break}
+use Rattle.spool_slots.specs.Reading.{IsBreak}
+use Rattle.spool_slots.specs.Spool.{SpoolView, spool_code}
+use Rattle.spool_slots.specs.declared.states.Recovering.{Recovering}
+use Rattle.spool_slots.specs.declared.states.Recovering.TheVariants as recovering
+use Rattle.spool_slots.specs.declared.states.Spent.{Spent}
+use Rattle.trace_log.specs.declared.commands.ToolCommand.{ToolCommand}
+use Rattle.message_end.specs.Ends.{HasGone, Input, IsEmpty}
+use Rattle.equipment_tables.specs.declared.plan.EquipmentPlan.{EquipmentPlan}
+use Rattle.equipment_node.specs.declared.disk_step.Ended.{Ended}
+use Rattle.equipment_node.specs.declared.equipment.Starting.{Starting}
+use Rattle.equipment_node.specs.declared.equipment.Starting.TheVariants as starting
+use Rattle.equipment_node.specs.declared.own.Tool.{Tool}
+use Rattle.equipment_node.specs.Equipment.{EquipmentView, act, is_marked_out, starts}
+use Rattle.equipment_node.specs.Node.{node_of}
+use Rattle.equipment_node.specs.Sound.{AllCanBeSent}
+use Rattle.equipment_node.specs.Stepping.{IsOn, IsTold, Steps, view_of}
+
+-- the tool, and the spool in hand
+pub record Held (D : Type 0) : Type 0 where
+  pub tool : Tool
+  pub spool : GemSpool D
+
+abbrev pub held_code : {D : Type 0} → Coded Tool → Coded D → Coded (Held D)
+held_code {D} tool code =
+    code_by (Tool × (SpoolView D × Bool)) (coded× tool (coded× (spool_code code) coded_bool))
+    (λ h. (h.tool, (h.spool.spool, h.spool.active)))
+    (λ p. record { tool = p.0; spool = record { spool = p.1.0; active = p.1.1 } })
+    (λ _. refl)
+
+abbrev pub view_in : {D : Type 0} → disk.Ghosts D → Held D → EquipmentView
+view_in members h = view_of members (node_of h.tool) (Some h.spool)
+
+-- it is in this state, of which its disk tells
+pub record IsIn {D : Type 0} (members : disk.Ghosts D) (h : Held D) : Type 0 where
+  pub on : IsOn members h.spool.spool (view_in members h)
+  pub told : IsTold (members.told h.spool.spool.disk)
+
+-- ---- a step
+
+pub record HasMoved
+    {D : Type 0} (members : disk.Ghosts D) (h : Held D) (input : Input ToolCommand) (now : ℕ) (out : StepOut) (k : Held D)
+    : Type 0 where
+  pub gone : HasGone (act (view_in members h) input now) (view_in members k) out
+  pub in_state : IsIn members k
+
+abbrev pub Moves :
+    {D : Type 0} → disk.Ghosts D → Held D → Input ToolCommand → ℕ → StepOut → Result (Held D) (Ended D) → Type 0
+Moves members h input now out (Ok k) = HasMoved members h input now out k
+Moves members h input now out (Err end) = Steps members (view_in members h) input now (node_of h.tool) out (Err end)
+
+-- ---- a start from what the device tells
+
+-- it is as the file says, and its numbers are those behind the mark; where each message of the file can be sent, it can
+-- make steps
+pub record HasBegunOn
+    {D : Type 0} (members : disk.Ghosts D) (plan : EquipmentPlan) (file : SpoolFile) (out : StepOut) (h : Held D)
+    : Type 0 where
+  pub gone : HasGone (starts plan file.slots file.list file.mark) (view_in members h) out
+  pub in_state : AllCanBeSent file.list → IsIn members h
+
+-- the file with the old mark, or with the new one
+abbrev pub HasMark : SpoolFile → List ℕ → Type 0
+HasMark file image = StandsFor image file ⊎ StandsFor image (with_mark (file.mark + 4096) file)
+
+-- nothing was written yet
+abbrev pub IsUntouched : Story → Story → Type 0
+IsUntouched s t = (t ≡ s) ⊎ (t ≡ with_sync s)
+
+-- where it doesn't start nothing is noted
+abbrev pub Begins :
+    {D : Type 0} → disk.Ghosts D → EquipmentPlan → Story → StepOut → Result (Held D) (Starting D) → Type 0
+Begins members plan s out (Ok h) = HasBegunOn members plan (file_in s.now.bytes) out h
+Begins members plan s out (Err (starting.NotSpool raw break)) =
+    IsEmpty out × IsBreak s.now.bytes (spool_break s.now.bytes) break
+    × ((t : Story) → members.told raw.disk ≡ Some t → IsUntouched s t)
+Begins members plan s out (Err (starting.NumbersSpent spent)) =
+    IsEmpty out × (is_marked_out (file_in s.now.bytes).mark ≡ true)
+    × ((t : Story) → members.told spent.disk ≡ Some t
+    → EachImage (λ image. StandsFor image (file_in s.now.bytes)) t.now)
+Begins members plan s out (Err (starting.DiskFailed spent)) =
+    IsEmpty out
+    × ((t : Story) → members.told spent.disk ≡ Some t
+    → IsUntouched s t ⊎ EachImage (HasMark (file_in s.now.bytes)) t.now)
+Begins members plan s out (Err (starting.NoMemory spent)) =
+    (out.line.items ≡ [])
+    × ((t : Story) → members.told spent.disk ≡ Some t → EachImage (HasMark (file_in s.now.bytes)) t.now)
+
+-- why it doesn't start, where its device gives no spool
+abbrev pub starting_by : {D : Type 0} → Recovering D → Starting D
+starting_by (recovering.NotSpool raw break) = starting.NotSpool raw break
+starting_by (recovering.Failed spent) = starting.DiskFailed spent

@@ -1,0 +1,140 @@
+-- What the code says of a step over the disk.
+use Rattle.std.specs.Prelude.{◌≡◌, ℕ, List, [], length, Option, Some, None, Result, Ok, Err}
+use Rattle.disk_base.specs.Story.{Story}
+use Rattle.disk_base.specs.declared.disk.Disk as disk
+use Rattle.gem_spool.specs.declared.spool.GemSpool.{GemSpool}
+use Rattle.gem_spool.specs.Standing.{Stands, standing_of}
+use Rattle.message_flow.specs.declared.step.StepOut.{StepOut}
+use Rattle.spool_slots.specs.Slot.{Message}
+use Rattle.spool_slots.specs.Spool.{SpoolView}
+use Rattle.spool_slots.specs.declared.states.Spent.{Spent}
+use Rattle.trace_log.specs.declared.commands.ToolCommand.{ToolCommand}
+use Rattle.trace_log.specs.Log.{Happening}
+use Rattle.trace_log.specs.Names.{Spooled}
+use Rattle.message_end.specs.declared.end.Stop.{Stop}
+use Rattle.message_end.specs.declared.end.Stop.TheVariants as stop
+use Rattle.message_end.specs.Core.{EndView, Step}
+use Rattle.message_end.specs.Core.Went.{Goes}
+use Rattle.message_end.specs.Doings.{Doing}
+use Rattle.message_end.specs.Ends.{Asked, HasSpent, HasStopped, Input, none_asked, printed}
+use Rattle.message_end.specs.Parts.{Node}
+use Rattle.equipment_tables.specs.declared.plan.EquipmentPlan.{EquipmentPlan}
+use Rattle.equipment_tables.specs.Plan.{EquipmentPlanFits}
+use Rattle.spool_ledger.specs.Ledger.{carried_out}
+use Rattle.spool_ledger.specs.Unloading.{taken_up}
+use Rattle.equipment_node.specs.declared.disk_step.Ended.{Ended}
+use Rattle.equipment_node.specs.declared.disk_step.Ended.TheVariants as ended
+use Rattle.equipment_node.specs.declared.kind.Kind.{Kind}
+use Rattle.equipment_node.specs.Asked.{IsSureDisk, room_by}
+use Rattle.equipment_node.specs.Disk.{standing_in, stops}
+use Rattle.equipment_node.specs.Equipment.{EquipmentView, act}
+use Rattle.equipment_node.specs.Laws.{DidOf}
+use Rattle.equipment_node.specs.Left as left
+use Rattle.equipment_node.specs.Own.{OwnView, ToolPart, ToolTurn, quiet_turn, turn_behind, with_ledger}
+use Rattle.equipment_node.specs.Sent.{grant_item, text_of}
+use Rattle.equipment_node.specs.Spooling.{dataid_in, leave_turn, lines_commands, taking_turn}
+
+-- the oldest message, which was read, is taken up under its number
+abbrev pub taking : Option (ℕ × Spooled) → ToolPart
+taking None own e = quiet_turn own
+taking (Some oldest) own e = taking_turn (Some oldest.0) (Some oldest.1) own e
+
+-- an S6F11 of several blocks is taken up under these system bytes, and waits for leave
+abbrev pub waiting_turn : ℕ → ℕ → Spooled → OwnView → EndView Kind → ToolTurn
+waiting_turn number system message own e =
+    let booked = taken_up number system (Some message.body) own.ledger in
+    turn_behind (lines_commands booked.lines)
+    (leave_turn (text_of own (grant_item (dataid_in message.body) (length message.body)))
+    (with_ledger booked.next own) e)
+
+-- ---- the spool in hand
+
+-- some doings since a start have made the equipment what it is
+pub record IsMade (s : EquipmentView) : Type 0 where
+  pub plan : EquipmentPlan
+  pub fits : EquipmentPlanFits plan
+  pub base : ℕ
+  pub doings : List Doing
+  pub did : DidOf plan base doings s
+
+-- it is that of this state, and its disk owes nothing
+pub record IsClear {D : Type 0} (members : disk.Ghosts D) (v : SpoolView D) (s : EquipmentView) : Type 0 where
+  pub stands : Stands members v (standing_in s)
+  pub owes : carried_out s.node.own.ledger ≡ s.node.own.ledger
+  pub len : length s.list ≡ s.node.own.ledger.len
+
+pub record IsOn {D : Type 0} (members : disk.Ghosts D) (v : SpoolView D) (s : EquipmentView) : Type 0 where
+  pub clear : IsClear members v s
+  pub made : IsMade s
+
+-- the disk tells its bytes
+abbrev pub IsTold : Option Story → Type 0
+IsTold told = (s : Story) × (told ≡ Some s)
+
+-- ---- what a step comes to
+
+pub record HasStepped
+    {D : Type 0} (members : disk.Ghosts D) (s : EquipmentView) (input : Input ToolCommand) (now : ℕ)
+    (node : Node OwnView Kind) (out : StepOut) (g : GemSpool D)
+    : Type 0 where
+  pub step : Step EquipmentView Happening
+  pub is : act s input now ≡ Goes step
+  pub node_is : step.next.node ≡ node
+  pub on : IsOn members g.spool step.next
+  pub told : IsTold (members.told g.spool.disk)
+  pub notes : out.notes ≡ printed step.notes
+  pub written : out.line.items ≡ step.written
+
+-- where it ends early, its device holds what it may hold then
+abbrev pub HasLeft :
+    {D : Type 0} → disk.Ghosts D → EquipmentView → Input ToolCommand → ℕ → StepOut → Spent D → Stop → Type 0
+HasLeft members s input now out spent stop =
+    (t : Story) → members.told spent.disk ≡ Some t → left.Leaves s input now out t.now stop
+
+abbrev pub Steps :
+    {D : Type 0} → disk.Ghosts D → EquipmentView → Input ToolCommand → ℕ → Node OwnView Kind → StepOut
+    → Result (GemSpool D) (Ended D) → Type 0
+Steps members s input now node out (Ok g) = HasStepped members s input now node out g
+Steps members s input now node out (Err (ended.NumbersSpent spent)) =
+    HasSpent (act s input now) out × HasLeft members s input now out spent stop.NumbersSpent
+Steps members s input now node out (Err (ended.DiskFailed spent)) =
+    HasStopped (stops s input now) (act s input now) out × HasLeft members s input now out spent stop.DiskFailed
+Steps members s input now node out (Err (ended.NoMemory spent)) =
+    (out.line.items ≡ []) × HasLeft members s input now out spent stop.NoMemory
+
+-- ---- an equipment with its spool, or one that has stopped
+
+-- of one that has stopped nothing is said of the list
+abbrev pub list_in : {D : Type 0} → disk.Ghosts D → Option (GemSpool D) → List Message
+list_in members None = []
+list_in members (Some g) = (standing_of members g.spool).list
+
+abbrev pub mark_in : {D : Type 0} → Option (GemSpool D) → ℕ
+mark_in None = 0
+mark_in (Some g) = g.spool.mark
+
+-- its state
+abbrev pub view_of :
+    {D : Type 0} → disk.Ghosts D → Node OwnView Kind → Option (GemSpool D) → EquipmentView
+view_of members node spool = record { node = node; list = list_in members spool; mark = mark_in spool }
+
+-- the spool in hand is that of its state, of which the disk tells, and no call of the disk is to fail
+pub record HasSeat {D : Type 0} (members : disk.Ghosts D) (node : Node OwnView Kind) (g : GemSpool D) : Type 0 where
+  pub on : IsOn members g.spool (view_of members node (Some g))
+  pub told : IsTold (members.told g.spool.disk)
+  pub sure : IsSureDisk (members.health g.spool.disk)
+
+abbrev pub IsSeated : {D : Type 0} → disk.Ghosts D → Node OwnView Kind → Option (GemSpool D) → Type 0
+IsSeated members node None = Unit {0}
+IsSeated members node (Some g) = HasSeat members node g
+
+-- the disk has room for so much; one that has stopped asks nothing of it any more
+abbrev pub room_over : {D : Type 0} → disk.Ghosts D → Option (GemSpool D) → Asked
+room_over members None = none_asked
+room_over members (Some g) = room_by (members.health g.spool.disk)
+
+-- why it has stopped
+abbrev pub stop_by : {D : Type 0} → Ended D → Stop
+stop_by (ended.NoMemory spent) = stop.NoMemory
+stop_by (ended.DiskFailed spent) = stop.DiskFailed
+stop_by (ended.NumbersSpent spent) = stop.NumbersSpent

@@ -1,0 +1,426 @@
+//! A step over the spool's disk. It is asked at three places alone: for more system bytes before all else, for the works
+//! that are owed behind what the step is given, and for the oldest message before an unload goes on.
+
+ghost use Rattle.std.specs.Prelude.{All, ◌≡◌, ◌∷◌, [], ◌<◌, ◌≤◌, ◌%◌, ◌^◌, ◌-◌, nat_le, length, ℕ, true, Err, IfOk, Some};
+ghost use Rattle.arrayvec.specs.ArrayVec.{array_vec_len};
+ghost use Rattle.gem_spool.specs.Standing.{count_of};
+ghost use Rattle.gem_spool.specs.Works.{AreDue, counts_after};
+ghost use Rattle.trace_log.specs.Log.{Happening};
+ghost use Rattle.trace_log.specs.declared.commands.ToolCommand.{ToolCommand};
+ghost use Rattle.trace_log.specs.Commands.{ToolCommandFits};
+ghost use Rattle.message_end.specs.declared.end.Stop.TheVariants.{NumbersSpent};
+ghost use Rattle.message_end.specs.Core.{Step};
+ghost use Rattle.message_end.specs.Ends.{Input, IsEmpty, MayTake, input_of};
+ghost use Rattle.spool_ledger.specs.Ledger.{carried_out, stood_count};
+ghost use Rattle.spool_ledger.specs.Unloading.{next_number as unload_number};
+ghost use Rattle.equipment_tables.specs.Tables.{most_transmitted};
+ghost use Rattle.equipment_node.specs.Amid.{Acts, Carries, DoesLast, EndsSo, HasOpened, IsAt, IsBegun, IsReady, IsSendable, Opens, StopsAt, asked_node, opened, settled_node};
+ghost use Rattle.equipment_node.specs.Asked.{HasAsked, asked_for, read_asks};
+ghost use Rattle.equipment_node.specs.Disk.{asks, reserve_works, standing_in, works_behind};
+ghost use Rattle.equipment_node.specs.Equipment.{EquipmentView, begun_step, needs_numbers};
+ghost use Rattle.equipment_node.specs.Node.{node_of, own_of};
+ghost use Rattle.equipment_node.specs.Sound.{CanBeSent};
+ghost use Rattle.equipment_node.specs.Spooling.{end_of_spooling};
+ghost use Rattle.equipment_node.specs.Step.{offer};
+ghost use Rattle.equipment_node.specs.Stepping.{IsOn, IsTold, Steps, taking};
+
+use crate::notes_cut::cut_notes;
+use crate::own::Tool;
+use crate::report::{Report, primary_function};
+use disk_base::Disk;
+use gem_spool::{GemSpool, Kept, Unread, Work};
+use message_end::Stop;
+use message_flow::{NodeInput, StepOut};
+use spool_slots::Spent;
+use std::alloc::Global;
+use trace_log::ToolCommand;
+
+/// Why an equipment has stopped in a step. Its device is handed back.
+#[derive(Debug, Drop)]
+pub enum Ended<D> {
+    /// Memory ran out. Some first works of the step are done on the device.
+    NoMemory(Spent<D>),
+    /// The disk failed. The works before that call are done, and the one that it is of is done or not.
+    DiskFailed(Spent<D>),
+    /// No system bytes are left, or no number for a message of the spool. The works that came before that are done.
+    NumbersSpent(Spent<D>),
+}
+
+// Fewer system bytes than a step may need.
+const FEW: u64 = 128;
+
+// How many bytes a body of the spool has at most.
+const BODY_MOST: usize = 4081;
+
+/// How many system bytes are reserved at once.
+pub(crate) const MORE: u32 = 4_096;
+
+impl Tool {
+    /// One step. Where it stops nothing is sent.
+    pub(crate) fn step_on<D: Disk>(
+        &mut self,
+        alloc: Global,
+        spool: GemSpool<D>,
+        input: NodeInput<'_, ToolCommand>,
+        now: u64,
+        out: &mut StepOut,
+    ) -> Result<GemSpool<D>, Ended<D>>
+        requires now { now < 2 ^ 62 }
+        requires input { MayTake ToolCommandFits (input_of input) }
+        requires out { IsEmpty out.old }
+        requires ready { IsReady spool.spool (node_of self.old) }
+        ensures ready { IfOk result (λ g. IsReady g.spool (node_of self.new)) }
+        ensures steps { (s : EquipmentView) → node_of self.old ≡ s.node → IsOn D.Disk spool.spool s
+            → IsTold (D.told spool.spool.disk)
+            → Steps D.Disk s (input_of input.entry) now (node_of self.new) out.new result }
+        ensures asks { (s : EquipmentView) → node_of self.old ≡ s.node → IsOn D.Disk spool.spool s
+            → IsTold (D.told spool.spool.disk)
+            → HasAsked D.Disk spool.spool.disk (asks s (input_of input.entry) now) result }
+    {
+        match self.act(alloc, spool, input, now, out) {
+            Ok(spool) => Ok(spool),
+            Err(ended) => {
+                out.line.clear();
+                Err(ended)
+            }
+        }
+    }
+
+    // All of a step.
+    fn act<D: Disk>(
+        &mut self,
+        alloc: Global,
+        spool: GemSpool<D>,
+        input: NodeInput<'_, ToolCommand>,
+        now: u64,
+        out: &mut StepOut,
+    ) -> Result<GemSpool<D>, Ended<D>>
+        requires now { now < 2 ^ 62 }
+        requires input { MayTake ToolCommandFits (input_of input) }
+        requires out { IsEmpty out.old }
+        requires ready { IsReady spool.spool (node_of self.old) }
+        ensures ready { IfOk result (λ g. IsReady g.spool (node_of self.new)) }
+        ensures acts { (s : EquipmentView) → node_of self.old ≡ s.node → IsOn D.Disk spool.spool s
+            → IsTold (D.told spool.spool.disk)
+            → Acts D.Disk s (input_of input.entry) now (node_of self.new) out.new result }
+        ensures asks { (s : EquipmentView) → node_of self.old ≡ s.node → IsOn D.Disk spool.spool s
+            → IsTold (D.told spool.spool.disk)
+            → HasAsked D.Disk spool.spool.disk (asks s (input_of input.entry) now) result }
+    {
+        match self.reserve(spool, out) {
+            Ok(spool) => self.act_on(alloc, spool, input, now, out),
+            Err(ended) => Err(ended),
+        }
+    }
+
+    // More system bytes are reserved where few are left.
+    fn reserve<D: Disk>(
+        &mut self,
+        spool: GemSpool<D>,
+        out: &mut StepOut,
+    ) -> Result<GemSpool<D>, Ended<D>>
+        requires ready { IsReady spool.spool (node_of self.old) }
+        ensures opens { (s : EquipmentView) → node_of self.old ≡ s.node → IsOn D.Disk spool.spool s
+            → IsTold (D.told spool.spool.disk) → Opens D.Disk s (node_of self.new) result }
+        ensures asks { (s : EquipmentView) → node_of self.old ≡ s.node → IsOn D.Disk spool.spool s
+            → IsTold (D.told spool.spool.disk)
+            → HasAsked D.Disk spool.spool.disk (asked_for (standing_in s) (reserve_works s)) result }
+        ensures ready { IfOk result (λ g. IsReady g.spool (node_of self.new)) }
+        ensures notes { out.new.notes ≡ out.old.notes }
+        ensures line { out.new.line.items ≡ out.old.line.items }
+    {
+        if self.has_enough() {
+            return Ok(spool);
+        }
+        self.reserve_more(spool, out)
+    }
+
+    // Whether as many system bytes are left as a step may need.
+    fn has_enough(&self) -> bool
+        ensures { result ≡ nat_le 128 (self.now.core.numbers.end - self.now.core.numbers.next) }
+    {
+        self.core.left() >= FEW
+    }
+
+    // More system bytes are reserved.
+    fn reserve_more<D: Disk>(
+        &mut self,
+        spool: GemSpool<D>,
+        out: &mut StepOut,
+    ) -> Result<GemSpool<D>, Ended<D>>
+        requires ready { IsReady spool.spool (node_of self.old) }
+        ensures opens { (s : EquipmentView) → node_of self.old ≡ s.node → needs_numbers s ≡ true
+            → IsOn D.Disk spool.spool s → IsTold (D.told spool.spool.disk)
+            → Opens D.Disk s (node_of self.new) result }
+        ensures asks { (s : EquipmentView) → node_of self.old ≡ s.node → needs_numbers s ≡ true
+            → IsOn D.Disk spool.spool s
+            → HasAsked D.Disk spool.spool.disk (asked_for (standing_in s) (reserve_works s)) result }
+        ensures ready { IfOk result (λ g. IsReady g.spool (node_of self.new)) }
+        ensures notes { out.new.notes ≡ out.old.notes }
+        ensures line { out.new.line.items ≡ out.old.line.items }
+    {
+        match spool.reserve() {
+            Ok((spool, Some(_))) => {
+                self.core.more(MORE, out);
+                Ok(spool)
+            }
+            Ok((spool, None)) => Err(Ended::NumbersSpent(spool.retire())),
+            Err(spent) => Err(Ended::DiskFailed(spent)),
+        }
+    }
+
+    // All of a step that has system bytes enough.
+    fn act_on<D: Disk>(
+        &mut self,
+        alloc: Global,
+        spool: GemSpool<D>,
+        input: NodeInput<'_, ToolCommand>,
+        now: u64,
+        out: &mut StepOut,
+    ) -> Result<GemSpool<D>, Ended<D>>
+        requires now { now < 2 ^ 62 }
+        requires input { MayTake ToolCommandFits (input_of input) }
+        requires out { IsEmpty out.old }
+        requires ready { IsReady spool.spool (node_of self.old) }
+        ensures ready { IfOk result (λ g. IsReady g.spool (node_of self.new)) }
+        ensures acts { (s : EquipmentView) → HasOpened D.Disk s (node_of self.old) spool
+            → Acts D.Disk s (input_of input.entry) now (node_of self.new) out.new result }
+        ensures asks { (s : EquipmentView) → HasOpened D.Disk s (node_of self.old) spool
+            → HasAsked D.Disk spool.spool.disk
+            (asked_for (standing_in (opened s)) (works_behind (begun_step s (input_of input.entry) now)))
+            result }
+    {
+        match self.do_first(alloc, input, now, out) {
+            Ok(()) => self.act_behind(alloc, spool, now, out),
+            Err(stop) => Err(self.stop(alloc, spool, stop, out)),
+        }
+    }
+
+    // The works, and what comes behind them.
+    fn act_behind<D: Disk>(
+        &mut self,
+        alloc: Global,
+        spool: GemSpool<D>,
+        now: u64,
+        out: &mut StepOut,
+    ) -> Result<GemSpool<D>, Ended<D>>
+        requires now { now < 2 ^ 62 }
+        requires ready { IsReady spool.spool (node_of self.old) }
+        requires room { array_vec_len out.old.line ≤ 514 }
+        ensures ready { IfOk result (λ g. IsReady g.spool (node_of self.new)) }
+        ensures acts { (s : EquipmentView) → (input : Input ToolCommand) → IsBegun s input now (node_of self.old) out.old
+            → HasOpened D.Disk s (opened s).node spool
+            → Acts D.Disk s input now (node_of self.new) out.new result }
+        ensures asks { (s : EquipmentView) → (input : Input ToolCommand) → IsBegun s input now (node_of self.old) out.old
+            → HasOpened D.Disk s (opened s).node spool
+            → HasAsked D.Disk spool.spool.disk
+            (asked_for (standing_in (opened s)) (works_behind (begun_step s input now)))
+            result }
+    {
+        match self.carry_out(alloc, spool, out) {
+            Ok(spool) => self.act_last(alloc, spool, now, out),
+            Err(ended) => Err(ended),
+        }
+    }
+
+    // The step stops before its works are done. Where memory was wanting, it is as if the disk had failed at the first.
+    fn stop<D: Disk>(
+        &mut self,
+        alloc: Global,
+        spool: GemSpool<D>,
+        stop: Stop,
+        out: &mut StepOut,
+    ) -> Ended<D>
+        requires count { stop ≡ NumbersSpent → count_of spool.spool ≡ stood_count self.old.own.ledger }
+        ensures acts { (s : EquipmentView) → (input : Input ToolCommand) → (now : ℕ)
+            → StopsAt s input now (node_of self.old) out.old stop → HasOpened D.Disk s (opened s).node spool
+            → Acts D.Disk s input now (node_of self.new) out.new (Err result) }
+        ensures asks { (s : EquipmentView) → (input : Input ToolCommand) → (now : ℕ)
+            → StopsAt s input now (node_of self.old) out.old stop → HasOpened D.Disk s (opened s).node spool
+            → HasAsked D.Disk spool.spool.disk
+            (asked_for (standing_in (opened s)) (works_behind (begun_step s input now)))
+            (Err result) }
+    {
+        match stop {
+            Stop::NumbersSpent => self.stop_spent(alloc, spool, out),
+            Stop::NoMemory => {
+                cut_notes(&mut out.notes, 0);
+                Ended::NoMemory(spool.retire())
+            }
+            // (no part of a step asks the disk)
+            Stop::DiskFailed => Ended::DiskFailed(spool.retire()),
+        }
+    }
+
+    // A number was wanting: the works are carried out still.
+    fn stop_spent<D: Disk>(
+        &mut self,
+        alloc: Global,
+        spool: GemSpool<D>,
+        out: &mut StepOut,
+    ) -> Ended<D>
+        requires count { count_of spool.spool ≡ stood_count self.old.own.ledger }
+        ensures acts { (s : EquipmentView) → (input : Input ToolCommand) → (now : ℕ)
+            → StopsAt s input now (node_of self.old) out.old NumbersSpent → HasOpened D.Disk s (opened s).node spool
+            → Acts D.Disk s input now (node_of self.new) out.new (Err result) }
+        ensures asks { (s : EquipmentView) → (input : Input ToolCommand) → (now : ℕ)
+            → StopsAt s input now (node_of self.old) out.old NumbersSpent → HasOpened D.Disk s (opened s).node spool
+            → HasAsked D.Disk spool.spool.disk
+            (asked_for (standing_in (opened s)) (works_behind (begun_step s input now)))
+            (Err result) }
+    {
+        match self.carry_out(alloc, spool, out) {
+            Ok(spool) => Ended::NumbersSpent(spool.retire()),
+            Err(ended) => ended,
+        }
+    }
+
+    // Carries out what is owed. Where the disk fails the notes end with the line of that work.
+    fn carry_out<D: Disk>(
+        &mut self,
+        alloc: Global,
+        spool: GemSpool<D>,
+        out: &mut StepOut,
+    ) -> Result<GemSpool<D>, Ended<D>>
+        requires count { count_of spool.spool ≡ stood_count self.old.own.ledger }
+        ensures works { Carries D.Disk spool self.old.own.ledger.works out.old out.new result }
+        ensures node { node_of self.new ≡ settled_node (node_of self.old) }
+        ensures come_to { counts_after (stood_count self.old.own.ledger) self.old.own.ledger.works
+            ≡ stood_count (carried_out self.old.own.ledger) }
+        ensures line { out.new.line ≡ out.old.line }
+    {
+        let works = self.own.ledger.take_works(alloc);
+        carry_all(spool, works.as_slice(), out)
+    }
+
+    // What comes behind the works.
+    fn act_last<D: Disk>(
+        &mut self,
+        alloc: Global,
+        spool: GemSpool<D>,
+        now: u64,
+        out: &mut StepOut,
+    ) -> Result<GemSpool<D>, Ended<D>>
+        requires now { now < 2 ^ 62 }
+        requires room { array_vec_len out.old.line ≤ 514 }
+        requires ready { IsReady spool.spool (node_of self.old) }
+        ensures ready { IfOk result (λ g. IsReady g.spool (node_of self.new)) }
+        ensures ends { (t : Step EquipmentView Happening) → IsAt D.Disk t (node_of self.old) out.old spool
+            → EndsSo D.Disk now t (node_of self.new) out.new result }
+        ensures asks { HasAsked D.Disk spool.spool.disk (read_asks (own_of self.old.own)) result }
+    {
+        match self.next_unload() {
+            Some(number) => self.act_reading(alloc, spool, number, now, out),
+            None => self.end_with(alloc, spool, None, now, out),
+        }
+    }
+
+    // The oldest message is read, which is to be taken up under this number, and goes to the host.
+    fn act_reading<D: Disk>(
+        &mut self,
+        alloc: Global,
+        spool: GemSpool<D>,
+        number: u64,
+        now: u64,
+        out: &mut StepOut,
+    ) -> Result<GemSpool<D>, Ended<D>>
+        requires now { now < 2 ^ 62 }
+        requires room { array_vec_len out.old.line ≤ 514 }
+        requires ready { IsReady spool.spool (node_of self.old) }
+        ensures ready { IfOk result (λ g. IsReady g.spool (node_of self.new)) }
+        ensures ends { (t : Step EquipmentView Happening) → node_of self.old ≡ asked_node t.next.node
+            → unload_number (most_transmitted t.next.node.own.tables) t.next.node.own.ledger ≡ Some number
+            → IsAt D.Disk t t.next.node out.old spool
+            → EndsSo D.Disk now t (node_of self.new) out.new result }
+        ensures asks { HasAsked D.Disk spool.spool.disk (record { calls = 1; bytes = 0 }) result }
+    {
+        let mut spool = spool;
+        match spool.oldest_message(alloc) {
+            Ok(kept) => {
+                let report = report_of(kept);
+                self.end_with(alloc, spool, Some((number, report)), now, out)
+            }
+            Err(Unread::Empty) => self.end_with(alloc, spool, None, now, out),
+            Err(Unread::Failed) => Err(Ended::DiskFailed(spool.retire())),
+            Err(Unread::NoMemory) => Err(Ended::NoMemory(spool.retire())),
+        }
+    }
+
+    // The last parts, with what was read.
+    fn end_with<D: Disk>(
+        &mut self,
+        alloc: Global,
+        spool: GemSpool<D>,
+        oldest: Option<(u64, Report)>,
+        now: u64,
+        out: &mut StepOut,
+    ) -> Result<GemSpool<D>, Ended<D>>
+        requires now { now < 2 ^ 62 }
+        requires room { array_vec_len out.old.line ≤ 514 }
+        requires ready { IsReady spool.spool (node_of self.old) }
+        requires can { IsSendable oldest }
+        ensures ready { IfOk result (λ g. IsReady g.spool (node_of self.new)) }
+        ensures ends { DoesLast
+            D.Disk
+            spool
+            (taking oldest ∷ end_of_spooling ∷ offer now ∷ [])
+            (node_of self.old)
+            out.old
+            (node_of self.new)
+            out.new
+            result }
+    {
+        match self.do_last(alloc, oldest, now, out) {
+            Ok(()) => Ok(spool),
+            Err(Stop::NoMemory) => Err(Ended::NoMemory(spool.retire())),
+            Err(Stop::NumbersSpent) => Err(Ended::NumbersSpent(spool.retire())),
+            Err(Stop::DiskFailed) => Err(Ended::DiskFailed(spool.retire())),
+        }
+    }
+}
+
+// Carries works out. Where the disk fails at one the notes end with its line.
+fn carry_all<D: Disk>(
+    spool: GemSpool<D>,
+    works: &[Work],
+    out: &mut StepOut,
+) -> Result<GemSpool<D>, Ended<D>>
+    requires due { AreDue (count_of spool.spool) works.now }
+    ensures works { Carries D.Disk spool works.now out.old out.new result }
+    ensures line { out.new.line ≡ out.old.line }
+{
+    match spool.carry_out(works) {
+        Ok(spool) => Ok(spool),
+        Err(undone) => {
+            cut_notes(&mut out.notes, undone.at);
+            Err(Ended::DiskFailed(undone.spent))
+        }
+    }
+}
+
+// What was read, as a report that can be sent. A disk may give any bytes.
+fn report_of(kept: Kept) -> Report
+    ensures can { CanBeSent result }
+    ensures is { kept.stream < 128 → kept.function % 2 ≡ 1 → length kept.body ≤ 4081
+        → result ≡ record { stream = kept.stream; function = kept.function; body = kept.body } }
+{
+    let Kept {
+        stream,
+        function,
+        mut body,
+    } = kept;
+    body.truncate(BODY_MOST);
+    are_bytes(body.as_slice());
+    Report::of_kept(Kept {
+        stream: stream % 128,
+        function: primary_function(function),
+        body,
+    })
+}
+
+// Tells that they are bytes.
+fn are_bytes(bytes: &[u8])
+    ensures { All (λ byte. byte < 256) bytes.now }
+{
+    let _ = bytes;
+}

@@ -1,0 +1,500 @@
+//! An equipment whose host is played by a test.
+
+ghost use Rattle.std.specs.Prelude.{◌<◌, ◌^◌};
+ghost use Rattle.message_end.specs.Ends.{IsEmpty, MayTake, input_of};
+ghost use Rattle.trace_log.specs.Commands.{ToolCommandFits};
+
+use crate::Equipment;
+use crate::planned_tool::{formatted, plan};
+use arrayvec::ArrayVec;
+use block_codec::{Block, Header, frame_of};
+use disk_base::MemDisk;
+use gl_base::Row;
+use message_flow::{NodeInput, StepOut};
+use secs_items::Item;
+use std::alloc::Global;
+use trace_log::ToolCommand;
+
+pub(crate) const ENQ: u8 = 0x05;
+
+const EOT: u8 = 0x04;
+
+const ACK: u8 = 0x06;
+
+/// What the equipment is given. The host takes all that it wants to send then.
+pub(crate) enum Given {
+    Time,
+    // Its tool sets variable 1 to this, has this event, sets alarm 7, and changes communication and control.
+    Set(u32),
+    Event(u32),
+    Alarm,
+    Disable,
+    Offline,
+    Online,
+    Local,
+    // The host sends a message of one block: stream, function, W, system bytes and text.
+    Sent(u8, u8, bool, u32, &'static [u8]),
+    // A block of the host: stream, function and W; system bytes; its number, and whether it is the last one; text.
+    Part((u8, u8, bool), u32, (u16, bool), &'static [u8]),
+    // S1F1 of another side or device: whether from the equipment, device, system bytes.
+    Foreign(bool, u16, u32),
+    // The host begins so many messages, each of two blocks at least.
+    Begin(u32),
+    // S2F33 of the host, which defines a report of so many times variable 1.
+    Define(u8),
+    // Nothing: it acts next at this moment.
+    ActsAt(u64),
+}
+
+/// What it notes then: these lines, or what begins so.
+pub(crate) enum Text {
+    Whole(&'static [u8]),
+    Front(&'static [u8]),
+}
+
+/// A step, or a message, at a moment.
+pub(crate) struct Case {
+    pub(crate) now: u64,
+    pub(crate) given: Given,
+    pub(crate) text: Text,
+}
+
+/// Its S1F13 is accepted.
+pub(crate) static ESTABLISHES: [Case; 2] = [
+    Case {
+        now: 0,
+        given: Given::Time,
+        text: Text::Whole(b"comms WAIT-CRA\nsent S1F13 W 00000000 0102410747454D4C494E45410131\n"),
+    },
+    Case {
+        now: 0,
+        given: Given::Sent(1, 14, false, 0, &[0x01, 0x02, 0x21, 0x01, 0x00, 0x01, 0x00]),
+        text: Text::Whole(b"rx S1F14 00000000 01022101000100\ncomms COMMUNICATING\n"),
+    },
+];
+
+// The host sets it on-line.
+pub(crate) static GOES_ONLINE: [Case; 1] = [Case {
+    now: 0,
+    given: Given::Sent(1, 17, true, 0, &[]),
+    text: Text::Front(b"rx S1F17 W 00000000 -\n"),
+}];
+
+// Event 1 reports variable 1.
+pub(crate) static REPORTS_ONE: [Case; 3] = [
+    Case {
+        now: 0,
+        given: Given::Define(1),
+        text: Text::Whole(
+            b"rx S2F33 W 00000001 0102A5010101010102A5010A0101A50101\nsent S2F34 00000001 210100\n",
+        ),
+    },
+    Case {
+        now: 0,
+        given: Given::Sent(
+            2,
+            35,
+            true,
+            2,
+            &[
+                0x01, 0x02, 0xA5, 0x01, 0x02, 0x01, 0x01, 0x01, 0x02, 0xA5, 0x01, 0x01, 0x01, 0x01,
+                0xA5, 0x01, 0x0A,
+            ],
+        ),
+        text: Text::Whole(
+            b"rx S2F35 W 00000002 0102A5010201010102A501010101A5010A\nsent S2F36 00000002 210100\n",
+        ),
+    },
+    Case {
+        now: 0,
+        given: Given::Sent(2, 37, true, 3, &[0x01, 0x02, 0x25, 0x01, 0x01, 0x01, 0x00]),
+        text: Text::Whole(b"rx S2F37 W 00000003 01022501010100\nsent S2F38 00000003 210100\n"),
+    },
+];
+
+// Event 1 reports variable 1 sixty times.
+pub(crate) static REPORTS_MANY: [Case; 3] = [
+    Case {
+        now: 0,
+        given: Given::Define(60),
+        text: Text::Front(b"rx S2F33 W 00000001 0102A5010101010102A5010A013CA50101A50101"),
+    },
+    Case {
+        now: 0,
+        given: Given::Sent(
+            2,
+            35,
+            true,
+            2,
+            &[
+                0x01, 0x02, 0xA5, 0x01, 0x02, 0x01, 0x01, 0x01, 0x02, 0xA5, 0x01, 0x01, 0x01, 0x01,
+                0xA5, 0x01, 0x0A,
+            ],
+        ),
+        text: Text::Whole(
+            b"rx S2F35 W 00000002 0102A5010201010102A501010101A5010A\nsent S2F36 00000002 210100\n",
+        ),
+    },
+    Case {
+        now: 0,
+        given: Given::Sent(2, 37, true, 3, &[0x01, 0x02, 0x25, 0x01, 0x01, 0x01, 0x00]),
+        text: Text::Whole(b"rx S2F37 W 00000003 01022501010100\nsent S2F38 00000003 210100\n"),
+    },
+];
+
+// It asks for leave first where the report is of several blocks.
+pub(crate) static ASKS: [Case; 1] = [Case {
+    now: 0,
+    given: Given::Event(1),
+    text: Text::Front(b"event 1 0\nsent S6F5 W 00000001 0102B10400000000B104"),
+}];
+
+pub(crate) fn nothing_yet(alloc: Global) -> StepOut
+    ensures { IsEmpty result }
+{
+    StepOut {
+        line: ArrayVec::new(),
+        notes: Row::new(alloc),
+    }
+}
+
+/// Adds the lines that were noted; `false` where memory ran out.
+pub(crate) fn keeps(text: &mut Row<u8>, out: &StepOut) -> bool {
+    for note in out.notes.as_slice() {
+        if text.extend(note.text.as_slice()).is_err() || text.push(b'\n').is_err() {
+            return false;
+        }
+    }
+    true
+}
+
+fn last_of(out: &StepOut) -> u8 {
+    match out.line.last() {
+        Some(byte) => *byte,
+        None => 0,
+    }
+}
+
+// One step. The answer is the last character that it wrote, or 0; `None` where memory ran out.
+fn steps(
+    alloc: Global,
+    equipment: &mut Option<Equipment<MemDisk>>,
+    input: NodeInput<'_, ToolCommand>,
+    now: u64,
+    text: &mut Row<u8>,
+) -> Option<u8>
+    requires now { now < 2 ^ 62 }
+    requires input { MayTake ToolCommandFits (input_of input) }
+{
+    let Some(old) = equipment.take() else {
+        return None;
+    };
+    let mut out = nothing_yet(alloc);
+    let Ok(new) = old.step(alloc, input, now, &mut out) else {
+        return None;
+    };
+    *equipment = Some(new);
+    if !keeps(text, &out) {
+        return None;
+    }
+    Some(last_of(&out))
+}
+
+// Its host lets it send a block.
+fn lets_send(
+    alloc: Global,
+    equipment: &mut Option<Equipment<MemDisk>>,
+    now: u64,
+    text: &mut Row<u8>,
+) -> Option<u8>
+    requires { now < 2 ^ 62 }
+{
+    match steps(alloc, equipment, NodeInput::Char(EOT), now, text) {
+        Some(_) => steps(alloc, equipment, NodeInput::Char(ACK), now, text),
+        None => None,
+    }
+}
+
+// The host takes all that it wants to send, where its last character asks for the line.
+fn listens(
+    alloc: Global,
+    equipment: &mut Option<Equipment<MemDisk>>,
+    now: u64,
+    text: &mut Row<u8>,
+    asked: Option<u8>,
+) -> bool
+    requires { now < 2 ^ 62 }
+{
+    let mut last = asked;
+    for _ in 0..100 {
+        match last {
+            Some(ENQ) => last = lets_send(alloc, equipment, now, text),
+            Some(_) => return true,
+            None => return false,
+        }
+    }
+    false
+}
+
+// The host sends these characters. The answer is the last one that it wrote then.
+fn takes(
+    alloc: Global,
+    equipment: &mut Option<Equipment<MemDisk>>,
+    characters: &[u8],
+    now: u64,
+    text: &mut Row<u8>,
+) -> Option<u8>
+    requires { now < 2 ^ 62 }
+{
+    let mut last = None;
+    for &character in characters {
+        last = steps(alloc, equipment, NodeInput::Char(character), now, text);
+        if last.is_none() {
+            return None;
+        }
+    }
+    last
+}
+
+/// A text that fills a block.
+pub(crate) const LONG: &[u8] = &[0; 244];
+
+/// The only block of a message.
+pub(crate) const WHOLE: (u16, bool) = (1, true);
+
+/// A block of the host.
+pub(crate) fn block(
+    name: (u8, u8, bool),
+    system: u32,
+    place: (u16, bool),
+    body: &[u8],
+) -> Option<Block> {
+    let header = Header {
+        from_equipment: false,
+        device: 0,
+        wait: name.2,
+        stream: name.0,
+        function: name.1,
+        last: place.1,
+        number: place.0,
+        system,
+    };
+    Block::new(header, body)
+}
+
+// S1F1 of another side or device.
+fn foreign(from_equipment: bool, device: u16, system: u32) -> Option<Block> {
+    let header = Header {
+        from_equipment,
+        device,
+        wait: true,
+        stream: 1,
+        function: 1,
+        last: true,
+        number: 1,
+        system,
+    };
+    Block::new(header, &[])
+}
+
+// The host sends a block, and takes all that it wants to send then.
+fn hears(
+    alloc: Global,
+    equipment: &mut Option<Equipment<MemDisk>>,
+    block: Option<Block>,
+    now: u64,
+    text: &mut Row<u8>,
+) -> bool
+    requires { now < 2 ^ 62 }
+{
+    let Some(block) = block else {
+        return false;
+    };
+    let asked = steps(alloc, equipment, NodeInput::Char(ENQ), now, text);
+    if asked.is_none() {
+        return false;
+    }
+    let frame = frame_of(&block);
+    let last = takes(alloc, equipment, frame.as_slice(), now, text);
+    listens(alloc, equipment, now, text, last)
+}
+
+// Its tool does something.
+fn obeys(
+    alloc: Global,
+    equipment: &mut Option<Equipment<MemDisk>>,
+    command: &ToolCommand,
+    now: u64,
+    text: &mut Row<u8>,
+) -> bool
+    requires { now < 2 ^ 62 }
+{
+    if !command.fits() {
+        return false;
+    }
+    let last = steps(alloc, equipment, NodeInput::Command(command), now, text);
+    listens(alloc, equipment, now, text, last)
+}
+
+fn setting(alloc: Global, value: u32) -> Option<ToolCommand> {
+    match Item::number(alloc, value) {
+        Ok(item) => Some(ToolCommand::Set(1, item)),
+        Err(_) => None,
+    }
+}
+
+// S2F33: report 10 is so many times variable 1.
+fn definition(alloc: Global, count: u8) -> Option<Row<u8>> {
+    let front = [
+        0x01, 0x02, 0xA5, 0x01, 0x01, 0x01, 0x01, 0x01, 0x02, 0xA5, 0x01, 0x0A, 0x01, count,
+    ];
+    let Ok(mut body) = Row::of(alloc, &front) else {
+        return None;
+    };
+    for _ in 0..count {
+        if body.extend(&[0xA5, 0x01, 0x01]).is_err() {
+            return None;
+        }
+    }
+    Some(body)
+}
+
+fn defines(
+    alloc: Global,
+    equipment: &mut Option<Equipment<MemDisk>>,
+    count: u8,
+    now: u64,
+    text: &mut Row<u8>,
+) -> bool
+    requires { now < 2 ^ 62 }
+{
+    let Some(body) = definition(alloc, count) else {
+        return false;
+    };
+    hears(
+        alloc,
+        equipment,
+        block((2, 33, true), 1, WHOLE, body.as_slice()),
+        now,
+        text,
+    )
+}
+
+// The host begins so many messages.
+fn begins(
+    alloc: Global,
+    equipment: &mut Option<Equipment<MemDisk>>,
+    count: u32,
+    now: u64,
+    text: &mut Row<u8>,
+) -> bool
+    requires { now < 2 ^ 62 }
+{
+    for system in 0..count {
+        let first = block((1, 3, true), system, (1, false), &[]);
+        if !hears(alloc, equipment, first, now, text) {
+            return false;
+        }
+    }
+    true
+}
+
+fn is_done(
+    alloc: Global,
+    equipment: &mut Option<Equipment<MemDisk>>,
+    given: &Given,
+    now: u64,
+    text: &mut Row<u8>,
+) -> bool
+    requires { now < 2 ^ 62 }
+{
+    match given {
+        Given::Time => {
+            let last = steps(alloc, equipment, NodeInput::Time, now, text);
+            listens(alloc, equipment, now, text, last)
+        }
+        Given::Set(value) => match setting(alloc, *value) {
+            Some(command) => obeys(alloc, equipment, &command, now, text),
+            None => false,
+        },
+        Given::Event(ceid) => obeys(alloc, equipment, &ToolCommand::Event(*ceid), now, text),
+        Given::Alarm => obeys(alloc, equipment, &ToolCommand::Alarm(7, true), now, text),
+        Given::Disable => obeys(alloc, equipment, &ToolCommand::Disable, now, text),
+        Given::Offline => obeys(alloc, equipment, &ToolCommand::Offline, now, text),
+        Given::Online => obeys(alloc, equipment, &ToolCommand::Online, now, text),
+        Given::Local => obeys(alloc, equipment, &ToolCommand::Local, now, text),
+        Given::Sent(stream, function, wait, system, body) => {
+            let block = block((*stream, *function, *wait), *system, WHOLE, body);
+            hears(alloc, equipment, block, now, text)
+        }
+        Given::Part(name, system, place, body) => {
+            let block = block(*name, *system, *place, body);
+            hears(alloc, equipment, block, now, text)
+        }
+        Given::Foreign(from_equipment, device, system) => {
+            let block = foreign(*from_equipment, *device, *system);
+            hears(alloc, equipment, block, now, text)
+        }
+        Given::Begin(count) => begins(alloc, equipment, *count, now, text),
+        Given::Define(count) => defines(alloc, equipment, *count, now, text),
+        Given::ActsAt(at) => acts_at(equipment) == Some(*at),
+    }
+}
+
+fn is_text(text: &[u8], wanted: &Text) -> bool {
+    match wanted {
+        Text::Whole(all) => text == *all,
+        Text::Front(front) => text.starts_with(front),
+    }
+}
+
+// When it next acts by itself.
+fn acts_at(equipment: &Option<Equipment<MemDisk>>) -> Option<u64> {
+    match equipment {
+        Some(equipment) => equipment.deadline(),
+        None => None,
+    }
+}
+
+fn goes(alloc: Global, equipment: &mut Option<Equipment<MemDisk>>, case: &Case) -> bool {
+    let now = case.now.min(1_000_000);
+    let mut text = Row::new(alloc);
+    is_done(alloc, equipment, &case.given, now, &mut text) && is_text(text.as_slice(), &case.text)
+}
+
+fn go_all(alloc: Global, equipment: &mut Option<Equipment<MemDisk>>, cases: &[Case]) -> bool {
+    for case in cases {
+        if !goes(alloc, equipment, case) {
+            return false;
+        }
+    }
+    true
+}
+
+fn started(alloc: Global) -> Option<Equipment<MemDisk>> {
+    let Some(plan) = plan(alloc) else {
+        return None;
+    };
+    if !plan.fits() {
+        return None;
+    }
+    let mut out = nothing_yet(alloc);
+    let Some(spool) = formatted(alloc, 2) else {
+        return None;
+    };
+    match Equipment::start(alloc, &plan, spool.retire().into_raw(), 0, &mut out) {
+        Ok(equipment) => Some(equipment),
+        Err(_) => None,
+    }
+}
+
+/// Whether an equipment that has started goes through all of this.
+pub(crate) fn runs(alloc: Global, stages: &[&[Case]]) -> bool {
+    let mut equipment = started(alloc);
+    for stage in stages {
+        if !go_all(alloc, &mut equipment, stage) {
+            return false;
+        }
+    }
+    true
+}
