@@ -47,18 +47,21 @@ written : (number : ℕ) (bytes : List ℕ) → AreBytes bytes → AreByteCharac
 written number bytes all = by_frame (has_frame bytes)
   where
     by_first : (b : Bool)
-        → AreByteCharacters (if b then control enq ∷ framed_from number 0 (drop 1 bytes) else framed_from number 0 bytes)
+        → AreByteCharacters (if b then control enq ∷ framed_from number 0 (drop 1 bytes) else framed_from number 0
+        bytes)
     by_first true = (omega arith, framed number 0 (drop 1 bytes) (without-first bytes all))
     by_first false = framed number 0 bytes all
 
     by_frame : (b : Bool)
         → AreByteCharacters
-        (if b then (if asks_first bytes then control enq ∷ framed_from number 0 (drop 1 bytes) else framed_from number 0 bytes)
+        (if b then (if asks_first bytes then control enq ∷ framed_from number 0 (drop 1 bytes) else framed_from number 0
+        bytes)
         else map control bytes)
     by_frame true = by_first (asks_first bytes)
     by_frame false = controls bytes all
 
-rest : (gives : Bool) (characters : List Character) → AreByteCharacters characters → AreByteCharacters (rest_of gives characters)
+rest : (gives : Bool) (characters : List Character) → AreByteCharacters characters
+    → AreByteCharacters (rest_of gives characters)
 rest true [] all = tt
 rest false [] all = tt
 rest true (c ∷ cs) all = all.1
@@ -67,12 +70,19 @@ rest false (c ∷ cs) all = all
 pub bytes-after :
     (side : Side) (gives : Bool) (phase : Phase) (bytes : List ℕ) (ways : Ways) → AreBytes bytes → AreByteWays ways
     → AreByteWays (ways_after side gives phase bytes ways)
-bytes-after Equipment gives phase bytes ways new are =
-    (rest gives ways.to_equipment.under_way are.0, append ways.to_host.under_way _ are.1 (written ways.written bytes new))
-bytes-after Host gives phase bytes ways new are =
-    (append ways.to_equipment.under_way _ are.0 (written ways.written bytes new), rest gives ways.to_host.under_way are.1)
+bytes-after Equipment gives phase bytes ways new are = (
+  rest gives ways.to_equipment.under_way are.0,
+  append ways.to_host.under_way _ are.1
+      (written ways.written bytes new),
+)
+bytes-after Host gives phase bytes ways new are = (
+  append ways.to_equipment.under_way _ are.0 (written ways.written bytes new),
+  rest gives ways.to_host.under_way
+      are.1,
+)
 
-pub dropped : (n : ℕ) (characters : List Character) → AreByteCharacters characters → AreByteCharacters (drop n characters)
+pub dropped : (n : ℕ) (characters : List Character) → AreByteCharacters characters
+    → AreByteCharacters (drop n characters)
 dropped zero characters are = are
 dropped (suc n) [] are = tt
 dropped (suc n) (c ∷ cs) are = dropped n cs are.1

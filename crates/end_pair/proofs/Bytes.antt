@@ -71,7 +71,8 @@ frame-bytes : (block : BlockView) → IsBlock block → AreBytes (frame_bytes bl
 frame-bytes block is = (
   omega (arith, is.at_most_244),
   append (counted_bytes block) (to_be_bytes w16 (checksum (counted_bytes block)))
-      (append (header_bytes block.header) block.body (header-bytes block.header is.header) (from-all block.body is.bytes))
+      (append (header_bytes block.header) block.body (header-bytes block.header is.header)
+      (from-all block.body is.bytes))
       (two_bytes (checksum (counted_bytes block)) (omega arith)),
 )
 
@@ -126,7 +127,8 @@ clean-gathered all s now held =
     (by_test IsClean (is_frame all) (record { bytes = (omega arith, tt); held = held })
     (record { bytes = tt; held = held }))
 
-clean-row : (phase : Phase) (input : LineInput) (s : LineState) (now : ℕ) → HoldsBlock s.held → IsClean (line_row phase input s now)
+clean-row : (phase : Phase) (input : LineInput) (s : LineState) (now : ℕ) → HoldsBlock s.held
+    → IsClean (line_row phase input s now)
 clean-row Idle (Character byte) s now held =
     by_test IsClean (byte == enq) (clean-grants s now held) (clean-quietly s held)
 clean-row Idle Deadline s now held = clean-quietly s held
@@ -151,7 +153,8 @@ clean-call s (Send block now) other held = absurd other
 clean-call s (Resume now) other held = record { bytes = (omega arith, tt); held = held }
 clean-call s Cancel other held = record { bytes = tt; held = tt }
 clean-call s (Take byte now) other held = clean-row s.phase (Character byte) s now held
-clean-call s (Tick now) other held = by_test IsClean (is_due s.deadline now) (clean-row s.phase Deadline s now held) (clean-quietly s held)
+clean-call s (Tick now) other held = by_test IsClean (is_due s.deadline now) (clean-row s.phase Deadline s now held)
+    (clean-quietly s held)
 
 -- ---- a history
 

@@ -69,7 +69,8 @@ seen-after side call line = seen-again side (act_here (act_of_call call) (seen_f
 abbrev pub AreOnWay : Side → Line → List LineCall → Type 0
 AreOnWay side line [] = Unit {0}
 AreOnWay side line (call ∷ before) =
-    IsCallOnWay (seen_from side (line_after line (deeds_by side before))).there.under_way call × AreOnWay side line before
+    IsCallOnWay (seen_from side (line_after line (deeds_by side before))).there.under_way call
+    × AreOnWay side line before
 
 -- what a call makes of the state, and what it writes
 state-in :
@@ -95,14 +96,16 @@ state-in (Take byte now) view on = go view.there.under_way on
 
 -- what doings are on a line where the end has done others before
 pub record AreDone (plan : EndPlan) (side : Side) (line : Line) (doings done : List Doing) : Type 0 where
-  pub state : (seen_from side (line_after line (deeds_by side (calls_in done)))).here.state ≡ line_of plan (done ++ doings)
+  pub state : (seen_from side (line_after line (deeds_by side (calls_in done)))).here.state ≡ line_of plan
+      (done ++ doings)
   pub run : IsRun line (deeds_by side (calls_in done))
   pub written :
       written_in plan (done ++ doings)
       ≡ written_in plan doings ++ way.written_in line (deeds_by side (calls_in done))
 
 call-done :
-    (plan : EndPlan) (side : Side) (line : Line) (doings before : List Doing) (call : LineCall) → AreDone plan side line doings before
+    (plan : EndPlan) (side : Side) (line : Line) (doings before : List Doing) (call : LineCall)
+    → AreDone plan side line doings before
     → CanCall (line_of plan (before ++ doings)) call → GivesBlock call
     → IsCallOnWay (seen_from side (line_after line (deeds_by side (calls_in before)))).there.under_way call
     → ((seen_from side (line_after line (deeds_by side (call ∷ calls_in before)))).here.state
@@ -124,11 +127,14 @@ call-done plan side line doings before call are can block on = (
     here = line_after line (deeds_by side (calls_in before))
 
     facts :
-        ((act_here (act_of_call call) (seen_from side here)).here.state ≡ (line_step (seen_from side here).here.state call).next)
-        × (written_here (act_of_call call) (seen_from side here) ≡ (line_step (seen_from side here).here.state call).written)
+        ((act_here (act_of_call call) (seen_from side here)).here.state ≡ (line_step (seen_from side here).here.state
+        call).next)
+        × (written_here (act_of_call call) (seen_from side here) ≡ (line_step (seen_from side here).here.state
+        call).written)
     facts = state-in call (seen_from side here) on
 
-    able : (c : LineCall) → CanCall (line_of plan (before ++ doings)) c → GivesBlock c → CanAct (seen_from side here).here.state (act_of_call c)
+    able : (c : LineCall) → CanCall (line_of plan (before ++ doings)) c → GivesBlock c
+        → CanAct (seen_from side here).here.state (act_of_call c)
     able (Send b now) can block = (subst (λ (s : LineState). CanCall s (Send b now)) (sym are.state) can, block)
     able (Resume now) can block = (subst (λ (s : LineState). CanCall s (Resume now)) (sym are.state) can, block)
     able Cancel can block = (subst (λ (s : LineState). CanCall s Cancel) (sym are.state) can, block)
@@ -167,7 +173,8 @@ are-done plan base side line doings (Calls call ∷ before) state lawful on =
 
 pub step-deeds :
     {C : Type 0} (side : Side) (input : Input C) (now : ℕ) (decided : List LineCall) → AreDecidedAt now decided
-    → (deeds_by side (decided ++ taking_calls input now) ≡ step_deeds side now (gives input) decided) × AreDecisions decided
+    → (deeds_by side (decided ++ taking_calls input now) ≡ step_deeds side now (gives input) decided)
+    × AreDecisions decided
 step-deeds side (Char byte) now [] are = (refl, tt)
 step-deeds side Time now [] are = (refl, tt)
 step-deeds side (Command command) now [] are = (refl, tt)
@@ -190,13 +197,15 @@ IsNext under_way Time = Unit {0}
 IsNext under_way (Command command) = Unit {0}
 
 pub step-on-way :
-    {C : Type 0} (side : Side) (input : Input C) (now : ℕ) (line : Line) (decided : List LineCall) → AreDecidedAt now decided
+    {C : Type 0} (side : Side) (input : Input C) (now : ℕ) (line : Line) (decided : List LineCall)
+    → AreDecidedAt now decided
     → IsNext (seen_from side line).there.under_way input → AreOnWay side line (decided ++ taking_calls input now)
 step-on-way side (Char byte) now line [] are next =
     (subst (λ (v : View). IsNextByte v.there.under_way byte) (sym (seen-after side (Tick now) line)) next, (tt, tt))
 step-on-way side Time now line [] are next = (tt, tt)
 step-on-way side (Command command) now line [] are next = (tt, tt)
-step-on-way side input now line (Send block at ∷ before) are next = (tt, step-on-way side input now line before are.1 next)
+step-on-way side input now line (Send block at ∷ before) are next =
+    (tt, step-on-way side input now line before are.1 next)
 step-on-way side input now line (Resume at ∷ before) are next = (tt, step-on-way side input now line before are.1 next)
 step-on-way side input now line (Cancel ∷ before) are next = (tt, step-on-way side input now line before are.1 next)
 step-on-way side input now line (Take byte at ∷ before) are next = absurd are.0
@@ -211,14 +220,16 @@ quiet told.Failed frame none = refl
 quiet (told.Refused cause) frame none = refl
 quiet (told.Arrived block) frame none = absurd (none block refl)
 
-nothing-arrives : (s : LineState) (call : LineCall) (block : BlockView) → taken_by call ≡ [] → (line_step s call).event ≢ told.Arrived block
+nothing-arrives : (s : LineState) (call : LineCall) (block : BlockView) → taken_by call ≡ []
+    → (line_step s call).event ≢ told.Arrived block
 nothing-arrives s call block none event =
     let arrival = arrives s call block event in
     let both : [] ≡ arrival.byte ∷ [] = sym none ∙ arrival.taken in cc
 
 -- the step's character makes no slip
 abbrev pub NoSlipIn : {C : Type 0} → Side → ℕ → Line → Input C → Type 0
-NoSlipIn side now line (Char byte) = slips (line_after_deed line (call_deed side (Tick now))) (call_deed side (Take byte now)) ≡ false
+NoSlipIn side now line (Char byte) = slips (line_after_deed line (call_deed side (Tick now)))
+    (call_deed side (Take byte now)) ≡ false
 NoSlipIn side now line Time = Unit {0}
 NoSlipIn side now line (Command command) = Unit {0}
 
@@ -228,23 +239,28 @@ tick-quiet side now line =
     (λ block. nothing-arrives (seen_from side line).here.state (Tick now) block refl)
 
 -- the first ones of calls
-pub on-way-first : (side : Side) (line : Line) (later calls : List LineCall) → AreOnWay side line (later ++ calls) → AreOnWay side line calls
+pub on-way-first : (side : Side) (line : Line) (later calls : List LineCall) → AreOnWay side line (later ++ calls)
+    → AreOnWay side line calls
 on-way-first side line [] calls on = on
 on-way-first side line (call ∷ later) calls on = on-way-first side line later calls on.1
 
-pub no-slip-first : (side : Side) (line : Line) (later calls : List LineCall) → HasNoSlip line (deeds_by side (later ++ calls))
+pub no-slip-first : (side : Side) (line : Line) (later calls : List LineCall)
+    → HasNoSlip line (deeds_by side (later ++ calls))
     → HasNoSlip line (deeds_by side calls)
 no-slip-first side line [] calls quiet = quiet
 no-slip-first side line (call ∷ later) calls quiet = no-slip-first side line later calls quiet.1
 
 pub step-no-slip :
-    {C : Type 0} (side : Side) (input : Input C) (now : ℕ) (line : Line) (decided : List LineCall) → AreDecidedAt now decided
+    {C : Type 0} (side : Side) (input : Input C) (now : ℕ) (line : Line) (decided : List LineCall)
+    → AreDecidedAt now decided
     → NoSlipIn side now line input → HasNoSlip line (deeds_by side (decided ++ taking_calls input now))
 step-no-slip side (Char byte) now line [] are none = (none, (tick-quiet side now line, tt))
 step-no-slip side Time now line [] are none = (tick-quiet side now line, tt)
 step-no-slip side (Command command) now line [] are none = (tick-quiet side now line, tt)
-step-no-slip side input now line (Send block at ∷ before) are none = (refl, step-no-slip side input now line before are.1 none)
-step-no-slip side input now line (Resume at ∷ before) are none = (refl, step-no-slip side input now line before are.1 none)
+step-no-slip side input now line (Send block at ∷ before) are none =
+    (refl, step-no-slip side input now line before are.1 none)
+step-no-slip side input now line (Resume at ∷ before) are none =
+    (refl, step-no-slip side input now line before are.1 none)
 step-no-slip side input now line (Cancel ∷ before) are none = (refl, step-no-slip side input now line before are.1 none)
 step-no-slip side input now line (Take byte at ∷ before) are none = absurd are.0
 step-no-slip side input now line (Tick at ∷ before) are none = absurd are.0

@@ -1,6 +1,6 @@
 -- What both ends have done, as moves, at each event and in the whole run.
 use Rattle.std.specs.List.{All}
-use Rattle.std.proofs.Common.{◌≡◌, ◌<◌, ◌≤◌, zero, suc, ℕ, ◌+◌, ◌==◌, Bool, true, false, List, [], ◌∷◌, ◌++◌, length, if◌then◌else◌, refl, sym, ap, subst, ◌∙◌, append_assoc, append-nil, arith}
+use Rattle.std.proofs.Common.{◌≡◌, ◌<◌, ◌≤◌, zero, suc, ℕ, ◌+◌, ◌==◌, Bool, true, false, List, [], ◌∷◌, ◌++◌, length, map, if◌then◌else◌, refl, sym, ap, subst, ◌∙◌, append_assoc, append-nil, arith}
 use Rattle.gl_base.specs.declared.side.Side.{Side}
 use Rattle.gl_base.specs.declared.side.Side.TheVariants.{Equipment, Host}
 use Rattle.line_order.specs.Acts.{HasNoSlip}
@@ -13,6 +13,7 @@ use Rattle.line_way.specs.Kept.{direction_to, with_change, with_noise}
 use Rattle.line_way.proofs.Deeds.{change-stands}
 use Rattle.line_way.specs.Ways.{StandsFor, Ways, characters_of, is_under_way, next_byte}
 use Rattle.message_end.specs.Core.{Step}
+use Rattle.message_end.specs.Core.Went.{Goes}
 use Rattle.message_end.specs.Doings.{Doing}
 use Rattle.message_end.specs.Ends.{Input, KeepsLaw, Machine, MayTake}
 use Rattle.message_end.specs.Ends.Input.{Char, Command, Time}
@@ -26,11 +27,11 @@ use Rattle.trace_log.specs.declared.commands.ToolCommand.{ToolCommand}
 use Rattle.end_pair.specs.declared.answers.WorldStep.{WorldStep}
 use Rattle.end_pair.specs.declared.answers.WorldStep.TheVariants as answer
 use Rattle.end_pair.specs.Kept.{MayHappen}
-use Rattle.end_pair.specs.Laws.{AreNoNotes, AreSteps, HasBytes, IsOfMoves}
-use Rattle.end_pair.specs.Laws.AreSteps.{no_moves, one_step}
+use Rattle.end_pair.specs.Laws.{AreAtStates, AreNoNotes, AreSteps, HasBytes, HasNoStart, IsNoStart, IsOfMoves}
+use Rattle.end_pair.specs.Laws.AreSteps.{ends_start, no_moves, one_step}
 use Rattle.end_pair.specs.Run.{piece_of}
 use Rattle.end_pair.specs.Steps.{Stepped, entries_of, stepped}
-use Rattle.end_pair.specs.World.{Piece, World, added_to, after_event, after_events, and_more, and_on, at_start, begun, both_stepped, changed_at, equipment_stepped, given, given_next, given_times, host_stepped, later, lost, lost_from, most_steps, settled, settled_times, still, turned_out, way_to}
+use Rattle.end_pair.specs.World.{Piece, World, added_to, after_event, after_events, and_more, and_on, asked_of, at_start, begun, both_stepped, changed_at, equipment_stepped, given, given_next, given_times, halt_at, host_stepped, later, lost, lost_from, most_steps, settled, settled_times, still, turned_out, way_to}
 use Rattle.end_pair.proofs.ByteWays.{AreByteCharacters, AreByteWays, bytes-to, bytes-with, dropped, with-byte}
 use Rattle.end_pair.proofs.Doing.{IsNext}
 use Rattle.end_pair.proofs.LineDeeds.{add-stands, lose-stands, lost-more, lost-none, new-stands}
@@ -41,8 +42,8 @@ module _ {S T : Type 0}
     (tool : ToolCommand → Type 0) (user : HostCommand → Type 0)
     (first_e : Step S Happening) (first_h : Step T Happening)
     (e : Machine S ToolCommand) (h : Machine T HostCommand) (plans : LinePlans)
-    (law_e : KeepsLaw (plan_at Equipment plans) did_e tool first_e e)
-    (law_h : KeepsLaw (plan_at Host plans) did_h user first_h h) where
+    (law_e : KeepsLaw (plan_at Equipment plans) did_e tool (Goes first_e) e)
+    (law_h : KeepsLaw (plan_at Host plans) did_h user (Goes first_h) h) where
   -- lawful moves, step by step, have left the ends in these states
   pub record AreMade (moves : List Move) (s : S) (t : T) : Type 0 where
     pub keep : KeepLaws plans moves
@@ -66,22 +67,30 @@ module _ {S T : Type 0}
   abbrev pub Keeps : (World S T → Piece S T) → Type 0
   Keeps more = (world : World S T) (moves : List Move) → Holds world moves → Good (more world) (log_of moves)
 
+  abbrev at-states : (moves : List Move) (s : S) (t : T) → IsAt did_e Equipment plans moves s
+      → IsAt did_h Host plans moves t → AreAtStates did_e did_h plans moves
+  at-states moves s t equipment host =
+      record { state_of_equipment = s; state_of_host = t; equipment_did = equipment.is; host_did = host.is }
+
   -- one step more
   made-more :
-      (moves step before : List Move) (s : S) (t : T) → moves ≡ step ++ before → AreSteps did_e did_h plans before
-      → KeepLaws plans moves → AreTimely moves
+      (moves step before : List Move) (s : S) (t : T) → moves ≡ step ++ before → HasNoStart step
+      → AreSteps did_e did_h plans before → KeepLaws plans moves → AreTimely moves
       → HasNoSlip (new_line plans.equipment.times plans.host.times) (deeds_of moves)
       → IsAt did_e Equipment plans moves s → IsAt did_h Host plans moves t → AreMade moves s t
-  made-more moves step before s t is steps keep timely clean equipment host = record {
+  made-more moves step before s t is none steps keep timely clean equipment host = record {
     keep = keep;
     timely = timely;
     clean = clean;
     equipment = equipment;
     host = host;
-    steps =
-        one_step moves step before is
-        (record { state_of_equipment = s; state_of_host = t; equipment_did = equipment.is; host_did = host.is }) steps;
+    steps = one_step moves step before is none (at-states moves s t equipment host) steps;
   }
+
+  -- what an end does is no start
+  did-no-start : (side : Side) (now : ℕ) (done : List Doing) → HasNoStart (moves_with side now done [])
+  did-no-start side now [] = tt
+  did-no-start side now (doing ∷ before) = (tt, did-no-start side now before)
 
   -- a log of moves, with these entries behind it
   abbrev with_last :
@@ -140,6 +149,7 @@ module _ {S T : Type 0}
       go answer.Slip is = good
       go answer.Turns is = good
       go answer.NumbersSpent is = good
+      go answer.DiskFailed is = good
       go answer.NoMemory is = good
 
   keeps-then :
@@ -170,6 +180,8 @@ module _ {S T : Type 0}
             record { equipment = s; host = t; ways = step.ways; moment = world.moment; steps = world.steps + 1 };
         entries = step.entries;
         went = step.went;
+        asked = asked_of side step.asked;
+        halts = map (halt_at side world.moment step.asked) step.fronts;
       })
       (log_of moves)
   step-keeps did side step world moves s t holds is equipment host = by_turn (world.steps == most_steps)
@@ -180,7 +192,8 @@ module _ {S T : Type 0}
       made : AreMade later s t
       made =
           made-more later (moves_with side world.moment is.done []) moves s t
-          (moves-split side world.moment is.done moves) holds.made.steps is.are.keep is.are.timely is.are.no_slip
+          (moves-split side world.moment is.done moves) (did-no-start side world.moment is.done) holds.made.steps
+          is.are.keep is.are.timely is.are.no_slip
           equipment host
 
       log : step.entries ++ log_of moves ≡ is.last ++ log_of later
@@ -197,6 +210,8 @@ module _ {S T : Type 0}
                 record { equipment = s; host = t; ways = step.ways; moment = world.moment; steps = world.steps + 1 };
             entries = step.entries;
             went = step.went;
+            asked = asked_of side step.asked;
+            halts = map (halt_at side world.moment step.asked) step.fronts;
           })
           (log_of moves)
       by_turn true = goes-out world moves holds
@@ -215,7 +230,8 @@ module _ {S T : Type 0}
       holds.made.keep holds.made.timely holds.made.clean holds.made.equipment next holds.stands holds.bytes
       in
       step-keeps did_e Equipment (stepped e Equipment world.moment input world.equipment world.ways) world moves _
-      world.host holds is is.are.at (other-is did_h Equipment plans world.moment is.done moves world.host holds.made.host)
+      world.host holds is is.are.at (other-is did_h Equipment plans world.moment is.done moves world.host
+      holds.made.host)
 
   host-keeps :
       (input : Input HostCommand) → MayTake user input → (world : World S T) (moves : List Move) → Holds world moves
@@ -289,15 +305,24 @@ module _ {S T : Type 0}
   IsFate (Started found base) = ⊥
   IsFate _ = Unit {0}
 
+  fate-no-start : (kind : Kind) → IsFate kind → IsNoStart kind
+  fate-no-start (Did doing) is = tt
+  fate-no-start (Started found base) is = is
+  fate-no-start Lost is = tt
+  fate-no-start (Changed place byte) is = tt
+  fate-no-start (Added byte) is = tt
+
   fate-made :
       (side : Side) (kind : Kind) (now : ℕ) (moves : List Move) (s : S) (t : T) → IsFate kind → AreMade moves s t
       → AreMade (record { side = side; moment = now; kind = kind } ∷ moves) s t
   fate-made side (Did doing) now moves s t is made = absurd is
   fate-made side (Started found base) now moves s t is made = absurd is
   fate-made Equipment kind now moves s t is made =
-      made-more _ (_ ∷ []) moves s t refl made.steps (tt, made.keep) (tt, made.timely) (refl, made.clean) made.equipment made.host
+      made-more _ (_ ∷ []) moves s t refl (fate-no-start kind is, tt) made.steps (tt, made.keep) (tt, made.timely)
+      (refl, made.clean) made.equipment made.host
   fate-made Host kind now moves s t is made =
-      made-more _ (_ ∷ []) moves s t refl made.steps (tt, made.keep) (tt, made.timely) (refl, made.clean) made.equipment made.host
+      made-more _ (_ ∷ []) moves s t refl (fate-no-start kind is, tt) made.steps (tt, made.keep) (tt, made.timely)
+      (refl, made.clean) made.equipment made.host
 
   lost-once : (side : Side) (world : World S T) (moves : List Move) → Holds world moves
       → Holds (lost_from 1 side world) (record { side = side; moment = world.moment; kind = Lost } ∷ moves)
@@ -375,19 +400,33 @@ module _ {S T : Type 0}
       record { side = Host; moment = 0; kind = Started law_h.starts.found law_h.starts.base }
       ∷ record { side = Equipment; moment = 0; kind = Started law_e.starts.found law_e.starts.base } ∷ []
 
-  start-holds : Holds (at_start first_e first_h).world started
+  start-holds : Holds (at_start e h first_e first_h).world started
   start-holds = record {
     made =
-        made-more started started [] first_e.next first_h.next (sym (append-nil started)) no_moves (
-          record { least = omega arith; above = λ drawn has. absurd has },
-          (record { least = omega arith; above = λ drawn has. absurd has }, tt),
-        ) (tt, (tt, tt)) (refl, (refl, tt)) (record { is = law_e.starts.is; state = refl })
-        (record { is = law_h.starts.is; state = refl });
+        record {
+          keep = (
+            record { least = omega arith; above = λ drawn has. absurd has },
+            (record { least = omega arith; above = λ drawn has. absurd has }, tt),
+          );
+          timely = (tt, (tt, tt));
+          clean = (refl, (refl, tt));
+          equipment = equipment;
+          host = host;
+          steps =
+              ends_start started started [] (sym (append-nil started)) (tt, (tt, tt))
+              (at-states started first_e.next first_h.next equipment host) no_moves;
+        };
     stands = new-stands plans.equipment.times plans.host.times law_e.fits.times law_h.fits.times;
     bytes = (tt, tt);
   }
+    where
+      equipment : IsAt did_e Equipment plans started first_e.next
+      equipment = record { is = law_e.starts.is; state = refl }
 
-  start-log : (at_start first_e first_h).entries ≡ log_of started
+      host : IsAt did_h Host plans started first_h.next
+      host = record { is = law_h.starts.is; state = refl }
+
+  start-log : (at_start e h first_e first_h).entries ≡ log_of started
   start-log =
       ap (λ (ns : List Happening). log_with 0 Host ns (log_with 0 Equipment first_e.notes [])) law_h.starts.notes
       ∙ ap
@@ -399,10 +438,10 @@ module _ {S T : Type 0}
       → Good (piece_of e h first_e first_h events) []
   run-is events may bytes =
       good-then (begun e h first_e first_h) [] (after_events e h events)
-      (good-then (at_start first_e first_h) [] (both_stepped e h) (record {
+      (good-then (at_start e h first_e first_h) [] (both_stepped e h) (record {
         of =
-            with_last started first_e.next first_h.next [] ((at_start first_e first_h).entries ++ [])
-            start-holds.made (omega arith) tt (append-nil (at_start first_e first_h).entries ∙ start-log);
+            with_last started first_e.next first_h.next [] ((at_start e h first_e first_h).entries ++ [])
+            start-holds.made (omega arith) tt (append-nil (at_start e h first_e first_h).entries ∙ start-log);
         on = λ on. (refl, start-holds);
       }) both-keeps)
       (events-keep events may bytes)

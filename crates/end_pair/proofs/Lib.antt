@@ -2,10 +2,14 @@ pub mod ByteWays
 pub mod Bytes
 pub mod Causes
 pub mod Doing
+pub mod Halts
 pub mod Holding
 pub mod LineDeeds
+pub mod LogText
 pub mod Moved
 pub mod Noting
+pub mod OneDisk
+pub mod Opening
 pub mod Outcomes
 pub mod Pieces
 pub mod Progress

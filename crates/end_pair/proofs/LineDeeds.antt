@@ -40,10 +40,12 @@ lose-way way next last frames state count is = record {
 
 pub lose-stands :
     (side : Side) (ways : Ways) (line : Line) → StandsFor ways line
-    → StandsFor (with_direction side (lost 1 (direction_to side ways)) ways) (line_after_deed line (record { side = side; act = Lose }))
+    → StandsFor (with_direction side (lost 1 (direction_to side ways)) ways)
+    (line_after_deed line (record { side = side; act = Lose }))
 lose-stands Equipment ways line is = record {
   to_equipment =
-      lose-way ways.to_equipment line.host.under_way line.equipment.gathered line.host.frames line.equipment.state line.written
+      lose-way ways.to_equipment line.host.under_way line.equipment.gathered line.host.frames line.equipment.state
+      line.written
       is.to_equipment;
   to_host = is.to_host;
   count = is.count;
@@ -51,7 +53,8 @@ lose-stands Equipment ways line is = record {
 lose-stands Host ways line is = record {
   to_equipment = is.to_equipment;
   to_host =
-      lose-way ways.to_host line.equipment.under_way line.host.gathered line.equipment.frames line.host.state line.written
+      lose-way ways.to_host line.equipment.under_way line.host.gathered line.equipment.frames line.host.state
+      line.written
       is.to_host;
   count = is.count;
 }
@@ -75,24 +78,28 @@ lost-none Host world = refl
 pub lost-more : {S T : Type 0} (n : ℕ) (side : Side) (world : World S T)
     → lost_from (suc n) side world ≡ lost_from n side (lost_from 1 side world)
 lost-more {S} {T} n Equipment world =
-    ap (λ (way : Way). record world { ways = with_direction Equipment way world.ways }) (lost-way-more n world.ways.to_equipment)
+    ap (λ (way : Way). record world { ways = with_direction Equipment way world.ways })
+    (lost-way-more n world.ways.to_equipment)
 lost-more {S} {T} n Host world =
     ap (λ (way : Way). record world { ways = with_direction Host way world.ways }) (lost-way-more n world.ways.to_host)
 
 pub losing-more : (n m : ℕ) (side : Side) (ways after : Ways) → n ≡ m + 1
     → after ≡ with_direction side (without_next (direction_to side ways)) ways
-    → with_direction side (lost m (direction_to side after)) after ≡ with_direction side (lost n (direction_to side ways)) ways
+    → with_direction side (lost m (direction_to side after)) after ≡ with_direction side
+    (lost n (direction_to side ways)) ways
 losing-more n m side ways after is_n is =
     ap (λ (w : Ways). with_direction side (lost m (direction_to side w)) w) is ∙ go side
     ∙ ap (λ (k : ℕ). with_direction side (lost k (direction_to side ways)) ways) (sym (is_n ∙ add-one m))
   where
     go : (side : Side)
-        → with_direction side (lost m (direction_to side (with_direction side (lost 1 (direction_to side ways)) ways))) (with_direction side (lost 1 (direction_to side ways)) ways)
+        → with_direction side (lost m (direction_to side (with_direction side (lost 1 (direction_to side ways)) ways)))
+        (with_direction side (lost 1 (direction_to side ways)) ways)
         ≡ with_direction side (lost (suc m) (direction_to side ways)) ways
     go Equipment = ap (λ (way : Way). with_direction Equipment way ways) (sym (lost-way-more m ways.to_equipment))
     go Host = ap (λ (way : Way). with_direction Host way ways) (sym (lost-way-more m ways.to_host))
 
-pub losing-none : (n : ℕ) (side : Side) (ways : Ways) → n ≡ 0 → with_direction side (lost n (direction_to side ways)) ways ≡ ways
+pub losing-none : (n : ℕ) (side : Side) (ways : Ways) → n ≡ 0 → with_direction side (lost n (direction_to side ways))
+    ways ≡ ways
 losing-none n side ways is_n = ap (λ (k : ℕ). with_direction side (lost k (direction_to side ways)) ways) is_n ∙ go side
   where
     go : (side : Side) → with_direction side (lost 0 (direction_to side ways)) ways ≡ ways
@@ -104,17 +111,21 @@ drop-none zero cs none = refl
 drop-none (suc n) [] none = refl
 drop-none (suc n) (c ∷ cs) none = cc
 
-pub losing-empty : (n : ℕ) (side : Side) (ways : Ways) → is_under_way (characters_of (direction_to side ways).under_way) ≡ false
+pub losing-empty : (n : ℕ) (side : Side) (ways : Ways)
+    → is_under_way (characters_of (direction_to side ways).under_way) ≡ false
     → with_direction side (lost n (direction_to side ways)) ways ≡ ways
 losing-empty n Equipment ways none =
-    ap (λ (cs : List Character). with_direction Equipment (record ways.to_equipment { under_way = cs }) ways) (drop-none n ways.to_equipment.under_way none)
+    ap (λ (cs : List Character). with_direction Equipment (record ways.to_equipment { under_way = cs }) ways)
+    (drop-none n ways.to_equipment.under_way none)
 losing-empty n Host ways none =
-    ap (λ (cs : List Character). with_direction Host (record ways.to_host { under_way = cs }) ways) (drop-none n ways.to_host.under_way none)
+    ap (λ (cs : List Character). with_direction Host (record ways.to_host { under_way = cs }) ways)
+    (drop-none n ways.to_host.under_way none)
 
 -- ---- noise comes in front
 
 add-way :
-    (byte : ℕ) (way : Way) (next last : List order.Character) (frames : List WrittenFrame) (state : LineState) (count : ℕ)
+    (byte : ℕ) (way : Way) (next last : List order.Character) (frames : List WrittenFrame) (state : LineState)
+    (count : ℕ)
     → IsWay way next last frames state count
     → IsWay (with_noise byte way) (order.noise byte ∷ next) last frames state count
 add-way byte way next last frames state count is = record {
@@ -131,7 +142,8 @@ pub add-stands :
     → StandsFor (with_noise_to side byte ways) (line_after_deed line (record { side = side; act = Add byte }))
 add-stands Equipment byte ways line is = record {
   to_equipment =
-      add-way byte ways.to_equipment line.host.under_way line.equipment.gathered line.host.frames line.equipment.state line.written
+      add-way byte ways.to_equipment line.host.under_way line.equipment.gathered line.host.frames line.equipment.state
+      line.written
       is.to_equipment;
   to_host = is.to_host;
   count = is.count;
@@ -139,7 +151,8 @@ add-stands Equipment byte ways line is = record {
 add-stands Host byte ways line is = record {
   to_equipment = is.to_equipment;
   to_host =
-      add-way byte ways.to_host line.equipment.under_way line.host.gathered line.equipment.frames line.host.state line.written
+      add-way byte ways.to_host line.equipment.under_way line.host.gathered line.equipment.frames line.host.state
+      line.written
       is.to_host;
   count = is.count;
 }
@@ -160,6 +173,7 @@ new-way side times fits = record {
     none : (frame : WrittenFrame) → Contains [] frame → ⊥
     none frame has = search rules
 
-pub new-stands : (equipment host : Times) → TimesFit equipment → TimesFit host → StandsFor new_ways (new_line equipment host)
+pub new-stands : (equipment host : Times) → TimesFit equipment → TimesFit host
+    → StandsFor new_ways (new_line equipment host)
 new-stands equipment host fits_e fits_h =
     record { to_equipment = new-way Equipment equipment fits_e; to_host = new-way Host host fits_h; count = refl }

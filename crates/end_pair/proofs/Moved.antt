@@ -1,5 +1,5 @@
 -- What an end does in a step keeps the laws, makes no slip, and is noted.
-use Rattle.std.proofs.Common.{◌≡◌, ◌≤◌, ℕ, Bool, true, false, List, [], ◌∷◌, ◌++◌, length, None, if◌then◌else◌, refl, sym, ap, subst, ◌∙◌, append_assoc, append-nil, arith}
+use Rattle.std.proofs.Common.{◌≡◌, ◌≤◌, ℕ, Bool, true, false, List, [], ◌∷◌, ◌++◌, length, None, if◌then◌else◌, refl, sym, ap, subst, ◌∙◌, append-nil, arith}
 use Rattle.std.proofs.lemmas.List.{append_cancel_left}
 use Rattle.gl_base.specs.declared.side.Side.{Side}
 use Rattle.gl_base.specs.declared.side.Side.TheVariants.{Equipment, Host}
@@ -31,6 +31,7 @@ use Rattle.message_end.specs.Moves.Kind.{Did}
 use Rattle.message_end.specs.Own.{Own}
 use Rattle.message_end.specs.Own.Own.{DrewNumber, DroppedMessage, GaveBlock, HeardBlock, ReceivedMessage, SentMessage, WroteFrame}
 use Rattle.message_end.specs.Plan.{EndPlan}
+use Rattle.message_end.proofs.Fronts.{noted-behind}
 use Rattle.trace_log.specs.Laws.{log_with}
 use Rattle.trace_log.specs.Log.{Entry, Happening}
 use Rattle.trace_log.specs.Log.Entry.{Noted}
@@ -135,7 +136,8 @@ timely-done :
     (side : Side) (now : ℕ) (done : List Doing) (moves : List Move) → AreDroppedAt now done → AreTimely moves
     → AreTimely (moves_with side now done moves)
 timely-done side now [] moves drops timely = timely
-timely-done side now (Does own ∷ before) moves drops timely = (drops.0, timely-done side now before moves drops.1 timely)
+timely-done side now (Does own ∷ before) moves drops timely =
+    (drops.0, timely-done side now before moves drops.1 timely)
 timely-done side now (Gives place number block at ∷ before) moves drops timely =
     (tt, timely-done side now before moves drops timely)
 timely-done side now (Calls call ∷ before) moves drops timely = (tt, timely-done side now before moves drops timely)
@@ -154,7 +156,8 @@ log_with-behind now side [] newer log = refl
 log_with-behind now side (first ∷ rest) newer log = log_with-behind now side rest (Noted now side first ∷ newer) log
 
 log-own :
-    (side : Side) (now : ℕ) (before : List Doing) (earlier log : List Entry) (own : Own) → log ≡ log_with now side (noted_in before) earlier
+    (side : Side) (now : ℕ) (before : List Doing) (earlier log : List Entry) (own : Own)
+    → log ≡ log_with now side (noted_in before) earlier
     → with_note now side (noted_of_own own) log ≡ log_with now side (noted_in before ++ notes_of_own own) earlier
 log-own side now before earlier log own same = go own
   where
@@ -163,9 +166,11 @@ log-own side now before earlier log own same = go own
 
     some : (what : Happening) → Noted now side what ∷ log ≡ log_with now side (noted_in before ++ what ∷ []) earlier
     some what =
-        ap (λ (l : List Entry). Noted now side what ∷ l) same ∙ sym (log_with-snoc now side (noted_in before) what earlier)
+        ap (λ (l : List Entry). Noted now side what ∷ l) same
+        ∙ sym (log_with-snoc now side (noted_in before) what earlier)
 
-    go : (own : Own) → with_note now side (noted_of_own own) log ≡ log_with now side (noted_in before ++ notes_of_own own) earlier
+    go : (own : Own) → with_note now side (noted_of_own own) log ≡ log_with now side
+        (noted_in before ++ notes_of_own own) earlier
     go (SentMessage message) = some (Sent message)
     go (ReceivedMessage message) = some (Received message)
     go (DrewNumber number) = none
@@ -184,18 +189,8 @@ log-done side now (Says what ∷ before) moves =
     ap (λ (l : List Entry). Noted now side what ∷ l) (log-done side now before moves)
     ∙ sym (log_with-snoc now side (noted_in before) what (log_of moves))
 log-done side now (Does own ∷ before) moves =
-    log-own side now before (log_of moves) (log_of (moves_with side now before moves)) own (log-done side now before moves)
-
-noted-behind : (done doings : List Doing) → noted_in (done ++ doings) ≡ noted_in doings ++ noted_in done
-noted-behind [] doings = sym (append-nil (noted_in doings))
-noted-behind (Gives place number block at ∷ before) doings = noted-behind before doings
-noted-behind (Calls call ∷ before) doings = noted-behind before doings
-noted-behind (Does own ∷ before) doings =
-    ap (λ (ns : List Happening). ns ++ notes_of_own own) (noted-behind before doings)
-    ∙ append_assoc (noted_in doings) (noted_in before) (notes_of_own own)
-noted-behind (Says what ∷ before) doings =
-    ap (λ (ns : List Happening). ns ++ what ∷ []) (noted-behind before doings)
-    ∙ append_assoc (noted_in doings) (noted_in before) (what ∷ [])
+    log-own side now before (log_of moves) (log_of (moves_with side now before moves)) own
+    (log-done side now before moves)
 
 -- ---- the end, and the other one
 
@@ -273,7 +268,8 @@ pub record AreMoves {S : Type 0}
 
 -- what a step has left is what its moves have made, but for at most an entry that is no note
 pub record HasStepped {S : Type 0}
-    (did : ℕ → List Doing → S → Type 0) (side : Side) (plans : LinePlans) (now : ℕ) (moves : List Move) (step : Stepped S)
+    (did : ℕ → List Doing → S → Type 0) (side : Side) (plans : LinePlans) (now : ℕ) (moves : List Move)
+    (step : Stepped S)
     : Type 0 where
   pub done : List Doing
   pub noted : List Happening
@@ -286,8 +282,9 @@ pub record HasStepped {S : Type 0}
       step.went ≡ answer.Went
       → (last ≡ []) × StandsFor step.ways (line_of_moves plans (moves_with side now done moves)) × AreByteWays step.ways
 
-module _ {S C : Type 0} (did : ℕ → List Doing → S → Type 0) (takes : C → Type 0) (first : Step S Happening) (machine : Machine S C)
-    (side : Side) (plans : LinePlans) (law : KeepsLaw (plan_at side plans) did takes first machine) where
+module _ {S C : Type 0} (did : ℕ → List Doing → S → Type 0) (takes : C → Type 0) (first : Step S Happening)
+    (machine : Machine S C)
+    (side : Side) (plans : LinePlans) (law : KeepsLaw (plan_at side plans) did takes (Goes first) machine) where
   are-moves :
       (now : ℕ) (moves : List Move) (next : S) (done : List Doing) (noted : List Happening)
       → KeepLaws plans moves → AreTimely moves
@@ -340,9 +337,11 @@ module _ {S C : Type 0} (did : ℕ → List Doing → S → Type 0) (takes : C �
     are = are;
     on = on;
     quiet = quiet;
-    noted = append_cancel_left (noted_in doings) (noted_in more.done) step.notes (sym (noted-behind more.done doings) ∙ more.notes);
+    noted = append_cancel_left (noted_in doings) (noted_in more.done) step.notes (sym (noted-behind more.done doings)
+        ∙ more.notes);
     written =
-        append_cancel_left (written_in (plan_at side plans) doings) (way.written_in line (deeds_by side (calls_in more.done))) step.written
+        append_cancel_left (written_in (plan_at side plans) doings)
+        (way.written_in line (deeds_by side (calls_in more.done))) step.written
         (sym are.written ∙ more.written);
   }
     where
@@ -377,7 +376,8 @@ module _ {S C : Type 0} (did : ℕ → List Doing → S → Type 0) (takes : C �
   wrote-dropped now [] done drops = drops
   wrote-dropped now (byte ∷ bytes) done drops = drops
 
-  wrote-noted : (written : List ℕ) (done : List Doing) → noted_in (with_wrote written done) ≡ noted_in done ++ wrote written
+  wrote-noted : (written : List ℕ) (done : List Doing) → noted_in (with_wrote written done) ≡ noted_in done
+      ++ wrote written
   wrote-noted [] done = sym (append-nil (noted_in done))
   wrote-noted (byte ∷ bytes) done = refl
 
@@ -386,29 +386,36 @@ module _ {S C : Type 0} (did : ℕ → List Doing → S → Type 0) (takes : C �
   wrote-did [] base done doings next is = is
   wrote-did (byte ∷ bytes) base done doings next is = law.says base (done ++ doings) next (Wrote (byte ∷ bytes)) is tt
 
-  wrote-done : (written : List ℕ) (line : Line) (doings done : List Doing) → AreDone (plan_at side plans) side line doings done
+  wrote-done : (written : List ℕ) (line : Line) (doings done : List Doing) → AreDone (plan_at side plans) side line
+      doings done
       → AreDone (plan_at side plans) side line doings (with_wrote written done)
   wrote-done [] line doings done are = are
   wrote-done (byte ∷ bytes) line doings done are = record { state = are.state; run = are.run; written = are.written }
 
   -- a step in which the numbers are spent
   spent-moves :
-      (now : ℕ) (moves : List Move) (s : S) (input : Input C) (step : Step S Happening) → KeepLaws plans moves → AreTimely moves
+      (now : ℕ) (moves : List Move) (s : S) (input : Input C) (step : Step S Happening) → KeepLaws plans moves
+      → AreTimely moves
       → HasNoSlip (new_line plans.equipment.times plans.host.times) (deeds_of moves) → IsAt did side plans moves s
       → IsNext (seen_at side plans moves).there.under_way input → NoSlipIn side now (line_of_moves plans moves) input
-      → (more : DoesMore (plan_at side plans) did (run_at side plans moves).base (run_at side plans moves).doings now (AreBegunOf input now) step)
+      → (more : DoesMore (plan_at side plans) did (run_at side plans moves).base (run_at side plans moves).doings now
+      (AreBegunOf input now) step)
       → AreMoves did side plans now moves step.next step.notes more.done
   spent-moves now moves s input step keep timely clean at next quiet more =
-      are-moves now moves step.next more.done step.notes keep timely clean more.is more.drops are.are are.on are.quiet are.noted
+      are-moves now moves step.next more.done step.notes keep timely clean more.is more.drops are.are are.on are.quiet
+      are.noted
     where
       line : Line
       line = line_of_moves plans moves
 
       are : IsStepping line (run_at side plans moves).doings more.done step
       are =
-          is-stepping (run_at side plans moves).base now line (run_at side plans moves).doings (AreBegunOf input now) step more at.state
-          (on-way-first side line more.calls.later (calls_in more.done) (calls-on now line input (more.calls.later ++ calls_in more.done) more.calls.whole next))
-          (no-slip-first side line more.calls.later (calls_in more.done) (calls-quiet now line input (more.calls.later ++ calls_in more.done) more.calls.whole quiet))
+          is-stepping (run_at side plans moves).base now line (run_at side plans moves).doings (AreBegunOf input now)
+          step more at.state
+          (on-way-first side line more.calls.later (calls_in more.done)
+          (calls-on now line input (more.calls.later ++ calls_in more.done) more.calls.whole next))
+          (no-slip-first side line more.calls.later (calls_in more.done)
+          (calls-quiet now line input (more.calls.later ++ calls_in more.done) more.calls.whole quiet))
 
   -- a step that goes on, with the characters that it has written
   record HasMoved (now : ℕ) (moves : List Move) (input : Input C) (ways : Ways) (step : Step S Happening) : Type 0 where
@@ -420,30 +427,38 @@ module _ {S C : Type 0} (did : ℕ → List Doing → S → Type 0) (takes : C �
         (line_of_moves plans (moves_with side now done moves))
 
   goes-moves :
-      (now : ℕ) (moves : List Move) (s : S) (input : Input C) (ways : Ways) (step : Step S Happening) → KeepLaws plans moves
-      → AreTimely moves → HasNoSlip (new_line plans.equipment.times plans.host.times) (deeds_of moves) → IsAt did side plans moves s
+      (now : ℕ) (moves : List Move) (s : S) (input : Input C) (ways : Ways) (step : Step S Happening)
+      → KeepLaws plans moves
+      → AreTimely moves → HasNoSlip (new_line plans.equipment.times plans.host.times) (deeds_of moves)
+      → IsAt did side plans moves s
       → IsNext (seen_at side plans moves).there.under_way input → NoSlipIn side now (line_of_moves plans moves) input
       → StandsFor ways (line_of_moves plans moves)
-      → DoesMore (plan_at side plans) did (run_at side plans moves).base (run_at side plans moves).doings now (AreOfStep input now) step
+      → DoesMore (plan_at side plans) did (run_at side plans moves).base (run_at side plans moves).doings now
+      (AreOfStep input now) step
       → HasMoved now moves input ways step
   goes-moves now moves s input ways step keep timely clean at next quiet stands more = record {
     done = all;
     are =
         are-moves now moves step.next all (step.notes ++ wrote step.written) keep timely clean
         (wrote-did step.written run.base more.done run.doings step.next more.is)
-        (wrote-dropped now step.written more.done more.drops) (wrote-done step.written line run.doings more.done are.are)
+        (wrote-dropped now step.written more.done more.drops) (wrote-done step.written line run.doings more.done
+        are.are)
         (subst (AreOnWay side line) (sym (wrote-calls step.written more.done)) are.on)
-        (subst (λ (cs : List LineCall). HasNoSlip line (deeds_by side cs)) (sym (wrote-calls step.written more.done)) are.quiet)
+        (subst (λ (cs : List LineCall). HasNoSlip line (deeds_by side cs)) (sym (wrote-calls step.written more.done))
+        are.quiet)
         (wrote-noted step.written more.done ∙ ap (λ (ns : List Happening). ns ++ wrote step.written) are.noted);
     bytes =
         behind (written_in (plan_at side plans) run.doings) step.written
         (subst AreBytes more.written
-        (are-written (plan_at side plans) run.base (more.done ++ run.doings) (law.keeps run.base (more.done ++ run.doings) step.next more.is).lawful).bytes);
+        (are-written (plan_at side plans) run.base (more.done ++ run.doings)
+        (law.keeps run.base (more.done ++ run.doings) step.next more.is).lawful).bytes);
     ways_are =
         subst (StandsFor (ways_after side (gives input) (machine.line step.next).phase step.written ways))
-        (ap (line_after line) (sym deeds_are) ∙ ap (λ (cs : List LineCall). line_after line (deeds_by side cs)) (sym (wrote-calls step.written more.done))
+        (ap (line_after line) (sym deeds_are) ∙ ap (λ (cs : List LineCall). line_after line (deeds_by side cs))
+        (sym (wrote-calls step.written more.done))
         ∙ sym (line-moves plans side now all moves))
-        (step-stands side (gives input) (machine.line step.next).phase step.written ways line now more.calls.decided stands (record {
+        (step-stands side (gives input) (machine.line step.next).phase step.written ways line now more.calls.decided
+        stands (record {
           decided = deeds.1;
           run = subst (IsRun line) deeds_are are.are.run;
           phase_is =
@@ -466,10 +481,12 @@ module _ {S C : Type 0} (did : ℕ → List Doing → S → Type 0) (takes : C �
       are : IsStepping line run.doings more.done step
       are =
           is-stepping run.base now line run.doings (AreOfStep input now) step more at.state
-          (calls-on now line input (calls_in more.done) more.calls next) (calls-quiet now line input (calls_in more.done) more.calls quiet)
+          (calls-on now line input (calls_in more.done) more.calls next)
+          (calls-quiet now line input (calls_in more.done) more.calls quiet)
 
       deeds :
-          (deeds_by side (more.calls.decided ++ taking_calls input now) ≡ step_deeds side now (gives input) more.calls.decided)
+          (deeds_by side (more.calls.decided ++ taking_calls input now) ≡ step_deeds side now (gives input)
+          more.calls.decided)
           × AreDecisions more.calls.decided
       deeds = step-deeds side input now more.calls.decided more.calls.decisions
 
@@ -484,7 +501,8 @@ module _ {S C : Type 0} (did : ℕ → List Doing → S → Type 0) (takes : C �
   no-slip-in now moves s Time ways at stands none = tt
   no-slip-in now moves s (Command command) ways at stands none = tt
   no-slip-in now moves s (Char byte) ways at stands none =
-      slip-stands side ways (line_of_moves plans moves) now (machine.line s).phase (is_due (machine.line s).deadline now) None stands
+      slip-stands side ways (line_of_moves plans moves) now (machine.line s).phase
+      (is_due (machine.line s).deadline now) None stands
       (record {
         phase_is = ap (λ (state : LineState). state.phase) same;
         late = λ gathers. ap (λ (state : LineState). is_due state.deadline now) same;
@@ -496,7 +514,8 @@ module _ {S C : Type 0} (did : ℕ → List Doing → S → Type 0) (takes : C �
   -- a slip, found before it, leaves all as it was
   pub has-stepped :
       (now : ℕ) (moves : List Move) (s : S) (input : Input C) (ways : Ways) → MayTake takes input → KeepLaws plans moves
-      → AreTimely moves → HasNoSlip (new_line plans.equipment.times plans.host.times) (deeds_of moves) → IsAt did side plans moves s
+      → AreTimely moves → HasNoSlip (new_line plans.equipment.times plans.host.times) (deeds_of moves)
+      → IsAt did side plans moves s
       → IsNext (seen_at side plans moves).there.under_way input → StandsFor ways (line_of_moves plans moves)
       → AreByteWays ways → HasStepped did side plans now moves (stepped machine side now input s ways)
   has-stepped now moves s input ways may keep timely clean at next stands bytes =
@@ -507,7 +526,7 @@ module _ {S C : Type 0} (did : ℕ → List Doing → S → Type 0) (takes : C �
 
       by_went : NoSlipIn side now (line_of_moves plans moves) input → (went : Went S Happening)
           → DoesStep (plan_at side plans) did run.base run.doings input now went
-          → HasStepped did side plans now moves (made machine side now input ways went)
+          → HasStepped did side plans now moves (made machine side now input s ways went)
       by_went quiet (Goes step) more =
           let moved = goes-moves now moves s input ways step keep timely clean at next quiet stands more in
           record {
@@ -537,7 +556,7 @@ module _ {S C : Type 0} (did : ℕ → List Doing → S → Type 0) (takes : C �
 
       by_slip : (b : Bool) → slips machine side now input s ways ≡ b
           → HasStepped did side plans now moves
-          (if b then slipped side now s ways else made machine side now input ways (machine.act s input now))
+          (if b then slipped side now s ways else made machine side now input s ways (machine.act s input now))
       by_slip true is = record {
         done = [];
         noted = [];

@@ -1,5 +1,5 @@
 -- What each end notes in a run is what its own course brings.
-use Rattle.std.proofs.Common.{◌≡◌, refl, sym, ap, subst, ◌∙◌, zero, suc, ℕ, ◌+◌, ◌==◌, Bool, true, false, List, [], ◌∷◌, ◌++◌, append_assoc, append-nil, Option, Some, None, if◌then◌else◌}
+use Rattle.std.proofs.Common.{◌≡◌, refl, sym, ap, subst, ◌∙◌, zero, suc, ℕ, ◌==◌, Bool, true, false, List, [], ◌∷◌, ◌++◌, append_assoc, append-nil, Option, Some, None, if◌then◌else◌}
 use Rattle.gl_base.specs.declared.side.Side.{Side}
 use Rattle.gl_base.specs.declared.side.Side.TheVariants.{Equipment, Host}
 use Rattle.gl_base.specs.Side.{is_same_side}
@@ -23,7 +23,7 @@ use Rattle.end_pair.specs.declared.answers.WorldStep.TheVariants as answer
 use Rattle.end_pair.specs.Noted.{AreOfCourses, noted_by}
 use Rattle.end_pair.specs.Run.{closing, log_of, piece_of}
 use Rattle.end_pair.specs.Steps.{Stepped, entries_of, made, slipped, slips, stepped, wrote}
-use Rattle.end_pair.specs.World.{Piece, World, added_to, after_event, after_events, and_more, and_on, at_start, begun, both_stepped, changed_at, equipment_stepped, given, given_next, given_times, host_stepped, later, lost_from, most_steps, settled, settled_times, still, turned_out, way_to}
+use Rattle.end_pair.specs.World.{Piece, World, added_to, after_event, after_events, and_more, and_on, at_start, begun, both_stepped, changed_at, equipment_stepped, given, given_next, given_times, host_stepped, later, lost_from, most_steps, settled, settled_times, still, turned_out, way_to, with_equipment, with_host}
 
 -- ---- notes as entries
 
@@ -96,11 +96,11 @@ module _ {S C : Type 0} (start : Step S Happening) (machine : Machine S C) (side
 
   made-noted :
       (now : ℕ) (input : Input C) (s : S) (ways : Ways) (log : List Entry) → IsReached s log
-      → HasNoted (made machine side now input ways (machine.act s input now)) log
+      → HasNoted (made machine side now input s ways (machine.act s input now)) log
   made-noted now input s ways log at = go (machine.act s input now) refl
     where
       go : (went : Went S Happening) → machine.act s input now ≡ went
-          → HasNoted (made machine side now input ways went) log
+          → HasNoted (made machine side now input s ways went) log
       go (Goes step) is = record { noted = reached-noted step.next (entries ++ log) there; on = λ on. there }
         where
           entries : List Entry
@@ -148,7 +148,7 @@ module _ {S C : Type 0} (start : Step S Happening) (machine : Machine S C) (side
     where
       go : (b : Bool)
           → HasNoted
-          (if b then slipped side now s ways else made machine side now input ways (machine.act s input now)) log
+          (if b then slipped side now s ways else made machine side now input s ways (machine.act s input now)) log
       go true =
           let noted = reached-noted s log at in
           record { noted = record { met = noted.met; is = noted.is }; on = λ on. absurd (cc) }
@@ -169,7 +169,7 @@ pub other-entries :
 other-entries {S} {C} machine side other apart now input s ways log = go (slips machine side now input s ways)
   where
     by_went : (went : Went S Happening)
-        → noted_by other ((made machine side now input ways went).entries ++ log) ≡ noted_by other log
+        → noted_by other ((made machine side now input s ways went).entries ++ log) ≡ noted_by other log
     by_went (Goes step) =
         ap (λ (l : List Entry). noted_by other l) (with-behind now side (step.notes ++ wrote step.written) [] log)
         ∙ noted-other now side other apart (step.notes ++ wrote step.written) log
@@ -179,7 +179,7 @@ other-entries {S} {C} machine side other apart now input s ways log = go (slips 
 
     go : (b : Bool)
         → noted_by other
-        ((if b then slipped side now s ways else made machine side now input ways (machine.act s input now)).entries
+        ((if b then slipped side now s ways else made machine side now input s ways (machine.act s input now)).entries
         ++ log) ≡ noted_by other log
     go true = refl
     go false = by_went (machine.act s input now)
@@ -241,6 +241,7 @@ module _ {E H : Type 0}
         go answer.Slip is = good
         go answer.Turns is = good
         go answer.NumbersSpent is = good
+        go answer.DiskFailed is = good
         go answer.NoMemory is = good
 
     keeps-then : (first rest : World E H → Piece E H) → Keeps first → Keeps rest
@@ -265,17 +266,7 @@ module _ {E H : Type 0}
         go : (b : Bool)
             → Good
             (if b then turned_out world
-            else record {
-              world = record {
-                equipment = step.end;
-                host = world.host;
-                ways = step.ways;
-                moment = world.moment;
-                steps = world.steps + 1;
-              };
-              entries = step.entries;
-              went = step.went;
-            })
+            else with_equipment e h world step)
             log
         go true = goes-out world log at
         go false = record {
@@ -305,17 +296,7 @@ module _ {E H : Type 0}
         go : (b : Bool)
             → Good
             (if b then turned_out world
-            else record {
-              world = record {
-                equipment = world.equipment;
-                host = step.end;
-                ways = step.ways;
-                moment = world.moment;
-                steps = world.steps + 1;
-              };
-              entries = step.entries;
-              went = step.went;
-            })
+            else with_host e h world step)
             log
         go true = goes-out world log at
         go false = record {
@@ -382,9 +363,9 @@ module _ {E H : Type 0}
 
     -- ---- the start, and the end
 
-    start-good : Good (at_start equipment host) []
+    start-good : Good (at_start e h equipment host) []
     start-good = record {
-      noted = noted-both (at_start equipment host).world ((at_start equipment host).entries ++ []) at;
+      noted = noted-both (at_start e h equipment host).world ((at_start e h equipment host).entries ++ []) at;
       on = λ on. at;
     }
       where
@@ -405,7 +386,7 @@ module _ {E H : Type 0}
             ∙ ap (λ (ns : List Happening). noted_behind host.notes ns)
             (noted-other 0 Equipment Host refl equipment.notes [])
 
-        at : AreReached (at_start equipment host).world (entries ++ [])
+        at : AreReached (at_start e h equipment host).world (entries ++ [])
         at = record {
           equipment_is = record {
             met = [];
@@ -420,7 +401,7 @@ module _ {E H : Type 0}
     run-good : (events : List Event) → Good (piece_of e h equipment host events) []
     run-good events =
         good-then (begun e h equipment host) [] (after_events e h events)
-        (good-then (at_start equipment host) [] (both_stepped e h) start-good both-keeps) (events-keep events)
+        (good-then (at_start e h equipment host) [] (both_stepped e h) start-good both-keeps) (events-keep events)
 
     pub entries-noted : (events : List Event) → AreOfCourses e h equipment host (log_of e h equipment host events)
     entries-noted events =
@@ -447,4 +428,5 @@ module _ {E H : Type 0}
         go answer.Slip now noted = of_noted (piece_of e h equipment host events).entries noted
         go answer.Turns now noted = of_noted (piece_of e h equipment host events).entries noted
         go answer.NumbersSpent now noted = of_noted (piece_of e h equipment host events).entries noted
+        go answer.DiskFailed now noted = of_noted (piece_of e h equipment host events).entries noted
         go answer.NoMemory now noted = of_noted (piece_of e h equipment host events).entries noted

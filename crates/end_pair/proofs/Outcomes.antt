@@ -8,6 +8,7 @@ use Rattle.line_schedule.specs.declared.event.Event.{Event}
 use Rattle.line_schedule.specs.declared.event.Event.TheVariants as event
 use Rattle.line_way.specs.Ways.{characters_of, is_under_way, next_byte}
 use Rattle.message_end.specs.Core.{Step}
+use Rattle.message_end.specs.Core.Went.{Goes}
 use Rattle.message_end.specs.Doings.{Doing}
 use Rattle.message_end.specs.Ends.{Input, KeepsLaw, Machine}
 use Rattle.message_end.specs.Ends.Input.{Char, Command, Time}
@@ -32,10 +33,11 @@ use Rattle.end_pair.proofs.Holding.{Good, run-is, same_moves}
 
 pub log-is :
     {S T : Type 0} (did_e : ℕ → List Doing → S → Type 0) (did_h : ℕ → List Doing → T → Type 0)
-    (tool : ToolCommand → Type 0) (user : HostCommand → Type 0) (first_e : Step S Happening) (first_h : Step T Happening)
+    (tool : ToolCommand → Type 0) (user : HostCommand → Type 0) (first_e : Step S Happening)
+    (first_h : Step T Happening)
     (e : Machine S ToolCommand) (h : Machine T HostCommand) (plans : LinePlans)
-    (law_e : KeepsLaw (plan_at Equipment plans) did_e tool first_e e)
-    (law_h : KeepsLaw (plan_at Host plans) did_h user first_h h)
+    (law_e : KeepsLaw (plan_at Equipment plans) did_e tool (Goes first_e) e)
+    (law_h : KeepsLaw (plan_at Host plans) did_h user (Goes first_h) h)
     → (events : List Event) → All (MayHappen tool user) events → All HasBytes events
     → IsOfMoves did_e did_h plans (run.log_of e h first_e first_h events)
 log-is {S} {T} did_e did_h tool user first_e first_h e h plans law_e law_h events may bytes =
@@ -59,7 +61,8 @@ log-is {S} {T} did_e did_h tool user first_e first_h e h plans law_e law_h event
 
     same : (how : WorldStep) → piece.went ≡ how → closing how piece.world.moment ≡ [] → piece.entries ≡ whole_log piece
     same how is none =
-        sym (ap (λ (w : WorldStep). closing w piece.world.moment ++ piece.entries) is ∙ ap (λ (es : List Entry). es ++ piece.entries) none)
+        sym (ap (λ (w : WorldStep). closing w piece.world.moment ++ piece.entries) is
+        ∙ ap (λ (es : List Entry). es ++ piece.entries) none)
 
     go : (went : WorldStep) → piece.went ≡ went → IsOfMoves did_e did_h plans (whole_log piece)
     go answer.Went is = record {
@@ -79,6 +82,7 @@ log-is {S} {T} did_e did_h tool user first_e first_h e h plans law_e law_h event
     go answer.Slip is = some (same answer.Slip is refl)
     go answer.Turns is = some (same answer.Turns is refl)
     go answer.NumbersSpent is = some (same answer.NumbersSpent is refl)
+    go answer.DiskFailed is = some (same answer.DiskFailed is refl)
     go answer.NoMemory is = some (same answer.NoMemory is refl)
 
 -- ---- how many steps it makes
@@ -94,7 +98,8 @@ module _ {S T : Type 0} (e : Machine S ToolCommand) (h : Machine T HostCommand) 
   still-bounds : Bounds still
   still-bounds world few = record { steps = few; turns = λ is. cc }
 
-  bounded-then : (piece : Piece S T) (more : World S T → Piece S T) → IsBounded piece → Bounds more → IsBounded (and_more piece more)
+  bounded-then : (piece : Piece S T) (more : World S T → Piece S T) → IsBounded piece → Bounds more
+      → IsBounded (and_more piece more)
   bounded-then piece more is bounds = go piece.went
     where
       go : (went : WorldStep) → IsBounded (and_on went piece more)
@@ -102,9 +107,11 @@ module _ {S T : Type 0} (e : Machine S ToolCommand) (h : Machine T HostCommand) 
       go answer.Slip = is
       go answer.Turns = is
       go answer.NumbersSpent = is
+      go answer.DiskFailed = is
       go answer.NoMemory = is
 
-  bounds-then : (first more : World S T → Piece S T) → Bounds first → Bounds more → Bounds (λ world. and_more (first world) more)
+  bounds-then : (first more : World S T → Piece S T) → Bounds first → Bounds more
+      → Bounds (λ world. and_more (first world) more)
   bounds-then first more one two world few = bounded-then (first world) more (one world few) two
 
   -- a step of either end is one of all steps, and is made where one is left
@@ -121,7 +128,8 @@ module _ {S T : Type 0} (e : Machine S ToolCommand) (h : Machine T HostCommand) 
 
   equipment-bounds : (input : Input ToolCommand) → Bounds (equipment_stepped e h input)
   equipment-bounds input world few =
-      turn-bounds world (with_equipment e h world (stepped e Equipment world.moment input world.equipment world.ways)) few refl
+      turn-bounds world (with_equipment e h world (stepped e Equipment world.moment input world.equipment world.ways))
+      few refl
       (by-cause e Equipment world.moment input world.equipment world.ways).no_other.0
 
   host-bounds : (input : Input HostCommand) → Bounds (host_stepped e h input)
@@ -139,7 +147,8 @@ module _ {S T : Type 0} (e : Machine S ToolCommand) (h : Machine T HostCommand) 
 
   times-bounds : (n : ℕ) (side : Side) → Bounds (given_times e h n side)
   times-bounds zero side = still-bounds
-  times-bounds (suc n) side = bounds-then (given e h side) (given_times e h n side) (given-bounds side) (times-bounds n side)
+  times-bounds (suc n) side = bounds-then (given e h side) (given_times e h n side) (given-bounds side)
+      (times-bounds n side)
 
   settled-bounds : Bounds (settled e h)
   settled-bounds world few = go (is_under_way (characters_of (way_to Equipment world).under_way))
@@ -154,7 +163,8 @@ module _ {S T : Type 0} (e : Machine S ToolCommand) (h : Machine T HostCommand) 
   settles-bounds (suc n) = bounds-then (settled e h) (settled_times e h n) settled-bounds (settles-bounds n)
 
   both-bounds : Bounds (both_stepped e h)
-  both-bounds = bounds-then (equipment_stepped e h Time) (host_stepped e h Time) (equipment-bounds Time) (host-bounds Time)
+  both-bounds = bounds-then (equipment_stepped e h Time) (host_stepped e h Time) (equipment-bounds Time)
+      (host-bounds Time)
 
   event-bounds : (event : Event) → Bounds (after_event e h event)
   event-bounds (event.To side n) = times-bounds n side
@@ -169,12 +179,15 @@ module _ {S T : Type 0} (e : Machine S ToolCommand) (h : Machine T HostCommand) 
 
   events-bounds : (events : List Event) → Bounds (after_events e h events)
   events-bounds [] = still-bounds
-  events-bounds (event ∷ events) = bounds-then (after_event e h event) (after_events e h events) (event-bounds event) (events-bounds events)
+  events-bounds (event ∷ events) = bounds-then (after_event e h event) (after_events e h events) (event-bounds event)
+      (events-bounds events)
 
-  run-bounds : (first_e : Step S Happening) (first_h : Step T Happening) (events : List Event) → IsBounded (piece_of e h first_e first_h events)
+  run-bounds : (first_e : Step S Happening) (first_h : Step T Happening) (events : List Event)
+      → IsBounded (piece_of e h first_e first_h events)
   run-bounds first_e first_h events =
       bounded-then (begun e h first_e first_h) (after_events e h events)
-      (bounded-then (at_start first_e first_h) (both_stepped e h) (record { steps = omega arith; turns = λ is. cc }) both-bounds)
+      (bounded-then (at_start e h first_e first_h) (both_stepped e h) (record { steps = omega arith; turns = λ is. cc })
+      both-bounds)
       (events-bounds events)
 
 pub runs-bounded : (S T : Type 0) → RunsAreBounded S T

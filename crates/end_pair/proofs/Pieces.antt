@@ -1,17 +1,14 @@
 -- Pieces of a run, one after another, and their text.
-use Rattle.std.proofs.Common.{◌≡◌, ◌≢◌, ℕ, List, [], ◌∷◌, ◌++◌, refl, sym, ap, subst, ◌∙◌, append_assoc, append-nil}
-use Rattle.trace_log.specs.Log.{Entry}
-use Rattle.trace_log.specs.Text.{entry_text, text_of}
+use Rattle.std.proofs.Common.{◌≡◌, ◌≢◌, ℕ, List, [], ◌++◌, refl, sym, ap, subst, ◌∙◌, append_assoc, append-nil}
+use Rattle.gl_base.specs.declared.side.Side.{Side}
+use Rattle.message_end.specs.Ends.{Asked}
+use Rattle.trace_log.specs.Text.{text_of}
 use Rattle.end_pair.specs.declared.answers.WorldStep.{WorldStep}
-use Rattle.end_pair.specs.declared.answers.WorldStep.TheVariants.{Went, Slip, Turns, NumbersSpent, NoMemory}
-use Rattle.end_pair.specs.Kept.{IfWent, PutPart, Puts}
+use Rattle.end_pair.specs.declared.answers.WorldStep.TheVariants.{Went, Slip, Turns, NumbersSpent, DiskFailed, NoMemory}
+use Rattle.end_pair.specs.Kept.{AreLeft, HasHalted, IfWent, PutPart, Puts, StopsFor}
 use Rattle.end_pair.specs.World.{Piece, World, and_more, and_on, still}
-
-pub text_of-append : (newer older : List Entry) → text_of (newer ++ older) ≡ text_of older ++ text_of newer
-text_of-append [] older = sym (append-nil (text_of older))
-text_of-append (entry ∷ newer) older =
-    ap (λ (t : List ℕ). t ++ entry_text entry) (text_of-append newer older)
-    ∙ append_assoc (text_of older) (text_of newer) (entry_text entry)
+use Rattle.end_pair.proofs.Halts.{halted_first, halted_more, halted_shift, left_all, left_both}
+use Rattle.end_pair.proofs.LogText.{text_of-append}
 
 -- ---- a text that was put, or a part of it
 
@@ -59,40 +56,72 @@ puts_behind how Turns first second old between lines one two =
     (two.0, two.1 ∙ ap (λ (t : List ℕ). t ++ second) one ∙ append_assoc old first second)
 puts_behind how NumbersSpent first second old between lines one two =
     (two.0, two.1 ∙ ap (λ (t : List ℕ). t ++ second) one ∙ append_assoc old first second)
+puts_behind how DiskFailed first second old between lines one two = put_behind first second old between lines one two
 puts_behind how NoMemory first second old between lines one two = put_behind first second old between lines one two
 
 -- ---- pieces
 
--- what a call has made of a world and of the lines is this piece
-pub record Comes {E H : Type 0} (piece : Piece E H) (new : World E H) (old lines : List ℕ) (answer : WorldStep) : Type 0 where
-  pub puts : Puts piece.went (text_of piece.entries) old lines answer
-  pub world : IfWent answer (new ≡ piece.world)
+-- what a call has made of a world and of the lines is this piece, and of the room of the disks
+pub record Comes {E H : Type 0}
+    (piece : Piece E H) (new : World E H) (had has : Side → Asked) (old lines : List ℕ) (answer : WorldStep) : Type 0
+  where
+    pub puts : Puts piece.went (text_of piece.entries) old lines answer
+    pub world : IfWent answer (new ≡ piece.world)
+    pub room : IfWent answer (AreLeft had piece.asked has)
+    pub stops : StopsFor (HasHalted piece.halts had old lines) answer
 
-pub comes_still : {E H : Type 0} (world : World E H) (lines : List ℕ) → Comes (still world) world lines lines Went
-comes_still world lines = record { puts = (refl, sym (append-nil lines)); world = refl }
+pub comes_still : {E H : Type 0} (world : World E H) (room : Side → Asked) (lines : List ℕ)
+    → Comes (still world) world room room lines lines Went
+comes_still world room lines =
+    record { puts = (refl, sym (append-nil lines)); world = refl; room = left_all room; stops = tt }
 
 and_more-went :
     {E H : Type 0} (first : Piece E H) (more : World E H → Piece E H) → first.went ≡ Went
     → and_more first more ≡ and_on Went first more
 and_more-went first more went = ap (λ (w : WorldStep). and_on w first more) went
 
+if_went : {P Q : Type 0} → (P → Q) → (answer : WorldStep) → IfWent answer P → IfWent answer Q
+if_went more Went is = more is
+if_went more Slip is = tt
+if_went more Turns is = tt
+if_went more NumbersSpent is = tt
+if_went more DiskFailed is = tt
+if_went more NoMemory is = tt
+
+stops_for : {P Q : Type 0} → (P → Q) → (answer : WorldStep) → StopsFor P answer → StopsFor Q answer
+stops_for more Went is = tt
+stops_for more Slip is = tt
+stops_for more Turns is = tt
+stops_for more NumbersSpent is = tt
+stops_for more DiskFailed is = more is
+stops_for more NoMemory is = tt
+
 pub comes_more :
-    {E H : Type 0} (first : Piece E H) (more : World E H → Piece E H) (mid new : World E H) (old between lines : List ℕ)
-    (answer : WorldStep)
-    → Comes first mid old between Went → Comes (more mid) new between lines answer
-    → Comes (and_more first more) new old lines answer
-comes_more {E} {H} first more mid new old between lines answer one two =
-    subst (λ (p : Piece E H). Comes p new old lines answer) (sym (and_more-went first more one.puts.0)) (record {
+    {E H : Type 0} (first : Piece E H) (more : World E H → Piece E H) (mid new : World E H) (had between_room has : Side
+    → Asked)
+    (old between lines : List ℕ) (answer : WorldStep)
+    → Comes first mid had between_room old between Went → Comes (more mid) new between_room has between lines answer
+    → Comes (and_more first more) new had has old lines answer
+comes_more {E} {H} first more mid new had between_room has old between lines answer one two =
+    subst (λ (p : Piece E H). Comes p new had has old lines answer) (sym (and_more-went first more one.puts.0))
+    (record {
       puts =
           subst (λ (t : List ℕ). Puts (more first.world).went t old lines answer)
           (sym (text_of-append (more first.world).entries first.entries))
-          (puts_behind (more first.world).went answer (text_of first.entries) (text_of (more first.world).entries) old between
+          (puts_behind (more first.world).went answer (text_of first.entries) (text_of (more first.world).entries) old
+          between
           lines one.puts.1 here.puts);
       world = here.world;
+      room =
+          if_went (λ left. left_both had between_room has first.asked (more first.world).asked one.room left) answer
+          here.room;
+      stops =
+          stops_for (λ halted. halted_more first more had between_room old between lines one.puts.1 one.room halted)
+          answer here.stops;
     })
   where
-    here : Comes (more first.world) new between lines answer
-    here = subst (λ (w : World E H). Comes (more w) new between lines answer) one.world two
+    here : Comes (more first.world) new between_room has between lines answer
+    here = subst (λ (w : World E H). Comes (more w) new between_room has between lines answer) one.world two
 
 -- a text of a piece has that of its first part in front
 more_text :
@@ -103,25 +132,43 @@ more_text Went first more =
 more_text Slip first more = ([], sym (append-nil (text_of first.entries)))
 more_text Turns first more = ([], sym (append-nil (text_of first.entries)))
 more_text NumbersSpent first more = ([], sym (append-nil (text_of first.entries)))
+more_text DiskFailed first more = ([], sym (append-nil (text_of first.entries)))
 more_text NoMemory first more = ([], sym (append-nil (text_of first.entries)))
 
 -- it goes on no further
 pub comes_stop :
-    {E H : Type 0} (first : Piece E H) (more : World E H → Piece E H) (mid : World E H) (old lines : List ℕ) (answer : WorldStep)
-    → answer ≢ Went → Comes first mid old lines answer → Comes (and_more first more) mid old lines answer
-comes_stop {E} {H} first more mid old lines answer stops one = go answer stops one
+    {E H : Type 0} (first : Piece E H) (more : World E H → Piece E H) (mid : World E H) (had has any : Side → Asked)
+    (old lines : List ℕ)
+    (answer : WorldStep)
+    → answer ≢ Went → Comes first mid had has old lines answer → Comes (and_more first more) mid had any old lines
+    answer
+comes_stop {E} {H} first more mid had has any old lines answer stops one = go answer stops one
   where
     same : (w : WorldStep) → first.went ≡ w → and_on w first more ≡ first → and_more first more ≡ first
     same w is stays = ap (λ (v : WorldStep). and_on v first more) is ∙ stays
 
-    go : (answer : WorldStep) → answer ≢ Went → Comes first mid old lines answer → Comes (and_more first more) mid old lines answer
+    go : (answer : WorldStep) → answer ≢ Went → Comes first mid had has old lines answer
+        → Comes (and_more first more) mid had any old lines answer
     go Went stops one = absurd (stops refl)
     go Slip stops one =
-        subst (λ (p : Piece E H). Comes p mid old lines Slip) (sym (same Slip one.puts.0 refl)) one
+        subst (λ (p : Piece E H). Comes p mid had any old lines Slip) (sym (same Slip one.puts.0 refl))
+        (record { puts = one.puts; world = tt; room = tt; stops = tt })
     go Turns stops one =
-        subst (λ (p : Piece E H). Comes p mid old lines Turns) (sym (same Turns one.puts.0 refl)) one
+        subst (λ (p : Piece E H). Comes p mid had any old lines Turns) (sym (same Turns one.puts.0 refl))
+        (record { puts = one.puts; world = tt; room = tt; stops = tt })
     go NumbersSpent stops one =
-        subst (λ (p : Piece E H). Comes p mid old lines NumbersSpent) (sym (same NumbersSpent one.puts.0 refl)) one
+        subst (λ (p : Piece E H). Comes p mid had any old lines NumbersSpent) (sym (same NumbersSpent one.puts.0 refl))
+        (record { puts = one.puts; world = tt; room = tt; stops = tt })
+    go DiskFailed stops one =
+        let text = more_text first.went first more in
+        record {
+          puts =
+              subst (λ (t : List ℕ). PutPart t old lines) (sym text.1)
+              (put_before (text_of first.entries) text.0 old lines one.puts);
+          world = tt;
+          room = tt;
+          stops = halted_first first more had old lines one.stops;
+        }
     go NoMemory stops one =
         let text = more_text first.went first more in
         record {
@@ -129,37 +176,45 @@ comes_stop {E} {H} first more mid old lines answer stops one = go answer stops o
               subst (λ (t : List ℕ). PutPart t old lines) (sym text.1)
               (put_before (text_of first.entries) text.0 old lines one.puts);
           world = tt;
+          room = tt;
+          stops = tt;
         }
 
 -- whatever comes of what is left, comes of the whole
-abbrev pub Leads : {E H : Type 0} → Piece E H → List ℕ → Piece E H → List ℕ → Type 0
-Leads {E} {H} left between whole old =
-    (new : World E H) (lines : List ℕ) (answer : WorldStep) → Comes left new between lines answer
-    → Comes whole new old lines answer
+abbrev pub Leads : {E H : Type 0} → Piece E H → (Side → Asked) → List ℕ → Piece E H → (Side → Asked) → List ℕ → Type 0
+Leads {E} {H} left mid between whole had old =
+    (new : World E H) (has : Side → Asked) (lines : List ℕ) (answer : WorldStep) → Comes left new mid has between lines
+    answer
+    → Comes whole new had has old lines answer
 
-pub leads_first : {E H : Type 0} (whole : Piece E H) (lines : List ℕ) → Leads whole lines whole lines
-leads_first whole lines new after answer comes = comes
+pub leads_first : {E H : Type 0} (whole : Piece E H) (had : Side → Asked) (lines : List ℕ)
+    → Leads whole had lines whole had lines
+leads_first whole had lines new has after answer comes = comes
 
 pub leads_on :
-    {E H : Type 0} (first : Piece E H) (more : World E H → Piece E H) (mid : World E H) (between lines : List ℕ) (whole : Piece E H)
-    (old : List ℕ)
-    → Comes first mid between lines Went → Leads (and_more first more) between whole old
-    → Leads (more mid) lines whole old
-leads_on first more mid between lines whole old one leads new after answer comes =
-    leads new after answer (comes_more first more mid new between lines after answer one comes)
+    {E H : Type 0} (first : Piece E H) (more : World E H → Piece E H) (mid : World E H) (before now : Side → Asked)
+    (between lines : List ℕ)
+    (whole : Piece E H) (had : Side → Asked) (old : List ℕ)
+    → Comes first mid before now between lines Went → Leads (and_more first more) before between whole had old
+    → Leads (more mid) now lines whole had old
+leads_on first more mid before now between lines whole had old one leads new has after answer comes =
+    leads new has after answer (comes_more first more mid new before now has between lines after answer one comes)
 
 pub leads_stop :
-    {E H : Type 0} (first : Piece E H) (more : World E H → Piece E H) (mid : World E H) (between lines : List ℕ) (answer : WorldStep)
-    (whole : Piece E H) (old : List ℕ)
-    → answer ≢ Went → Comes first mid between lines answer → Leads (and_more first more) between whole old
-    → Comes whole mid old lines answer
-leads_stop first more mid between lines answer whole old stops one leads =
-    leads mid lines answer (comes_stop first more mid between lines answer stops one)
+    {E H : Type 0} (first : Piece E H) (more : World E H → Piece E H) (mid : World E H) (before now : Side → Asked)
+    (between lines : List ℕ)
+    (answer : WorldStep) (whole : Piece E H) (had : Side → Asked) (old : List ℕ)
+    → answer ≢ Went → Comes first mid before now between lines answer → Leads (and_more first more) before between whole
+    had old
+    → Comes whole mid had now old lines answer
+leads_stop first more mid before now between lines answer whole had old stops one leads =
+    leads mid now lines answer (comes_stop first more mid before now now between lines answer stops one)
 
 pub leads_done :
-    {E H : Type 0} (world : World E H) (lines : List ℕ) (whole : Piece E H) (old : List ℕ) → Leads (still world) lines whole old
-    → Comes whole world old lines Went
-leads_done world lines whole old leads = leads world lines Went (comes_still world lines)
+    {E H : Type 0} (world : World E H) (room : Side → Asked) (lines : List ℕ) (whole : Piece E H) (had : Side → Asked)
+    (old : List ℕ)
+    → Leads (still world) room lines whole had old → Comes whole world had room old lines Went
+leads_done world room lines whole had old leads = leads world room lines Went (comes_still world room lines)
 
 -- all of it behind a text
 pub puts_shift : (how : WorldStep) (put text old lines : List ℕ) (answer : WorldStep) → Puts how put old lines answer
@@ -174,18 +229,38 @@ puts_shift how put text old lines answer puts = go answer puts
     go Slip puts = (puts.0, shift put puts.1)
     go Turns puts = (puts.0, shift put puts.1)
     go NumbersSpent puts = (puts.0, shift put puts.1)
-    go NoMemory puts = record { front = puts.front; rest = puts.rest; whole = puts.whole; lines = shift puts.front puts.lines }
+    go DiskFailed puts = record {
+      front = puts.front;
+      rest = puts.rest;
+      whole = puts.whole;
+      lines = shift puts.front
+          puts.lines;
+    }
+    go NoMemory puts = record {
+      front = puts.front;
+      rest = puts.rest;
+      whole = puts.whole;
+      lines = shift puts.front
+          puts.lines;
+    }
 
 pub comes_behind :
-    {E H : Type 0} (piece : Piece E H) (new : World E H) (text old lines : List ℕ) (answer : WorldStep)
-    → Comes piece new old lines answer → Comes piece new (text ++ old) (text ++ lines) answer
-comes_behind piece new text old lines answer one =
-    record { puts = puts_shift piece.went (text_of piece.entries) text old lines answer one.puts; world = one.world }
+    {E H : Type 0} (piece : Piece E H) (new : World E H) (had has : Side → Asked) (text old lines : List ℕ)
+    (answer : WorldStep)
+    → Comes piece new had has old lines answer → Comes piece new had has (text ++ old) (text ++ lines) answer
+comes_behind piece new had has text old lines answer one = record {
+  puts = puts_shift piece.went (text_of piece.entries) text old lines answer one.puts;
+  world = one.world;
+  room = one.room;
+  stops = stops_for (halted_shift piece.halts had text old lines) answer one.stops;
+}
 
 -- all of it, or a part
-pub part_of : (how : WorldStep) (text old lines : List ℕ) (answer : WorldStep) → Puts how text old lines answer → PutPart text old lines
+pub part_of : (how : WorldStep) (text old lines : List ℕ) (answer : WorldStep) → Puts how text old lines answer
+    → PutPart text old lines
 part_of how text old lines Went puts = put_all text old lines puts.1
 part_of how text old lines Slip puts = put_all text old lines puts.1
 part_of how text old lines Turns puts = put_all text old lines puts.1
 part_of how text old lines NumbersSpent puts = put_all text old lines puts.1
+part_of how text old lines DiskFailed part = part
 part_of how text old lines NoMemory part = part

@@ -1,15 +1,15 @@
 -- Characters given one by one.
-use Rattle.std.proofs.Common.{◌≡◌, ◌≢◌, zero, suc, ℕ, ◌+◌, not, ◌&&◌, Bool, true, false, List, [], ◌∷◌, ◌++◌, Option, None, if◌then◌else◌, refl, ap, subst, ◌∙◌, add-one}
+use Rattle.std.proofs.Common.{◌≡◌, ◌≢◌, zero, suc, ℕ, ◌+◌, not, ◌&&◌, Bool, true, false, List, [], ◌∷◌, ◌++◌, map, Option, None, if◌then◌else◌, refl, ap, subst, ◌∙◌, add-one}
 use Rattle.gl_base.specs.declared.side.Side.{Side}
 use Rattle.gl_base.specs.declared.side.Side.TheVariants.{Equipment, Host}
 use Rattle.line_way.specs.declared.character.Character.{Character}
 use Rattle.line_way.specs.Ways.{characters_of, is_under_way, next_byte}
-use Rattle.message_end.specs.Ends.{Machine}
+use Rattle.message_end.specs.Ends.{Asked, Machine}
 use Rattle.trace_log.specs.declared.commands.HostCommand.{HostCommand}
 use Rattle.trace_log.specs.declared.commands.ToolCommand.{ToolCommand}
 use Rattle.end_pair.specs.declared.answers.WorldStep.{WorldStep}
 use Rattle.end_pair.specs.declared.answers.WorldStep.TheVariants.{Went}
-use Rattle.end_pair.specs.World.{Piece, World, and_more, given, given_next, given_times, settled, settled_times, still, way_to}
+use Rattle.end_pair.specs.World.{Piece, World, and_more, asked_more, asked_of_none, given, given_next, given_times, halt_behind, settled, settled_times, still, way_to}
 use Rattle.end_pair.proofs.Pieces.{Comes, Leads, leads_done, leads_on, leads_stop}
 
 abbrev pub IsEmptyTo : {S T : Type 0} → Side → World S T → Type 0
@@ -36,33 +36,40 @@ pub record Repeats {S T : Type 0}
 
 module _ {S T : Type 0} {once : World S T → Piece S T} {times : ℕ → World S T → Piece S T} {Empty : World S T → Type 0}
     (is : Repeats once times Empty) where
-  pub times_done : (n : ℕ) (world : World S T) (lines : List ℕ) (whole : Piece S T) (old : List ℕ) → Empty world
-      → Leads (times n world) lines whole old → Comes whole world old lines Went
-  times_done n world lines whole old none leads =
-      leads_done world lines whole old (subst (λ (p : Piece S T). Leads p lines whole old) (is.none n world none) leads)
+  pub times_done :
+      (n : ℕ) (world : World S T) (room : Side → Asked) (lines : List ℕ) (whole : Piece S T) (had : Side → Asked)
+      (old : List ℕ) → Empty world → Leads (times n world) room lines whole had old
+      → Comes whole world had room old lines Went
+  times_done n world room lines whole had old none leads =
+      leads_done world room lines whole had old
+      (subst (λ (p : Piece S T). Leads p room lines whole had old) (is.none n world none) leads)
 
-  pub times_over : (n : ℕ) (world : World S T) (lines : List ℕ) (whole : Piece S T) (old : List ℕ) → n ≡ 0
-      → Leads (times n world) lines whole old → Comes whole world old lines Went
-  times_over n world lines whole old over leads =
-      leads_done world lines whole old
-      (subst (λ (p : Piece S T). Leads p lines whole old) (ap (λ (k : ℕ). times k world) over ∙ is.over world) leads)
+  pub times_over :
+      (n : ℕ) (world : World S T) (room : Side → Asked) (lines : List ℕ) (whole : Piece S T) (had : Side → Asked)
+      (old : List ℕ) → n ≡ 0 → Leads (times n world) room lines whole had old
+      → Comes whole world had room old lines Went
+  times_over n world room lines whole had old over leads =
+      leads_done world room lines whole had old
+      (subst (λ (p : Piece S T). Leads p room lines whole had old)
+      (ap (λ (k : ℕ). times k world) over ∙ is.over world) leads)
 
   pub times_on :
-      (n m : ℕ) (world after : World S T) (between lines : List ℕ) (whole : Piece S T) (old : List ℕ) → n ≡ m + 1
-      → Comes (once world) after between lines Went → Leads (times n world) between whole old
-      → Leads (times m after) lines whole old
-  times_on n m world after between lines whole old is_n comes leads =
-      leads_on (once world) (times m) after between lines whole old comes
-      (subst (λ (p : Piece S T). Leads p between whole old) (is.more n m world is_n) leads)
+      (n m : ℕ) (world after : World S T) (before now : Side → Asked) (between lines : List ℕ) (whole : Piece S T)
+      (had : Side → Asked) (old : List ℕ)
+      → n ≡ m + 1 → Comes (once world) after before now between lines Went
+      → Leads (times n world) before between whole had old → Leads (times m after) now lines whole had old
+  times_on n m world after before now between lines whole had old is_n comes leads =
+      leads_on (once world) (times m) after before now between lines whole had old comes
+      (subst (λ (p : Piece S T). Leads p before between whole had old) (is.more n m world is_n) leads)
 
   pub times_stop :
-      (n m : ℕ) (world after : World S T) (between lines : List ℕ) (answer : WorldStep)
-      (whole : Piece S T) (old : List ℕ)
-      → n ≡ m + 1 → answer ≢ Went → Comes (once world) after between lines answer
-      → Leads (times n world) between whole old → Comes whole after old lines answer
-  times_stop n m world after between lines answer whole old is_n stops comes leads =
-      leads_stop (once world) (times m) after between lines answer whole old stops comes
-      (subst (λ (p : Piece S T). Leads p between whole old) (is.more n m world is_n) leads)
+      (n m : ℕ) (world after : World S T) (before now : Side → Asked) (between lines : List ℕ) (answer : WorldStep)
+      (whole : Piece S T) (had : Side → Asked) (old : List ℕ)
+      → n ≡ m + 1 → answer ≢ Went → Comes (once world) after before now between lines answer
+      → Leads (times n world) before between whole had old → Comes whole after had now old lines answer
+  times_stop n m world after before now between lines answer whole had old is_n stops comes leads =
+      leads_stop (once world) (times m) after before now between lines answer whole had old stops comes
+      (subst (λ (p : Piece S T). Leads p before between whole had old) (is.more n m world is_n) leads)
 
 -- ---- to one end
 
@@ -80,7 +87,13 @@ module _ {S T : Type 0} (e : Machine S ToolCommand) (h : Machine T HostCommand) 
   times-none zero side world none = refl
   times-none (suc n) side world none =
       ap (λ (first : Piece S T). and_more first (given_times e h n side)) (given-none side world none)
-      ∙ ap (λ (next : Piece S T). record { world = next.world; entries = next.entries ++ []; went = next.went })
+      ∙ ap (λ (next : Piece S T). record {
+        world = next.world;
+        entries = next.entries ++ [];
+        went = next.went;
+        asked = asked_more asked_of_none next.asked;
+        halts = [] ++ map (halt_behind [] asked_of_none) next.halts;
+      })
       (times-none n side world none)
 
   pub gives_times : (side : Side) → Repeats (given e h side) (λ n. given_times e h n side) (IsEmptyTo side)
@@ -109,7 +122,13 @@ module _ {S T : Type 0} (e : Machine S ToolCommand) (h : Machine T HostCommand) 
   settles-none zero world none empty = refl
   settles-none (suc n) world none empty =
       ap (λ (first : Piece S T). and_more first (settled_times e h n)) (settled-none world none empty)
-      ∙ ap (λ (next : Piece S T). record { world = next.world; entries = next.entries ++ []; went = next.went })
+      ∙ ap (λ (next : Piece S T). record {
+        world = next.world;
+        entries = next.entries ++ [];
+        went = next.went;
+        asked = asked_more asked_of_none next.asked;
+        halts = [] ++ map (halt_behind [] asked_of_none) next.halts;
+      })
       (settles-none n world none empty)
 
   settles-zero : (world : World S T) → settled_times e h 0 world ≡ still world

@@ -12,13 +12,14 @@ use Rattle.message_end.specs.Core.Went.{Spent}
 use Rattle.message_end.specs.Doings.{Doing}
 use Rattle.message_end.specs.Ends.{Input, Machine}
 use Rattle.message_end.specs.Log.{log_of}
-use Rattle.message_end.specs.Moves.{AreTimely, KeepLaws, LinePlans, Move, deeds_of, plan_at, run_at}
+use Rattle.message_end.specs.Moves.{AreTimely, KeepLaws, Kind, LinePlans, Move, deeds_of, plan_at, run_at}
+use Rattle.message_end.specs.Moves.Kind.{Started}
 use Rattle.message_end.specs.Plan.{EndPlan}
 use Rattle.trace_log.specs.Log.{Entry, Happening}
 use Rattle.trace_log.specs.Log.Entry.{Ended, Noted, Slipped}
 use Rattle.trace_log.specs.declared.commands.HostCommand.{HostCommand}
 use Rattle.trace_log.specs.declared.commands.ToolCommand.{ToolCommand}
-use Rattle.end_pair.specs.declared.answers.WorldStep.TheVariants.{NoMemory, NumbersSpent, Slip, Turns}
+use Rattle.end_pair.specs.declared.answers.WorldStep.TheVariants.{DiskFailed, NoMemory, NumbersSpent, Slip, Turns}
 use Rattle.end_pair.specs.Run.{piece_of}
 use Rattle.end_pair.specs.Steps.{slips, stepped}
 use Rattle.end_pair.specs.World.{most_steps}
@@ -40,7 +41,9 @@ pub record EndsByCause {S C : Type 0}
       ↔ ((slips machine side now input s ways ≡ false)
       × ((step : Step S Happening) × (machine.act s input now ≡ Spent step)))
   pub no_other :
-      ((stepped machine side now input s ways).went ≢ Turns) × ((stepped machine side now input s ways).went ≢ NoMemory)
+      ((stepped machine side now input s ways).went ≢ Turns)
+      × ((stepped machine side now input s ways).went ≢ DiskFailed)
+      × ((stepped machine side now input s ways).went ≢ NoMemory)
 
 abbrev pub StepsEndByCause : Type 0 → Type 0 → Type 0
 StepsEndByCause S C =
@@ -67,14 +70,37 @@ pub record AreAtStates {S T : Type 0}
       equipment (run_at Equipment plans moves).base (run_at Equipment plans moves).doings state_of_equipment
   pub host_did : host (run_at Host plans moves).base (run_at Host plans moves).doings state_of_host
 
--- the moves come step by step, behind each of which both ends are in states that their doings have made
+-- each of these moves is the start of an end, or none is
+abbrev pub IsStart : Kind → Type 0
+IsStart (Started found base) = Unit {0}
+IsStart _ = ⊥
+
+abbrev pub IsNoStart : Kind → Type 0
+IsNoStart (Started found base) = ⊥
+IsNoStart _ = Unit {0}
+
+abbrev pub AreStarts : List Move → Type 0
+AreStarts [] = Unit {0}
+AreStarts (move ∷ before) = IsStart move.kind × AreStarts before
+
+abbrev pub HasNoStart : List Move → Type 0
+HasNoStart [] = Unit {0}
+HasNoStart (move ∷ before) = IsNoStart move.kind × HasNoStart before
+
+-- the moves come step by step, behind each of which both ends are in states that their doings have made: ends start, or
+-- a step has no start in it. So what these doings keep between two steps they keep at each move
 pub data AreSteps {S T : Type 0}
     (equipment : ℕ → List Doing → S → Type 0) (host : ℕ → List Doing → T → Type 0) (plans : LinePlans)
     : List Move → Type 0 where
   no_moves : AreSteps equipment host plans []
+  ends_start :
+      (moves starts before : List Move) → moves ≡ starts ++ before → AreStarts starts
+      → AreAtStates equipment host plans moves → AreSteps equipment host plans before
+      → AreSteps equipment host plans moves
   one_step :
-      (moves step before : List Move) → moves ≡ step ++ before → AreAtStates equipment host plans moves
-      → AreSteps equipment host plans before → AreSteps equipment host plans moves
+      (moves step before : List Move) → moves ≡ step ++ before → HasNoStart step
+      → AreAtStates equipment host plans moves → AreSteps equipment host plans before
+      → AreSteps equipment host plans moves
 
 -- the log is that of moves of which each end keeps the law, none of them a slip and each T4 drop at its moment, and at
 -- most one entry behind them, that of a slip or of the end

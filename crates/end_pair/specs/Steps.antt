@@ -7,7 +7,7 @@ use Rattle.line_way.specs.Slip.{first_frame}
 use Rattle.line_way.specs.Ways.{Ways, bytes_of, characters_of}
 use Rattle.message_end.specs.Core.{Went}
 use Rattle.message_end.specs.Core.Went.{Goes, Spent}
-use Rattle.message_end.specs.Ends.{Input, Machine}
+use Rattle.message_end.specs.Ends.{Asked, Input, Machine, none_asked}
 use Rattle.message_end.specs.Ends.Input.{Char, Command, Time}
 use Rattle.trace_log.specs.Laws.{log_with}
 use Rattle.trace_log.specs.Log.{Entry, Happening}
@@ -17,12 +17,14 @@ use Rattle.end_pair.specs.declared.answers.WorldStep.{WorldStep}
 use Rattle.end_pair.specs.declared.answers.WorldStep.TheVariants as answer
 
 -- what a step leaves: the end, both directions of the line, the entries that were made, the newest first, and how it
--- went
+-- went; the notes at which its disk may stop it, and what it asks of the disk
 pub record Stepped (S : Type 0) : Type 0 where
   pub end : S
   pub ways : Ways
   pub entries : List Entry
   pub went : WorldStep
+  pub fronts : List (List Happening)
+  pub asked : Asked
 
 -- the end is given the next character on its way
 abbrev pub gives : {C : Type 0} → Input C → Bool
@@ -53,22 +55,37 @@ abbrev pub entries_of : Side → ℕ → List Happening → List Entry
 entries_of side now noted = log_with now side noted []
 
 -- the step goes on, or the numbers are spent and nothing is sent
-abbrev pub made : {S C : Type 0} → Machine S C → Side → ℕ → Input C → Ways → Went S Happening → Stepped S
-made machine side now input ways (Goes step) = record {
+abbrev pub made :
+    {S C : Type 0} → Machine S C → Side → ℕ → Input C → S → Ways → Went S Happening → Stepped S
+made machine side now input s ways (Goes step) = record {
   end = step.next;
   ways = ways_after side (gives input) (machine.line step.next).phase step.written ways;
   entries = entries_of side now (step.notes ++ wrote step.written);
   went = answer.Went;
+  fronts = machine.stops s input now;
+  asked = machine.asks s input now;
 }
-made machine side now input ways (Spent step) =
-    record { end = step.next; ways = ways; entries = entries_of side now step.notes; went = answer.NumbersSpent }
+made machine side now input s ways (Spent step) = record {
+  end = step.next;
+  ways = ways;
+  entries = entries_of side now step.notes;
+  went = answer.NumbersSpent;
+  fronts = machine.stops s input now;
+  asked = machine.asks s input now;
+}
 
--- a slip's entry stands for the whole step
+-- a slip's entry stands for the whole step, and the disk isn't asked
 abbrev pub slipped : {S : Type 0} → Side → ℕ → S → Ways → Stepped S
-slipped side now s ways =
-    record { end = s; ways = ways; entries = slip_of side now ways ∷ []; went = answer.Slip }
+slipped side now s ways = record {
+  end = s;
+  ways = ways;
+  entries = slip_of side now ways ∷ [];
+  went = answer.Slip;
+  fronts = [];
+  asked = none_asked;
+}
 
 abbrev pub stepped : {S C : Type 0} → Machine S C → Side → ℕ → Input C → S → Ways → Stepped S
 stepped machine side now input s ways =
     if slips machine side now input s ways then slipped side now s ways
-    else made machine side now input ways (machine.act s input now)
+    else made machine side now input s ways (machine.act s input now)

@@ -11,7 +11,7 @@ use Rattle.line_schedule.specs.declared.event.Event.{Event}
 use Rattle.line_schedule.specs.declared.event.Event.TheVariants as event
 use Rattle.message_end.specs.Core.{Step, Went}
 use Rattle.message_end.specs.Core.Went.{Goes}
-use Rattle.message_end.specs.Ends.{Input, Machine}
+use Rattle.message_end.specs.Ends.{Input, Machine, none_asked}
 use Rattle.message_end.specs.Ends.Input.{Char, Command, Time}
 use Rattle.trace_log.specs.Log.{Entry, Happening}
 use Rattle.trace_log.specs.Log.Entry.{Ended, Noted, Slipped}
@@ -50,6 +50,10 @@ sender = record {
   act = λ s input now. sends s input now;
   restart = λ s now. Goes (record { next = s; notes = []; written = [] });
   line = λ s. s.line;
+  stops = λ s input now. [];
+  start_stops = [];
+  asks = λ s input now. none_asked;
+  start_asks = none_asked;
 }
 
 abbrev pub begins : Side → Option BlockView → Happening → Step Sender Happening

@@ -1,21 +1,22 @@
 -- The world of two ends and the line between them, under a schedule (this profile).
-use Rattle.std.specs.Prelude.{zero, suc, ℕ, ◌+◌, ◌==◌, List, [], ◌∷◌, ◌++◌, drop, Option, Some, None, if◌then◌else◌}
+use Rattle.std.specs.Prelude.{zero, suc, ℕ, ◌+◌, ◌==◌, List, [], ◌∷◌, ◌++◌, drop, map, Option, Some, None, if◌then◌else◌}
 use Rattle.gl_base.specs.declared.side.Side.{Side}
 use Rattle.gl_base.specs.declared.side.Side.TheVariants.{Equipment, Host}
+use Rattle.gl_base.specs.Side.{is_same_side}
 use Rattle.line_schedule.specs.declared.event.Event.{Event}
 use Rattle.line_schedule.specs.declared.event.Event.TheVariants as event
 use Rattle.line_way.specs.Kept.{direction_to, new_ways, with_change, with_direction, with_noise_to}
 use Rattle.line_way.specs.Ways.{Way, Ways, characters_of, is_under_way, next_byte}
 use Rattle.message_end.specs.Core.{Step}
-use Rattle.message_end.specs.Ends.{Input, Machine}
+use Rattle.message_end.specs.Ends.{Asked, Input, Machine, asked_both, none_asked}
 use Rattle.message_end.specs.Ends.Input.{Char, Command, Time}
 use Rattle.trace_log.specs.Laws.{log_with}
 use Rattle.trace_log.specs.Log.{Entry, Happening}
 use Rattle.trace_log.specs.declared.commands.HostCommand.{HostCommand}
 use Rattle.trace_log.specs.declared.commands.ToolCommand.{ToolCommand}
 use Rattle.end_pair.specs.declared.answers.WorldStep.{WorldStep}
-use Rattle.end_pair.specs.declared.answers.WorldStep.TheVariants.{Went, Slip, Turns, NumbersSpent, NoMemory}
-use Rattle.end_pair.specs.Steps.{Stepped, stepped}
+use Rattle.end_pair.specs.declared.answers.WorldStep.TheVariants.{Went, Slip, Turns, NumbersSpent, DiskFailed, NoMemory}
+use Rattle.end_pair.specs.Steps.{Stepped, entries_of, stepped}
 
 -- both ends, both directions of the line between them, the moment in milliseconds, and how many steps the ends have
 -- made
@@ -26,23 +27,69 @@ pub record World (E H : Type 0) : Type 0 where
   pub moment : ℕ
   pub steps : ℕ
 
--- what some of a run leaves: the world, the entries that were made, the newest first, and how it went
+-- what each end asks of its disk
+abbrev pub AskedOf : Type 0
+AskedOf = Side → Asked
+
+abbrev pub asked_of_none : AskedOf
+asked_of_none side = none_asked
+
+abbrev pub asked_of : Side → Asked → AskedOf
+asked_of end asked side = if is_same_side end side then asked else none_asked
+
+abbrev pub asked_more : AskedOf → AskedOf → AskedOf
+asked_more one two side = asked_both (one side) (two side)
+
+-- where the disk of an end may stop a run: the entries that are there then, and what the disk was asked by the end of
+-- that step
+pub record Halt : Type 0 where
+  pub side : Side
+  pub entries : List Entry
+  pub asked : Asked
+
+abbrev pub halt_at : Side → ℕ → Asked → List Happening → Halt
+halt_at side now asked front = record { side = side; entries = entries_of side now front; asked = asked }
+
+-- behind some of a run
+abbrev pub halt_behind : List Entry → AskedOf → Halt → Halt
+halt_behind entries asked halt = record {
+  side = halt.side;
+  entries = halt.entries ++ entries;
+  asked = asked_both (asked halt.side) halt.asked;
+}
+
+-- what some of a run leaves: the world, the entries that were made, the newest first, and how it went; what was asked
+-- of the disks, and where they may stop it
 pub record Piece (E H : Type 0) : Type 0 where
   pub world : World E H
   pub entries : List Entry
   pub went : WorldStep
+  pub asked : AskedOf
+  pub halts : List Halt
+
+-- nothing is noted, and no disk asked
+abbrev pub left_at : {E H : Type 0} → World E H → WorldStep → Piece E H
+left_at world went =
+    record { world = world; entries = []; went = went; asked = asked_of_none; halts = [] }
 
 abbrev pub still : {E H : Type 0} → World E H → Piece E H
-still world = record { world = world; entries = []; went = Went }
+still world = left_at world Went
 
 -- some of a run, and more of it where that went on
 abbrev pub and_on : {E H : Type 0} → WorldStep → Piece E H → (World E H → Piece E H) → Piece E H
 and_on Went piece more =
     let next = more piece.world in
-    record { world = next.world; entries = next.entries ++ piece.entries; went = next.went }
+    record {
+      world = next.world;
+      entries = next.entries ++ piece.entries;
+      went = next.went;
+      asked = asked_more piece.asked next.asked;
+      halts = piece.halts ++ map (halt_behind piece.entries piece.asked) next.halts;
+    }
 and_on Slip piece more = piece
 and_on Turns piece more = piece
 and_on NumbersSpent piece more = piece
+and_on DiskFailed piece more = piece
 and_on NoMemory piece more = piece
 
 abbrev pub and_more : {E H : Type 0} → Piece E H → (World E H → Piece E H) → Piece E H
@@ -57,7 +104,7 @@ most_settled = 65536
 
 -- no step is left
 abbrev pub turned_out : {E H : Type 0} → World E H → Piece E H
-turned_out world = record { world = world; entries = []; went = Turns }
+turned_out world = left_at world Turns
 
 -- the characters on their way to an end are others
 abbrev pub with_way : {E H : Type 0} → Side → Way → World E H → World E H
@@ -82,16 +129,26 @@ added_to side byte world = record world { ways = with_noise_to side byte world.w
 abbrev pub later : {E H : Type 0} → ℕ → World E H → World E H
 later ms world = record world { moment = world.moment + ms }
 
--- both ends have started
-abbrev pub at_start : {E H : Type 0} → Step E Happening → Step H Happening → Piece E H
-at_start equipment host = record {
-  world =
-      record { equipment = equipment.next; host = host.next; ways = new_ways; moment = 0; steps = 0 };
-  entries = log_with 0 Host host.notes (log_with 0 Equipment equipment.notes []);
-  went = Went;
-}
-
 module _ {E H : Type 0} (e : Machine E ToolCommand) (h : Machine H HostCommand) where
+  -- the start of the host, behind that of the equipment, is stopped before anything is noted of it
+  abbrev pub host_halt : Step E Happening → Halt
+  host_halt equipment =
+      halt_behind (entries_of Equipment 0 equipment.notes) (asked_of Equipment e.start_asks)
+      (halt_at Host 0 h.start_asks [])
+
+  -- both ends have started, the equipment first
+  abbrev pub at_start : Step E Happening → Step H Happening → Piece E H
+  at_start equipment host = record {
+    world =
+        record { equipment = equipment.next; host = host.next; ways = new_ways; moment = 0; steps = 0 };
+    entries = log_with 0 Host host.notes (log_with 0 Equipment equipment.notes []);
+    went = Went;
+    asked = asked_more (asked_of Equipment e.start_asks) (asked_of Host h.start_asks);
+    halts =
+        map (λ (front : List Happening). halt_at Equipment 0 e.start_asks []) e.start_stops
+        ++ map (λ (front : List Happening). host_halt equipment) h.start_stops;
+  }
+
   -- a step of the equipment, or of the host, is one of all steps
   abbrev pub with_equipment : World E H → Stepped E → Piece E H
   with_equipment world step = record {
@@ -105,6 +162,8 @@ module _ {E H : Type 0} (e : Machine E ToolCommand) (h : Machine H HostCommand) 
         };
     entries = step.entries;
     went = step.went;
+    asked = asked_of Equipment step.asked;
+    halts = map (halt_at Equipment world.moment step.asked) step.fronts;
   }
 
   abbrev pub with_host : World E H → Stepped H → Piece E H
@@ -119,6 +178,8 @@ module _ {E H : Type 0} (e : Machine E ToolCommand) (h : Machine H HostCommand) 
         };
     entries = step.entries;
     went = step.went;
+    asked = asked_of Host step.asked;
+    halts = map (halt_at Host world.moment step.asked) step.fronts;
   }
 
   abbrev pub equipment_stepped : Input ToolCommand → World E H → Piece E H

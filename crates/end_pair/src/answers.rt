@@ -9,6 +9,8 @@ pub enum RunEnd {
     Turns,
     /// The trace was written up to the step in which an end was to draw a number and had none.
     NumbersSpent,
+    /// The disk of an end failed. A part of the trace from the front was written.
+    DiskFailed,
     /// Memory ran out. A part of the trace from the front was written.
     NoMemory,
     /// The output failed. A part of the trace from the front was written.
@@ -26,6 +28,8 @@ pub enum WorldStep {
     Turns,
     /// An end was to draw a number, and had none.
     NumbersSpent,
+    /// The disk of an end failed.
+    DiskFailed,
     /// Memory ran out.
     NoMemory,
 }
@@ -33,5 +37,8 @@ pub enum WorldStep {
 /// Why a world doesn't start.
 #[derive(Clone, Copy, Debug, PartialEq, Eq)]
 pub enum WorldFault {
+    /// Memory ran out.
     NoMemory,
+    /// The disk of an end failed.
+    DiskFailed,
 }

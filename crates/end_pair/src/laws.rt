@@ -1,5 +1,7 @@
 ghost use Rattle.std.specs.Prelude.{List, All};
 ghost use Rattle.line_schedule.specs.declared.event.Event.{Event};
+ghost use Rattle.message_end.specs.Core.{step_in};
+ghost use Rattle.message_end.specs.Ends.{Opens};
 ghost use Rattle.message_end.specs.Moves.{LinePlans};
 ghost use Rattle.end_pair.specs.Kept.{MayHappen};
 ghost use Rattle.end_pair.specs.Laws.{AreOnLine, HasBytes, IsOfMoves, RunsAreBounded, StepsEndByCause};
@@ -24,14 +26,18 @@ pub fn steps_end_by_cause<E: End>()
 /// Whatever a schedule does to two ends that keep their law, its log is that of moves on one line, each of which its
 /// end may make, and none of which is a slip. Only a last entry, of a slip or of the end, is no move's.
 pub fn runs_are_moves<E: End<Command = ToolCommand>, H: End<Command = HostCommand>>()
-    ensures { (equipment : E.Plan) (host : H.Plan) (plans : LinePlans) (events : List Event)
-        → E.fits equipment → H.fits host → AreOnLine plans (E.plan_of equipment) (H.plan_of host)
+    ensures { (equipment : E.Plan) (equipment_store : E.Store) (host : H.Plan) (host_store : H.Store)
+        (plans : LinePlans) (events : List Event)
+        → E.fits equipment → H.fits host → E.holds equipment_store → H.holds host_store
+        → Opens (E.start equipment equipment_store) → Opens (H.start host host_store)
+        → AreOnLine plans (E.plan_of equipment) (H.plan_of host)
         → All (MayHappen E.takes H.takes) events → All HasBytes events
         → IsOfMoves
         (E.did equipment)
         (H.did host)
         plans
-        (log_of E.machine H.machine (E.start equipment) (H.start host) events) }
+        (log_of E.machine H.machine
+        (step_in (E.start equipment equipment_store)) (step_in (H.start host host_store)) events) }
 {}
 
 /// Whatever a schedule does, what the log has of an end is what the end notes when it meets some steps, one after the

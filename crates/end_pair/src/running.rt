@@ -4,10 +4,12 @@ ghost use Rattle.end_pair.specs.declared.answers.WorldStep.TheVariants as answer
 ghost use Rattle.gl_base.specs.Told.{sink_told};
 ghost use Rattle.trace_log.specs.Log.Entry.{Ended};
 ghost use Rattle.trace_log.specs.Text.{entry_text};
-ghost use Rattle.end_pair.specs.Kept.{MayHappen, Puts, seen};
-ghost use Rattle.end_pair.specs.Run.{Ends, HandsBack, Runs, end_of, piece_of, trace_text, went_of};
+ghost use Rattle.message_end.specs.Core.{step_in};
+ghost use Rattle.message_end.specs.Ends.{Opens};
+ghost use Rattle.end_pair.specs.Kept.{MayHappen, Puts, StopsFor, both_rooms, seen};
+ghost use Rattle.end_pair.specs.Run.{Ends, EndsAtHalt, EndsFor, HandsBack, Runs, end_of, piece_of, trace_text, went_of};
 
-use crate::answers::{RunEnd, WorldStep};
+use crate::answers::{RunEnd, WorldFault, WorldStep};
 use crate::world::World;
 use gl_base::{NoMemory, Page, Row, Sink, SinkAnswer};
 use line_schedule::Schedule;
@@ -18,32 +20,67 @@ use trace_log::{HostCommand, ToolCommand, put_end};
 /// Carries out a schedule on the line between two ends, and writes the trace of what both note. Hands the world back
 /// exactly where it answers `Whole`.
 ///
-/// The plans must fit, and each event must be one that may happen.
+/// The plans must fit, the stores hold, there must be numbers to start with, and each event must be one that may
+/// happen. For want of its disk a run ends only where that had no room for what the end's steps asked of it by then;
+/// what is written are the lines up to that work.
 pub fn run<E: End<Command = ToolCommand>, H: End<Command = HostCommand>, W: Sink>(
     alloc: Global,
     equipment: &E::Plan,
+    equipment_store: E::Store,
     host: &H::Plan,
+    host_store: H::Store,
     schedule: &Schedule,
     out: &mut W,
 ) -> (RunEnd, Option<World<E, H>>)
     requires equipment { E.fits equipment.now }
     requires host { H.fits host.now }
+    requires equipment_store { E.holds equipment_store }
+    requires host_store { H.holds host_store }
+    requires equipment_opens { Opens (E.start equipment.now equipment_store) }
+    requires host_opens { Opens (H.start host.now host_store) }
     requires events { All (MayHappen E.takes H.takes) schedule.now.events }
     ensures text { Runs
         (sink_told W.Sink out.old out.new)
-        (trace_text E.machine H.machine (E.start equipment.now) (H.start host.now) schedule.now.events)
-        (went_of E.machine H.machine (E.start equipment.now) (H.start host.now) schedule.now.events)
+        (trace_text E.machine H.machine
+        (step_in (E.start equipment.now equipment_store)) (step_in (H.start host.now host_store))
+        schedule.now.events)
+        (went_of E.machine H.machine
+        (step_in (E.start equipment.now equipment_store)) (step_in (H.start host.now host_store))
+        schedule.now.events)
         result.0 }
     ensures world { HandsBack
         (seen E.means H.means)
-        (piece_of E.machine H.machine (E.start equipment.now) (H.start host.now) schedule.now.events).world
+        (piece_of E.machine H.machine
+        (step_in (E.start equipment.now equipment_store)) (step_in (H.start host.now host_store))
+        schedule.now.events).world
         result.0
         result.1 }
+    ensures stops { EndsFor (EndsAtHalt
+        (sink_told W.Sink out.old out.new)
+        (piece_of E.machine H.machine
+        (step_in (E.start equipment.now equipment_store)) (step_in (H.start host.now host_store))
+        schedule.now.events).halts
+        (both_rooms (E.store_room equipment_store) (H.store_room host_store)))
+        result.0 }
 {
     let mut page = Page::new();
     let mut lines = Row::new(alloc);
-    let Ok(mut world) = World::<E, H>::start(alloc, equipment, host, &mut lines) else {
-        return (RunEnd::NoMemory, None);
+    let mut world = match World::<E, H>::start(
+        alloc,
+        equipment,
+        equipment_store,
+        host,
+        host_store,
+        &mut lines,
+    ) {
+        Ok(world) => world,
+        Err(WorldFault::NoMemory) => return (RunEnd::NoMemory, None),
+        Err(WorldFault::DiskFailed) => {
+            return (
+                stop(WorldStep::DiskFailed, lines.as_slice(), &mut page, out),
+                None,
+            );
+        }
     };
     'events: for event in schedule.events.as_slice() {
         let SinkAnswer::Done = page.put(out, lines.as_slice()) else {
@@ -64,7 +101,8 @@ pub fn run<E: End<Command = ToolCommand>, H: End<Command = HostCommand>, W: Sink
 
 // Puts the line of the end.
 fn close(now: u64, lines: &mut Row<u8>) -> WorldStep
-    ensures { Puts answer.Went (entry_text (Ended now)) lines.old lines.new result }
+    ensures puts { Puts answer.Went (entry_text (Ended now)) lines.old lines.new result }
+    ensures no_disk { StopsFor ⊥ result }
 {
     match put_end(now, lines) {
         Ok(()) => WorldStep::Went,
@@ -90,6 +128,7 @@ fn end_of(went: WorldStep) -> RunEnd
         WorldStep::Slip => RunEnd::Slip,
         WorldStep::Turns => RunEnd::Turns,
         WorldStep::NumbersSpent => RunEnd::NumbersSpent,
+        WorldStep::DiskFailed => RunEnd::DiskFailed,
         WorldStep::NoMemory => RunEnd::NoMemory,
     }
 }

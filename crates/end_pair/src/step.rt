@@ -1,15 +1,17 @@
 //! One step of an end on the line.
 
-ghost use Rattle.std.specs.Prelude.{◌≡◌, ◌<◌, ◌≤◌, ◌+◌, ◌^◌, ◌&&◌};
+ghost use Rattle.std.specs.Prelude.{◌≡◌, ◌<◌, ◌≤◌, ◌+◌, ◌^◌, ◌&&◌, map};
+ghost use Rattle.gl_base.specs.declared.side.Side.{Side};
 ghost use Rattle.line_end.specs.Step.{is_due};
 ghost use Rattle.line_way.specs.Kept.{IsSlipOf, direction_to, gathered_with_next, makes_slip_in};
-ghost use Rattle.message_end.specs.Ends.{MayTake, input_of};
+ghost use Rattle.message_end.specs.Ends.{Asked, IsLeft, MayTake, input_of};
 ghost use Rattle.std.specs.List.{flat_map};
 ghost use Rattle.trace_log.specs.Log.Entry.{Slipped};
 ghost use Rattle.trace_log.specs.Text.{entry_text, note_line, text_of};
 ghost use Rattle.end_pair.specs.declared.answers.WorldStep.TheVariants as answer;
-ghost use Rattle.end_pair.specs.Kept.{IfWent, Puts};
+ghost use Rattle.end_pair.specs.Kept.{HasHalted, IfWent, Puts, PutsStopped, StopsFor};
 ghost use Rattle.end_pair.specs.Steps.{gives, slip_of, stepped};
+ghost use Rattle.end_pair.specs.World.{halt_at};
 
 use crate::answers::WorldStep;
 use crate::putting::{put_notes, put_step};
@@ -41,6 +43,11 @@ pub(crate) fn step_end<E: End>(
         ≡ (stepped E.machine side now (input_of input.entry) (E.means end.old) ways.old).end) }
     ensures ways { IfWent result (ways.new
         ≡ (stepped E.machine side now (input_of input.entry) (E.means end.old) ways.old).ways) }
+    ensures room { let step = stepped E.machine side now (input_of input.entry) (E.means end.old) ways.old in
+        IfWent result (IsLeft (E.room end.old) step.asked (E.room end.new)) }
+    ensures stops { let step = stepped E.machine side now (input_of input.entry) (E.means end.old) ways.old in
+        (had : Side → Asked) → had side ≡ E.room end.old →
+        StopsFor (HasHalted (map (halt_at side now step.asked) step.fronts) had lines.old lines.new) result }
     ensures sound { E.sound end.new }
     ensures count { ways.new.written ≤ ways.old.written + 1 }
 {
@@ -57,6 +64,7 @@ pub(crate) fn step_end<E: End>(
     match end.step(alloc, input, now, &mut out) {
         Ok(()) => {}
         Err(Stop::NumbersSpent) => return put_spent(now, side, out.notes.as_slice(), lines),
+        Err(Stop::DiskFailed) => return put_stopped(now, side, out.notes.as_slice(), lines),
         Err(Stop::NoMemory) => return WorldStep::NoMemory,
     }
     let Ok(()) = put_step(alloc, now, side, &out, lines) else {
@@ -92,12 +100,13 @@ fn is_character<C>(input: &NodeInput<'_, C>) -> bool
 
 // Puts the line of a slip.
 fn put_slipped(now: u64, side: Side, slip: &Slip, lines: &mut Row<u8>) -> WorldStep
-    ensures { Puts
+    ensures puts { Puts
         answer.Slip
         (entry_text (Slipped now side slip.now.frame slip.now.characters.items))
         lines.old
         lines.new
         result }
+    ensures no_disk { StopsFor ⊥ result }
 {
     match put_slip(now, side, slip.frame, slip.characters.as_slice(), lines) {
         Ok(()) => WorldStep::Slip,
@@ -107,10 +116,21 @@ fn put_slipped(now: u64, side: Side, slip: &Slip, lines: &mut Row<u8>) -> WorldS
 
 // Puts the lines of a step in which the numbers were spent.
 fn put_spent(now: u64, side: Side, notes: &[Note], lines: &mut Row<u8>) -> WorldStep
-    ensures { Puts answer.NumbersSpent (flat_map (note_line now side) notes.now) lines.old lines.new result }
+    ensures puts { Puts answer.NumbersSpent (flat_map (note_line now side) notes.now) lines.old lines.new result }
+    ensures no_disk { StopsFor ⊥ result }
 {
     match put_notes(now, side, notes, lines) {
         Ok(()) => WorldStep::NumbersSpent,
+        Err(NoMemory) => WorldStep::NoMemory,
+    }
+}
+
+// Puts the lines of a step that a disk has stopped.
+fn put_stopped(now: u64, side: Side, notes: &[Note], lines: &mut Row<u8>) -> WorldStep
+    ensures { PutsStopped (flat_map (note_line now side) notes.now) lines.old lines.new result }
+{
+    match put_notes(now, side, notes, lines) {
+        Ok(()) => WorldStep::DiskFailed,
         Err(NoMemory) => WorldStep::NoMemory,
     }
 }

@@ -1,8 +1,9 @@
-ghost use Rattle.std.specs.Prelude.{◌≡◌, ◌<◌, ◌≤◌, ◌+◌, ◌*◌, ◌^◌, ◌++◌, ◌&&◌, not, IfOk, OnErr, OnOk};
+ghost use Rattle.std.specs.Prelude.{◌≡◌, ◌<◌, ◌≤◌, ◌+◌, ◌*◌, ◌^◌, ◌++◌, ◌&&◌, not, IfErr, IfOk, OnErr, OnOk};
 ghost use Rattle.gl_base.specs.declared.side.Side.TheVariants as sides;
-ghost use Rattle.message_end.specs.Ends.{MayTake, input_of};
+ghost use Rattle.message_end.specs.Core.{step_in};
+ghost use Rattle.message_end.specs.Ends.{IsLeft, MayTake, Opens, input_of};
 ghost use Rattle.trace_log.specs.Text.{text_of};
-ghost use Rattle.end_pair.specs.Kept.{MayHappen, IfWent, PutPart, Puts, seen};
+ghost use Rattle.end_pair.specs.Kept.{AreLeft, FaultsFor, HasHalted, IfWent, IsNotStarted, MayHappen, PutPart, Puts, StopsFor, both_rooms, rooms, seen};
 ghost use Rattle.line_way.specs.Kept.{direction_to, with_direction};
 ghost use Rattle.line_way.specs.Ways.{characters_of, is_under_way};
 ghost use Rattle.end_pair.specs.Steps.{entries_of};
@@ -16,7 +17,7 @@ use arrayvec::ArrayVec;
 use gl_base::{NoMemory, Row, Side};
 use line_schedule::Event;
 use line_way::Ways;
-use message_end::End;
+use message_end::{End, Stop};
 use message_flow::{NodeInput, StepOut};
 use std::alloc::Global;
 use std::marker::Model;
@@ -66,25 +67,63 @@ impl<E: End<Command = ToolCommand>, H: End<Command = HostCommand>> World<E, H> {
     pub fn start(
         alloc: Global,
         equipment: &E::Plan,
+        equipment_store: E::Store,
         host: &H::Plan,
+        host_store: H::Store,
         lines: &mut Row<u8>,
     ) -> Result<World<E, H>, WorldFault>
         requires equipment { E.fits equipment.now }
         requires host { H.fits host.now }
+        requires equipment_store { E.holds equipment_store }
+        requires host_store { H.holds host_store }
+        requires equipment_opens { Opens (E.start equipment.now equipment_store) }
+        requires host_opens { Opens (H.start host.now host_store) }
         ensures world { IfOk result (λ world. seen E.means H.means world
-            ≡ (begun E.machine H.machine (E.start equipment.now) (H.start host.now)).world) }
+            ≡ (begun E.machine H.machine
+            (step_in (E.start equipment.now equipment_store))
+            (step_in (H.start host.now host_store))).world) }
         ensures went { OnOk result
-            ((begun E.machine H.machine (E.start equipment.now) (H.start host.now)).went ≡ answer.Went) }
+            ((begun E.machine H.machine
+            (step_in (E.start equipment.now equipment_store))
+            (step_in (H.start host.now host_store))).went ≡ answer.Went) }
         ensures lines { OnOk result (lines.new
-            ≡ lines.old ++ text_of (begun E.machine H.machine (E.start equipment.now) (H.start host.now)).entries) }
+            ≡ lines.old ++ text_of (begun E.machine H.machine
+            (step_in (E.start equipment.now equipment_store))
+            (step_in (H.start host.now host_store))).entries) }
         ensures part { OnErr result (PutPart
-            (text_of (begun E.machine H.machine (E.start equipment.now) (H.start host.now)).entries)
+            (text_of (begun E.machine H.machine
+            (step_in (E.start equipment.now equipment_store))
+            (step_in (H.start host.now host_store))).entries)
             lines.old
             lines.new) }
+        ensures room { IfOk result (λ world. AreLeft
+            (both_rooms (E.store_room equipment_store) (H.store_room host_store))
+            (begun E.machine H.machine
+            (step_in (E.start equipment.now equipment_store))
+            (step_in (H.start host.now host_store))).asked
+            (rooms E.room H.room world)) }
+        ensures stops { IfErr result (FaultsFor (HasHalted
+            (begun E.machine H.machine
+            (step_in (E.start equipment.now equipment_store))
+            (step_in (H.start host.now host_store))).halts
+            (both_rooms (E.store_room equipment_store) (H.store_room host_store))
+            lines.old
+            lines.new)) }
     {
-        let mut world = World::at_start(alloc, equipment, host, lines)?;
+        let mut world = match World::at_start(
+            alloc,
+            equipment,
+            equipment_store,
+            host,
+            host_store,
+            lines,
+        ) {
+            Ok(world) => world,
+            Err(fault) => return Err(fault),
+        };
         match world.step_both(alloc, 0, lines) {
             WorldStep::Went => Ok(world),
+            WorldStep::DiskFailed => Err(WorldFault::DiskFailed),
             _ => Err(WorldFault::NoMemory),
         }
     }
@@ -93,25 +132,56 @@ impl<E: End<Command = ToolCommand>, H: End<Command = HostCommand>> World<E, H> {
     fn at_start(
         alloc: Global,
         equipment: &E::Plan,
+        equipment_store: E::Store,
         host: &H::Plan,
+        host_store: H::Store,
         lines: &mut Row<u8>,
     ) -> Result<World<E, H>, WorldFault>
         requires equipment { E.fits equipment.now }
         requires host { H.fits host.now }
+        requires equipment_store { E.holds equipment_store }
+        requires host_store { H.holds host_store }
+        requires equipment_opens { Opens (E.start equipment.now equipment_store) }
+        requires host_opens { Opens (H.start host.now host_store) }
         ensures world { IfOk result (λ world. seen E.means H.means world
-            ≡ (at_start (E.start equipment.now) (H.start host.now)).world) }
+            ≡ (at_start E.machine H.machine
+            (step_in (E.start equipment.now equipment_store))
+            (step_in (H.start host.now host_store))).world) }
         ensures lines { OnOk result (lines.new
-            ≡ lines.old ++ text_of (at_start (E.start equipment.now) (H.start host.now)).entries) }
+            ≡ lines.old ++ text_of (at_start E.machine H.machine
+            (step_in (E.start equipment.now equipment_store))
+            (step_in (H.start host.now host_store))).entries) }
         ensures part { OnErr result (PutPart
-            (text_of (at_start (E.start equipment.now) (H.start host.now)).entries)
+            (text_of (at_start E.machine H.machine
+            (step_in (E.start equipment.now equipment_store))
+            (step_in (H.start host.now host_store))).entries)
             lines.old
             lines.new) }
+        ensures room { IfOk result (λ world. AreLeft
+            (both_rooms (E.store_room equipment_store) (H.store_room host_store))
+            (at_start E.machine H.machine
+            (step_in (E.start equipment.now equipment_store))
+            (step_in (H.start host.now host_store))).asked
+            (rooms E.room H.room world)) }
+        ensures stops { IfErr result (FaultsFor (HasHalted
+            (at_start E.machine H.machine
+            (step_in (E.start equipment.now equipment_store))
+            (step_in (H.start host.now host_store))).halts
+            (both_rooms (E.store_room equipment_store) (H.store_room host_store))
+            lines.old
+            lines.new)) }
     {
-        let equipment = start_end::<E>(alloc, Side::Equipment, equipment, lines)?;
-        let host = start_end::<H>(alloc, Side::Host, host, lines)?;
+        let tool = match start_end::<E>(alloc, Side::Equipment, equipment, equipment_store, lines) {
+            Ok(tool) => tool,
+            Err(fault) => return Err(fault),
+        };
+        let user = match start_end::<H>(alloc, Side::Host, host, host_store, lines) {
+            Ok(user) => user,
+            Err(fault) => return Err(fault),
+        };
         Ok(World {
-            equipment,
-            host,
+            equipment: tool,
+            host: user,
             ways: Ways::new(alloc),
             moment: 0,
             steps: 0,
@@ -146,6 +216,10 @@ impl<E: End<Command = ToolCommand>, H: End<Command = HostCommand>> World<E, H> {
             Puts piece.went (text_of piece.entries) lines.old lines.new result }
         ensures world { IfWent result (seen E.means H.means self.new
             ≡ (after_event E.machine H.machine event.now (seen E.means H.means self.old)).world) }
+        ensures room { let piece = after_event E.machine H.machine event.now (seen E.means H.means self.old) in
+            IfWent result (AreLeft (rooms E.room H.room self.old) piece.asked (rooms E.room H.room self.new)) }
+        ensures stops { let piece = after_event E.machine H.machine event.now (seen E.means H.means self.old) in
+            StopsFor (HasHalted piece.halts (rooms E.room H.room self.old) lines.old lines.new) result }
     {
         match event {
             Event::To(side, n) => self.give(alloc, *side, *n, lines),
@@ -177,6 +251,10 @@ impl<E: End<Command = ToolCommand>, H: End<Command = HostCommand>> World<E, H> {
             Puts piece.went (text_of piece.entries) lines.old lines.new result }
         ensures world { IfWent result (seen E.means H.means self.new
             ≡ (given_times E.machine H.machine n side (seen E.means H.means self.old)).world) }
+        ensures room { let piece = given_times E.machine H.machine n side (seen E.means H.means self.old) in
+            IfWent result (AreLeft (rooms E.room H.room self.old) piece.asked (rooms E.room H.room self.new)) }
+        ensures stops { let piece = given_times E.machine H.machine n side (seen E.means H.means self.old) in
+            StopsFor (HasHalted piece.halts (rooms E.room H.room self.old) lines.old lines.new) result }
     {
         let mut left = n;
         'characters: while left > 0 {
@@ -198,6 +276,10 @@ impl<E: End<Command = ToolCommand>, H: End<Command = HostCommand>> World<E, H> {
             Puts piece.went (text_of piece.entries) lines.old lines.new result }
         ensures world { IfWent result (seen E.means H.means self.new
             ≡ (settled_times E.machine H.machine n (seen E.means H.means self.old)).world) }
+        ensures room { let piece = settled_times E.machine H.machine n (seen E.means H.means self.old) in
+            IfWent result (AreLeft (rooms E.room H.room self.old) piece.asked (rooms E.room H.room self.new)) }
+        ensures stops { let piece = settled_times E.machine H.machine n (seen E.means H.means self.old) in
+            StopsFor (HasHalted piece.halts (rooms E.room H.room self.old) lines.old lines.new) result }
     {
         let mut left = n;
         'characters: while left > 0 {
@@ -219,6 +301,10 @@ impl<E: End<Command = ToolCommand>, H: End<Command = HostCommand>> World<E, H> {
             Puts piece.went (text_of piece.entries) lines.old lines.new result }
         ensures world { IfWent result (seen E.means H.means self.new
             ≡ (settled E.machine H.machine (seen E.means H.means self.old)).world) }
+        ensures room { let piece = settled E.machine H.machine (seen E.means H.means self.old) in
+            IfWent result (AreLeft (rooms E.room H.room self.old) piece.asked (rooms E.room H.room self.new)) }
+        ensures stops { let piece = settled E.machine H.machine (seen E.means H.means self.old) in
+            StopsFor (HasHalted piece.halts (rooms E.room H.room self.old) lines.old lines.new) result }
     {
         if self.is_under_way(Side::Equipment) {
             self.hand(alloc, Side::Equipment, lines)
@@ -248,6 +334,10 @@ impl<E: End<Command = ToolCommand>, H: End<Command = HostCommand>> World<E, H> {
             Puts piece.went (text_of piece.entries) lines.old lines.new result }
         ensures world { IfWent result (seen E.means H.means self.new
             ≡ (given E.machine H.machine side (seen E.means H.means self.old)).world) }
+        ensures room { let piece = given E.machine H.machine side (seen E.means H.means self.old) in
+            IfWent result (AreLeft (rooms E.room H.room self.old) piece.asked (rooms E.room H.room self.new)) }
+        ensures stops { let piece = given E.machine H.machine side (seen E.means H.means self.old) in
+            StopsFor (HasHalted piece.halts (rooms E.room H.room self.old) lines.old lines.new) result }
     {
         let Some(byte) = self.ways.next(side) else {
             return WorldStep::Went;
@@ -266,6 +356,12 @@ impl<E: End<Command = ToolCommand>, H: End<Command = HostCommand>> World<E, H> {
             Puts piece.went (text_of piece.entries) lines.old lines.new result }
         ensures world { IfWent result (seen E.means H.means self.new
             ≡ (both_stepped E.machine H.machine (later milliseconds (seen E.means H.means self.old))).world) }
+        ensures room { let moved = later milliseconds (seen E.means H.means self.old) in
+            let piece = both_stepped E.machine H.machine moved in
+            IfWent result (AreLeft (rooms E.room H.room self.old) piece.asked (rooms E.room H.room self.new)) }
+        ensures stops { let moved = later milliseconds (seen E.means H.means self.old) in
+            let piece = both_stepped E.machine H.machine moved in
+            StopsFor (HasHalted piece.halts (rooms E.room H.room self.old) lines.old lines.new) result }
     {
         match self.step_equipment(alloc, milliseconds, NodeInput::Time, lines) {
             WorldStep::Went => self.step_host(alloc, NodeInput::Time, lines),
@@ -289,6 +385,12 @@ impl<E: End<Command = ToolCommand>, H: End<Command = HostCommand>> World<E, H> {
         ensures world { let moved = later milliseconds (seen E.means H.means self.old) in
             IfWent result (seen E.means H.means self.new
             ≡ (equipment_stepped E.machine H.machine (input_of input.entry) moved).world) }
+        ensures room { let moved = later milliseconds (seen E.means H.means self.old) in
+            let piece = equipment_stepped E.machine H.machine (input_of input.entry) moved in
+            IfWent result (AreLeft (rooms E.room H.room self.old) piece.asked (rooms E.room H.room self.new)) }
+        ensures stops { let moved = later milliseconds (seen E.means H.means self.old) in
+            let piece = equipment_stepped E.machine H.machine (input_of input.entry) moved in
+            StopsFor (HasHalted piece.halts (rooms E.room H.room self.old) lines.old lines.new) result }
     {
         if self.steps == MOST_STEPS {
             return WorldStep::Turns;
@@ -319,6 +421,12 @@ impl<E: End<Command = ToolCommand>, H: End<Command = HostCommand>> World<E, H> {
             Puts piece.went (text_of piece.entries) lines.old lines.new result }
         ensures world { IfWent result (seen E.means H.means self.new
             ≡ (host_stepped E.machine H.machine (input_of input.entry) (seen E.means H.means self.old)).world) }
+        ensures room { let piece =
+            host_stepped E.machine H.machine (input_of input.entry) (seen E.means H.means self.old) in
+            IfWent result (AreLeft (rooms E.room H.room self.old) piece.asked (rooms E.room H.room self.new)) }
+        ensures stops { let piece =
+            host_stepped E.machine H.machine (input_of input.entry) (seen E.means H.means self.old) in
+            StopsFor (HasHalted piece.halts (rooms E.room H.room self.old) lines.old lines.new) result }
     {
         if self.steps == MOST_STEPS {
             return WorldStep::Turns;
@@ -372,21 +480,33 @@ fn start_end<E: End>(
     alloc: Global,
     side: Side,
     plan: &E::Plan,
+    store: E::Store,
     lines: &mut Row<u8>,
 ) -> Result<E, WorldFault>
-    requires { E.fits plan.now }
-    ensures end { IfOk result (λ end. E.means end ≡ (E.start plan.now).next) }
+    requires fits { E.fits plan.now }
+    requires store { E.holds store }
+    requires opens { Opens (E.start plan.now store) }
+    ensures end { IfOk result (λ end. E.means end ≡ (step_in (E.start plan.now store)).next) }
     ensures sound { IfOk result (λ end. E.sound end) }
-    ensures lines { OnOk result (lines.new ≡ lines.old ++ text_of (entries_of side 0 (E.start plan.now).notes)) }
-    ensures part { OnErr result (PutPart (text_of (entries_of side 0 (E.start plan.now).notes)) lines.old lines.new) }
+    ensures lines { OnOk result (lines.new
+        ≡ lines.old ++ text_of (entries_of side 0 (step_in (E.start plan.now store)).notes)) }
+    ensures part { OnErr result (PutPart
+        (text_of (entries_of side 0 (step_in (E.start plan.now store)).notes))
+        lines.old
+        lines.new) }
+    ensures room { IfOk result (λ end. IsLeft (E.store_room store) E.machine.start_asks (E.room end)) }
+    ensures stops { IfErr result (FaultsFor (IsNotStarted E.machine (E.store_room store) lines.old lines.new)) }
 {
     notes_are_lines();
     let mut out = StepOut {
         line: ArrayVec::new(),
         notes: Row::new(alloc),
     };
-    let Ok(end) = E::start(alloc, plan, &mut out) else {
-        return Err(WorldFault::NoMemory);
+    let end = match E::start(alloc, plan, store, &mut out) {
+        Ok(end) => end,
+        Err(Stop::NoMemory) => return Err(WorldFault::NoMemory),
+        Err(Stop::DiskFailed) => return Err(WorldFault::DiskFailed),
+        Err(Stop::NumbersSpent) => unreachable!("there are numbers to start with"),
     };
     let Ok(()) = put_notes(0, side, out.notes.as_slice(), lines) else {
         return Err(WorldFault::NoMemory);

@@ -13,6 +13,8 @@ pub returns-in_err-put_notes-clause-err : goal.returns-in_err-put_notes-clause-e
 returns-in_err-put_notes-clause-err c =
     on_err c.from_residual.result
     (put_before (flat_map (note_line c.args.now c.args.side) c.args.out.now.notes)
-    (flat_map (note_line c.args.now c.args.side) (printed (wrote c.args.out.now.line.items))) c.args.lines.now c.put_notes.new.lines
-    (subst (λ (ns : List Note). PutPart (flat_map (note_line c.args.now c.args.side) ns) c.args.lines.now c.put_notes.new.lines)
+    (flat_map (note_line c.args.now c.args.side) (printed (wrote c.args.out.now.line.items))) c.args.lines.now
+    c.put_notes.new.lines
+    (subst (λ (ns : List Note). PutPart (flat_map (note_line c.args.now c.args.side) ns) c.args.lines.now
+    c.put_notes.new.lines)
     c.as_slice.ensures c.in_err-put_notes.ensures.err))

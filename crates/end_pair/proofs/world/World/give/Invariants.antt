@@ -1,4 +1,4 @@
-use Rattle.end_pair.specs.Kept.{seen}
+use Rattle.end_pair.specs.Kept.{rooms, seen}
 use Rattle.end_pair.specs.World.{given_times}
 use Rattle.end_pair.proofs.Pieces.{Leads}
 use Rattle.end_pair.proofs.world.World.give.Given as goal
@@ -7,8 +7,10 @@ abbrev pub invariant-characters : goal.invariant-characters
 invariant-characters g l =
     let e = g.E.End in
     let h = g.H.End in
-    Leads (given_times e.machine h.machine l.left l.side (seen e.means h.means l.self)) l.lines
-    (given_times e.machine h.machine l.n l.side (seen e.means h.means l.fn.self)) l.fn.lines
+    Leads (given_times e.machine h.machine l.left l.side (seen e.means h.means l.self)) (rooms e.room h.room l.self)
+    l.lines
+    (given_times e.machine h.machine l.n l.side (seen e.means h.means l.fn.self)) (rooms e.room h.room l.fn.self)
+    l.fn.lines
 
 abbrev pub decreases-characters : goal.decreases-characters
 decreases-characters g l = l.left
