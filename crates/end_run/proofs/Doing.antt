@@ -1,12 +1,12 @@
 -- Pieces of a run as the code carries them out, one behind the other.
 use Rattle.std.proofs.Common.{◌≡◌, List, [], ◌++◌, Option, Some, None, refl, sym, ap, subst, ◌∙◌, append_assoc, append-nil}
 use Rattle.end_run.specs.declared.ending.Ending.{Ending}
-use Rattle.end_run.specs.declared.ending.Ending.TheVariants.{Closed, LinkFailed, NoMemory, NumbersSpent, Stopped, Turns, WriteFailed}
+use Rattle.end_run.specs.declared.ending.Ending.TheVariants.{Closed, DiskFailed, LinkFailed, NoMemory, NumbersSpent, Stopped, Turns, WriteFailed}
 use Rattle.end_run.specs.Acts.{Act}
-use Rattle.end_run.specs.Outcome.{Did, Does, LinkFails, MadePart, Runs, WriteFails}
+use Rattle.end_run.specs.Outcome.{Did, DiskFails, Does, LinkFails, Made, MadePart, Runs, WriteFails}
 use Rattle.end_run.specs.Pieces.{Piece, and_more, and_on, behind, still}
 use Rattle.end_run.specs.Scenes.{Scene}
-use Rattle.end_run.proofs.Joining.{did_both, did_none, link_before, link_behind, part_before, part_behind, write_before, write_behind}
+use Rattle.end_run.proofs.Joining.{did_both, did_none, disk_before, disk_behind, link_before, link_behind, made_both, part_before, part_behind, write_before, write_behind}
 
 module _ {S : Type 0} {a b : Scene S} (c : Scene S) (first : List (Act S)) (one : Did a b first) where
   -- more acts were to be done
@@ -16,7 +16,8 @@ module _ {S : Type 0} {a b : Scene S} (c : Scene S) (first : List (Act S)) (one 
   does_behind how second (Some Stopped) two = (two.0, did_both c first second one two.1)
   does_behind how second (Some Closed) two = (two.0, did_both c first second one two.1)
   does_behind how second (Some Turns) two = (two.0, did_both c first second one two.1)
-  does_behind how second (Some NumbersSpent) two = (two.0, did_both c first second one two.1)
+  does_behind how second (Some NumbersSpent) two = (two.0, made_both c first second second one.made two.1)
+  does_behind how second (Some DiskFailed) two = disk_behind c first second one two
   does_behind how second (Some LinkFailed) two = link_behind c first second one two
   does_behind how second (Some WriteFailed) two = write_behind c first second one two
   does_behind how second (Some NoMemory) two = part_behind c first second one two
@@ -44,6 +45,12 @@ runs_stop {S} a b first more how one = go how one
     exact how is did =
         subst (λ (piece : Piece S). (piece.ended ≡ Some how) × Did a b piece.acts) (sym (same how is)) (is, did)
 
+    spent : first.ended ≡ Some NumbersSpent → Made a b first.acts
+        → ((and_more first more).ended ≡ Some NumbersSpent) × Made a b (and_more first more).acts
+    spent is made =
+        subst (λ (piece : Piece S). (piece.ended ≡ Some NumbersSpent) × Made a b piece.acts)
+        (sym (same NumbersSpent is)) (is, made)
+
     with_more : (P : List (Act S) → Type 0) → P first.acts → ((second : List (Act S)) → P (first.acts ++ second))
         → (ended : Option Ending) → P (and_on ended first more).acts
     with_more P all cut None = cut (more first.end).acts
@@ -53,7 +60,9 @@ runs_stop {S} a b first more how one = go how one
     go Stopped one = exact Stopped one.0 one.1
     go Closed one = exact Closed one.0 one.1
     go Turns one = exact Turns one.0 one.1
-    go NumbersSpent one = exact NumbersSpent one.0 one.1
+    go NumbersSpent one = spent one.0 one.1
+    go DiskFailed one =
+        with_more (λ acts. DiskFails a b acts) one (λ second. disk_before a b first.acts second one) first.ended
     go LinkFailed one =
         with_more (λ acts. LinkFails a b acts) one (λ second. link_before a b first.acts second one) first.ended
     go WriteFailed one =

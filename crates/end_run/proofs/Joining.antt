@@ -1,5 +1,5 @@
 -- Acts one after another, and what link, output and end have of them.
-use Rattle.std.proofs.Common.{◌≡◌, ℕ, ◌+◌, List, [], ◌∷◌, ◌++◌, length, take, Option, Some, None, refl, sym, ap, subst, ◌∙◌, append_assoc, append-nil, arith, length-append}
+use Rattle.std.proofs.Common.{◌≡◌, inl, inr, ℕ, ◌+◌, List, [], ◌∷◌, ◌++◌, length, take, Option, Some, None, refl, sym, ap, subst, ◌∙◌, append_assoc, append-nil, arith, length-append}
 use Rattle.gl_base.specs.Faults.{one_more}
 use Rattle.gl_base.specs.Link.{IsCarriedOn, LinkContents, LinkFault, LinkHealth}
 use Rattle.gl_base.specs.Sending.{WroteText}
@@ -7,11 +7,12 @@ use Rattle.gl_base.specs.Sink.{IsWrittenOn, SinkHealth, WriteFault, with_bytes}
 use Rattle.gl_base.specs.declared.link.LinkEntry.{LinkEntry}
 use Rattle.gl_base.specs.declared.link.LinkIn.{LinkIn}
 use Rattle.gl_base.proofs.Appending.{wrote_both, wrote_nothing}
+use Rattle.message_end.specs.Ends.{Asked, IsLeft as LeavesRoom, IsShort, asked_both, none_asked}
 use Rattle.trace_log.specs.Log.{Entry}
 use Rattle.trace_log.specs.Text.{entry_text, text_of}
-use Rattle.end_run.specs.Acts.{Act, AreTimely, end_by, end_with, lines_of, list_of, listed, log_of, moment_by, moment_with, noted, taken, taken_of}
+use Rattle.end_run.specs.Acts.{Act, AreTimely, asked_by, end_by, end_with, lines_of, list_of, listed, log_of, moment_by, moment_with, noted, taken, taken_of}
 use Rattle.end_run.specs.Acts.Act.{Connects, Polls, Sends, Stands, Writes}
-use Rattle.end_run.specs.Outcome.{Did, HasListed, IsLeft, LinkFails, Linked, Lists, Made, MadePart, WriteFails}
+use Rattle.end_run.specs.Outcome.{Did, DiskFails, HasListed, IsLeft, LinkFails, Linked, Lists, Made, MadePart, PutsLast, WriteFails}
 use Rattle.end_run.specs.Scenes.{Scene, written}
 
 -- ---- the log's text
@@ -72,7 +73,7 @@ left_on : {S : Type 0} (acts : List (Act S)) (before : Option S) (mid now : S) �
     → IsLeft (end_by (Some mid) acts) now → IsLeft (end_by before acts) now
 left_on [] None mid now is more = tt
 left_on [] (Some before) mid now is more = more ∙ is
-left_on (Stands end ∷ acts) before mid now is more = more
+left_on (Stands stops asked end ∷ acts) before mid now is more = more
 left_on (Connects ∷ acts) before mid now is more = left_on acts before mid now is more
 left_on (Polls until answer ∷ acts) before mid now is more = left_on acts before mid now is more
 left_on (Writes entries ∷ acts) before mid now is more = left_on acts before mid now is more
@@ -88,6 +89,37 @@ left_both : {S : Type 0} (before mid now : S) (first second : List (Act S)) → 
 left_both {S} before mid now first second one two =
     subst (λ (left : Option S). IsLeft left now) (sym (end_by-append (Some before) first second))
     (left_on second (end_by (Some before) first) mid now one two)
+
+-- ---- its disk
+
+asked-calls : {S : Type 0} (first second : List (Act S))
+    → (asked_by (first ++ second)).calls ≡ (asked_by first).calls + (asked_by second).calls
+asked-calls [] second = omega arith
+asked-calls (act ∷ first) second =
+    let more = asked-calls first second in omega (arith, more)
+
+asked-bytes : {S : Type 0} (first second : List (Act S))
+    → (asked_by (first ++ second)).bytes ≡ (asked_by first).bytes + (asked_by second).bytes
+asked-bytes [] second = omega arith
+asked-bytes (act ∷ first) second =
+    let more = asked-bytes first second in omega (arith, more)
+
+pub room_none : (room : Asked) → LeavesRoom room none_asked room
+room_none room = record { calls = omega arith; bytes = omega arith }
+
+room_both : {S : Type 0} (a b c : Asked) (first second : List (Act S)) → LeavesRoom a (asked_by first) b
+    → LeavesRoom b (asked_by second) c → LeavesRoom a (asked_by (first ++ second)) c
+room_both a b c first second one two =
+    let calls = asked-calls first second in
+    let bytes = asked-bytes first second in
+    record { calls = omega (arith, calls, one.calls, two.calls); bytes = omega (arith, bytes, one.bytes, two.bytes) }
+
+short_both : {S : Type 0} (a b asked : Asked) (first second : List (Act S)) → LeavesRoom a (asked_by first) b
+    → IsShort b (asked_both (asked_by second) asked) → IsShort a (asked_both (asked_by (first ++ second)) asked)
+short_both a b asked first second one (inl few) =
+    let calls = asked-calls first second in inl (omega (arith, calls, one.calls, few))
+short_both a b asked first second one (inr few) =
+    let bytes = asked-bytes first second in inr (omega (arith, bytes, one.bytes, few))
 
 -- ---- what a link lists
 
@@ -167,6 +199,40 @@ wrote_behind a b c first more one two =
     subst (λ (t : List ℕ). WroteText (written a c) t) (sym (lines_of-append first more))
     (wrote_both (lines_of first) (lines_of more) one two)
 
+with_both : (was : Option (List ℕ)) (s t : List ℕ) → with_bytes (with_bytes was s) t ≡ with_bytes was (s ++ t)
+with_both None s t = refl
+with_both (Some was) s t = ap Some (append_assoc was s t)
+
+written-length : {S : Type 0} (first done : List (Act S)) (text : List ℕ)
+    → length (lines_of (first ++ done) ++ text) ≡ length (lines_of first) + length (lines_of done ++ text)
+written-length first done text =
+    ap (λ (t : List ℕ). length (t ++ text)) (lines_of-append first done)
+    ∙ ap length (append_assoc (lines_of first) (lines_of done) text)
+    ∙ length-append (lines_of first) (lines_of done ++ text)
+
+-- the same of a text that was put as far as could be
+put_behind : {S : Type 0} (a b c : Scene S) (first done : List (Act S)) (text : List ℕ)
+    → WroteText (written a b) (lines_of first) → PutsLast b c (lines_of done) text
+    → PutsLast a c (lines_of (first ++ done)) text
+put_behind a b c first done text one (inl all) =
+    inl (subst (λ (t : List ℕ). WroteText (written a c) t)
+    (sym (append_assoc (lines_of first) (lines_of done) text)
+    ∙ ap (λ (t : List ℕ). t ++ text) (sym (lines_of-append first done)))
+    (wrote_both (lines_of first) (lines_of done ++ text) one all))
+put_behind a b c first done text one (inr (inl short)) = inr (inl (record {
+  count = short.count;
+  short = short.short;
+  received =
+      short.received
+      ∙ ap (λ (r : Option (List ℕ)). with_bytes r (lines_of done ++ take short.count text)) one.received
+      ∙ with_both a.received (lines_of first) (lines_of done ++ take short.count text)
+      ∙ ap (λ (t : List ℕ). with_bytes a.received t)
+      (sym (append_assoc (lines_of first) (lines_of done) (take short.count text))
+      ∙ ap (λ (t : List ℕ). t ++ take short.count text) (sym (lines_of-append first done)));
+  fault = write_fault_behind a.out b.out c.out _ _ _ (written-length first done text) one.health short.fault;
+}))
+put_behind a b c first done text one (inr (inr none)) = inr (inr (wrote_behind a b c first done one none))
+
 module _ {S : Type 0} {a b : Scene S} (c : Scene S) (first second : List (Act S)) where
   linked_both : (more : List (Act S)) → Linked a b first → Linked b c more → Linked a c (first ++ more)
   linked_both more one two = record {
@@ -175,7 +241,7 @@ module _ {S : Type 0} {a b : Scene S} (c : Scene S) (first second : List (Act S)
     timely = timely_both a.moment b.moment first more one.clock one.timely two.timely;
   }
 
-  made_both : (more : List (Act S)) → Made a b first → Made b c more → Made a c (first ++ more)
+  pub made_both : (more : List (Act S)) → Made a b first → Made b c more → Made a c (first ++ more)
   made_both more one two = record {
     linked = linked_both more one.linked two.linked;
     carried = carried_both a.link b.link c.link _ _ _ (list-length first more) one.carried two.carried;
@@ -187,6 +253,7 @@ module _ {S : Type 0} {a b : Scene S} (c : Scene S) (first second : List (Act S)
     did_both two = record {
       made = made_both second one.made two.made;
       end = left_both a.end b.end c.end first second one.end two.end;
+      room = room_both a.room b.room c.room first second one.room two.room;
     }
 
     pub part_behind : MadePart b c second → MadePart a c (first ++ second)
@@ -232,23 +299,14 @@ module _ {S : Type 0} {a b : Scene S} (c : Scene S) (first second : List (Act S)
       count = two.count;
       short = two.short;
       received = received;
-      fault = write_fault_behind a.out b.out c.out _ _ _ sum one.made.wrote.health two.fault;
+      fault =
+          write_fault_behind a.out b.out c.out _ _ _ (written-length first two.done (text_of two.entries))
+          one.made.wrote.health two.fault;
       end = left_both a.end b.end c.end first two.done one.end two.end;
     }
       where
         rest : List ℕ
         rest = take two.count (text_of two.entries)
-
-        sum : length (lines_of (first ++ two.done) ++ text_of two.entries)
-            ≡ length (lines_of first) + length (lines_of two.done ++ text_of two.entries)
-        sum =
-            ap (λ (t : List ℕ). length (t ++ text_of two.entries)) (lines_of-append first two.done)
-            ∙ ap length (append_assoc (lines_of first) (lines_of two.done) (text_of two.entries))
-            ∙ length-append (lines_of first) (lines_of two.done ++ text_of two.entries)
-
-        with_both : (was : Option (List ℕ)) (s t : List ℕ) → with_bytes (with_bytes was s) t ≡ with_bytes was (s ++ t)
-        with_both None s t = refl
-        with_both (Some was) s t = ap Some (append_assoc was s t)
 
         received : c.received ≡ with_bytes a.received (lines_of (first ++ two.done) ++ rest)
         received =
@@ -258,6 +316,23 @@ module _ {S : Type 0} {a b : Scene S} (c : Scene S) (first second : List (Act S)
             ∙ ap (λ (t : List ℕ). with_bytes a.received t)
             (sym (append_assoc (lines_of first) (lines_of two.done) rest)
             ∙ ap (λ (t : List ℕ). t ++ rest) (sym (lines_of-append first two.done)))
+
+    pub disk_behind : DiskFails b c second → DiskFails a c (first ++ second)
+    disk_behind two = record {
+      done = first ++ two.done;
+      stops = two.stops;
+      asked = two.asked;
+      end = two.end;
+      newer = two.newer;
+      entries = two.entries;
+      later = two.later;
+      whole = ap (λ (acts : List (Act S)). first ++ acts) two.whole ∙ sym (append_assoc first two.done _);
+      may = two.may;
+      linked = linked_both two.done one.made.linked two.linked;
+      carried = carried_both a.link b.link c.link _ _ _ (list-length first two.done) one.made.carried two.carried;
+      put = put_behind a b c first two.done (text_of two.entries) one.made.wrote two.put;
+      short = short_both a.room b.room two.asked first two.done one.room two.short;
+    }
 
 -- ---- with more acts behind, which weren't done
 
@@ -300,34 +375,57 @@ module _ {S : Type 0} (a b : Scene S) (first second : List (Act S)) where
     end = one.end;
   }
 
+  pub disk_before : DiskFails a b first → DiskFails a b (first ++ second)
+  disk_before one = record {
+    done = one.done;
+    stops = one.stops;
+    asked = one.asked;
+    end = one.end;
+    newer = one.newer;
+    entries = one.entries;
+    later = one.later ++ second;
+    whole = ap (λ (acts : List (Act S)). acts ++ second) one.whole ∙ append_assoc one.done _ second;
+    may = one.may;
+    linked = one.linked;
+    carried = one.carried;
+    put = one.put;
+    short = one.short;
+  }
+
 -- ---- nothing was done
 
--- the same scene with another end
-abbrev pub with_end : {S : Type 0} → Scene S → S → Scene S
-with_end a end = record a { end = end }
+-- the same scene with another end, and its room
+abbrev pub with_end : {S : Type 0} → Scene S → S → Asked → Scene S
+with_end a end room = record a { end = end; room = room }
 
-module _ {S : Type 0} (a : Scene S) (end : S) where
-  linked_none : Linked a (with_end a end) []
+module _ {S : Type 0} (a : Scene S) (end : S) (room : Asked) where
+  linked_none : Linked a (with_end a end room) []
   linked_none = record { listed = lists_still a.contents a.contents [] refl refl refl; clock = refl; timely = tt }
 
   -- but by the end
-  pub made_none : Made a (with_end a end) []
+  pub made_none : Made a (with_end a end room) []
   made_none = record { linked = linked_none; carried = carried_none a.link; wrote = wrote_nothing }
 
-  -- the end has made a step
-  pub did_step : (left : Option S) → IsLeft left end → Did a (with_end a end) (Stands left ∷ [])
-  did_step left is = record {
-    made = record {
+  module _ (stops : List (List Entry)) (asked : Asked) where
+    -- the end has made a step
+    pub made_step : (left : Option S) → Made a (with_end a end room) (Stands stops asked left ∷ [])
+    made_step left = record {
       linked = record {
-        listed = lists_still a.contents a.contents (Stands left ∷ []) refl refl refl;
+        listed = lists_still a.contents a.contents (Stands stops asked left ∷ []) refl refl refl;
         clock = refl;
         timely = (tt, tt);
       };
       carried = carried_none a.link;
       wrote = wrote_nothing;
-    };
-    end = is;
-  }
+    }
+
+    pub did_step : (left : Option S) → IsLeft left end → LeavesRoom a.room asked room
+        → Did a (with_end a end room) (Stands stops asked left ∷ [])
+    did_step left is used = record {
+      made = made_step left;
+      end = is;
+      room = record { calls = omega (arith, used.calls); bytes = omega (arith, used.bytes) };
+    }
 
 pub did_none : {S : Type 0} (a : Scene S) → Did a a []
 did_none a = record {
@@ -337,4 +435,5 @@ did_none a = record {
     wrote = wrote_nothing;
   };
   end = refl;
+  room = room_none a.room;
 }

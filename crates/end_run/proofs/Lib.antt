@@ -1,5 +1,6 @@
 pub mod Doing
 pub mod Joining
+pub mod NoDisk
 pub mod Polling
 pub mod Sides
 pub mod Starting

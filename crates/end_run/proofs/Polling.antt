@@ -12,7 +12,7 @@ use Rattle.gl_base.proofs.Appending.{wrote_nothing}
 use Rattle.line_schedule.specs.declared.script.ScriptStep.{ScriptStep}
 use Rattle.message_end.specs.Core.{Went}
 use Rattle.message_end.specs.Core.Went.{Goes, Spent}
-use Rattle.message_end.specs.Ends.{Input, Machine}
+use Rattle.message_end.specs.Ends.{Asked, Input, Machine}
 use Rattle.message_end.specs.Ends.Input.{Char, Command, Time}
 use Rattle.trace_log.specs.Log.{Happening}
 use Rattle.end_run.specs.declared.ending.Ending.{Ending}
@@ -57,12 +57,14 @@ module _ {S C : Type 0} (machine : Machine S C) (side : Side) where
   sends-none [] = refl
   sends-none (byte ∷ bytes) = refl
 
-  made-none : (now : ℕ) (went : Went S Happening) → taken_of (made side now went).acts ≡ []
-  made-none now (Goes step) = sends-none step.written
-  made-none now (Spent step) = refl
+  made-none : (now : ℕ) (stops : List (List Happening)) (asked : Asked) (went : Went S Happening)
+      → taken_of (made side now stops asked went).acts ≡ []
+  made-none now stops asked (Goes step) = sends-none step.written
+  made-none now stops asked (Spent step) = refl
 
   pub stepped-none : (now : ℕ) (input : Input C) (s : S) → taken_of (stepped machine side now input s).acts ≡ []
-  stepped-none now input s = made-none now (machine.act s input now)
+  stepped-none now input s =
+      made-none now (machine.stops s input now) (machine.asks s input now) (machine.act s input now)
 
   pub more-none : (first : Piece S) (more : S → Piece S) → taken_of first.acts ≡ []
       → ((s : S) → taken_of (more s).acts ≡ []) → taken_of (and_more first more).acts ≡ []

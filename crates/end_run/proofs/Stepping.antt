@@ -1,5 +1,5 @@
 -- One step of an end, as the code makes it.
-use Rattle.std.proofs.Common.{◌≡◌, ℕ, ◌<◌, List, [], ◌∷◌, ◌++◌, length, take, Option, Some, None, refl, sym, ap, subst, ◌∙◌, append-nil, arith}
+use Rattle.std.proofs.Common.{◌≡◌, inl, inr, ℕ, ◌<◌, List, [], ◌∷◌, ◌++◌, length, map, take, Option, Some, None, refl, sym, ap, subst, ◌∙◌, append_assoc, append-nil, arith}
 use Rattle.std.specs.List.{flat_map}
 use Rattle.std.proofs.lemmas.Grind.{flat_map-append}
 use Rattle.std.proofs.lemmas.List.{length-map}
@@ -12,23 +12,26 @@ use Rattle.gl_base.specs.declared.link.LinkEntry.{LinkEntry}
 use Rattle.gl_base.specs.declared.link.LinkEntry.TheVariants.{Sent}
 use Rattle.gl_base.specs.declared.side.Side.{Side}
 use Rattle.gl_base.proofs.Appending.{wrote_nothing}
-use Rattle.message_end.specs.Core.{Step, Went}
-use Rattle.message_end.specs.Ends.{HasGone, HasSpent, printed}
+use Rattle.message_end.specs.Core.{Step, Went, step_in}
+use Rattle.message_end.specs.Core.Went.{Goes, Spent}
+use Rattle.message_end.specs.Ends.{Asked, HasGone, HasSpent, HasStopped, IsFront, IsLeft as LeavesRoom, IsShort, asked_both, none_asked, printed}
+use Rattle.message_end.specs.Own.{Has}
 use Rattle.message_flow.specs.declared.step.Note.{Note}
 use Rattle.message_flow.specs.declared.step.StepOut.{StepOut}
-use Rattle.trace_log.specs.Laws.{NotesAreLines}
+use Rattle.trace_log.specs.Laws.{NotesAreLines, log_with}
 use Rattle.trace_log.specs.Log.{Entry, Happening}
+use Rattle.trace_log.specs.Log.Entry.{Noted}
 use Rattle.trace_log.specs.Text.{note_line, printed_note, text_of}
 use Rattle.end_run.specs.declared.ending.Ending.{Ending}
-use Rattle.end_run.specs.declared.ending.Ending.TheVariants.{Closed, LinkFailed, NoMemory, NumbersSpent, Stopped, Turns, WriteFailed}
+use Rattle.end_run.specs.declared.ending.Ending.TheVariants.{Closed, DiskFailed, LinkFailed, NoMemory, NumbersSpent, Stopped, Turns, WriteFailed}
 use Rattle.end_run.specs.Acts.{Act, list_of}
 use Rattle.end_run.specs.Acts.Act.{Sends, Stands, Writes}
-use Rattle.end_run.specs.Calls.{EndsWith, IsExact}
-use Rattle.end_run.specs.Outcome.{Did, Does, IfOn, Linked, Lists, MadePart, Runs, WriteFails}
+use Rattle.end_run.specs.Calls.{EndsWith, IsExact, PutsAsCan}
+use Rattle.end_run.specs.Outcome.{Did, DiskFails, Does, IfOn, Linked, Lists, Made, MadePart, PutsLast, Runs, WriteFails}
 use Rattle.end_run.specs.Scenes.{Scene, written}
-use Rattle.end_run.specs.Steps.{entries_at, made, sends, wrote}
+use Rattle.end_run.specs.Steps.{entries_at, made, sends, stands, wrote}
 use Rattle.end_run.proofs.Doing.{does_behind}
-use Rattle.end_run.proofs.Joining.{carried_none, did_none, did_step, lists_still, made_none, with_end}
+use Rattle.end_run.proofs.Joining.{carried_none, did_none, did_step, lists_still, made_both, made_none, made_step, room_none, with_end}
 
 -- ---- the lines of a step
 
@@ -47,8 +50,9 @@ step_text law side now noted written =
 -- ---- nothing but writing
 
 -- nothing was done but by the end, and memory ran out
-pub part_none : {S : Type 0} (a : Scene S) (end : S) (acts : List (Act S)) → MadePart a (with_end a end) acts
-part_none a end acts = record { done = []; later = acts; whole = refl; made = made_none a end }
+pub part_none : {S : Type 0} (a : Scene S) (end : S) (room : Asked) (acts : List (Act S))
+    → MadePart a (with_end a end room) acts
+part_none a end room acts = record { done = []; later = acts; whole = refl; made = made_none a end room }
 
 -- the same scene with more at the output
 abbrev pub with_out : {S : Type 0} → Scene S → Option (List ℕ) → SinkHealth → Scene S
@@ -59,19 +63,19 @@ module _ {S : Type 0} (a : Scene S) (r' : Option (List ℕ)) (k' : SinkHealth) (
   linked_out : Linked a (with_out a r' k') []
   linked_out = record { listed = lists_still a.contents a.contents [] refl refl refl; clock = refl; timely = tt }
 
-  pub wrote_did : WroteText (written a (with_out a r' k')) text → Did a (with_out a r' k') (Writes entries ∷ [])
-  wrote_did text_wrote = record {
-    made = record {
-      linked = record {
-        listed = lists_still a.contents a.contents (Writes entries ∷ []) refl refl refl;
-        clock = refl;
-        timely = (tt, tt);
-      };
-      carried = carried_none a.link;
-      wrote = subst (λ (t : List ℕ). WroteText (written a (with_out a r' k')) t) (sym is) text_wrote;
+  pub wrote_made : WroteText (written a (with_out a r' k')) text → Made a (with_out a r' k') (Writes entries ∷ [])
+  wrote_made text_wrote = record {
+    linked = record {
+      listed = lists_still a.contents a.contents (Writes entries ∷ []) refl refl refl;
+      clock = refl;
+      timely = (tt, tt);
     };
-    end = refl;
+    carried = carried_none a.link;
+    wrote = subst (λ (t : List ℕ). WroteText (written a (with_out a r' k')) t) (sym is) text_wrote;
   }
+
+  pub wrote_did : WroteText (written a (with_out a r' k')) text → Did a (with_out a r' k') (Writes entries ∷ [])
+  wrote_did text_wrote = record { made = wrote_made text_wrote; end = refl; room = room_none a.room }
 
   pub short_fails : (more : List (Act S)) → WroteShort (written a (with_out a r' k')) text
       → WriteFails a (with_out a r' k') (Writes entries ∷ more)
@@ -105,7 +109,8 @@ module _ {S : Type 0} (a : Scene S) (r' : Option (List ℕ)) (k' : SinkHealth) (
   ends_does how Stopped ends = (ap Some ends.0, wrote_did ends.1)
   ends_does how Closed ends = (ap Some ends.0, wrote_did ends.1)
   ends_does how Turns ends = (ap Some ends.0, wrote_did ends.1)
-  ends_does how NumbersSpent ends = (ap Some ends.0, wrote_did ends.1)
+  ends_does how NumbersSpent ends = (ap Some ends.0, wrote_made ends.1)
+  ends_does how DiskFailed ends = absurd ends
   ends_does how LinkFailed ends = absurd ends
   ends_does how WriteFailed short = short_fails [] short
   ends_does how NoMemory none = none_wrote [] none
@@ -117,6 +122,7 @@ ends_exact out text Stopped exact written = (refl, written)
 ends_exact out text Closed exact written = (refl, written)
 ends_exact out text Turns exact written = (refl, written)
 ends_exact out text NumbersSpent exact written = (refl, written)
+ends_exact out text DiskFailed exact written = absurd exact
 ends_exact out text LinkFailed exact written = absurd exact
 ends_exact out text WriteFailed exact written = absurd exact
 ends_exact out text NoMemory exact written = absurd exact
@@ -165,6 +171,7 @@ module _ {S : Type 0} (a : Scene S) (l' : Option LinkContents) (m' : ℕ) (h' : 
         wrote = wrote_nothing;
       };
       end = refl;
+      room = room_none a.room;
     },
   )
 
@@ -188,7 +195,42 @@ module _ {S : Type 0} (a : Scene S) (l' : Option LinkContents) (m' : ℕ) (h' : 
 
 -- ---- a step
 
-module _ {S : Type 0} (law : NotesAreLines) (side : Side) (now : ℕ) (went : Went S Happening) (out : StepOut) where
+-- entries of more notes stand in front of those of the first ones
+front_log : (side : Side) (now : ℕ) (noted : List Happening) (log : List Entry)
+    → log_with now side noted log ≡ log_with now side noted [] ++ log
+front_log side now [] log = refl
+front_log side now (what ∷ noted) log =
+    front_log side now noted (Noted now side what ∷ log)
+    ∙ sym (append_assoc (log_with now side noted []) (Noted now side what ∷ []) log)
+    ∙ ap (λ (es : List Entry). es ++ log) (sym (front_log side now noted (Noted now side what ∷ [])))
+
+both_log : (side : Side) (now : ℕ) (first more : List Happening) (log : List Entry)
+    → log_with now side (first ++ more) log ≡ log_with now side more (log_with now side first log)
+both_log side now [] more log = refl
+both_log side now (what ∷ first) more log = both_log side now first more (Noted now side what ∷ log)
+
+entries_both : (side : Side) (now : ℕ) (first more : List Happening)
+    → entries_at side now (first ++ more) ≡ entries_at side now more ++ entries_at side now first
+entries_both side now first more =
+    both_log side now first more [] ∙ front_log side now more (entries_at side now first)
+
+has-map : {X Y : Type 0} (f : X → Y) (xs : List X) (x : X) → Has xs x → Has (map f xs) (f x)
+has-map f [] x has = has
+has-map f (one ∷ xs) x (inl is) = inl (ap f is)
+has-map f (one ∷ xs) x (inr has) = inr (has-map f xs x has)
+
+-- a text was put as far as could be, and nothing else was done
+puts_last : {S : Type 0} (a : Scene S) (end : S) (room : Asked) (r' : Option (List ℕ)) (k' : SinkHealth) (text : List ℕ)
+    → PutsAsCan (written a (with_out a r' k')) text
+    → PutsLast a (with_out (with_end a end room) r' k') [] text
+puts_last a end room r' k' text (inl all) = inl all
+puts_last a end room r' k' text (inr (inl short)) =
+    inr (inl (record
+    { count = short.count; short = short.short; received = short.received; fault = short.fault }))
+puts_last a end room r' k' text (inr (inr none)) = inr (inr none)
+
+module _ {S : Type 0} (law : NotesAreLines) (side : Side) (now : ℕ) (stops : List (List Happening)) (asked : Asked)
+    (went : Went S Happening) (out : StepOut) where
   -- it goes on, and its lines are these
   gone_text : (next : S) (gone : HasGone went next out)
       → text_of (entries_at side now (gone.step.notes ++ wrote gone.step.written))
@@ -201,38 +243,145 @@ module _ {S : Type 0} (law : NotesAreLines) (side : Side) (now : ℕ) (went : We
       ++ flat_map (note_line now side) (printed (wrote w))) (sym gone.written)
 
   pub gone_runs :
-      (a c : Scene S) (next : S) (gone : HasGone went next out) (result : Option Ending)
+      (a c : Scene S) (next : S) (room : Asked) (gone : HasGone went next out) → LeavesRoom a.room asked room
+      → (result : Option Ending)
       → ((entries : List Entry) → text_of entries
       ≡ flat_map (note_line now side) out.notes ++ flat_map (note_line now side) (printed (wrote out.line.items))
-      → Does (with_end a next) c None (Writes entries ∷ sends out.line.items) result)
-      → Runs a c (made side now went) result
-  gone_runs a c next gone result does =
+      → Does (with_end a next room) c None (Writes entries ∷ sends out.line.items) result)
+      → Runs a c (made side now stops asked went) result
+  gone_runs a c next room gone used result does =
       let entries : List Entry = entries_at side now (gone.step.notes ++ wrote gone.step.written) in
-      subst (λ (went : Went S Happening). Runs a c (made side now went) result) (sym gone.is)
-      (subst (λ (w : List ℕ). Does a c None (Stands (Some gone.step.next) ∷ Writes entries ∷ sends w) result)
+      let first : Act S = stands side now stops asked (Some gone.step.next) in
+      subst (λ (went : Went S Happening). Runs a c (made side now stops asked went) result) (sym gone.is)
+      (subst (λ (w : List ℕ). Does a c None (first ∷ Writes entries ∷ sends w) result)
       gone.written
-      (does_behind c (Stands (Some gone.step.next) ∷ []) (did_step a next (Some gone.step.next) (sym gone.next_is)) None
+      (does_behind c (first ∷ [])
+      (did_step a next room (map (entries_at side now) stops) asked (Some gone.step.next) (sym gone.next_is) used) None
       (Writes entries ∷ sends out.line.items) result (does entries (gone_text next gone))))
 
   pub gone_end : (next : S) (result : Option Ending) → HasGone went next out
-      → IfOn result (next ≡ (made side now went).end)
-  gone_end next None gone = sym gone.next_is ∙ ap (λ (went : Went S Happening). (made side now went).end) (sym gone.is)
+      → IfOn result (next ≡ (made side now stops asked went).end)
+  gone_end next None gone =
+      sym gone.next_is ∙ ap (λ (went : Went S Happening). (made side now stops asked went).end) (sym gone.is)
   gone_end next (Some how) gone = tt
 
-  -- the numbers are spent
-  pub spent_runs :
-      (a : Scene S) (end : S) (r' : Option (List ℕ)) (k' : SinkHealth) (spent : HasSpent went out) (result : Ending)
-      → EndsWith (written a (with_out a r' k')) (flat_map (note_line now side) out.notes) NumbersSpent result
-      → Runs a (with_out (with_end a end) r' k') (made side now went) (Some result)
-  spent_runs a end r' k' spent result ends =
-      let entries : List Entry = entries_at side now spent.step.notes in
-      subst (λ (went : Went S Happening). Runs a (with_out (with_end a end) r' k') (made side now went) (Some result))
-      (sym spent.is)
-      (does_behind (with_out (with_end a end) r' k') (Stands None ∷ []) (did_step a end None tt) (Some NumbersSpent)
-      (Writes entries ∷ []) (Some result)
-      (ends_does (with_end a end) r' k' entries (flat_map (note_line now side) out.notes)
-      (noted_text law side now spent.step.notes ∙ ap (flat_map (note_line now side)) (sym spent.notes))
-      NumbersSpent result ends))
+  module _ (a : Scene S) (end : S) (room : Asked) (r' : Option (List ℕ)) (k' : SinkHealth) where
+    abbrev stopped : Scene S
+    stopped = with_out (with_end a end room) r' k'
+
+    -- its lines are the last, and nothing is said of the end
+    pub spent_does :
+        (entries : List Entry) (text : List ℕ) → text_of entries ≡ text → (result : Ending)
+        → EndsWith (written a (with_out a r' k')) text NumbersSpent result
+        → Does a stopped (Some NumbersSpent) (stands side now stops asked None ∷ Writes entries ∷ []) (Some result)
+    spent_does entries text is result ends = go result ends
+      where
+        all : List (List Entry)
+        all = map (entries_at side now) stops
+
+        linked : Linked a stopped (Stands all asked None ∷ [])
+        linked = record {
+          listed = lists_still a.contents a.contents (Stands all asked None ∷ []) refl refl refl;
+          clock = refl;
+          timely = (tt, tt);
+        }
+
+        begun : Made a (with_end a end room) (Stands all asked None ∷ [])
+        begun = made_step a end room all asked None
+
+        go : (result : Ending) → EndsWith (written a (with_out a r' k')) text NumbersSpent result
+            → Does a stopped (Some NumbersSpent) (Stands all asked None ∷ Writes entries ∷ []) (Some result)
+        go NumbersSpent ends = (
+          refl,
+          made_both stopped (Stands all asked None ∷ []) [] (Writes entries ∷ []) begun
+              (wrote_made (with_end a end room) r' k' entries text is ends.1),
+        )
+        go WriteFailed short = record {
+          done = Stands all asked None ∷ [];
+          entries = entries;
+          later = [];
+          whole = refl;
+          linked = linked;
+          carried = carried_none a.link;
+          count = short.count;
+          short = subst (λ (t : List ℕ). short.count < length t) (sym is) short.short;
+          received = short.received ∙ ap (λ (t : List ℕ). with_bytes a.received (take short.count t)) (sym is);
+          fault = subst (λ (t : List ℕ). WriteFault a.out k' (length t)) (sym is) short.fault;
+          end = tt;
+        }
+        go NoMemory none = record {
+          done = Stands all asked None ∷ [];
+          later = Writes entries ∷ [];
+          whole = refl;
+          made = record { linked = linked; carried = carried_none a.link; wrote = none };
+        }
+        go Stopped ends = let is = ends.0 in absurd (cc)
+        go Closed ends = let is = ends.0 in absurd (cc)
+        go Turns ends = let is = ends.0 in absurd (cc)
+        go DiskFailed ends = absurd ends
+        go LinkFailed ends = absurd ends
+
+    -- the numbers are spent
+    pub spent_runs : (spent : HasSpent went out) (result : Ending)
+        → EndsWith (written a (with_out a r' k')) (flat_map (note_line now side) out.notes) NumbersSpent result
+        → Runs a stopped (made side now stops asked went) (Some result)
+    spent_runs spent result ends =
+        subst (λ (went : Went S Happening). Runs a stopped (made side now stops asked went) (Some result))
+        (sym spent.is)
+        (spent_does (entries_at side now spent.step.notes) (flat_map (note_line now side) out.notes)
+        (noted_text law side now spent.step.notes ∙ ap (flat_map (note_line now side)) (sym spent.notes))
+        result ends)
+
+    -- the disk stops it, whatever it was to write then
+    pub disk_stops :
+        (stop : HasStopped stops went out) (left : Option S) (noted : List Happening) (more : List (Act S))
+        → IsFront stop.front noted → IsShort a.room asked
+        → PutsAsCan (written a (with_out a r' k')) (flat_map (note_line now side) out.notes)
+        → DiskFails a stopped (stands side now stops asked left ∷ Writes (entries_at side now noted) ∷ more)
+    disk_stops stop left noted more first short puts = record {
+      done = [];
+      stops = map (entries_at side now) stops;
+      asked = asked;
+      end = left;
+      newer = entries_at side now first.rest;
+      entries = entries_at side now stop.front;
+      later = more;
+      whole =
+          ap (λ (es : List Entry). stands side now stops asked left ∷ Writes es ∷ more)
+          (ap (entries_at side now) first.whole ∙ entries_both side now stop.front first.rest);
+      may = has-map (entries_at side now) stops stop.front stop.may;
+      linked = record { listed = lists_still a.contents a.contents [] refl refl refl; clock = refl; timely = tt };
+      carried = carried_none a.link;
+      put =
+          puts_last a end room r' k' (text_of (entries_at side now stop.front))
+          (subst (λ (t : List ℕ). PutsAsCan (written a (with_out a r' k')) t)
+          (ap (flat_map (note_line now side)) stop.notes ∙ sym (noted_text law side now stop.front)) puts);
+      short = none_asked_yet short;
+    }
+      where
+        none_asked_yet : IsShort a.room asked → IsShort a.room (asked_both none_asked asked)
+        none_asked_yet (inl few) = inl (omega (arith, few))
+        none_asked_yet (inr few) = inr (omega (arith, few))
+
+    pub stopped_runs :
+        HasStopped stops went out → IsShort a.room asked
+        → PutsAsCan (written a (with_out a r' k')) (flat_map (note_line now side) out.notes)
+        → Runs a stopped (made side now stops asked went) (Some DiskFailed)
+    stopped_runs stop short puts = go went stop.first
+      where
+        front_more : (notes last : List Happening) → IsFront stop.front notes → IsFront stop.front (notes ++ last)
+        front_more notes last first = record {
+          rest = first.rest ++ last;
+          whole =
+              ap (λ (ns : List Happening). ns ++ last) first.whole ∙ append_assoc stop.front first.rest last;
+        }
+
+        go : (went : Went S Happening) → IsFront stop.front (step_in went).notes
+            → Runs a stopped (made side now stops asked went) (Some DiskFailed)
+        go (Goes step) first =
+            disk_stops stop (Some step.next) (step.notes ++ wrote step.written) (sends step.written)
+            (front_more step.notes (wrote step.written) first) short puts
+        go (Spent step) first = disk_stops stop None step.notes [] first short puts
 
 -- ---- a start
 

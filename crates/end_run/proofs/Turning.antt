@@ -26,7 +26,7 @@ use Rattle.end_run.specs.Script.{ScriptLine, Telling, MayTell, command_of, due_c
 use Rattle.end_run.specs.Script.Telling.{IsOther, Stops, Tells}
 use Rattle.end_run.specs.Steps.{entries_at, stepped, tells}
 use Rattle.end_run.proofs.Doing.{runs_behind}
-use Rattle.end_run.proofs.Joining.{did_none}
+use Rattle.end_run.proofs.Joining.{did_none, room_none}
 use Rattle.end_run.proofs.Stepping.{ends_does, with_link, with_out}
 
 -- ---- a poll that was answered
@@ -73,6 +73,7 @@ polled_did {S} a l' m' h' until answer other next told timely clock cause = reco
     wrote = wrote_nothing;
   };
   end = refl;
+  room = room_none a.room;
 }
 
 module _ {S C : Type 0} (machine : Machine S C) (due : S → Option ℕ) (told_by : ScriptStep → Telling C) (side : Side)

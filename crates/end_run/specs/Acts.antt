@@ -6,14 +6,15 @@ use Rattle.gl_base.specs.declared.link.LinkEntry.{LinkEntry}
 use Rattle.gl_base.specs.declared.link.LinkEntry.TheVariants.{Polled}
 use Rattle.gl_base.specs.declared.link.LinkIn.{LinkIn}
 use Rattle.gl_base.specs.declared.link.LinkIn.TheVariants.{Char, Quiet, Closed, Failed}
+use Rattle.message_end.specs.Ends.{Asked, asked_both, none_asked}
 use Rattle.trace_log.specs.Log.{Entry}
 use Rattle.trace_log.specs.Text.{text_of}
 
--- it has made a step, and is this behind it, of which nothing is said where its numbers were spent; it connects; it
--- waits up to a moment, and is answered so; it writes the lines of these entries, the newest entry first; it sends
--- characters
+-- it makes a step: its disk is asked for so much, and may stop it with these entries, one list for each piece of work;
+-- the end is this behind it, of which nothing is said where its numbers were spent. It connects. It waits up to a
+-- moment, and is answered so. It writes the lines of these entries, the newest entry first. It sends characters
 pub data Act (S : Type 0) : Type 0 where
-  Stands : (end : Option S) → Act S
+  Stands : (stops : List (List Entry)) (asked : Asked) (end : Option S) → Act S
   Connects : Act S
   Polls : (until : ℕ) (answer : LinkIn) → Act S
   Writes : (entries : List Entry) → Act S
@@ -23,7 +24,7 @@ pub data Act (S : Type 0) : Type 0 where
 
 -- what its list has of an act, and of all acts
 abbrev pub listed : {S : Type 0} → Act S → List LinkEntry
-listed (Stands end) = []
+listed (Stands stops asked end) = []
 listed Connects = []
 listed (Polls until answer) = Polled until answer ∷ []
 listed (Writes entries) = []
@@ -41,7 +42,7 @@ taken_by Closed = []
 taken_by Failed = []
 
 abbrev pub taken : {S : Type 0} → Act S → List LinkIn
-taken (Stands end) = []
+taken (Stands stops asked end) = []
 taken Connects = []
 taken (Polls until answer) = taken_by answer
 taken (Writes entries) = []
@@ -53,7 +54,7 @@ taken_of (act ∷ acts) = taken act ++ taken_of acts
 
 -- the moment of its last answer behind an act, and behind all acts: a connection begins its clock anew
 abbrev pub moment_with : {S : Type 0} → ℕ → Act S → ℕ
-moment_with before (Stands end) = before
+moment_with before (Stands stops asked end) = before
 moment_with before Connects = 0
 moment_with before (Polls until answer) = moment_after before answer
 moment_with before (Writes entries) = before
@@ -65,7 +66,7 @@ moment_by before (act ∷ acts) = moment_by (moment_with before act) acts
 
 -- each answer may come where the last one before it was of this moment
 abbrev pub IsTimelyAct : {S : Type 0} → ℕ → Act S → Type 0
-IsTimelyAct before (Stands end) = Unit {0}
+IsTimelyAct before (Stands stops asked end) = Unit {0}
 IsTimelyAct before Connects = Unit {0}
 IsTimelyAct before (Polls until answer) = IsTimely until before answer
 IsTimelyAct before (Writes entries) = Unit {0}
@@ -79,7 +80,7 @@ AreTimely before (act ∷ acts) = IsTimelyAct before act × AreTimely (moment_wi
 
 -- the log of all acts, the newest entry first, and its text
 abbrev pub noted : {S : Type 0} → Act S → List Entry
-noted (Stands end) = []
+noted (Stands stops asked end) = []
 noted Connects = []
 noted (Polls until answer) = []
 noted (Writes entries) = entries
@@ -96,7 +97,7 @@ lines_of acts = text_of (log_of acts)
 
 -- what is said of it behind an act, and behind all acts: what its last step left
 abbrev pub end_with : {S : Type 0} → Option S → Act S → Option S
-end_with before (Stands end) = end
+end_with before (Stands stops asked end) = end
 end_with before Connects = before
 end_with before (Polls until answer) = before
 end_with before (Writes entries) = before
@@ -105,3 +106,17 @@ end_with before (Sends characters) = before
 abbrev pub end_by : {S : Type 0} → Option S → List (Act S) → Option S
 end_by before [] = before
 end_by before (act ∷ acts) = end_by (end_with before act) acts
+
+-- ---- its disk
+
+-- what an act asks of it, and all acts
+abbrev pub asked_in : {S : Type 0} → Act S → Asked
+asked_in (Stands stops asked end) = asked
+asked_in Connects = none_asked
+asked_in (Polls until answer) = none_asked
+asked_in (Writes entries) = none_asked
+asked_in (Sends characters) = none_asked
+
+abbrev pub asked_by : {S : Type 0} → List (Act S) → Asked
+asked_by [] = none_asked
+asked_by (act ∷ acts) = asked_both (asked_in act) (asked_by acts)

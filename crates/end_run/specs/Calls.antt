@@ -11,7 +11,7 @@ use Rattle.line_schedule.specs.declared.script.ScriptStep.{ScriptStep}
 use Rattle.message_end.specs.Ends.{Input, Machine}
 use Rattle.message_end.specs.Ends.Input.{Char, Command, Time}
 use Rattle.end_run.specs.declared.ending.Ending.{Ending}
-use Rattle.end_run.specs.declared.ending.Ending.TheVariants.{Closed, LinkFailed, NoMemory, NumbersSpent, Stopped, Turns, WriteFailed}
+use Rattle.end_run.specs.declared.ending.Ending.TheVariants.{Closed, DiskFailed, LinkFailed, NoMemory, NumbersSpent, Stopped, Turns, WriteFailed}
 use Rattle.end_run.specs.declared.polls.Place.{Place}
 use Rattle.end_run.specs.Outcome.{IfOn, Runs}
 use Rattle.end_run.specs.Run.{turned}
@@ -20,12 +20,13 @@ use Rattle.end_run.specs.Script.{ScriptLine, Telling, later_lines}
 
 -- ---- lines that are written
 
--- an ending that neither memory nor link nor output has brought
+-- an ending that neither memory nor link nor output nor a disk has brought
 abbrev pub IsExact : Ending → Type 0
 IsExact Stopped = Unit {0}
 IsExact Closed = Unit {0}
 IsExact Turns = Unit {0}
 IsExact NumbersSpent = Unit {0}
+IsExact DiskFailed = ⊥
 IsExact LinkFailed = ⊥
 IsExact WriteFailed = ⊥
 IsExact NoMemory = ⊥
@@ -48,7 +49,12 @@ EndsWith out text how Stopped = (how ≡ Stopped) × WroteText out text
 EndsWith out text how Closed = (how ≡ Closed) × WroteText out text
 EndsWith out text how Turns = (how ≡ Turns) × WroteText out text
 EndsWith out text how NumbersSpent = (how ≡ NumbersSpent) × WroteText out text
+EndsWith out text how DiskFailed = ⊥
 EndsWith out text how LinkFailed = ⊥
+
+-- a text was to be written as far as memory and the output let it
+abbrev pub PutsAsCan : SinkTold → List ℕ → Type 0
+PutsAsCan out text = WroteText out text ⊎ (WroteShort out text ⊎ WroteText out [])
 
 -- ---- what an end is given
 

@@ -5,7 +5,8 @@ use Rattle.gl_base.specs.declared.link.LinkIn.{LinkIn}
 use Rattle.gl_base.specs.declared.link.LinkIn.TheVariants as link
 use Rattle.gl_base.specs.declared.side.Side.{Side}
 use Rattle.line_schedule.specs.declared.script.ScriptStep.{ScriptStep}
-use Rattle.message_end.specs.Core.{Step}
+use Rattle.message_end.specs.Core.{Step, Went}
+use Rattle.message_end.specs.Core.Went.{Goes, Spent}
 use Rattle.message_end.specs.Ends.{Machine}
 use Rattle.message_end.specs.Ends.Input.{Char, Time}
 use Rattle.trace_log.specs.Log.{Happening}
@@ -14,7 +15,7 @@ use Rattle.end_run.specs.declared.ending.Ending.TheVariants as ending
 use Rattle.end_run.specs.Acts.Act.{Polls, Writes}
 use Rattle.end_run.specs.Pieces.{Piece, and_more, behind, stops}
 use Rattle.end_run.specs.Script.{ScriptLine, Telling, due_lines, later_lines, wait_until}
-use Rattle.end_run.specs.Steps.{answered, entries_at, started, stepped}
+use Rattle.end_run.specs.Steps.{answered, entries_at, made, stands, started, stepped}
 
 -- the peer has closed the connection, at the moment of the last answer that had one
 abbrev pub closed : {S : Type 0} → Side → ℕ → S → Piece S
@@ -50,6 +51,13 @@ module _ {S C : Type 0} (machine : Machine S C) (due : S → Option ℕ) (told :
     abbrev pub begun : Step S Happening → Piece S
     begun start = and_more (started side start) (stepped machine side 0 Time)
 
-    -- all of the run, where these answers are to come
-    abbrev pub end_run : Step S Happening → List ScriptLine → ℕ → List LinkIn → Piece S
-    end_run start lines polls answers = and_more (begun start) (polled polls lines 0 answers)
+    -- all of the run from there, where these answers are to come
+    abbrev pub started_run : Step S Happening → List ScriptLine → ℕ → List LinkIn → Piece S
+    started_run start lines polls answers = and_more (begun start) (polled polls lines 0 answers)
+
+    -- the start is a step, too, which its disk may stop; one that has no numbers to start with doesn't connect
+    abbrev pub end_run : Went S Happening → List ScriptLine → ℕ → List LinkIn → Piece S
+    end_run (Goes start) lines polls answers =
+        behind (stands side 0 machine.start_stops machine.start_asks (Some start.next) ∷ [])
+        (started_run start lines polls answers)
+    end_run (Spent start) lines polls answers = made side 0 machine.start_stops machine.start_asks (Spent start)

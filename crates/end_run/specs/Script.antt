@@ -1,5 +1,5 @@
 -- What a script tells an end, and when its lines are due (this profile).
-use Rattle.std.specs.Prelude.{◌≡◌, ◌^◌, ◌-◌, ℕ, Bool, nat_le, List, [], ◌∷◌, All, take, drop, min, Option, Some, None}
+use Rattle.std.specs.Prelude.{◌^◌, ◌-◌, ℕ, Bool, nat_le, List, [], ◌∷◌, All, take, drop, min, Option, Some, None}
 use Rattle.std.specs.List.{prefix_len}
 use Rattle.line_schedule.specs.declared.script.ScriptStep.{ScriptStep}
 use Rattle.message_end.specs.Calls.{least}
@@ -59,7 +59,3 @@ at_most (Some moment) = min moment (2 ^ 62 - 1)
 -- an end that acts by itself at this moment waits until then, or until the next line is due
 abbrev pub wait_until : Option ℕ → List ScriptLine → ℕ
 wait_until deadline lines = at_most (least deadline (next_moment lines))
-
--- the moments at which ends act next by themselves, as those of their states
-abbrev pub ActsBy : {E S : Type 0} → (E → S) → (E → Option ℕ) → (S → Option ℕ) → Type 0
-ActsBy {E} means due_of due = (end : E) → due_of end ≡ due (means end)

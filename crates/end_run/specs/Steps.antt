@@ -1,10 +1,10 @@
 -- One step of an end over a link, and the lines of a script as steps (this profile).
-use Rattle.std.specs.Prelude.{ℕ, List, [], ◌∷◌, ◌++◌, Some, None}
+use Rattle.std.specs.Prelude.{ℕ, List, [], ◌∷◌, ◌++◌, map, Option, Some, None}
 use Rattle.gl_base.specs.declared.side.Side.{Side}
 use Rattle.line_schedule.specs.declared.script.ScriptStep.{ScriptStep}
 use Rattle.message_end.specs.Core.{Step, Went}
 use Rattle.message_end.specs.Core.Went.{Goes, Spent}
-use Rattle.message_end.specs.Ends.{Input, Machine}
+use Rattle.message_end.specs.Ends.{Asked, Input, Machine}
 use Rattle.message_end.specs.Ends.Input.{Command}
 use Rattle.trace_log.specs.Laws.{log_with}
 use Rattle.trace_log.specs.Log.{Entry, Happening}
@@ -30,17 +30,23 @@ abbrev pub sends : {S : Type 0} → List ℕ → List (Act S)
 sends [] = []
 sends (byte ∷ bytes) = Sends (byte ∷ bytes) ∷ []
 
+-- a step at a moment, which its disk may stop with these notes
+abbrev pub stands : {S : Type 0} → Side → ℕ → List (List Happening) → Asked → Option S → Act S
+stands side now stops asked end = Stands (map (entries_at side now) stops) asked end
+
 -- a step is made, its lines are written, and then its characters are sent; where the numbers are spent nothing is sent,
 -- and the run ends
-abbrev pub made : {S : Type 0} → Side → ℕ → Went S Happening → Piece S
-made side now (Goes step) = record {
+abbrev pub made : {S : Type 0} → Side → ℕ → List (List Happening) → Asked → Went S Happening → Piece S
+made side now stops asked (Goes step) = record {
   end = step.next;
-  acts = Stands (Some step.next) ∷ Writes (entries_at side now (step.notes ++ wrote step.written)) ∷ sends step.written;
+  acts =
+      stands side now stops asked (Some step.next) ∷ Writes (entries_at side now (step.notes ++ wrote step.written))
+      ∷ sends step.written;
   ended = None;
 }
-made side now (Spent step) = record {
+made side now stops asked (Spent step) = record {
   end = step.next;
-  acts = Stands None ∷ Writes (entries_at side now step.notes) ∷ [];
+  acts = stands side now stops asked None ∷ Writes (entries_at side now step.notes) ∷ [];
   ended = Some ending.NumbersSpent;
 }
 
@@ -54,7 +60,7 @@ started side start = record {
 
 module _ {S C : Type 0} (machine : Machine S C) (side : Side) where
   abbrev pub stepped : ℕ → Input C → S → Piece S
-  stepped now input s = made side now (machine.act s input now)
+  stepped now input s = made side now (machine.stops s input now) (machine.asks s input now) (machine.act s input now)
 
   -- a line of a script is a step with its command, or stops the end; one of the other end does nothing
   abbrev pub tells : ℕ → Telling C → S → Piece S

@@ -9,7 +9,7 @@ ghost use Rattle.end_run.specs.Calls.{EndsWith, HasTurned, left_of};
 ghost use Rattle.end_run.specs.Outcome.{RunsOver};
 ghost use Rattle.end_run.specs.Run.{polled};
 ghost use Rattle.end_run.specs.Scenes.{scene};
-ghost use Rattle.end_run.specs.Script.{ActsBy, AreTold, next_moment, wait_until};
+ghost use Rattle.end_run.specs.Script.{AreTold, next_moment, wait_until};
 ghost use Rattle.end_run.specs.Steps.{entries_at};
 
 use crate::ending::Ending;
@@ -44,11 +44,10 @@ pub(crate) fn poll_all<E: End, D: Scripted<E>, L: Link, W: Sink>(
 ) -> Ending
     requires sound { E.sound end.old }
     requires lines { AreTold D.told E.takes lines.now }
-    ensures runs { (due : E.State → Option ℕ) → ActsBy E.means D.due due
-        → RunsOver
-        (scene L.Link W.Sink link.old out.old (E.means end.old))
-        (scene L.Link W.Sink link.new out.new (E.means end.new))
-        (λ answers. polled E.machine due D.told side polls lines.now 0 answers (E.means end.old))
+    ensures runs { RunsOver
+        (scene L.Link W.Sink link.old out.old (E.means end.old) (E.room end.old))
+        (scene L.Link W.Sink link.new out.new (E.means end.new) (E.room end.new))
+        (λ answers. polled E.machine E.due D.told side polls lines.now 0 answers (E.means end.old))
         result }
     ensures sound { E.sound end.new }
 {
@@ -77,10 +76,9 @@ fn turn<E: End, D: Scripted<E>, L: Link, W: Sink>(
     requires sound { E.sound end.old }
     requires lines { AreTold D.told E.takes lines.now }
     requires given { place.old.given ≤ length lines.now }
-    ensures turned { (due : E.State → Option ℕ) → ActsBy E.means D.due due
-        → HasTurned E.machine due D.told side
-        (scene L.Link W.Sink link.old out.old (E.means end.old))
-        (scene L.Link W.Sink link.new out.new (E.means end.new))
+    ensures turned { HasTurned E.machine E.due D.told side
+        (scene L.Link W.Sink link.old out.old (E.means end.old) (E.room end.old))
+        (scene L.Link W.Sink link.new out.new (E.means end.new) (E.room end.new))
         (left_of (E.means end.old) lines.now place.old)
         (left_of (E.means end.new) lines.now place.new)
         result }
@@ -88,7 +86,7 @@ fn turn<E: End, D: Scripted<E>, L: Link, W: Sink>(
     ensures given { place.new.given ≤ length lines.now }
 {
     let (_, left) = lines.split_at(place.given);
-    let until = wait_until(D::deadline(end), left);
+    let until = wait_until(end.deadline(), left);
     match link.poll(until) {
         LinkIn::Char(byte, now) => {
             answer::<E, D, L, W>(alloc, side, left, Some(byte), now, place, end, link, out)

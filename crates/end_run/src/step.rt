@@ -4,11 +4,12 @@ ghost use Rattle.std.specs.Prelude.{◌≡◌, ℕ, ◌<◌, ◌^◌, ◌++◌, 
 ghost use Rattle.std.specs.List.{flat_map};
 ghost use Rattle.gl_base.specs.Sink.{SinkHealth};
 ghost use Rattle.gl_base.specs.Told.{sink_told};
-ghost use Rattle.message_end.specs.Ends.{MayTake, input_of, printed};
+ghost use Rattle.message_end.specs.Ends.{Asked, MayTake, input_of, printed};
 ghost use Rattle.trace_log.specs.Log.{Entry};
 ghost use Rattle.trace_log.specs.Text.{note_line, text_of};
 ghost use Rattle.end_run.specs.Acts.Act.{Writes};
-ghost use Rattle.end_run.specs.Calls.{EndsWith, IsExact, IsPlainInput, plain_input};
+ghost use Rattle.end_run.specs.declared.ending.Ending.TheVariants as ending;
+ghost use Rattle.end_run.specs.Calls.{EndsWith, IsExact, IsPlainInput, PutsAsCan, plain_input};
 ghost use Rattle.end_run.specs.Outcome.{Does, IfOn, Runs};
 ghost use Rattle.end_run.specs.Scenes.{beside, scene};
 ghost use Rattle.end_run.specs.Steps.{sends, stepped, wrote};
@@ -35,8 +36,8 @@ pub(crate) fn step_plain<E: End, L: Link, W: Sink>(
     requires now { now < 2 ^ 62 }
     requires sound { E.sound end.old }
     ensures runs { Runs
-        (scene L.Link W.Sink link.old out.old (E.means end.old))
-        (scene L.Link W.Sink link.new out.new (E.means end.new))
+        (scene L.Link W.Sink link.old out.old (E.means end.old) (E.room end.old))
+        (scene L.Link W.Sink link.new out.new (E.means end.new) (E.room end.new))
         (stepped E.machine side now (plain_input byte) (E.means end.old))
         result }
     ensures end { IfOn result (E.means end.new
@@ -72,8 +73,8 @@ pub(crate) fn step_end<E: End, L: Link, W: Sink>(
     requires input { MayTake E.takes (input_of input) }
     requires sound { E.sound end.old }
     ensures runs { Runs
-        (scene L.Link W.Sink link.old out.old (E.means end.old))
-        (scene L.Link W.Sink link.new out.new (E.means end.new))
+        (scene L.Link W.Sink link.old out.old (E.means end.old) (E.room end.old))
+        (scene L.Link W.Sink link.new out.new (E.means end.new) (E.room end.new))
         (stepped E.machine side now (input_of input.entry) (E.means end.old))
         result }
     ensures end { IfOn result (E.means end.new
@@ -97,6 +98,9 @@ pub(crate) fn step_end<E: End, L: Link, W: Sink>(
                 out,
             ));
         }
+        Err(Stop::DiskFailed) => {
+            return Some(put_stopped(alloc, now, side, step.notes.as_slice(), out));
+        }
         Err(Stop::NoMemory) => return Some(Ending::NoMemory),
     }
     hand_on::<E, L, W>(alloc, now, side, &step, link, out)
@@ -111,12 +115,12 @@ fn hand_on<E: End, L: Link, W: Sink>(
     link: &mut L,
     out: &mut W,
 ) -> Option<Ending>
-    ensures { (s : E.State) (entries : List Entry) → text_of entries
+    ensures { (s : E.State) (room : Asked) (entries : List Entry) → text_of entries
         ≡ flat_map (note_line now side) step.now.notes
         ++ flat_map (note_line now side) (printed (wrote step.now.line.items))
         → Does
-        (scene L.Link W.Sink link.old out.old s)
-        (scene L.Link W.Sink link.new out.new s)
+        (scene L.Link W.Sink link.old out.old s room)
+        (scene L.Link W.Sink link.new out.new s room)
         None
         (Writes entries ∷ sends step.now.line.items)
         result }
@@ -132,10 +136,10 @@ fn hand_on<E: End, L: Link, W: Sink>(
 
 // Sends characters, where there are any.
 fn send_all<E: End, L: Link>(link: &mut L, characters: &[u8]) -> Option<Ending>
-    ensures { (received : Option (List ℕ)) (health : SinkHealth) (s : E.State)
+    ensures { (received : Option (List ℕ)) (health : SinkHealth) (s : E.State) (room : Asked)
         → Does
-        (beside L.Link received health s link.old)
-        (beside L.Link received health s link.new)
+        (beside L.Link received health s room link.old)
+        (beside L.Link received health s room link.new)
         None
         (sends characters.now)
         result }
@@ -167,5 +171,26 @@ pub(crate) fn end_with<W: Sink>(
     match copy_out(out, lines.as_slice()) {
         SinkAnswer::Done => how,
         SinkAnswer::Failed => Ending::WriteFailed,
+    }
+}
+
+/// Writes the lines of what a step had noted before its disk failed, as far as memory and the output let it: whatever
+/// fails then, it is the disk that ends the run.
+pub(crate) fn put_stopped<W: Sink>(
+    alloc: Global,
+    now: u64,
+    side: Side,
+    notes: &[Note],
+    out: &mut W,
+) -> Ending
+    ensures is { result ≡ ending.DiskFailed }
+    ensures put { PutsAsCan (sink_told W.Sink out.old out.new) (flat_map (note_line now side) notes.now) }
+{
+    let Ok(lines) = lines_of_notes(alloc, now, side, notes) else {
+        return Ending::DiskFailed;
+    };
+    match copy_out(out, lines.as_slice()) {
+        SinkAnswer::Done => Ending::DiskFailed,
+        SinkAnswer::Failed => Ending::DiskFailed,
     }
 }

@@ -34,8 +34,8 @@ pub(crate) fn answer<E: End, D: Scripted<E>, L: Link, W: Sink>(
     requires lines { AreTold D.told E.takes lines.now }
     requires given { place.old.given + length lines.now < 2 ^ 64 }
     ensures runs { Runs
-        (scene L.Link W.Sink link.old out.old (E.means end.old))
-        (scene L.Link W.Sink link.new out.new (E.means end.new))
+        (scene L.Link W.Sink link.old out.old (E.means end.old) (E.room end.old))
+        (scene L.Link W.Sink link.new out.new (E.means end.new) (E.room end.new))
         (answered E.machine side D.told now (due_lines now lines.now) (plain_input byte) (E.means end.old))
         result }
     ensures end { IfOn result (E.means end.new
@@ -85,8 +85,8 @@ fn tell_all<E: End, D: Scripted<E>, L: Link, W: Sink>(
     requires sound { E.sound end.old }
     requires lines { AreTold D.told E.takes lines.now }
     ensures runs { Runs
-        (scene L.Link W.Sink link.old out.old (E.means end.old))
-        (scene L.Link W.Sink link.new out.new (E.means end.new))
+        (scene L.Link W.Sink link.old out.old (E.means end.old) (E.room end.old))
+        (scene L.Link W.Sink link.new out.new (E.means end.new) (E.room end.new))
         (all_told E.machine side D.told now lines.now (E.means end.old))
         result }
     ensures end { IfOn result (E.means end.new ≡ (all_told E.machine side D.told now lines.now (E.means end.old)).end) }
@@ -115,8 +115,8 @@ fn tell<E: End, D: Scripted<E>, L: Link, W: Sink>(
     requires sound { E.sound end.old }
     requires step { MayTell E.takes (D.told step.now) }
     ensures runs { Runs
-        (scene L.Link W.Sink link.old out.old (E.means end.old))
-        (scene L.Link W.Sink link.new out.new (E.means end.new))
+        (scene L.Link W.Sink link.old out.old (E.means end.old) (E.room end.old))
+        (scene L.Link W.Sink link.new out.new (E.means end.new) (E.room end.new))
         (tells E.machine side now (D.told step.now) (E.means end.old))
         result }
     ensures end { IfOn result (E.means end.new ≡ (tells E.machine side now (D.told step.now) (E.means end.old)).end) }

@@ -7,20 +7,13 @@ use line_end::{LinePlan, Times};
 use line_schedule::{ScriptStep, read_script};
 use std::alloc::Global;
 
-/// The host with its own deadline, and with what a script tells it.
+/// The host with what a script tells it.
 struct ScriptedHost {}
 
 impl Scripted<Host> for ScriptedHost {
-    ghost use Rattle.message_end.specs.Calls.{deadline_of_end};
     ghost use Rattle.end_run.specs.Sides.{told_host};
 
-    ghost due = { λ s. deadline_of_end s.core };
-
     ghost told = { told_host };
-
-    fn deadline(end: &Host) -> Option<u64> {
-        end.deadline()
-    }
 
     fn told(step: &ScriptStep) -> Option<&HostCommand> {
         match step {
@@ -220,6 +213,7 @@ fn ends<L: Link>(
         Ok(script) => Some(run_end::<Host, ScriptedHost, L, TestOutput>(
             alloc,
             &plan(enable),
+            (),
             &script,
             Side::Host,
             ADDRESS,

@@ -1,8 +1,7 @@
-use Rattle.std.proofs.Common.{ℕ, ◌≤◌, length, Option}
+use Rattle.std.proofs.Common.{◌≤◌, length}
 use Rattle.end_run.specs.Calls.{left_of}
 use Rattle.end_run.specs.Run.{polled}
 use Rattle.end_run.specs.Scenes.{scene}
-use Rattle.end_run.specs.Script.{ActsBy}
 use Rattle.end_run.proofs.Polling.{IsPolled, polls}
 use Rattle.end_run.proofs.polls.poll_all.Given as goal
 
@@ -11,12 +10,11 @@ abbrev pub invariant-polls : goal.invariant-polls
 invariant-polls g l =
     let e = g.E.End in
     let d = g.D.Scripted in
-    ((due : e.State → Option ℕ) → ActsBy e.means d.due due
-    → IsPolled e.machine due d.told l.side
-    (scene g.L.Link g.W.Sink l.fn.link l.fn.out (e.means l.fn.end))
-    (scene g.L.Link g.W.Sink l.link l.out (e.means l.end))
-    (λ answers. polled e.machine due d.told l.side l.polls l.lines 0 answers (e.means l.fn.end))
-    (polls e.machine due d.told l.side l.left (left_of (e.means l.end) l.lines l.place)))
+    IsPolled e.machine e.due d.told l.side
+    (scene g.L.Link g.W.Sink l.fn.link l.fn.out (e.means l.fn.end) (e.room l.fn.end))
+    (scene g.L.Link g.W.Sink l.link l.out (e.means l.end) (e.room l.end))
+    (λ answers. polled e.machine e.due d.told l.side l.polls l.lines 0 answers (e.means l.fn.end))
+    (polls e.machine e.due d.told l.side l.left (left_of (e.means l.end) l.lines l.place))
     × e.sound l.end × (l.place.given ≤ length l.lines)
 
 abbrev pub decreases-polls : goal.decreases-polls

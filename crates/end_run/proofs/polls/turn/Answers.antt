@@ -1,4 +1,4 @@
-use Rattle.std.proofs.Common.{Some, refl, ◌∙◌}
+use Rattle.std.proofs.Common.{Some, refl}
 use Rattle.gl_base.specs.declared.link.LinkIn.TheVariants as link
 use Rattle.end_run.specs.Calls.{left_of}
 use Rattle.end_run.proofs.Turning.{closed_runs, if_on, past_due, turned_by}
@@ -6,13 +6,11 @@ use Rattle.end_run.proofs.polls.turn.Goals as goal
 
 pub returns-in-Char-clause-turned : goal.returns-in-Char-clause-turned
 returns-in-Char-clause-turned g c =
-    λ due by.
     let e = g.E.End in
-    turned_by e.machine due g.D.Scripted.told c.args.side _ _ _ _ _
+    turned_by e.machine e.due g.D.Scripted.told c.args.side _ _ _ _ _
     (left_of (e.means c.args.end.now) c.args.lines.now c.args.place.now)
     (left_of (e.means c.answer.new.end) c.args.lines.now c.answer.new.place) c.wait_until-until.result c.deadline.result
-    c.split_at.result.1.now c.split_at.ensures.back (c.deadline.ensures
-    ∙ by c.args.end.now) c.wait_until-until.ensures.until
+    c.split_at.result.1.now c.split_at.ensures.back c.deadline.ensures c.wait_until-until.ensures.until
     (link.Char c.in-Char.byte c.in-Char.now) c.answer.result (λ is. cc) c.in-Char.ensures.next c.in-Char.ensures.told
     c.in-Char.ensures.time c.in-Char.ensures.moment c.in-Char.ensures.cause c.answer.ensures.runs c.answer.ensures.end
     c.answer.ensures.now
@@ -23,12 +21,11 @@ returns-in-Char-clause-turned g c =
 
 pub returns-in-Quiet-clause-turned : goal.returns-in-Quiet-clause-turned
 returns-in-Quiet-clause-turned g c =
-    λ due by.
     let e = g.E.End in
-    turned_by e.machine due g.D.Scripted.told c.args.side _ _ _ _ _
+    turned_by e.machine e.due g.D.Scripted.told c.args.side _ _ _ _ _
     (left_of (e.means c.args.end.now) c.args.lines.now c.args.place.now)
     (left_of (e.means c.answer-in-Quiet.new.end) c.args.lines.now c.answer-in-Quiet.new.place) c.wait_until-until.result
-    c.deadline.result c.split_at.result.1.now c.split_at.ensures.back (c.deadline.ensures ∙ by c.args.end.now)
+    c.deadline.result c.split_at.result.1.now c.split_at.ensures.back c.deadline.ensures
     c.wait_until-until.ensures.until (link.Quiet c.in-Quiet.now) c.answer-in-Quiet.result
     (λ is. cc) c.in-Quiet.ensures.next
     c.in-Quiet.ensures.told c.in-Quiet.ensures.time c.in-Quiet.ensures.moment c.in-Quiet.ensures.cause
@@ -41,13 +38,11 @@ returns-in-Quiet-clause-turned g c =
 
 pub returns-in-Closed-clause-turned : goal.returns-in-Closed-clause-turned
 returns-in-Closed-clause-turned g c =
-    λ due by.
     let e = g.E.End in
     let here = left_of (e.means c.args.end.now) c.args.lines.now c.args.place.now in
-    turned_by e.machine due g.D.Scripted.told c.args.side _ _ _ _ _ here here c.wait_until-until.result
+    turned_by e.machine e.due g.D.Scripted.told c.args.side _ _ _ _ _ here here c.wait_until-until.result
     c.deadline.result
-    c.split_at.result.1.now c.split_at.ensures.back (c.deadline.ensures
-    ∙ by c.args.end.now) c.wait_until-until.ensures.until
+    c.split_at.result.1.now c.split_at.ensures.back c.deadline.ensures c.wait_until-until.ensures.until
     link.Closed (Some c.close.result) (λ is. cc) c.in-Closed.ensures.next c.in-Closed.ensures.told
     c.in-Closed.ensures.time
     c.in-Closed.ensures.moment c.in-Closed.ensures.cause

@@ -12,8 +12,10 @@ pub returns-clause-runs : goal.returns-clause-runs
 returns-clause-runs g c =
     let e = g.E.End in
     subst
-    (λ input. Runs (scene g.L.Link g.W.Sink c.args.link.now c.args.out.now (e.means c.args.end.now))
-    (scene g.L.Link g.W.Sink c.step_end.new.link c.step_end.new.out (e.means c.step_end.new.end))
+    (λ input. Runs (scene g.L.Link g.W.Sink c.args.link.now c.args.out.now (e.means c.args.end.now)
+    (e.room c.args.end.now))
+    (scene g.L.Link g.W.Sink c.step_end.new.link c.step_end.new.out (e.means c.step_end.new.end)
+    (e.room c.step_end.new.end))
     (stepped e.machine c.args.side c.args.now input (e.means c.args.end.now)) c.step_end.result)
     c.plain_input-input.ensures.input c.step_end.ensures.runs
 

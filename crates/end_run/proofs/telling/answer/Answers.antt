@@ -10,8 +10,9 @@ use Rattle.end_run.proofs.telling.answer.Goals as goal
 pub returns-in-Some-clause-runs : goal.returns-in-Some-clause-runs
 returns-in-Some-clause-runs g c =
     let e = g.E.End in
-    let a = scene g.L.Link g.W.Sink c.args.link.now c.args.out.now (e.means c.args.end.now) in
-    let b = scene g.L.Link g.W.Sink c.tell_all.new.link c.tell_all.new.out (e.means c.tell_all.new.end) in
+    let a = scene g.L.Link g.W.Sink c.args.link.now c.args.out.now (e.means c.args.end.now) (e.room c.args.end.now) in
+    let b = scene g.L.Link g.W.Sink c.tell_all.new.link c.tell_all.new.out (e.means c.tell_all.new.end)
+    (e.room c.tell_all.new.end) in
     let due = c.split_at.ensures.front ∙ ap (λ (n : ℕ). take n c.args.lines.now) c.due_count-count.ensures.count in
     runs_stop a b
     (all_told e.machine c.args.side g.D.Scripted.told c.args.now (due_lines c.args.now c.args.lines.now)
@@ -25,8 +26,9 @@ returns-in-Some-clause-runs g c =
 pub returns-in-None-clause-runs : goal.returns-in-None-clause-runs
 returns-in-None-clause-runs g c =
     let e = g.E.End in
-    let a = scene g.L.Link g.W.Sink c.args.link.now c.args.out.now (e.means c.args.end.now) in
-    let b = scene g.L.Link g.W.Sink c.tell_all.new.link c.tell_all.new.out (e.means c.tell_all.new.end) in
+    let a = scene g.L.Link g.W.Sink c.args.link.now c.args.out.now (e.means c.args.end.now) (e.room c.args.end.now) in
+    let b = scene g.L.Link g.W.Sink c.tell_all.new.link c.tell_all.new.out (e.means c.tell_all.new.end)
+    (e.room c.tell_all.new.end) in
     let due = c.split_at.ensures.front ∙ ap (λ (n : ℕ). take n c.args.lines.now) c.due_count-count.ensures.count in
     runs_more _
     (all_told e.machine c.args.side g.D.Scripted.told c.args.now (due_lines c.args.now c.args.lines.now)

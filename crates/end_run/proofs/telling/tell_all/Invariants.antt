@@ -9,7 +9,7 @@ abbrev pub invariant-lines : goal.invariant-lines
 invariant-lines g l =
     let e = g.E.End in
     Leads
-    (scene g.L.Link g.W.Sink l.fn.link l.fn.out (e.means l.fn.end))
-    (scene g.L.Link g.W.Sink l.link l.out (e.means l.end))
+    (scene g.L.Link g.W.Sink l.fn.link l.fn.out (e.means l.fn.end) (e.room l.fn.end))
+    (scene g.L.Link g.W.Sink l.link l.out (e.means l.end) (e.room l.end))
     (all_told e.machine l.side g.D.Scripted.told l.now l.lines (e.means l.fn.end))
     (all_told e.machine l.side g.D.Scripted.told l.now (drop l.line-index l.lines) (e.means l.end)) × e.sound l.end

@@ -1,0 +1,142 @@
+-- A run of an end that no disk may stop doesn't end so.
+use Rattle.std.proofs.Common.{◌≡◌, zero, suc, ℕ, List, [], ◌∷◌, ◌++◌, map, Option, Some, None, ap, subst}
+use Rattle.gl_base.specs.Events.{moment_after}
+use Rattle.gl_base.specs.declared.link.LinkIn.{LinkIn}
+use Rattle.gl_base.specs.declared.link.LinkIn.TheVariants as link
+use Rattle.gl_base.specs.declared.side.Side.{Side}
+use Rattle.line_schedule.specs.declared.script.ScriptStep.{ScriptStep}
+use Rattle.message_end.specs.Core.{Step, Went}
+use Rattle.message_end.specs.Core.Went.{Goes, Spent}
+use Rattle.message_end.specs.Ends.{Asked, Input, Machine}
+use Rattle.message_end.specs.Ends.Input.{Char, Command, Time}
+use Rattle.message_end.specs.Own.{Has}
+use Rattle.trace_log.specs.Log.{Entry, Happening}
+use Rattle.end_run.specs.declared.ending.Ending.{Ending}
+use Rattle.end_run.specs.declared.ending.Ending.TheVariants as ending
+use Rattle.end_run.specs.Acts.{Act}
+use Rattle.end_run.specs.Acts.Act.{Connects, Polls, Sends, Stands, Writes}
+use Rattle.end_run.specs.Outcome.{DiskFails, RunsOver}
+use Rattle.end_run.specs.Pieces.{Piece, and_more, and_on}
+use Rattle.end_run.specs.Run.{begun, end_run, polled, started_run, turned, upon}
+use Rattle.end_run.specs.Scenes.{Scene}
+use Rattle.end_run.specs.Script.{ScriptLine, Telling, due_lines, later_lines}
+use Rattle.end_run.specs.Script.Telling.{IsOther, Stops, Tells}
+use Rattle.end_run.specs.Steps.{all_told, answered, entries_at, made, sends, started, stepped, tells}
+
+-- its machine lists nothing at which a disk may stop it
+abbrev pub StopsNowhere : {S C : Type 0} → Machine S C → Type 0
+StopsNowhere {S} {C} machine =
+    ((s : S) (input : Input C) (now : ℕ) → machine.stops s input now ≡ []) × (machine.start_stops ≡ [])
+
+-- no step among these acts may be stopped
+abbrev GoOn : {S : Type 0} → List (Act S) → Type 0
+GoOn [] = Unit {0}
+GoOn (Stands stops asked end ∷ acts) = (stops ≡ []) × GoOn acts
+GoOn (Connects ∷ acts) = GoOn acts
+GoOn (Polls until answer ∷ acts) = GoOn acts
+GoOn (Writes entries ∷ acts) = GoOn acts
+GoOn (Sends characters ∷ acts) = GoOn acts
+
+go-both : {S : Type 0} (first second : List (Act S)) → GoOn first → GoOn second → GoOn (first ++ second)
+go-both [] second one two = two
+go-both (Stands stops asked end ∷ first) second one two = (one.0, go-both first second one.1 two)
+go-both (Connects ∷ first) second one two = go-both first second one two
+go-both (Polls until answer ∷ first) second one two = go-both first second one two
+go-both (Writes entries ∷ first) second one two = go-both first second one two
+go-both (Sends characters ∷ first) second one two = go-both first second one two
+
+go-behind : {S : Type 0} (first second : List (Act S)) → GoOn (first ++ second) → GoOn second
+go-behind [] second all = all
+go-behind (Stands stops asked end ∷ first) second all = go-behind first second all.1
+go-behind (Connects ∷ first) second all = go-behind first second all
+go-behind (Polls until answer ∷ first) second all = go-behind first second all
+go-behind (Writes entries ∷ first) second all = go-behind first second all
+go-behind (Sends characters ∷ first) second all = go-behind first second all
+
+never : {S : Type 0} (a b : Scene S) (acts : List (Act S)) → GoOn acts → DiskFails a b acts → ⊥
+never {S} a b acts on fails =
+    let all = subst (λ (acts : List (Act S)). GoOn acts) fails.whole on in
+    let none = go-behind fails.done _ all in
+    subst (λ (stops : List (List Entry)). Has stops fails.entries) none.0 fails.may
+
+module _ {S C : Type 0} (machine : Machine S C) (due : S → Option ℕ) (told : ScriptStep → Telling C) (side : Side)
+    (nowhere : StopsNowhere machine) where
+  none-at : (now : ℕ) (stops : List (List Happening)) → stops ≡ [] → map (entries_at side now) stops ≡ []
+  none-at now stops none = ap (map (entries_at side now)) none
+
+  sends-on : (characters : List ℕ) → GoOn (sends {S = S} characters)
+  sends-on [] = tt
+  sends-on (byte ∷ bytes) = tt
+
+  made-on : (now : ℕ) (stops : List (List Happening)) (asked : Asked) (went : Went S Happening) → stops ≡ []
+      → GoOn (made side now stops asked went).acts
+  made-on now stops asked (Goes step) none = (none-at now stops none, sends-on step.written)
+  made-on now stops asked (Spent step) none = (none-at now stops none, tt)
+
+  stepped-on : (now : ℕ) (input : Input C) (s : S) → GoOn (stepped machine side now input s).acts
+  stepped-on now input s =
+      made-on now (machine.stops s input now) (machine.asks s input now) (machine.act s input now)
+      (nowhere.0 s input now)
+
+  more-on : (first : Piece S) (more : S → Piece S) → GoOn first.acts → ((s : S) → GoOn (more s).acts)
+      → GoOn (and_more first more).acts
+  more-on first more one two = go first.ended
+    where
+      go : (ended : Option Ending) → GoOn (and_on ended first more).acts
+      go None = go-both first.acts (more first.end).acts one (two first.end)
+      go (Some how) = one
+
+  tells-on : (now : ℕ) (telling : Telling C) (s : S) → GoOn (tells machine side now telling s).acts
+  tells-on now (Tells command) s = stepped-on now (Command command) s
+  tells-on now Stops s = tt
+  tells-on now IsOther s = tt
+
+  told-on : (now : ℕ) (lines : List ScriptLine) (s : S) → GoOn (all_told machine side told now lines s).acts
+  told-on now [] s = tt
+  told-on now (line ∷ lines) s =
+      more-on (tells machine side now (told line.1) s) (all_told machine side told now lines)
+      (tells-on now (told line.1) s) (told-on now lines)
+
+  answered-on : (now : ℕ) (lines : List ScriptLine) (input : Input C) (s : S)
+      → GoOn (answered machine side told now lines input s).acts
+  answered-on now lines input s =
+      more-on (all_told machine side told now lines s) (stepped machine side now input) (told-on now lines s)
+      (stepped-on now input)
+
+  upon-on : (lines : List ScriptLine) (before : ℕ) (answer : LinkIn) (s : S)
+      → GoOn (upon machine due told side lines before answer s).acts
+  upon-on lines before (link.Char byte now) s = answered-on now (due_lines now lines) (Char byte) s
+  upon-on lines before (link.Quiet now) s = answered-on now (due_lines now lines) Time s
+  upon-on lines before link.Closed s = tt
+  upon-on lines before link.Failed s = tt
+
+  polled-on : (n : ℕ) (lines : List ScriptLine) (before : ℕ) (answers : List LinkIn) (s : S)
+      → GoOn (polled machine due told side n lines before answers s).acts
+  polled-on zero lines before answers s = tt
+  polled-on (suc n) lines before [] s = upon-on lines before link.Closed s
+  polled-on (suc n) lines before (answer ∷ answers) s =
+      let now = moment_after before answer in
+      more-on (turned machine due told side lines before answer s)
+      (polled machine due told side n (later_lines now lines) now answers) (upon-on lines before answer s)
+      (polled-on n (later_lines now lines) now answers)
+
+  started-on : (start : Step S Happening) (lines : List ScriptLine) (polls : ℕ) (answers : List LinkIn)
+      → GoOn (started_run machine due told side start lines polls answers).acts
+  started-on start lines polls answers =
+      more-on (begun machine due told side start) (polled machine due told side polls lines 0 answers)
+      (more-on (started side start) (stepped machine side 0 Time) tt (stepped-on 0 Time))
+      (polled-on polls lines 0 answers)
+
+  run-on : (went : Went S Happening) (lines : List ScriptLine) (polls : ℕ) (answers : List LinkIn)
+      → GoOn (end_run machine due told side went lines polls answers).acts
+  run-on (Goes start) lines polls answers =
+      (none-at 0 machine.start_stops nowhere.1, started-on start lines polls answers)
+  run-on (Spent start) lines polls answers =
+      made-on 0 machine.start_stops machine.start_asks (Spent start) nowhere.1
+
+  pub no_disk :
+      (went : Went S Happening) (lines : List ScriptLine) (polls : ℕ) (a b : Scene S)
+      → RunsOver a b (end_run machine due told side went lines polls) ending.DiskFailed → ⊥
+  no_disk went lines polls a b over =
+      never a b (end_run machine due told side went lines polls over.answers).acts
+      (run-on went lines polls over.answers) over.runs
