@@ -1,6 +1,7 @@
 //! The world that runs: a tool and its host on one line, by a schedule, whose trace is written.
 #![tactic(auto)]
 
+mod disk;
 mod running;
 #[cfg(test)]
 mod tests;

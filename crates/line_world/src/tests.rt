@@ -1,5 +1,5 @@
 use super::*;
-use equipment_node::Equipment;
+use equipment_node::EquipmentEnd;
 use equipment_tables::{EquipmentPlan, HostPlan};
 use gem_remote::RemotePlan;
 use gem_states::ControlState;
@@ -56,7 +56,7 @@ fn plans(alloc: Global, line: LinePlan, host: LinePlan) -> Option<Plans> {
 /// and the same of the host.
 type Left = Option<(Phase, Option<u64>, Phase, Option<u64>)>;
 
-fn left_of(world: &Option<World<Equipment, Host>>) -> Left {
+fn left_of(world: &Option<World<EquipmentEnd, Host>>) -> Left {
     match world {
         Some(world) => Some((
             world.equipment().phase(),

@@ -1,40 +1,102 @@
-use Rattle.std.proofs.Common.{List, refl, subst, sym}
-use Rattle.equipment_node.specs.Reported.{Reported}
-use Rattle.equipment_node.specs.Step as equipment
+use Rattle.std.proofs.Common.{List, [], refl, subst, sym, ◌∙◌}
+use Rattle.end_pair.specs.Laws.{IsOfMoves}
+use Rattle.end_pair.specs.Run as pair
+use Rattle.equipment_node.specs.End as equipment
+use Rattle.equipment_node.specs.Laws.{DidOf}
+use Rattle.gl_base.proofs.Appending.{part_before, wrote_nothing}
 use Rattle.host_node.specs.Host as host
+use Rattle.message_end.specs.Core.{Step}
 use Rattle.trace_log.specs.Log.{Happening}
-use Rattle.line_world.specs.Run.{host_start, plans_of}
-use Rattle.line_world.proofs.Behind.{in-order, is-delivered}
+use Rattle.line_world.specs.Run.{EquipmentView, HostDid, equipment_start, host_start, plans_of, trace_text}
+use Rattle.line_world.proofs.Claims.{LawsHold, comes-in-order, delivered, reported, spooled}
+use Rattle.line_world.proofs.Disks.{blank-first, blank-opens, blank_spool, first-is, hands-over, holds-blank, holds-empty, never-fails, opens-empty, runs-over}
 use Rattle.line_world.proofs.Events.{all-happen, all-have}
 use Rattle.line_world.proofs.running.run.Goals as goal
 
-pub run-requires-clause-events : goal.run-requires-clause-events
-run-requires-clause-events g c = all-happen c.args.schedule.now.events c.requires.schedule.events
-
-pub returns-clause-delivered : goal.returns-clause-delivered
-returns-clause-delivered g c =
+-- the laws hold whether there was memory for a disk or not
+pub returns-in_default : goal.returns-in_default
+returns-in_default g c =
     let events = c.args.schedule.now.events in
     let plans = c.args.plans.now in
     let fit = c.requires.plans in
-    is-delivered plans fit c.ends_deliver.ensures _
-    (c.runs_are_moves.ensures plans.equipment plans.host (plans_of plans) events fit.equipment fit.host
+    let laws : LawsHold = record {
+      deliver = c.ends_deliver.ensures;
+      take = c.spool_is_taken_in_order.ensures;
+      reports = c.reports_are_of_their_events.ensures;
+      kept = c.spool_is_kept.ensures.notes;
+      tries = c.spool_is_kept.ensures.tries;
+    }
+    in
+    let moved =
+    subst (λ (first : Step EquipmentView Happening).
+    IsOfMoves (DidOf plans.equipment) (HostDid plans.host) (plans_of plans)
+    (pair.log_of equipment.machine host.host_machine first (host_start plans.host) events)) (blank-first plans)
+    (c.runs_are_moves.ensures plans.equipment (blank_spool plans.slots) plans.host tt (plans_of plans) events
+    fit.equipment fit.host (holds-blank plans.slots) tt (blank-opens plans) tt
     (record { equipment_is = refl; host_is = refl }) (all-happen events c.requires.schedule.events)
     (all-have events c.requires.schedule.events))
+    in
+    let courses =
+    c.entries_are_of_courses.ensures equipment.machine host.host_machine (equipment_start plans)
+    (host_start plans.host) events
+    in
+    record {
+      text = part_before [] (trace_text plans c.args.schedule.now) wrote_nothing;
+      world = tt;
+      delivered = delivered plans c.args.schedule.now fit laws moved courses;
+      in_order = comes-in-order plans c.args.schedule.now fit laws moved courses;
+      disk = λ is. cc;
+      reported = reported plans c.args.schedule.now fit laws moved courses;
+      spooled = spooled plans c.args.schedule.now fit laws moved courses;
+    }
 
-pub returns-clause-in_order : goal.returns-clause-in_order
-returns-clause-in_order g c =
+pub run-end-requires-clause-events : goal.run-end-requires-clause-events
+run-end-requires-clause-events g c = all-happen c.args.schedule.now.events c.requires.schedule.events
+
+pub run-end-requires-clause-equipment_store : goal.run-end-requires-clause-equipment_store
+run-end-requires-clause-equipment_store g c = holds-empty c.args.plans.now.slots c.in-Ok.spool c.in-Ok.ensures
+
+pub run-end-requires-clause-equipment_opens : goal.run-end-requires-clause-equipment_opens
+run-end-requires-clause-equipment_opens g c = opens-empty c.args.plans.now c.in-Ok.spool c.in-Ok.ensures
+
+pub returns : goal.returns
+returns g c =
     let events = c.args.schedule.now.events in
     let plans = c.args.plans.now in
     let fit = c.requires.plans in
-    in-order plans fit c.ends_deliver.ensures _
-    (c.runs_are_moves.ensures plans.equipment plans.host (plans_of plans) events fit.equipment fit.host
+    let laws : LawsHold = record {
+      deliver = c.ends_deliver.ensures;
+      take = c.spool_is_taken_in_order.ensures;
+      reports = c.reports_are_of_their_events.ensures;
+      kept = c.spool_is_kept.ensures.notes;
+      tries = c.spool_is_kept.ensures.tries;
+    }
+    in
+    let moved =
+    subst (λ (first : Step EquipmentView Happening).
+    IsOfMoves (DidOf plans.equipment) (HostDid plans.host) (plans_of plans)
+    (pair.log_of equipment.machine host.host_machine first (host_start plans.host) events)) (blank-first plans)
+    (c.runs_are_moves.ensures plans.equipment (blank_spool plans.slots) plans.host tt (plans_of plans) events
+    fit.equipment fit.host (holds-blank plans.slots) tt (blank-opens plans) tt
     (record { equipment_is = refl; host_is = refl }) (all-happen events c.requires.schedule.events)
     (all-have events c.requires.schedule.events))
-
-pub returns-clause-reported : goal.returns-clause-reported
-returns-clause-reported g c =
-    let plans = c.args.plans.now in
-    let courses = c.entries_are_of_courses.ensures equipment.machine host.host_machine
-    (equipment.start plans.equipment) (host_start plans.host) c.args.schedule.now.events in
-    subst (λ (notes : List Happening). Reported plans.equipment notes) (sym courses.equipment_noted)
-    (c.reports_are_of_their_events.ensures plans.equipment c.requires.plans.equipment courses.equipment_met).reported
+    in
+    let courses =
+    c.entries_are_of_courses.ensures equipment.machine host.host_machine (equipment_start plans)
+    (host_start plans.host) events
+    in
+    let ended = c.run-end.result.0 in
+    let is = first-is plans c.in-Ok.spool c.in-Ok.ensures in
+    record {
+      text =
+          runs-over plans c.args.schedule.now _ c.in-Ok.spool c.in-Ok.ensures _ is ended c.end_over_disk.result
+          c.end_over_disk.ensures c.run-end.ensures.text c.run-end.ensures.stops;
+      world =
+          hands-over plans c.args.schedule.now _ _ is ended c.end_over_disk.result c.run-end.result.1
+          c.end_over_disk.ensures c.run-end.ensures.world;
+      delivered = delivered plans c.args.schedule.now fit laws moved courses;
+      in_order = comes-in-order plans c.args.schedule.now fit laws moved courses;
+      disk = λ at. never-fails ended (sym c.end_over_disk.ensures ∙ at);
+      reported = reported plans c.args.schedule.now fit laws moved courses;
+      spooled = spooled plans c.args.schedule.now fit laws moved courses;
+    }

@@ -1,0 +1,34 @@
+//! The disk of a world's spool.
+
+ghost use Rattle.std.specs.Prelude.{◌≤◌, IfOk};
+ghost use Rattle.line_world.specs.Disk.{IsEmptySpool};
+
+use disk_base::MemDisk;
+use gem_spool::GemSpool;
+use gl_base::NoMemory;
+use spool_slots::Raw;
+use std::alloc::Global;
+
+// What the disk's list has room for: calls, and written bytes.
+const MOST_CALLS: u32 = 65_536;
+
+const MOST_WRITTEN: u64 = 64 << 20;
+
+// The size of a slot, and of what stands before the first one.
+const SLOT_SIZE: u64 = 4_096;
+
+/// An empty spool of so many slots, on a disk in memory that is made for it. Only memory may be wanting.
+pub(crate) fn empty_spool(alloc: Global, slots: u32) -> Result<GemSpool<MemDisk>, NoMemory>
+    requires some { 1 ≤ slots }
+    requires most { slots ≤ 1024 }
+    ensures { IfOk result (λ spool. IsEmptySpool slots spool) }
+{
+    let size = SLOT_SIZE * (u64::from(slots) + 1);
+    let Ok(disk) = MemDisk::new(alloc, size, MOST_CALLS, MOST_WRITTEN) else {
+        return Err(NoMemory);
+    };
+    match Raw::new(disk).format(slots) {
+        Ok(spool) => Ok(GemSpool::new(spool)),
+        Err(_) => unreachable!("the disk has room for it"),
+    }
+}
