@@ -1,5 +1,5 @@
 -- Each fault of the input, the files, the disk and the output is the outcome.
-use Rattle.std.proofs.Common.{◌≡◌, ℕ, Bool, false, List, Option, Some, None, Result, Ok, Err, refl, sym, ap, subst, inl, inr}
+use Rattle.std.proofs.Common.{◌≡◌, ◌≢◌, ℕ, Bool, false, List, Option, Some, None, Result, Ok, Err, refl, sym, ap, subst, inl, inr}
 use Rattle.equipment_tables.specs.declared.plan.Plans.{Plans}
 use Rattle.gem_config.specs.declared.fault.ConfigFault.{ConfigFault}
 use Rattle.gem_config.specs.declared.fault.ConfigFault.TheVariants as plan_fault
@@ -17,7 +17,10 @@ use Rattle.line_show.specs.declared.printer.Stop.{Stop}
 use Rattle.line_show.specs.declared.printer.Stop.TheVariants as stop
 use Rattle.line_schedule.specs.declared.schedule.ScheduleFault.{ScheduleFault}
 use Rattle.line_schedule.specs.declared.schedule.ScheduleFault.TheVariants as schedule_fault
+use Rattle.line_schedule.specs.declared.schedule.Schedule.{Schedule}
+use Rattle.line_world.specs.Run.{Runs}
 use Rattle.line_end.specs.declared.plan.HostPlan.{HostPlan}
+use Rattle.message_end.specs.Ends.{Asked as Room}
 use Rattle.message_end.specs.Parts.{Node}
 use Rattle.host_node.specs.Host.{HostOwn, Kind}
 use Rattle.end_run.specs.Acts.{Act}
@@ -25,15 +28,14 @@ use Rattle.end_run.specs.Outcome.{Does, Made}
 use Rattle.end_run.specs.Script.{ScriptLine}
 use Rattle.end_run.specs.declared.ending.Ending.{Ending as RunEnding}
 use Rattle.end_run.specs.declared.ending.Ending.TheVariants as ending
-use Rattle.end_pair.specs.Run.{Runs}
 use Rattle.end_pair.specs.declared.answers.RunEnd.{RunEnd}
 use Rattle.end_pair.specs.declared.answers.RunEnd.TheVariants as end
-use Rattle.end_pair.specs.declared.answers.WorldStep.{WorldStep}
 use Rattle.spool_show.specs.Told.{DiskTold}
 use Rattle.spool_show.specs.Formatting.{FormatsFile, FormatsSpool}
 use Rattle.spool_show.specs.Showing.{ShowsFile, ShowsSpool}
 use Rattle.spool_show.specs.declared.spool_end.SpoolEnd.{SpoolEnd}
 use Rattle.spool_show.specs.declared.spool_end.SpoolEnd.TheVariants as spool
+use Rattle.gemline_app.specs.Files.{FileRefuses, plan_refusal}
 use Rattle.gemline_app.specs.Host.{HostComes, IsIdle, ScriptRuns, WasRun, after_run, before_run, outcome_of_ending, script_refusal}
 use Rattle.gemline_app.specs.LinkTold.{IsUncalled, LinkTold}
 use Rattle.gemline_app.specs.Spool.{EndedAs, IsUnused, outcome_of_spool}
@@ -42,7 +44,7 @@ use Rattle.gemline_app.specs.Gemline.{ComesFrom, ComesOnInput, HexRefuses, IsRef
 use Rattle.gemline_app.specs.Inputs.{InputRefuses, IsUnread}
 use Rattle.gemline_app.specs.Laws.{CountsFaults, IsCounted, is_disk_fault, is_file_fault, is_link_fault, is_read_fault, is_write_fault}
 use Rattle.gemline_app.specs.Outcome.{outcome_of_show}
-use Rattle.gemline_app.specs.Replay.{FileRefuses, FollowsPlan, ReplayComes, ScheduleComes, ScheduleRefuses, TextRuns, files_since, outcome_of_end, plan_refusal, schedule_refusal}
+use Rattle.gemline_app.specs.Replay.{ReplayComes, ScheduleComes, ScheduleRefuses, TextRuns, files_since, outcome_of_end, schedule_refusal}
 use Rattle.gemline_app.specs.Words.{capture_limit, item_limit, script_limit}
 use Rattle.gemline_app.specs.Written.{AreUnread, IsUntouched}
 use Rattle.gemline_app.specs.declared.outcome.FileRole.{FileRole}
@@ -268,13 +270,16 @@ stand_files files out outcome stands counts = record {
   write = counts.write;
 }
 
-by_end : (out : SinkTold) (text : List ℕ) (went : WorldStep) (ended : RunEnd) → Runs out text went ended → CountsWrites out (outcome_of_end ended)
-by_end out text went end.Whole (at, wrote) = record { read = refl; file = refl; on_disk = refl; on_link = refl; write = wrote.health.same }
-by_end out text went end.Slip (at, wrote) = record { read = refl; file = refl; on_disk = refl; on_link = refl; write = wrote.health.same }
-by_end out text went end.Turns (at, wrote) = record { read = refl; file = refl; on_disk = refl; on_link = refl; write = wrote.health.same }
-by_end out text went end.NumbersSpent (at, wrote) = record { read = refl; file = refl; on_disk = refl; on_link = refl; write = wrote.health.same }
-by_end out text went end.NoMemory part = record { read = refl; file = refl; on_disk = refl; on_link = refl; write = part.wrote.health.same }
-by_end out text went end.WriteFailed short = record { read = refl; file = refl; on_disk = refl; on_link = refl; write = short.fault.rose }
+by_end : (out : SinkTold) (plans : Plans) (schedule : Schedule) (ended : RunEnd) → Runs out plans schedule ended
+    → CountsWrites out (outcome_of_end ended)
+by_end out plans schedule end.Whole (at, wrote) = record { read = refl; file = refl; on_disk = refl; on_link = refl; write = wrote.health.same }
+by_end out plans schedule end.Slip (at, wrote) = record { read = refl; file = refl; on_disk = refl; on_link = refl; write = wrote.health.same }
+by_end out plans schedule end.Turns (inl (at, wrote)) = record { read = refl; file = refl; on_disk = refl; on_link = refl; write = wrote.health.same }
+by_end out plans schedule end.Turns (inr work) = record { read = refl; file = refl; on_disk = refl; on_link = refl; write = work.wrote.health.same }
+by_end out plans schedule end.NumbersSpent (at, wrote) = record { read = refl; file = refl; on_disk = refl; on_link = refl; write = wrote.health.same }
+by_end out plans schedule end.DiskFailed none = absurd none
+by_end out plans schedule end.NoMemory part = record { read = refl; file = refl; on_disk = refl; on_link = refl; write = part.wrote.health.same }
+by_end out plans schedule end.WriteFailed short = record { read = refl; file = refl; on_disk = refl; on_link = refl; write = short.fault.rose }
 
 left_of : (text : List ℕ) (out : SinkTold) (fault : ScheduleFault) → ScheduleRefuses text out fault → IsUntouched out
 left_of text out (schedule_fault.Line number) (at, left) = left
@@ -290,7 +295,7 @@ text_counts :
     (plans : Plans) (text : List ℕ) (out : SinkTold) (outcome : Outcome)
     → TextRuns plans text out outcome → CountsWrites out outcome
 text_counts plans text out outcome runs = elim runs.because [
-  | inl (schedule, is, was) ↦ subst (CountsWrites out) (sym was.outcome_is) (by_end out _ _ was.ended was.wrote)
+  | inl (schedule, is, was) ↦ subst (CountsWrites out) (sym was.outcome_is) (by_end out plans schedule was.ended was.wrote)
   | inr (fault, refuses, is) ↦
       plain_counts out outcome (subst IsPlain (sym is) (schedule_plain fault)) (untouched out (left_of text out fault refuses))
 ]
@@ -315,25 +320,20 @@ since_counts files later out outcome since same counts = record {
   write = counts.write;
 }
 
--- a plan was read, or refused
+-- a plan was refused
 plan_plain : (fault : ConfigFault) → IsPlain (plan_refusal fault)
 plan_plain (plan_fault.Key key what) = record { read = refl; file = refl; on_disk = refl; on_link = refl; write = refl }
 plan_plain plan_fault.NoMemory = record { read = refl; file = refl; on_disk = refl; on_link = refl; write = refl }
 
-plan_counts :
-    (result : Result Plans ConfigFault) (schedule : List ℕ) (files : FilesTold) (out : SinkTold) (outcome : Outcome)
-    → FollowsPlan result schedule files out outcome → CountsFiles files out outcome
-plan_counts (Ok plans) schedule files out outcome comes = schedule_counts plans schedule files out outcome comes
-plan_counts (Err fault) schedule files out outcome (is, unread, left) =
-    stand_files files out outcome (ap (λ (h : FilesHealth). h.faults) unread.health)
-    (plain_counts out outcome (subst IsPlain (sym is) (plan_plain fault)) (untouched out left))
-
 replay_counts : (plan schedule : List ℕ) (files : FilesTold) (out : SinkTold) (outcome : Outcome) → ReplayComes plan schedule files out outcome
     → CountsFiles files out outcome
-replay_counts plan schedule files out outcome (inl (refuses, left)) = file_refused role.Plan plan files out (untouched out left) outcome refuses
+replay_counts plan schedule files out outcome (inl (inl refuses, left)) = file_refused role.Plan plan files out (untouched out left) outcome refuses
+replay_counts plan schedule files out outcome (inl (inr bad, left)) =
+    stand_files files out outcome bad.read.cause.same
+    (plain_counts out outcome (subst IsPlain (sym bad.refused) (plan_plain bad.fault)) (untouched out left))
 replay_counts plan schedule files out outcome (inr over) =
-    since_counts files (files_since files over.told over.health) out outcome over.read.cause.same refl
-    (plan_counts over.rest.result schedule (files_since files over.told over.health) out outcome over.rest.follows)
+    since_counts files (files_since files over.told over.health) out outcome over.are.read.cause.same refl
+    (schedule_counts over.plans schedule (files_since files over.told over.health) out outcome over.rest)
 
 -- ---- a run
 
@@ -413,10 +413,10 @@ record CountsLink (link : LinkTold) (out : SinkTold) (outcome : Outcome) : Type 
   write : IsCounted (is_write_fault outcome) out.health.faults out.health_after.faults
 
 -- all of a run was made, or a part of it for want of memory: no fault was counted
-made_counts : (link : LinkTold) (out : SinkTold) (host left : Node HostOwn Kind)
+made_counts : (link : LinkTold) (out : SinkTold) (host left : Node HostOwn Kind) (room : Room)
     (acts : List (Act (Node HostOwn Kind))) (outcome : Outcome) → IsPlain outcome
-    → Made (before_run link out host) (after_run link out left) acts → CountsLink link out outcome
-made_counts link out host left acts outcome plain made = record {
+    → Made (before_run link out host) (after_run link out left room) acts → CountsLink link out outcome
+made_counts link out host left room acts outcome plain made = record {
   read = plain.read;
   file = plain.file;
   on_disk = plain.on_disk;
@@ -426,32 +426,33 @@ made_counts link out host left acts outcome plain made = record {
       made.wrote.health.same;
 }
 
-by_run : (link : LinkTold) (out : SinkTold) (host left : Node HostOwn Kind) (how : Option RunEnding)
-    (acts : List (Act (Node HostOwn Kind))) (ended : RunEnding)
-    → Does (before_run link out host) (after_run link out left) how acts (Some ended)
+by_run : (link : LinkTold) (out : SinkTold) (host left : Node HostOwn Kind) (room : Room)
+    (how : Option RunEnding) (acts : List (Act (Node HostOwn Kind))) (ended : RunEnding) → ended ≢ ending.DiskFailed
+    → Does (before_run link out host) (after_run link out left room) how acts (Some ended)
     → CountsLink link out (outcome_of_ending ended)
-by_run link out host left how acts ending.Stopped (at, did) = made_counts link out host left acts Done
+by_run link out host left room how acts ending.Stopped none (at, did) = made_counts link out host left room acts Done
     (record { read = refl; file = refl; on_disk = refl; on_link = refl; write = refl }) did.made
-by_run link out host left how acts ending.Closed (at, did) = made_counts link out host left acts Done
+by_run link out host left room how acts ending.Closed none (at, did) = made_counts link out host left room acts Done
     (record { read = refl; file = refl; on_disk = refl; on_link = refl; write = refl }) did.made
-by_run link out host left how acts ending.Turns (at, did) =
-    made_counts link out host left acts TurnsSpent
+by_run link out host left room how acts ending.Turns none (at, did) =
+    made_counts link out host left room acts TurnsSpent
     (record { read = refl; file = refl; on_disk = refl; on_link = refl; write = refl }) did.made
-by_run link out host left how acts ending.NumbersSpent (at, did) =
-    made_counts link out host left acts NumbersSpent
-    (record { read = refl; file = refl; on_disk = refl; on_link = refl; write = refl }) did.made
-by_run link out host left how acts ending.LinkFailed fails =
+by_run link out host left room how acts ending.NumbersSpent none (at, made) =
+    made_counts link out host left room acts NumbersSpent
+    (record { read = refl; file = refl; on_disk = refl; on_link = refl; write = refl }) made
+by_run link out host left room how acts ending.DiskFailed none fails = absurd (none refl)
+by_run link out host left room how acts ending.LinkFailed none fails =
     record { read = refl; file = refl; on_disk = refl; on_link = fails.fault.rose; write = fails.wrote.health.same }
-by_run link out host left how acts ending.WriteFailed fails =
+by_run link out host left room how acts ending.WriteFailed none fails =
     record { read = refl; file = refl; on_disk = refl; on_link = fails.carried.same; write = fails.fault.rose }
-by_run link out host left how acts ending.NoMemory part =
-    made_counts link out host left part.done NoMemory
+by_run link out host left room how acts ending.NoMemory none part =
+    made_counts link out host left room part.done NoMemory
     (record { read = refl; file = refl; on_disk = refl; on_link = refl; write = refl }) part.made
 
 ran_counts : (plan : HostPlan) (lines : List ScriptLine) (polls : ℕ) (link : LinkTold) (out : SinkTold)
     (outcome : Outcome) → WasRun plan lines polls link out outcome → CountsLink link out outcome
 ran_counts plan lines polls link out outcome was =
-    subst (CountsLink link out) (sym was.outcome_is) (by_run link out _ was.left _ _ was.ended was.runs.runs)
+    subst (CountsLink link out) (sym was.outcome_is) (by_run link out _ was.left was.room _ _ was.ended was.no_disk was.runs.runs)
 
 -- a refusal is no fault of an object, and none was touched
 idle_counts : (link : LinkTold) (out : SinkTold) (outcome : Outcome) → IsPlain outcome → IsIdle link out

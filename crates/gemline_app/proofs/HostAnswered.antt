@@ -1,5 +1,5 @@
 -- How a host ends whose plan and script mean something.
-use Rattle.std.proofs.Common.{◌≡◌, ◌⊎◌, ◌≤◌, ℕ, List, length, Option, Some, Ok, Err, refl, sym, ap, subst, ◌∙◌, inl, inr, arith}
+use Rattle.std.proofs.Common.{◌≡◌, ◌≢◌, ◌⊎◌, ◌≤◌, ℕ, List, length, Option, Some, Ok, Err, refl, sym, ap, subst, ◌∙◌, inl, inr, arith}
 use Rattle.command_words.specs.Asked.{Asked, Host}
 use Rattle.command_words.specs.Words.{asked_of}
 use Rattle.gl_base.specs.Told.{FilesTold, SinkTold, SourceTold}
@@ -11,6 +11,7 @@ use Rattle.gem_config.specs.declared.fault.ConfigFault.{ConfigFault}
 use Rattle.gem_config.specs.declared.fault.ConfigFault.TheVariants as plan_fault
 use Rattle.line_end.specs.declared.plan.HostPlan.{HostPlan}
 use Rattle.line_schedule.specs.Script.{IsScript}
+use Rattle.message_end.specs.Ends.{Asked as Room}
 use Rattle.message_end.specs.Parts.{Node}
 use Rattle.host_node.specs.Host.{HostOwn, Kind}
 use Rattle.spool_show.specs.Told.{DiskTold}
@@ -23,7 +24,7 @@ use Rattle.gemline_app.specs.Gemline.{IsRun, RunComes}
 use Rattle.gemline_app.specs.Host.{HostComes, ScriptComes, ScriptRuns, WasRun, after_run, before_run, outcome_of_ending}
 use Rattle.gemline_app.specs.Laws.{AnswersHost, Hinders, HostIsGiven, HostsAreAnswered}
 use Rattle.gemline_app.specs.LinkTold.{LinkTold}
-use Rattle.gemline_app.specs.Replay.{plan_refusal}
+use Rattle.gemline_app.specs.Files.{plan_refusal}
 use Rattle.gemline_app.specs.Words.{script_limit}
 use Rattle.gemline_app.specs.declared.outcome.FileRole.TheVariants as role
 use Rattle.gemline_app.specs.declared.outcome.Outcome.{Outcome}
@@ -36,21 +37,23 @@ module _ (source : SourceTold) (files : FilesTold) (disk : DiskTold) (link : Lin
   Answered outcome = AnswersHost outcome ⊎ Hinders source files disk link out outcome
 
   by_ending :
-      (host left : Node HostOwn Kind) (how : Option Ending) (acts : List (Act (Node HostOwn Kind))) (ended : Ending)
-      → Does (before_run link out host) (after_run link out left) how acts (Some ended)
+      (host left : Node HostOwn Kind) (room : Room) (how : Option Ending) (acts : List (Act (Node HostOwn Kind)))
+      (ended : Ending) → ended ≢ ending.DiskFailed
+      → Does (before_run link out host) (after_run link out left room) how acts (Some ended)
       → Answered (outcome_of_ending ended)
-  by_ending host left how acts ending.Stopped did = inl (inl refl)
-  by_ending host left how acts ending.Closed did = inl (inl refl)
-  by_ending host left how acts ending.Turns did = inl (inr (inl refl))
-  by_ending host left how acts ending.NumbersSpent did = inl (inr (inr refl))
-  by_ending host left how acts ending.LinkFailed fails = inr fails.fault.rose
-  by_ending host left how acts ending.WriteFailed fails = inr fails.fault.rose
-  by_ending host left how acts ending.NoMemory part = inr tt
+  by_ending host left room how acts ending.Stopped none did = inl (inl refl)
+  by_ending host left room how acts ending.Closed none did = inl (inl refl)
+  by_ending host left room how acts ending.Turns none did = inl (inr (inl refl))
+  by_ending host left room how acts ending.NumbersSpent none did = inl (inr (inr refl))
+  by_ending host left room how acts ending.DiskFailed none fails = absurd (none refl)
+  by_ending host left room how acts ending.LinkFailed none fails = inr fails.fault.rose
+  by_ending host left room how acts ending.WriteFailed none fails = inr fails.fault.rose
+  by_ending host left room how acts ending.NoMemory none part = inr tt
 
   ran : (plan : HostPlan) (lines : List ScriptLine) (polls : ℕ) (outcome : Outcome)
       → WasRun plan lines polls link out outcome → Answered outcome
   ran plan lines polls outcome was =
-      subst Answered (sym was.outcome_is) (by_ending _ was.left _ _ was.ended was.runs.runs)
+      subst Answered (sym was.outcome_is) (by_ending _ was.left was.room _ _ was.ended was.no_disk was.runs.runs)
 
   scripted : (plan : HostPlan) (text : List ℕ) (lines : List ScriptLine) (polls : ℕ) (outcome : Outcome)
       → IsScript side.Host text lines → ScriptRuns plan text polls link out outcome → Answered outcome

@@ -1,5 +1,5 @@
 -- Which outcome of `host` is due.
-use Rattle.std.proofs.Common.{◌≡◌, ◌⊎◌, ◌<◌, ◌≤◌, ℕ, List, length, Option, Some, None, Ok, Err, refl, sym, ap, subst, ◌∙◌, inl, inr, arith}
+use Rattle.std.proofs.Common.{◌≡◌, ◌≢◌, ◌⊎◌, ◌<◌, ◌≤◌, ℕ, List, length, Option, Some, None, Ok, Err, refl, sym, ap, subst, ◌∙◌, inl, inr, arith}
 use Rattle.gl_base.specs.Files.{told_file}
 use Rattle.gl_base.specs.Link.{LinkContents}
 use Rattle.gl_base.specs.Told.{FilesTold, SinkTold, SourceTold}
@@ -10,6 +10,7 @@ use Rattle.gem_config.specs.Reading.{refused as is_refused}
 use Rattle.gem_config.specs.declared.fault.ConfigFault.{ConfigFault}
 use Rattle.gem_config.specs.declared.fault.ConfigFault.TheVariants as plan_fault
 use Rattle.line_end.specs.declared.plan.HostPlan.{HostPlan}
+use Rattle.message_end.specs.Ends.{Asked}
 use Rattle.message_end.specs.Parts.{Node}
 use Rattle.host_node.specs.Host.{HostOwn, Kind}
 use Rattle.spool_show.specs.Told.{DiskTold}
@@ -22,7 +23,7 @@ use Rattle.gemline_app.specs.Gemline.{ComesOnInput}
 use Rattle.gemline_app.specs.Host.{HostComes, ScriptComes, ScriptRuns, WasRun, after_run, before_run, host_run, outcome_of_ending}
 use Rattle.gemline_app.specs.Laws.{Hinders, HostAsks, IsInputDue, LinesAsk, ScriptAsks}
 use Rattle.gemline_app.specs.LinkTold.{LinkTold}
-use Rattle.gemline_app.specs.Replay.{plan_refusal}
+use Rattle.gemline_app.specs.Files.{plan_refusal}
 use Rattle.gemline_app.specs.Words.{file_limit, script_limit}
 use Rattle.gemline_app.specs.declared.outcome.FileRole.{FileRole}
 use Rattle.gemline_app.specs.declared.outcome.FileRole.TheVariants as role
@@ -43,21 +44,22 @@ module _ (source : SourceTold) (files : FilesTold) (disk : DiskTold) (link : Lin
   -- ---- a run
 
   ended_due :
-      (host left : Node HostOwn Kind) (how : Option Ending) (acts : List (Act (Node HostOwn Kind)))
-      (ended wanted : Ending)
-      → Does (before_run link out host) (after_run link out left) how acts (Some ended) → how ≡ Some wanted
+      (host left : Node HostOwn Kind) (room : Asked) (how : Option Ending) (acts : List (Act (Node HostOwn Kind)))
+      (ended wanted : Ending) → ended ≢ ending.DiskFailed
+      → Does (before_run link out host) (after_run link out left room) how acts (Some ended) → how ≡ Some wanted
       → Comes source files disk link out (outcome_of_ending ended) (outcome_of_ending wanted)
-  ended_due host left how acts ending.Stopped wanted (at, did) is =
+  ended_due host left room how acts ending.Stopped wanted none (at, did) is =
       inl (ap outcome_of_ending (one_ending ending.Stopped wanted (sym at ∙ is)))
-  ended_due host left how acts ending.Closed wanted (at, did) is =
+  ended_due host left room how acts ending.Closed wanted none (at, did) is =
       inl (ap outcome_of_ending (one_ending ending.Closed wanted (sym at ∙ is)))
-  ended_due host left how acts ending.Turns wanted (at, did) is =
+  ended_due host left room how acts ending.Turns wanted none (at, did) is =
       inl (ap outcome_of_ending (one_ending ending.Turns wanted (sym at ∙ is)))
-  ended_due host left how acts ending.NumbersSpent wanted (at, did) is =
+  ended_due host left room how acts ending.NumbersSpent wanted none (at, did) is =
       inl (ap outcome_of_ending (one_ending ending.NumbersSpent wanted (sym at ∙ is)))
-  ended_due host left how acts ending.LinkFailed wanted fails is = inr fails.fault.rose
-  ended_due host left how acts ending.WriteFailed wanted fails is = inr fails.fault.rose
-  ended_due host left how acts ending.NoMemory wanted part is = inr tt
+  ended_due host left room how acts ending.DiskFailed wanted none fails is = absurd (none refl)
+  ended_due host left room how acts ending.LinkFailed wanted none fails is = inr fails.fault.rose
+  ended_due host left room how acts ending.WriteFailed wanted none fails is = inr fails.fault.rose
+  ended_due host left room how acts ending.NoMemory wanted none part is = inr tt
 
   lines_due :
       (plan : HostPlan) (lines : List ScriptLine) (polls : ℕ) (outcome due : Outcome)
@@ -68,7 +70,7 @@ module _ (source : SourceTold) (files : FilesTold) (disk : DiskTold) (link : Lin
       let ends_so = ap (λ (answers : List LinkIn). (host_run plan lines polls answers).ended) (sym same) ∙ ends in
       subst (λ (o : Outcome). Comes source files disk link out o due) (sym was.outcome_is)
       (subst (λ (o : Outcome). Comes source files disk link out (outcome_of_ending was.ended) o) (sym is_due)
-      (ended_due _ was.left _ _ was.ended wanted was.runs.runs ends_so))
+      (ended_due _ was.left was.room _ _ was.ended wanted was.no_disk was.runs.runs ends_so))
 
   -- ---- its script
 

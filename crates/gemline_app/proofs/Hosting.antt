@@ -10,14 +10,18 @@ use Rattle.line_schedule.specs.Script.{IsScript, OutsideScriptAt}
 use Rattle.line_schedule.specs.declared.schedule.ScheduleFault.{ScheduleFault}
 use Rattle.line_schedule.specs.declared.schedule.ScheduleFault.TheVariants as fault
 use Rattle.line_schedule.specs.declared.script.Script.{Script}
+use Rattle.message_end.specs.Core.Went.{Goes}
+use Rattle.message_end.specs.Ends.{Asked}
 use Rattle.message_end.specs.Parts.{Node}
-use Rattle.host_node.specs.Host.{HostOwn, Kind}
+use Rattle.host_node.specs.Host.{HostOwn, Kind, host_machine}
+use Rattle.end_run.proofs.NoDisk.{no_disk}
 use Rattle.end_run.specs.Outcome.{RunsOver}
 use Rattle.end_run.specs.Script.{ScriptLine}
+use Rattle.end_run.specs.Sides.{told_host}
 use Rattle.end_run.specs.declared.ending.Ending.{Ending}
-use Rattle.gemline_app.specs.Host.{ComesIdle, IsIdle, PlanAnswers, ScriptRefuses, ScriptRuns, TextAnswers, WasRun, after_run, before_run, host_run, host_start, outcome_of_ending, script_refusal}
+use Rattle.gemline_app.specs.Host.{ComesIdle, IsIdle, ScriptRefuses, ScriptRuns, WasRun, after_run, before_run, host_due, host_run, host_start, outcome_of_ending, script_refusal}
 use Rattle.gemline_app.specs.LinkTold.{LinkTold}
-use Rattle.gemline_app.specs.Replay.{WasFile}
+use Rattle.gemline_app.specs.Files.{PlanAnswers, TextAnswers, WasFile}
 use Rattle.gemline_app.specs.declared.outcome.FileRole.TheVariants as role
 use Rattle.gemline_app.specs.declared.outcome.Outcome.{Outcome}
 
@@ -32,11 +36,23 @@ pub record ReadsScript (text : List ℕ) (result : Result Script ScheduleFault) 
 -- a run by these lines
 pub was_run :
     (plan : HostPlan) (polls : ℕ) (link : LinkTold) (out : SinkTold) (outcome : Outcome) (lines : List ScriptLine)
-    (ended : Ending) (left : Node HostOwn Kind) → outcome ≡ outcome_of_ending ended
-    → RunsOver (before_run link out (host_start plan).next) (after_run link out left) (host_run plan lines polls) ended
+    (ended : Ending) (left : Node HostOwn Kind) (room : Asked) → outcome ≡ outcome_of_ending ended
+    → RunsOver (before_run link out (host_start plan).next) (after_run link out left room) (host_run plan lines polls)
+    ended
     → WasRun plan lines polls link out outcome
-was_run plan polls link out outcome lines ended left is runs =
-    record { ended = ended; outcome_is = is; left = left; runs = runs }
+was_run plan polls link out outcome lines ended left room is runs = record {
+  ended = ended;
+  outcome_is = is;
+  no_disk = λ at.
+      no_disk host_machine host_due told_host side.Host (λ s input now. refl, refl) (Goes (host_start plan)) lines polls
+      (before_run link out (host_start plan).next) (after_run link out left room)
+      (subst (λ (how : Ending).
+      RunsOver (before_run link out (host_start plan).next) (after_run link out left room) (host_run plan lines polls)
+      how) at runs);
+  left = left;
+  room = room;
+  runs = runs;
+}
 
 module _ (plan : HostPlan) (text : List ℕ) (polls : ℕ) (link : LinkTold) (out : SinkTold) (outcome : Outcome) where
   pub runs_script : (script : Script) → ReadsScript text (Ok script) → IsScript side.Host text script.lines

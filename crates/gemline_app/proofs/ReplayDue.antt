@@ -1,5 +1,5 @@
 -- Which outcome of `replay` is due.
-use Rattle.std.proofs.Common.{◌≡◌, ◌≢◌, ◌⊎◌, ◌<◌, ◌≤◌, ℕ, List, length, Option, Some, None, Result, Ok, Err, refl, sym, ap, subst, ◌∙◌, inl, inr, arith}
+use Rattle.std.proofs.Common.{◌≡◌, ◌≢◌, ◌⊎◌, ◌<◌, ◌≤◌, ℕ, List, length, Option, Some, None, Ok, Err, refl, sym, ap, subst, ◌∙◌, inl, inr, arith}
 use Rattle.gl_base.specs.Faults.{Rose}
 use Rattle.gl_base.specs.Files.{ReadsFile, ReadsFileOf, told_file}
 use Rattle.gl_base.specs.declared.files.FileAnswer.{FileAnswer}
@@ -7,11 +7,11 @@ use Rattle.gl_base.specs.declared.files.FileAnswer.TheVariants as file
 use Rattle.gl_base.specs.declared.files.MemFile.{MemFile}
 use Rattle.gl_base.specs.Told.{FilesTold, SinkTold, SourceTold}
 use Rattle.spool_show.specs.Told.{DiskTold}
-use Rattle.end_pair.specs.Run.{Runs}
+use Rattle.line_schedule.specs.declared.schedule.Schedule.{Schedule}
 use Rattle.end_pair.specs.declared.answers.RunEnd.{RunEnd}
 use Rattle.end_pair.specs.declared.answers.RunEnd.TheVariants as end
-use Rattle.end_pair.specs.declared.answers.WorldStep.{WorldStep}
-use Rattle.line_world.specs.Run.{trace_text, went_of}
+use Rattle.line_world.proofs.Within.{not-at-work}
+use Rattle.line_world.specs.Run.{Runs, StaysWithin, went_of}
 use Rattle.equipment_tables.specs.declared.plan.Plans.{Plans}
 use Rattle.gem_config.specs.Plans.{IsReadAs}
 use Rattle.gem_config.specs.Reading.{Read, refused as is_refused}
@@ -20,7 +20,8 @@ use Rattle.gem_config.specs.declared.fault.ConfigFault.TheVariants as plan_fault
 use Rattle.gem_config.specs.declared.fault.ConfigWhat.{ConfigWhat}
 use Rattle.gemline_app.specs.LinkTold.{LinkTold}
 use Rattle.gemline_app.specs.Laws.{Hinders, IsPlanDue, IsScheduleDue, PlanAsks, ScheduleAsks, outcome_of_run}
-use Rattle.gemline_app.specs.Replay.{FileRefuses, FollowsPlan, ReplayComes, ScheduleComes, TextRuns, WasFile, files_since, files_until, outcome_of_end, plan_refusal}
+use Rattle.gemline_app.specs.Files.{FileRefuses, WasFile, plan_refusal}
+use Rattle.gemline_app.specs.Replay.{ReplayComes, ScheduleComes, TextRuns, files_since, files_until, outcome_of_end}
 use Rattle.gemline_app.specs.Words.{file_limit}
 use Rattle.gemline_app.specs.declared.outcome.FileRole.{FileRole}
 use Rattle.gemline_app.specs.declared.outcome.FileRole.TheVariants as role
@@ -94,31 +95,33 @@ failed source files disk link out outcome found is rose = subst (Hinders source 
 -- ---- a schedule that was carried out
 
 ended_due :
-    (source : SourceTold) (files : FilesTold) (disk : DiskTold) (link : LinkTold) (out : SinkTold) (text : List ℕ) (went : WorldStep)
-    (ended : RunEnd) (outcome due : Outcome)
-    → outcome ≡ outcome_of_end ended → Runs out text went ended → due ≡ outcome_of_run went
-    → Comes source files disk link out outcome due
-ended_due source files disk link out text went end.Whole outcome due is (at, wrote) is_due =
+    (source : SourceTold) (files : FilesTold) (disk : DiskTold) (link : LinkTold) (out : SinkTold) (plans : Plans)
+    (schedule : Schedule) (ended : RunEnd) (outcome due : Outcome)
+    → outcome ≡ outcome_of_end ended → Runs out plans schedule ended → StaysWithin plans schedule
+    → due ≡ outcome_of_run (went_of plans schedule) → Comes source files disk link out outcome due
+ended_due source files disk link out plans schedule end.Whole outcome due is (at, wrote) within is_due =
     inl (is ∙ sym (is_due ∙ ap outcome_of_run at))
-ended_due source files disk link out text went end.Slip outcome due is (at, wrote) is_due =
+ended_due source files disk link out plans schedule end.Slip outcome due is (at, wrote) within is_due =
     inl (is ∙ sym (is_due ∙ ap outcome_of_run at))
-ended_due source files disk link out text went end.Turns outcome due is (at, wrote) is_due =
+ended_due source files disk link out plans schedule end.Turns outcome due is (inl (at, wrote)) within is_due =
     inl (is ∙ sym (is_due ∙ ap outcome_of_run at))
-ended_due source files disk link out text went end.NumbersSpent outcome due is (at, wrote) is_due =
+ended_due source files disk link out plans schedule end.Turns outcome due is (inr work) within is_due =
+    absurd (not-at-work out plans schedule work within)
+ended_due source files disk link out plans schedule end.NumbersSpent outcome due is (at, wrote) within is_due =
     inl (is ∙ sym (is_due ∙ ap outcome_of_run at))
-ended_due source files disk link out text went end.NoMemory outcome due is part is_due =
+ended_due source files disk link out plans schedule end.DiskFailed outcome due is none within is_due = absurd none
+ended_due source files disk link out plans schedule end.NoMemory outcome due is part within is_due =
     inr (hindered source files disk link out outcome is)
-ended_due source files disk link out text went end.WriteFailed outcome due is short is_due =
+ended_due source files disk link out plans schedule end.WriteFailed outcome due is short within is_due =
     inr (subst (Hinders source files disk link out) (sym is) short.fault.rose)
 
 text_due :
     (source : SourceTold) (files : FilesTold) (disk : DiskTold) (link : LinkTold) (out : SinkTold) (plans : Plans) (text : List ℕ)
     (outcome due : Outcome)
     → TextRuns plans text out outcome → ScheduleAsks plans text due → Comes source files disk link out outcome due
-text_due source files disk link out plans text outcome due runs (inl (schedule, is, is_due)) = elim (runs.only schedule is) [
+text_due source files disk link out plans text outcome due runs (inl (schedule, is, within, is_due)) = elim (runs.only schedule is) [
   | inl was ↦
-      ended_due source files disk link out (trace_text plans schedule) (went_of plans schedule) was.ended outcome due
-      was.outcome_is was.wrote is_due
+      ended_due source files disk link out plans schedule was.ended outcome due was.outcome_is was.wrote within is_due
   | inr memory ↦ inr (hindered source files disk link out outcome memory.0)
 ]
 text_due source files disk link out plans text outcome due runs (inr (inl (n, at, is_due))) = elim (runs.outside n at).0 [
@@ -209,21 +212,12 @@ module _ (source : SourceTold) (files later : FilesTold) (disk : DiskTold) (link
       (ap (told_file schedule) before ∙ told) comes
       (subst (λ (p : Plans). IsScheduleDue p text due) (one_plan meant plans (read.only (Ok meant) means)) rest)
 
-  -- from the bytes of the plan on
-  bytes_due :
-      (result : Result Plans ConfigFault) → later.health.faults ≡ files.health.faults
-      → later.health_after ≡ files.health_after → later.before ≡ files.before → IsReadAs bytes result
-      → FollowsPlan result schedule later out outcome → PlanAsks schedule files bytes due
-      → Comes source files disk link out outcome due
-  bytes_due (Ok plans) since same before read comes asks = plans_due plans since same before read comes asks
-  bytes_due (Err fault) since same before read (is, unread, left) asks = refusal_due fault read is asks
-
 pub replay_due :
     (source : SourceTold) (files : FilesTold) (disk : DiskTold) (link : LinkTold) (out : SinkTold) (plan schedule bytes : List ℕ)
     (outcome due : Outcome)
     → told_file plan files.before ≡ Some bytes → ReplayComes plan schedule files out outcome
     → IsPlanDue schedule files bytes due → Comes source files disk link out outcome due
-replay_due source files disk link out plan schedule bytes outcome due told (inl (refuses, untouched)) is_due =
+replay_due source files disk link out plan schedule bytes outcome due told (inl (inl refuses, untouched)) is_due =
     go (refused role.Plan plan bytes files outcome told refuses) is_due
   where
     go : Refused role.Plan bytes files outcome → IsPlanDue schedule files bytes due
@@ -232,17 +226,27 @@ replay_due source files disk link out plan schedule bytes outcome due told (inl 
     go (inl (longer, past)) (inr (within, asks)) = absurd (omega arith)
     go (inr (inl (found, is, rose))) due_is = inr (failed source files disk link out outcome found is rose)
     go (inr (inr memory)) due_is = inr (hindered source files disk link out outcome memory)
+replay_due source files disk link out plan schedule bytes outcome due told (inl (inr bad, untouched)) is_due = go is_due
+  where
+    read : (bytes ≡ bad.bytes) × (length bytes ≤ file_limit role.Plan)
+    read = whole_is role.Plan plan bytes bad.bytes files told bad.read
+
+    go : IsPlanDue schedule files bytes due → Comes source files disk link out outcome due
+    go (inl (past, is_longer)) = let within = read.1 in absurd (omega arith)
+    go (inr (within, asks)) =
+        refusal_due source files files disk link out bad.bytes schedule outcome due bad.fault bad.is bad.refused
+        (subst (λ (b : List ℕ). PlanAsks schedule files b due) read.0 asks)
 replay_due source files disk link out plan schedule bytes outcome due told (inr over) is_due = go is_due
   where
     first : FilesTold
     first = files_until files over.told over.health
 
-    read : (bytes ≡ over.bytes) × (length bytes ≤ file_limit role.Plan)
-    read = whole_is role.Plan plan bytes over.bytes first told over.read
+    read : (bytes ≡ over.are.bytes) × (length bytes ≤ file_limit role.Plan)
+    read = whole_is role.Plan plan bytes over.are.bytes first told over.are.read
 
     go : IsPlanDue schedule files bytes due → Comes source files disk link out outcome due
     go (inl (past, is_longer)) = let within = read.1 in absurd (omega arith)
     go (inr (within, asks)) =
-        bytes_due source files (files_since files over.told over.health) disk link out over.bytes schedule outcome due
-        over.rest.result over.read.cause.same refl over.read.same over.rest.is over.rest.follows
+        plans_due source files (files_since files over.told over.health) disk link out over.are.bytes schedule outcome due
+        over.plans over.are.read.cause.same refl over.are.read.same over.are.is over.rest
         (subst (λ (b : List ℕ). PlanAsks schedule files b due) read.0 asks)

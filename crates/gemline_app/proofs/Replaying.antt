@@ -1,5 +1,5 @@
 -- A schedule's text that was read, and what came of it.
-use Rattle.std.proofs.Common.{◌≡◌, ℕ, List, Result, Ok, Err, refl, sym, ap, subst, inl, inr}
+use Rattle.std.proofs.Common.{◌≡◌, ◌≢◌, ℕ, List, Result, Ok, Err, refl, sym, ap, subst, inl, inr}
 use Rattle.line_schedule.specs.Lines.{ReadsOnly, RefusesOnly}
 use Rattle.line_schedule.specs.Schedule.{IsSchedule, LaterAt, OutsideAt}
 use Rattle.line_schedule.specs.declared.event.Event.{Event}
@@ -8,9 +8,9 @@ use Rattle.line_schedule.specs.declared.schedule.ScheduleFault.{ScheduleFault}
 use Rattle.line_schedule.specs.declared.schedule.ScheduleFault.TheVariants as schedule_fault
 use Rattle.equipment_tables.specs.declared.plan.Plans.{Plans}
 use Rattle.gl_base.specs.Told.{SinkTold}
-use Rattle.end_pair.specs.Run.{Runs}
 use Rattle.end_pair.specs.declared.answers.RunEnd.{RunEnd}
-use Rattle.line_world.specs.Run.{ComesInOrder, HoldsReports, log_of, trace_text, went_of}
+use Rattle.end_pair.specs.declared.answers.RunEnd.TheVariants as end
+use Rattle.line_world.specs.Run.{ComesInOrder, HoldsReports, HoldsSpool, Runs, log_of}
 use Rattle.trace_log.specs.Delivered.{Delivered}
 use Rattle.gemline_app.specs.Replay.{ComesOnly, ScheduleRefuses, TextRuns, WasReplayed, outcome_of_end, schedule_refusal}
 use Rattle.gemline_app.specs.Written.{IsUntouched}
@@ -62,14 +62,18 @@ refuses_text plans text out fault outcome reads untouched is =
 -- what was carried out over these plans
 pub replayed_over :
     (plans : Plans) (schedule : Schedule) (out : SinkTold) (ended : RunEnd) (outcome : Outcome)
-    → outcome ≡ outcome_of_end ended → Runs out (trace_text plans schedule) (went_of plans schedule) ended
+    → outcome ≡ outcome_of_end ended → ended ≢ end.DiskFailed
+    → Runs out plans schedule ended
     → Delivered (log_of plans schedule) → ComesInOrder plans (log_of plans schedule)
-    → HoldsReports plans (log_of plans schedule) → WasReplayed plans schedule out outcome
-replayed_over plans schedule out ended outcome is wrote delivered in_order reported = record {
+    → HoldsReports plans (log_of plans schedule) → HoldsSpool plans (log_of plans schedule)
+    → WasReplayed plans schedule out outcome
+replayed_over plans schedule out ended outcome is no_disk wrote delivered in_order reported spooled = record {
   ended = ended;
   outcome_is = is;
+  no_disk = no_disk;
   wrote = wrote;
   delivered = delivered;
   in_order = in_order;
   reported = reported;
+  spooled = spooled;
 }

@@ -98,7 +98,8 @@ ComesOnInput limit Was source out outcome =
     ⊎ ((bytes : List ℕ) × WasRead limit source (input.Whole bytes) × Was bytes out outcome)
 
 -- the words are refused: nothing is read and nothing written
-pub record IsRefused (refusal : Outcome) (source : SourceTold) (files : FilesTold) (disk : DiskTold) (link : LinkTold) (out : SinkTold)
+pub record IsRefused (refusal : Outcome) (source : SourceTold) (files : FilesTold) (disk : DiskTold)
+    (link : LinkTold) (out : SinkTold)
     (outcome : Outcome) : Type 0 where
   pub refused : outcome ≡ refusal
   pub input : IsUnread source

@@ -1,13 +1,10 @@
 -- What `host` reads, writes and sends (this profile).
-use Rattle.std.specs.Prelude.{◌≡◌, ◌⊎◌, ◌^◌, ℕ, List, Option, Result, Ok, Err}
+use Rattle.std.specs.Prelude.{◌≡◌, ◌≢◌, ◌⊎◌, ◌^◌, ℕ, List, [], Option}
 use Rattle.gl_base.specs.Told.{FilesTold, SinkTold, SourceTold}
-use Rattle.gl_base.specs.declared.files.FileAnswer.TheVariants as file
 use Rattle.gl_base.specs.declared.input.Input.TheVariants as input
 use Rattle.gl_base.specs.declared.link.LinkIn.{LinkIn}
 use Rattle.gl_base.specs.declared.side.Side.TheVariants as side
 use Rattle.equipment_tables.specs.declared.plan.Plans.{Plans}
-use Rattle.gem_config.specs.Plans.{IsReadAs}
-use Rattle.gem_config.specs.declared.fault.ConfigFault.{ConfigFault}
 use Rattle.line_end.specs.declared.plan.HostPlan.{HostPlan}
 use Rattle.line_schedule.specs.Script.{IsScript, OutsideScriptAt}
 use Rattle.line_schedule.specs.declared.schedule.ScheduleFault.{ScheduleFault}
@@ -15,6 +12,8 @@ use Rattle.line_schedule.specs.declared.schedule.ScheduleFault.TheVariants as sc
 use Rattle.line_schedule.specs.declared.script.Script.{Script}
 use Rattle.message_end.specs.Calls.{deadline_of_end}
 use Rattle.message_end.specs.Core.{Step}
+use Rattle.message_end.specs.Core.Went.{Goes}
+use Rattle.message_end.specs.Ends.{Asked, none_asked}
 use Rattle.message_end.specs.Parts.{Node, started}
 use Rattle.trace_log.specs.Log.{Happening}
 use Rattle.transact.specs.Numbers.{numbers_from}
@@ -29,12 +28,11 @@ use Rattle.end_run.specs.declared.ending.Ending.{Ending}
 use Rattle.end_run.specs.declared.ending.Ending.TheVariants as ending
 use Rattle.gemline_app.specs.Inputs.{InputRefuses, IsUnread, WasRead}
 use Rattle.gemline_app.specs.LinkTold.{IsUncalled, LinkTold}
-use Rattle.gemline_app.specs.Replay.{FileRefuses, WasFile, plan_refusal}
+use Rattle.gemline_app.specs.Files.{PlanRefuses, PlansAre}
 use Rattle.gemline_app.specs.Words.{script_limit}
 use Rattle.gemline_app.specs.Written.{IsUntouched}
-use Rattle.gemline_app.specs.declared.outcome.FileRole.TheVariants as role
 use Rattle.gemline_app.specs.declared.outcome.Outcome.{Outcome}
-use Rattle.gemline_app.specs.declared.outcome.Outcome.TheVariants.{Done, BadScript, LinkFailed, NoMemory, NumbersSpent, TurnsSpent, WriteFailed}
+use Rattle.gemline_app.specs.declared.outcome.Outcome.TheVariants.{Done, BadScript, DiskFailed, LinkFailed, NoMemory, NumbersSpent, TurnsSpent, WriteFailed}
 
 -- ---- the host's run
 
@@ -44,11 +42,11 @@ host_due host = deadline_of_end host.core
 
 -- its start by a plan
 abbrev pub host_start : HostPlan → Step (Node HostOwn Kind) Happening
-host_start plan = started (end_plan plan) (first_own plan) (numbers_from 0 (2 ^ 32))
+host_start plan = started (end_plan plan) (first_own plan) [] (numbers_from 0 (2 ^ 32))
 
 -- its run by a plan, with the lines of a script and so many polls, where these answers of the link are to come
 abbrev pub host_run : HostPlan → List ScriptLine → ℕ → List LinkIn → Piece (Node HostOwn Kind)
-host_run plan lines polls = end_run host_machine host_due told_host side.Host (host_start plan) lines polls
+host_run plan lines polls = end_run host_machine host_due told_host side.Host (Goes (host_start plan)) lines polls
 
 -- what the end of a run is an outcome of
 abbrev pub outcome_of_ending : Ending → Outcome
@@ -56,11 +54,12 @@ outcome_of_ending ending.Stopped = Done
 outcome_of_ending ending.Closed = Done
 outcome_of_ending ending.Turns = TurnsSpent
 outcome_of_ending ending.NumbersSpent = NumbersSpent
+outcome_of_ending ending.DiskFailed = DiskFailed
 outcome_of_ending ending.LinkFailed = LinkFailed
 outcome_of_ending ending.WriteFailed = WriteFailed
 outcome_of_ending ending.NoMemory = NoMemory
 
--- what link and output tell before a run and after it, and what the host is then
+-- what link and output tell before a run and after it, and what the host is then. It has no disk
 abbrev pub before_run : LinkTold → SinkTold → Node HostOwn Kind → Scene (Node HostOwn Kind)
 before_run link out host = record {
   contents = link.before;
@@ -69,16 +68,18 @@ before_run link out host = record {
   received = out.before;
   out = out.health;
   end = host;
+  room = none_asked;
 }
 
-abbrev pub after_run : LinkTold → SinkTold → Node HostOwn Kind → Scene (Node HostOwn Kind)
-after_run link out host = record {
+abbrev pub after_run : LinkTold → SinkTold → Node HostOwn Kind → Asked → Scene (Node HostOwn Kind)
+after_run link out host room = record {
   contents = link.after;
   moment = link.moment_after;
   link = link.health_after;
   received = out.after;
   out = out.health_after;
   end = host;
+  room = room;
 }
 
 -- the host ran: its lines are those that plan, script and the link's answers ask for, and so are the moments asked of
@@ -87,9 +88,16 @@ pub record WasRun (plan : HostPlan) (lines : List ScriptLine) (polls : ℕ) (lin
     (outcome : Outcome) : Type 0 where
   pub ended : Ending
   pub outcome_is : outcome ≡ outcome_of_ending ended
+  -- it has no disk that may fail
+  pub no_disk : ended ≢ ending.DiskFailed
   pub left : Node HostOwn Kind
+  pub room : Asked
   pub runs :
-      RunsOver (before_run link out (host_start plan).next) (after_run link out left) (host_run plan lines polls) ended
+      RunsOver
+      (before_run link out (host_start plan).next)
+      (after_run link out left room)
+      (host_run plan lines polls)
+      ended
 
 -- ---- its script
 
@@ -131,35 +139,6 @@ abbrev pub ScriptComes : HostPlan → ℕ → SourceTold → LinkTold → SinkTo
 ScriptComes plan polls source link out outcome =
     (InputRefuses script_limit source outcome × IsIdle link out)
     ⊎ ((text : List ℕ) × WasRead script_limit source (input.Whole text) × ScriptRuns plan text polls link out outcome)
-
--- ---- its plan
-
--- a plan's file was read whole, and means these plans
-pub record PlansAre (name : List ℕ) (files : FilesTold) (plans : Plans) : Type 0 where
-  pub bytes : List ℕ
-  pub read : WasFile role.Plan name files (file.Whole bytes)
-  pub is : IsReadAs bytes (Ok plans)
-
--- why it was not, or why it is refused
-pub record PlanIsBad (name : List ℕ) (files : FilesTold) (outcome : Outcome) : Type 0 where
-  pub bytes : List ℕ
-  pub read : WasFile role.Plan name files (file.Whole bytes)
-  pub fault : ConfigFault
-  pub is : IsReadAs bytes (Err fault)
-  pub refused : outcome ≡ plan_refusal fault
-
-abbrev pub PlanRefuses : List ℕ → FilesTold → Outcome → Type 0
-PlanRefuses name files outcome = FileRefuses role.Plan name files outcome ⊎ PlanIsBad name files outcome
-
--- the plans of a file, or why there are none
-abbrev pub PlanAnswers : List ℕ → FilesTold → Result Plans Outcome → Type 0
-PlanAnswers name files (Ok plans) = PlansAre name files plans
-PlanAnswers name files (Err refusal) = PlanRefuses name files refusal
-
--- the plans of a text, or why it is refused
-abbrev pub TextAnswers : List ℕ → Result Plans Outcome → Type 0
-TextAnswers text (Ok plans) = IsReadAs text (Ok plans)
-TextAnswers text (Err refusal) = (fault : ConfigFault) × IsReadAs text (Err fault) × (refusal ≡ plan_refusal fault)
 
 -- what `host` came to
 abbrev pub HostComes : List ℕ → ℕ → SourceTold → FilesTold → LinkTold → SinkTold → Outcome → Type 0

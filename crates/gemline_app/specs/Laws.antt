@@ -20,7 +20,7 @@ use Rattle.end_run.specs.Script.{ScriptLine}
 use Rattle.end_run.specs.declared.ending.Ending.{Ending as RunEnding}
 use Rattle.end_pair.specs.declared.answers.WorldStep.{WorldStep}
 use Rattle.end_pair.specs.declared.answers.WorldStep.TheVariants as went
-use Rattle.line_world.specs.Run.{went_of}
+use Rattle.line_world.specs.Run.{StaysWithin, went_of}
 use Rattle.line_show.specs.Capture.{Piece, Reads}
 use Rattle.line_show.specs.Lines.{lines_of}
 use Rattle.line_show.specs.declared.capture.Ending.{Ending}
@@ -75,17 +75,19 @@ IsInputDue limit Asks source due =
     (bytes : List ℕ) × (source.before ≡ Some bytes)
     × (((limit < length bytes) × (due ≡ Longer)) ⊎ ((length bytes ≤ limit) × Asks bytes due))
 
--- what the text of a schedule asks for: its trace, or its first line that can't be carried out
+-- what the text of a schedule asks for: its trace, where the works of its run stay within the disk's room, or its first
+-- line that can't be carried out
 abbrev pub outcome_of_run : WorldStep → Outcome
 outcome_of_run went.Went = Done
 outcome_of_run went.Slip = Slip
 outcome_of_run went.Turns = TurnsSpent
 outcome_of_run went.NumbersSpent = NumbersSpent
+outcome_of_run went.DiskFailed = DiskFailed
 outcome_of_run went.NoMemory = NoMemory
 
 abbrev pub ScheduleAsks : Plans → List ℕ → Outcome → Type 0
 ScheduleAsks plans text due =
-    ((schedule : Schedule) × IsSchedule text schedule.events
+    ((schedule : Schedule) × IsSchedule text schedule.events × StaysWithin plans schedule
     × (due ≡ outcome_of_run (went_of plans schedule)))
     ⊎ (((number : ℕ) × OutsideAt text number × (due ≡ BadLine number))
     ⊎ ((number : ℕ) × LaterAt text number × (due ≡ LineNotBuilt number)))

@@ -1,3 +1,4 @@
+pub mod Files
 pub mod FirstExchange
 pub mod Gemline
 pub mod HexInput

@@ -17,20 +17,13 @@ use std::alloc::Global;
 /// How long a script may be, in bytes.
 const SCRIPT_LIMIT: usize = 1024 * 1024;
 
-/// The host with its own deadline, and with what a script tells it.
+/// The host with what a script tells it.
 struct ScriptedHost {}
 
 impl Scripted<Host> for ScriptedHost {
-    ghost use Rattle.gemline_app.specs.Host.{host_due};
     ghost use Rattle.end_run.specs.Sides.{told_host};
 
-    ghost due = { host_due };
-
     ghost told = { told_host };
-
-    fn deadline(end: &Host) -> Option<u64> {
-        end.deadline()
-    }
 
     fn told(step: &ScriptStep) -> Option<&HostCommand> {
         match step {
@@ -107,6 +100,7 @@ fn run_script<L: Link, W: Sink>(
         Ok(script) => outcome_of_ending(run_end::<Host, ScriptedHost, L, W>(
             alloc,
             plan,
+            (),
             &script,
             Side::Host,
             address,
@@ -128,6 +122,7 @@ fn outcome_of_ending(ended: Ending) -> Outcome
         Ending::NumbersSpent => Outcome::NumbersSpent,
         Ending::LinkFailed => Outcome::LinkFailed,
         Ending::WriteFailed => Outcome::WriteFailed,
+        Ending::DiskFailed => Outcome::DiskFailed,
         Ending::NoMemory => Outcome::NoMemory,
     }
 }

@@ -1,9 +1,8 @@
 //! What commands read: the input, files, and plans.
 
 ghost use Rattle.std.specs.Prelude.{◌≡◌};
-ghost use Rattle.gemline_app.specs.Host.{PlanAnswers, TextAnswers};
+ghost use Rattle.gemline_app.specs.Files.{FileAnswers, PlanAnswers, TextAnswers, plan_refusal};
 ghost use Rattle.gemline_app.specs.Inputs.{InputAnswers};
-ghost use Rattle.gemline_app.specs.Replay.{FileAnswers, plan_refusal};
 ghost use Rattle.gemline_app.specs.Words.{file_limit};
 ghost use Rattle.gl_base.specs.Told.{files_told, source_told};
 
@@ -82,8 +81,8 @@ fn plans_of(alloc: Global, text: &[u8]) -> Result<Plans, Outcome>
     }
 }
 
-/// The refusal of a plan.
-pub(crate) fn plan_refusal(fault: ConfigFault) -> Outcome
+// The refusal of a plan.
+fn plan_refusal(fault: ConfigFault) -> Outcome
     ensures { result ≡ plan_refusal fault }
 {
     match fault {

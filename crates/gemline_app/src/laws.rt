@@ -7,14 +7,14 @@ pub fn outcomes_are_due()
     ensures { OutcomesAreDue }
 {}
 
-/// No fault is passed over, but one of the errors: the count of the input, of the files, of the disk, of the link and of
-/// the output rises where the outcome is its fault, by one, and stands otherwise.
+/// No fault is passed over, but one of the errors: the count of the input, of the files, of the disk, of the link and
+/// of the output rises where the outcome is its fault, by one, and stands otherwise.
 pub fn faults_are_told()
     ensures { FaultsAreTold }
 {}
 
-/// A host whose plan and script mean something ends by its script, by its peer, or as its polls or its numbers are spent,
-/// over any link, unless memory runs out or a count of faults rises.
+/// A host whose plan and script mean something ends by its script, by its peer, or as its polls or its numbers are
+/// spent, over any link, unless memory runs out or a count of faults rises.
 pub fn hosts_are_answered()
     ensures { HostsAreAnswered }
 {}

@@ -2,13 +2,11 @@
 
 ghost use Rattle.std.specs.Prelude.{◌≡◌};
 ghost use Rattle.equipment_tables.specs.Plan.{PlansFit};
-ghost use Rattle.gemline_app.specs.Replay.{PlanComes, ReplayComes, ScheduleComes, TextRuns, outcome_of_end};
-ghost use Rattle.gemline_app.specs.Replay.{schedule_refusal};
+ghost use Rattle.gemline_app.specs.Replay.{ReplayComes, ScheduleComes, TextRuns, outcome_of_end, schedule_refusal};
 ghost use Rattle.gl_base.specs.Told.{files_told, sink_told};
 
-use crate::inputs::{plan_refusal, whole_file};
+use crate::inputs::{plans_in, whole_file};
 use crate::outcome::{FileRole, Outcome};
-use gem_config::read_plans;
 use gl_base::{Files, Sink};
 use line_schedule::{ScheduleFault, read_schedule};
 use line_world::{Plans, RunEnd, run};
@@ -27,28 +25,9 @@ pub(crate) fn replay<F: Files, W: Sink>(
         (sink_told W.Sink out.old out.new)
         result }
 {
-    match whole_file(alloc, FileRole::Plan, plan, files) {
-        Ok(bytes) => replay_bytes(alloc, bytes.as_slice(), schedule, files, out),
-        Err(refusal) => refusal,
-    }
-}
-
-// Writes the trace of a schedule over the plan that these bytes mean.
-fn replay_bytes<F: Files, W: Sink>(
-    alloc: Global,
-    bytes: &[u8],
-    schedule: &str,
-    files: &mut F,
-    out: &mut W,
-) -> Outcome
-    ensures { PlanComes bytes.now schedule.now
-        (files_told F.Files files.old files.new)
-        (sink_told W.Sink out.old out.new)
-        result }
-{
-    match read_plans(alloc, bytes) {
+    match plans_in(alloc, plan, files) {
         Ok(plans) => replay_over(alloc, &plans, schedule, files, out),
-        Err(fault) => plan_refusal(fault),
+        Err(refusal) => refusal,
     }
 }
 
@@ -96,6 +75,7 @@ fn outcome_of_end(end: RunEnd) -> Outcome
         RunEnd::Slip => Outcome::Slip,
         RunEnd::Turns => Outcome::TurnsSpent,
         RunEnd::NumbersSpent => Outcome::NumbersSpent,
+        RunEnd::DiskFailed => Outcome::DiskFailed,
         RunEnd::NoMemory => Outcome::NoMemory,
         RunEnd::WriteFailed => Outcome::WriteFailed,
     }

@@ -551,7 +551,7 @@ const DROPPED: &str = "0 E start len=0 base=0\n0 H start\n0 E comms WAIT-CRA\n\
 const NO_ANSWER: &str = "0 E start len=0 base=0\n0 H start\n0 E comms WAIT-CRA\n\
     0 E sent S1F13 W 00000000 0102410747454D4C494E45410131\n0 E tx 05\n\
     10000 E tx 05\n20000 E tx 05\n30000 E tx 05\n40000 E failed S1F13 W 00000000\n\
-    40000 E comms WAIT-DELAY\n40000 end\n";
+    40000 E comms WAIT-DELAY\n40000 E spool ACTIVE\n40000 end\n";
 
 /// No variable is planned.
 const REFUSED: &str = "0 E start len=0 base=0\n0 H start\n0 E comms WAIT-CRA\n\
@@ -928,8 +928,8 @@ fn spool_files_are_made_and_listed(rt: HostRuntime) -> Result<(), Fail> {
     Ok(())
 }
 
-/// Words behind `host`, a plan, a script, which call of the input, of the files, of the output and of the link fails, and
-/// the end.
+/// Words behind `host`, a plan, a script, which call of the input, of the files, of the output and of the link
+/// fails, and the end.
 type Hosting = (&'static [&'static str], &'static [u8], Bytes, [u32; 4], End);
 
 const NO_SCRIPT: Bytes = (b"", b"", 1, b"");

@@ -1,5 +1,4 @@
 use Rattle.std.proofs.Common.{refl}
-use Rattle.gemline_app.specs.Host.{host_due}
 use Rattle.end_run.proofs.Sides.{are_told}
 use Rattle.gemline_app.proofs.Hosting.{refuses_script, runs_script, was_run}
 use Rattle.gemline_app.proofs.host.run_script.Goals as goal
@@ -20,8 +19,8 @@ returns-in-Ok g c =
       not_built = reads.not_built;
       outside = reads.outside;
     }) reads.found
-    (was_run _ _ _ _ _ c.in-Ok.script.lines c.run_end.result run.0 c.outcome_of_ending.ensures
-    (run.1 host_due (λ host. refl)))
+    (was_run _ _ _ _ _ c.in-Ok.script.lines c.run_end.result run.0 run.1 c.outcome_of_ending.ensures
+    run.2)
 
 pub returns-in-Err : goal.returns-in-Err
 returns-in-Err g c =

@@ -1,5 +1,5 @@
 use Rattle.std.proofs.Common.{List, subst, ℕ}
-use Rattle.gemline_app.specs.Host.{TextAnswers}
+use Rattle.gemline_app.specs.Files.{TextAnswers}
 use Rattle.gemline_app.proofs.Hosting.{plan_answers}
 use Rattle.gemline_app.proofs.inputs.plans_in.Goals as goal
 

@@ -14,8 +14,8 @@ returns-in-Ok g c =
       outside = reads.outside;
       later = reads.later;
     }) reads.found
-    (replayed_over _ c.in-Ok.schedule _ c.run-end.result.0 _ c.outcome_of_end.ensures run.text run.delivered
-    run.in_order run.reported)
+    (replayed_over _ c.in-Ok.schedule _ c.run-end.result.0 _ c.outcome_of_end.ensures run.disk run.text run.delivered
+    run.in_order run.reported run.spooled)
 
 pub returns-in-Err : goal.returns-in-Err
 returns-in-Err g c =

@@ -1,0 +1,4 @@
+use Rattle.gemline_app.proofs.replay.replay.Goals as goal
+
+pub replay_over-requires : goal.replay_over-requires
+replay_over-requires g c = c.in-Ok.ensures.is.fits
