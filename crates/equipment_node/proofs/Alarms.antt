@@ -76,7 +76,8 @@ pub same_so :
     → HasTaken (alarm_turn (step_of s.own.tables.alarms alid is_set) alid is_set s.own s.core) s out
     (record { own = with_tables tables s.own; core = s.core }) (record { line = out.line; notes = notes })
 same_so alid is_set s tables out notes same stands noted =
-    ap (λ (step : AlarmStep). after_turn printed_note (alarm_turn step alid is_set s.own s.core) (on_the_way s out)) same
+    ap (λ (step : AlarmStep). after_turn printed_note (alarm_turn step alid is_set s.own s.core) (on_the_way s out))
+    same
     ∙ ap (λ (t : TablesState). Goes (on_the_way (record { own = with_tables t s.own; core = s.core })
     (record { line = out.line; notes = out.notes ++ note_of (Happening.Alarm alid is_set) ∷ [] })))
     (sym (stands ∙ unchanged_same alid is_set s.own.tables same))

@@ -276,7 +276,7 @@ read-asked st step = go (takes_up step.next.node.own)
 abbrev reserving_by : Bool → List DiskWork
 reserving_by is = if is then Reserve ∷ [] else []
 
-opened-behind :
+pub opened-behind :
     (s : EquipmentView) → opening s ≡ Goes (at_first (opened s))
     → standings_behind (standing_in s) (reserve_works s) ≡ standing_in (opened s)
 opened-behind s went = go (is_reserving s) ∙ opened-standing s went

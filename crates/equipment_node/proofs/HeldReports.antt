@@ -268,7 +268,8 @@ with-live plan said own notes text false (Some system) holds some = record {
 
 -- what is due behind a command is what it brings by the tables that are kept
 pub due-of :
-    {drawn : Option ℕ} (plan : EquipmentPlan) (said : List ToolCommand) (own : OwnView) (command : ToolCommand) (notes : List Happening)
+    {drawn : Option ℕ} (plan : EquipmentPlan) (said : List ToolCommand) (own : OwnView) (command : ToolCommand)
+    (notes : List Happening)
     → Holds plan said own drawn notes
     → due_behind plan (Happening.Recorded (Past.Commanded command) ∷ notes)
     ≡ brought_by own.tables own.events command
@@ -278,7 +279,8 @@ due-of plan said own command notes holds =
 
 -- a command and the note that it brings
 pub brought-settled :
-    {drawn : Option ℕ} (plan : EquipmentPlan) (said : List ToolCommand) (own : OwnView) (command : ToolCommand) (what : Happening)
+    {drawn : Option ℕ} (plan : EquipmentPlan) (said : List ToolCommand) (own : OwnView) (command : ToolCommand)
+    (what : Happening)
     (notes : List Happening)
     → Holds plan said own drawn notes → brought_by own.tables own.events command ≡ Some what → is_brought what ≡ true
     → IsReported plan what (Happening.Recorded (Past.Commanded command) ∷ notes)
@@ -296,7 +298,8 @@ brought-settled plan said own command what notes holds brings kind right none = 
 
 -- an event happens
 pub event-noted :
-    {drawn : Option ℕ} (plan : EquipmentPlan) (said : List ToolCommand) (own : OwnView) (ceid : ℕ) (notes : List Happening)
+    {drawn : Option ℕ} (plan : EquipmentPlan) (said : List ToolCommand) (own : OwnView) (ceid : ℕ)
+    (notes : List Happening)
     → Holds plan said own drawn notes → is_planned own.tables.reports ceid ≡ true
     → Holds plan (tool.Event ceid ∷ said) (with_event own) drawn
     (Happening.Event ceid own.events ∷ Happening.Recorded (Past.Commanded (tool.Event ceid)) ∷ notes)
@@ -361,9 +364,11 @@ event-spare plan said own ceid max text notes holds enabled is body =
 
 -- one that was to wait for leave to go
 pub with-waiting :
-    {drawn : Option ℕ} (plan : EquipmentPlan) (said : List ToolCommand) (own : OwnView) (notes : List Happening) (text : List ℕ)
+    {drawn : Option ℕ} (plan : EquipmentPlan) (said : List ToolCommand) (own : OwnView) (notes : List Happening)
+    (text : List ℕ)
     (system : Option ℕ)
-    → Holds plan said own drawn notes → HasSpare plan own notes text → Holds plan said (sent.with_asked system text own) drawn notes
+    → Holds plan said own drawn notes → HasSpare plan own notes text
+    → Holds plan said (sent.with_asked system text own) drawn notes
 with-waiting plan said own notes text None holds spare = holds
 with-waiting plan said own notes text (Some system) holds spare = record {
   plan_is = holds.plan_is;
@@ -451,15 +456,18 @@ module _ (plan : EquipmentPlan) (said : List ToolCommand) (before : List Happeni
 
   -- it holds still, or the numbers are spent and all that was noted until then is right
   abbrev pub Ends : OwnView → Went (EndView Kind) Happening → Type 0
-  Ends own went = OnEither (λ step. Holds plan said own step.next.drawn (so_far step)) (λ step. AreSettled plan (so_far step)) went
+  Ends own went = OnEither (λ step. Holds plan said own step.next.drawn (so_far step))
+      (λ step. AreSettled plan (so_far step)) went
 
   abbrev pub KeepsAt : OwnView → ToolTurn → CoreStep → Type 0
-  KeepsAt own turn step = Holds plan said own step.next.drawn (so_far step) → Ends turn.own (all_done Some turn.duties step)
+  KeepsAt own turn step = Holds plan said own step.next.drawn (so_far step)
+      → Ends turn.own (all_done Some turn.duties step)
 
   abbrev pub Keeps : OwnView → ToolTurn → Type 0
   Keeps own turn = (step : CoreStep) → KeepsAt own turn step
 
-  pub noted-so : (own : OwnView) (what : Happening) (step : CoreStep) → Holds plan said own step.next.drawn (what ∷ so_far step)
+  pub noted-so : (own : OwnView) (what : Happening) (step : CoreStep)
+      → Holds plan said own step.next.drawn (what ∷ so_far step)
       → Holds plan said own (noted Some what step).next.drawn (so_far (noted Some what step))
   noted-so own what step holds =
       subst (λ (notes : List Happening). Holds plan said own step.next.drawn notes)
@@ -497,7 +505,8 @@ module _ (plan : EquipmentPlan) (said : List ToolCommand) (before : List Happeni
       → Keeps own turn → KeepsAt own (led_turn lead turn) step
   led-at lead own turn step silent keeps holds =
       either-then (λ next. Holds plan said own next.next.drawn (so_far next)) (λ next. AreSettled plan (so_far next))
-      (λ next. Holds plan said turn.own next.next.drawn (so_far next)) (carried Some (lead ∷ []) step) (all_done Some turn.duties)
+      (λ next. Holds plan said turn.own next.next.drawn (so_far next)) (carried Some (lead ∷ []) step)
+      (all_done Some turn.duties)
       (either-less (IsQuietly Free tt Any any-lasts before step) (IsQuietly Free tt Any any-lasts before step)
       (λ next. Holds plan said own next.next.drawn (so_far next)) (λ next. AreSettled plan (so_far next))
       (carried Some (lead ∷ []) step)
@@ -747,7 +756,8 @@ module _ (plan : EquipmentPlan) (said : List ToolCommand) (before : List Happeni
           → Ends (turn_by found).own (all_done Some (turn_by found).duties step)
       go None are = holds.settled
       go (Some booked) are =
-          either-then (λ next. Holds plan said kept next.next.drawn (so_far next)) (λ next. AreSettled plan (so_far next))
+          either-then (λ next. Holds plan said kept next.next.drawn (so_far next))
+          (λ next. AreSettled plan (so_far next))
           (λ next. Holds plan said kept next.next.drawn (so_far next)) (carried Some (lines_commands booked.lines) step)
           (all_done Some [])
           (lines-at kept booked.lines step are
@@ -795,7 +805,8 @@ module _ (plan : EquipmentPlan) (said : List ToolCommand) (before : List Happeni
           one_of (waiting_report (system_of first) left)
           (subst
           (λ (waiting : List GrantView).
-          IfSome (option_map (λ (one : GrantView). event_report one.body) (find (is_granted_by (system_of first)) waiting))
+          IfSome (option_map (λ (one : GrantView). event_report one.body)
+          (find (is_granted_by (system_of first)) waiting))
           (λ message. IsKeptReport plan message notes))
           (sym grants) (kept-waiting own drawn notes (system_of first) holds))
       of_kind kind.Unload = tt

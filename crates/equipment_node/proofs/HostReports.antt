@@ -295,7 +295,8 @@ module _
     (said : List ToolCommand) (before : List Happening) where
   -- the request is noted right behind its delivery
   asked-noted :
-      {drawn : Option ℕ} (asks : Request) (message : Message) (own : OwnView) (notes earlier : List Happening) → Holds plan said own drawn notes
+      {drawn : Option ℕ} (asks : Request) (message : Message) (own : OwnView) (notes earlier : List Happening)
+      → Holds plan said own drawn notes
       → notes ≡ Happening.Received message ∷ earlier
       → request_of message.stream message.function message.body ≡ Some asks
       → Holds plan said (requested asks own) drawn (Happening.Recorded (Past.Asked message) ∷ notes)
@@ -461,7 +462,8 @@ module _
     pub values : HoldsItsValues plan (reply_of (title_of message) (reply_function message.function) text) notes
 
   answer-sent :
-      {drawn : Option ℕ} (message : Message) (text : List ℕ) (own : OwnView) (notes : List Happening) → Holds plan said own drawn notes
+      {drawn : Option ℕ} (message : Message) (text : List ℕ) (own : OwnView) (notes : List Happening)
+      → Holds plan said own drawn notes
       → MayAnswer message text notes
       → Holds plan said own drawn
       (Happening.Sent (reply_of (title_of message) (reply_function message.function) text) ∷ notes)
@@ -490,22 +492,26 @@ module _
 
   reply-at :
       (message : Message) (text : List ℕ) (own : OwnView) (step : CoreStep) → AsksOf message step.next.asked
-      → Holds plan said own step.next.drawn (so_far plan said before step) → MayAnswer message text (so_far plan said before step)
+      → Holds plan said own step.next.drawn (so_far plan said before step)
+      → MayAnswer message text (so_far plan said before step)
       → Ends plan said before own (carried Some (Reply text ∷ []) step)
   reply-at message text own step asks holds may = go step.next.asked asks
     where
       out : Title → Message
       out title = reply_of title (reply_function title.name.function) text
 
-      sends : (title : Title) → title ≡ title_of message → Holds plan said own step.next.drawn (Happening.Sent (out title)
+      sends : (title : Title) → title ≡ title_of message
+          → Holds plan said own step.next.drawn (Happening.Sent (out title)
           ∷ so_far plan said before step)
       sends title is =
-          subst (λ (t : Title). Holds plan said own step.next.drawn (Happening.Sent (out t) ∷ so_far plan said before step)) (sym is)
+          subst (λ (t : Title). Holds plan said own step.next.drawn
+          (Happening.Sent (out t) ∷ so_far plan said before step)) (sym is)
           (answer-sent message text own (so_far plan said before step) holds may)
 
       replied : Title → Bool → CoreStep
       replied title full =
-          if full then noted Some (Happening.Full (message_name (out title))) (with_end (with_asked None step.next) step)
+          if full then noted Some (Happening.Full (message_name (out title)))
+          (with_end (with_asked None step.next) step)
           else queues Some (out title) (with_end (with_asked None step.next) step)
 
       room : (title : Title) → title ≡ title_of message → (full : Bool)
@@ -518,7 +524,8 @@ module _
       room title is false = noted-so plan said before own (Happening.Sent (out title)) step (sends title is)
 
       go : (asked : Option Title) → AsksOf message asked
-          → Holds plan said own (replies Some asked reply_function text step).next.drawn (so_far plan said before (replies Some asked reply_function text step))
+          → Holds plan said own (replies Some asked reply_function text step).next.drawn
+          (so_far plan said before (replies Some asked reply_function text step))
       go None it = holds
       go (Some title) it = room title (it title refl).0 (nat_le 128 (length step.next.outgoing.waiting))
 

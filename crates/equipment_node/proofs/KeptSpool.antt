@@ -810,7 +810,8 @@ module _ (plan : EquipmentPlan) (fits : EquipmentPlanFits plan) (looked : Tables
     started-so other size list mark notes same all kept rest stands run room bound =
         subst
         (λ (p : EquipmentPlan).
-        IsSpoolSo (started_on p size list mark).next (noted_behind (started_on p size list mark).notes notes)) (sym same)
+        IsSpoolSo (started_on p size list mark).next (noted_behind (started_on p size list mark).notes notes))
+        (sym same)
         (subst
         (λ (n : ℕ).
         IsSpoolSo (started_on plan n list mark).next (noted_behind (started_on plan n list mark).notes notes)) (sym all)

@@ -292,7 +292,8 @@ module _
       fixed-plain own (sent.live_own message own e) (Primary (sent.live_report message) ∷ [])
       (go (is_crowded_out true e) (next_number e.numbers)) (other, tt)
     where
-      go : (crowded : Bool) (next : Option ℕ) → IsNoMore own (if crowded then own else sent.kept_report next message own)
+      go : (crowded : Bool) (next : Option ℕ)
+          → IsNoMore own (if crowded then own else sent.kept_report next message own)
       go true next = itself own
       go false None = itself own
       go false (Some system) = reported own system message none

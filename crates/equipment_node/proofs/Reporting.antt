@@ -140,7 +140,8 @@ module _ (plan : EquipmentPlan) (fits : EquipmentPlanFits plan) (looked : Tables
         led-at plan said before (Tick now) step.next.own
         (failed_turn now (failed_at step.next.core now) step.next.own (core_after (Tick now) step.next.core))
         (core_step step) tt
-        (failed-keeps now (failed_at step.next.core now) step.next.own (core_after (Tick now) step.next.core)) held) holds
+        (failed-keeps now (failed_at step.next.core now) step.next.own (core_after (Tick now) step.next.core)) held)
+        holds
 
     -- a block has come, and was this
     came-keeps :
@@ -172,7 +173,8 @@ module _ (plan : EquipmentPlan) (fits : EquipmentPlanFits plan) (looked : Tables
         go false = λ holds.
             either-then (λ last. Holds plan said own last.next.drawn (so_far plan said before last))
             (λ last. AreSettled plan (so_far plan said before last))
-            (λ last. Holds plan said (given_up_turn now header own e).own last.next.drawn (so_far plan said before last))
+            (λ last. Holds plan said (given_up_turn now header own e).own last.next.drawn
+            (so_far plan said before last))
             (carried Some (sent.error_duty 11 header own next.next) next)
             (all_done Some (given_up_turn now header own e).duties)
             (silent-at plan said before own (sent.error_duty 11 header own next.next) next
@@ -192,21 +194,24 @@ module _ (plan : EquipmentPlan) (fits : EquipmentPlanFits plan) (looked : Tables
         next : LineEvent → CoreStep
         next happened = tells Some (held_header step.next.line.held) happened now (calls (LineCall.Take byte now) step)
 
-        at : (happened : LineEvent) → Holds plan said own (next happened).next.drawn (so_far plan said before (next happened))
+        at : (happened : LineEvent)
+            → Holds plan said own (next happened).next.drawn (so_far plan said before (next happened))
         at happened =
             quietly-holds plan said before own step (next happened)
             (adds-quiet before step.notes (next happened).notes
             (told-quiet (held_header step.next.line.held) happened now (calls (LineCall.Take byte now) step)))
             (told-drawn (held_header step.next.line.held) happened now (calls (LineCall.Take byte now) step)) holds
 
-        failed : (header : Option Header) → Holds plan said own (next event.Failed).next.drawn (so_far plan said before (next event.Failed))
+        failed : (header : Option Header)
+            → Holds plan said own (next event.Failed).next.drawn (so_far plan said before (next event.Failed))
             → Ends plan said before (took_turn now (failed_as header) own e).own
             (all_done Some (took_turn now (failed_as header) own e).duties (next event.Failed))
         failed None = plain plan said before own (quiet_turn own) (nothing-plain Free tt Any any-lasts own)
             (next event.Failed)
         failed (Some header) = failed-keeps now (Some header) own e (next event.Failed)
 
-        go : (happened : LineEvent) → Holds plan said own (next happened).next.drawn (so_far plan said before (next happened))
+        go : (happened : LineEvent)
+            → Holds plan said own (next happened).next.drawn (so_far plan said before (next happened))
             → Ends plan said before (took_turn now (took_by step.next happened) own e).own
             (all_done Some (took_turn now (took_by step.next happened) own e).duties (next happened))
         go event.Nothing =
@@ -232,7 +237,8 @@ module _ (plan : EquipmentPlan) (fits : EquipmentPlanFits plan) (looked : Tables
 
     -- ---- a step
 
-    pub begin-plain : (now : ℕ) (own : OwnView) (e : EndView Kind) → IsPlain Free tt Any any-lasts own (beginning now own e)
+    pub begin-plain : (now : ℕ) (own : OwnView) (e : EndView Kind)
+        → IsPlain Free tt Any any-lasts own (beginning now own e)
     begin-plain now own e = go (own.has_begun || not own.plan.enable)
       where
         as_begun : (turn : ToolTurn) → IsPlain Free tt Any any-lasts (begun own) turn
@@ -372,7 +378,8 @@ module _ (plan : EquipmentPlan) (fits : EquipmentPlanFits plan) (looked : Tables
   FileEnds said before went = OnEither (HoldsFile said before) (FileIsRight before) went
 
   with-file :
-      (said : List ToolCommand) (before : List Happening) (s : EquipmentView) (went : Went (Node OwnView Kind) Happening)
+      (said : List ToolCommand) (before : List Happening) (s : EquipmentView)
+      (went : Went (Node OwnView Kind) Happening)
       → NodeEnds said before went → FileEnds said before (went_with_file s went)
   with-file said before s (Goes step) at = at
   with-file said before s (Spent step) at = at

@@ -25,7 +25,8 @@ use Rattle.equipment_node.specs.Equipment.{found_in, settled_list, spooled_of}
 
 -- ---- lists
 
-found-more : (list : List Message) (m : Message) → found_in (list ++ m ∷ []) ≡ found_in list ++ (m.number, spooled_of m) ∷ []
+found-more : (list : List Message) (m : Message)
+    → found_in (list ++ m ∷ []) ≡ found_in list ++ (m.number, spooled_of m) ∷ []
 found-more [] m = refl
 found-more (x ∷ list) m = ap (λ (rest : List (ℕ × Spooled)). (x.number, spooled_of x) ∷ rest) (found-more list m)
 
@@ -67,7 +68,8 @@ run-first n (m ∷ list) run some = run.0
 -- a work more does to the list what the others have made of it
 lists-more :
     (c : Count) (list : List Message) (works : List Work) (one : Work)
-    → lists_after c.next list (works ++ one ∷ []) ≡ list_after (counts_after c works).next (lists_after c.next list works) one
+    → lists_after c.next list (works ++ one ∷ [])
+    ≡ list_after (counts_after c works).next (lists_after c.next list works) one
 lists-more c list [] one = refl
 lists-more c list (first ∷ works) one = lists-more (count_after c first) (list_after c.next list first) works one
 
@@ -139,7 +141,12 @@ module _ (policy : Policy) where
       (is : IsLedger v) (shelved : IsShelved policy v list notes)
     where
       abbrev numbered : Message
-      numbered = record { number = next_of v; stream = message.stream; function = message.function; body = message.body }
+      numbered = record {
+        number = next_of v;
+        stream = message.stream;
+        function = message.function;
+        body = message.body;
+      }
 
       put-list : settled_list (put message v).next list ≡ settled_list v list ++ numbered ∷ []
       put-list = settled-more v list (work.Put message.stream message.function message.body) is
@@ -152,7 +159,8 @@ module _ (policy : Policy) where
             record {
               rest = shelved.rest;
               above = λ one has.
-                  let below = run-below v.first (settled_list v list) shelved.run one (subst (λ (all : List (ℕ × Spooled)). Has all one) shelved.stands has) in
+                  let below = run-below v.first (settled_list v list) shelved.run one
+                  (subst (λ (all : List (ℕ × Spooled)). Has all one) shelved.stands has) in
                   let long = shelved.long in
                   omega (arith, below, long);
             },
@@ -165,7 +173,8 @@ module _ (policy : Policy) where
             ∙ sym (found-more (settled_list v list) numbered) ∙ ap found_in (sym put-list);
         run =
             subst (IsRunFrom v.first) (sym put-list)
-            (run-last v.first (settled_list v list) numbered shelved.run (let long = shelved.long in omega (arith, long)));
+            (run-last v.first (settled_list v list) numbered shelved.run
+            (let long = shelved.long in omega (arith, long)));
         long =
             ap length put-list ∙ length-append (settled_list v list) (numbered ∷ [])
             ∙ ap (λ (n : ℕ). n + 1) shelved.long;
@@ -237,7 +246,11 @@ module _ (policy : Policy) where
           go true e = shelved
           go false e = record {
             kept = (
-              record { cause = cause.Purged; is = refl; first = first-is v list notes cause.Purged is shelved (some-left v.len e) },
+              record {
+                cause = cause.Purged;
+                is = refl;
+                first = first-is v list notes cause.Purged is shelved (some-left v.len e);
+              },
               (
                 record {
                   rest = shelved.rest;
@@ -259,7 +272,8 @@ module _ (policy : Policy) where
       (is : IsLedger v) (shelved : IsShelved policy v list notes)
     where
       all-used : (long spent full : Bool) →
-          (if long then room.TooLong else (if spent then room.NumbersSpent else (if full then room.Full else room.Fits)))
+          (if long then room.TooLong else
+          (if spent then room.NumbersSpent else (if full then room.Full else room.Fits)))
           ≡ room.Full → full ≡ true
       all-used true spent full fits = absurd (grind (arith, fits))
       all-used false true full fits = absurd (grind (arith, fits))
@@ -278,7 +292,8 @@ module _ (policy : Policy) where
       stored-shelved overwriting booked may same = go (room_for v (length message.body)) overwriting refl may same
         where
           go : (r : Room) (overwriting : Bool) → room_for v (length message.body) ≡ r → Overwrites overwriting
-              → stored_by r overwriting message v ≡ Some booked → IsShelved policy booked.next list (noted_behind booked.lines notes)
+              → stored_by r overwriting message v ≡ Some booked
+              → IsShelved policy booked.next list (noted_behind booked.lines notes)
           go room.Fits overwriting e may same =
               subst (λ (b : Booked). IsShelved policy b.next list (noted_behind b.lines notes)) (some-inj _ _ same)
               (put-shelved v list notes message is shelved)
@@ -291,7 +306,8 @@ module _ (policy : Policy) where
               out-shelved v list notes cause.Overwritten is shelved some (λ e2. absurd (grind (arith, e2)))
               (may refl (ap (λ (n : ℕ). n == v.slots) long ∙ full)) in
               subst (λ (b : Booked). IsShelved policy b.next list (noted_behind b.lines notes)) (some-inj _ _ same)
-              (put-shelved (oldest_out cause.Overwritten v).next list (noted_behind (oldest_out cause.Overwritten v).lines notes) message
+              (put-shelved (oldest_out cause.Overwritten v).next list
+              (noted_behind (oldest_out cause.Overwritten v).lines notes) message
               (oldest_out_keeps v (owed v work.DropOldest) is some refl) out)
           go room.Full false e may same =
               subst (λ (b : Booked). IsShelved policy b.next list (noted_behind b.lines notes)) (some-inj _ _ same)

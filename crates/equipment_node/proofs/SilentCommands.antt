@@ -128,7 +128,11 @@ module _
             → OnEither (Adds step) (Adds step)
             (if crowded then Goes (noted Some (Happening.Full (unsent_name unsent)) step)
             else draws (next_number step.next.numbers) (sends Some unsent) step)
-        go true = record { quiet = one-note step.notes (Happening.Full (unsent_name unsent)) tt; drawn = refl; asks = asks }
+        go true = record {
+          quiet = one-note step.notes (Happening.Full (unsent_name unsent)) tt;
+          drawn = refl;
+          asks = asks;
+        }
         go false = drawn (next_number step.next.numbers)
 
     reply-silent :
@@ -196,7 +200,11 @@ module _
         → Adds step (times_out Some test found step)
     time-silent test None step asks = record { quiet = inl refl; drawn = refl; asks = asks }
     time-silent test (Some begun) step asks =
-        record { quiet = one-note step.notes (Happening.TimedOut (header_title begun.header)) tt; drawn = refl; asks = asks }
+        record {
+          quiet = one-note step.notes (Happening.TimedOut (header_title begun.header)) tt;
+          drawn = refl;
+          asks = asks;
+        }
 
     answer-silent :
         (header : Header) (found : Option (Begun Kind)) (step : CoreStep) → Asks step.next.asked
@@ -234,7 +242,8 @@ module _
         time-silent (is_answered_by header) (find (is_answered_by header) step.next.transactions.begun) step asks
     carry-silent (Command.End system) step silent asks fact = record { quiet = inl refl; drawn = refl; asks = asks }
     carry-silent (Command.Recall header) step silent asks fact = record { quiet = inl refl; drawn = refl; asks = asks }
-    carry-silent (Command.Remove primary system) step silent asks fact = record { quiet = inl refl; drawn = refl; asks = asks }
+    carry-silent (Command.Remove primary system) step silent asks fact =
+        record { quiet = inl refl; drawn = refl; asks = asks }
     carry-silent Command.DropFront step silent asks fact = record { quiet = inl refl; drawn = refl; asks = asks }
     carry-silent Command.Halt step silent asks fact = record { quiet = inl refl; drawn = refl; asks = asks }
 
@@ -299,7 +308,8 @@ module _
         (duties : List ToolDuty) (step : CoreStep) → AreSilentDuties duties → Asks step.next.asked
         → Fact (noted_behind step.notes before)
         → OnEither (IsQuietly step) (IsQuietly step) (all_done Some duties step)
-    done-quietly [] step silent asks fact = record { notes = as-it-was (noted_behind step.notes before); drawn = refl; asks = asks }
+    done-quietly [] step silent asks fact =
+        record { notes = as-it-was (noted_behind step.notes before); drawn = refl; asks = asks }
     done-quietly (duty ∷ duties) step silent asks fact =
         either-then (IsQuietly step) (IsQuietly step) (IsQuietly step) (carried Some (duty step.next) step)
         (all_done Some duties) (carried-quietly (duty step.next) step (silent.0 step.next asks) asks fact)

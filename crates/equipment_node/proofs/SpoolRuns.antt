@@ -1,7 +1,9 @@
 -- The worked runs with the spool, computed.
 use Rattle.std.specs.Prelude.{refl}
+use Rattle.gate_cell.specs.Cell.{copy_bytes}
 use Rattle.line_end.specs.Frames.{block_in, is_frame, sum_cause}
 use Rattle.equipment_node.specs.Step.{late_parts}
+use Rattle.equipment_node.specs.WorkedCalls.{CallsOfWorks}
 use Rattle.equipment_node.specs.WorkedSpool.{FullSpools, LosesInOrder, PutsTheLast, SpoolingBegins, UnloadsInOrder}
 
 pub spooling-begins : SpoolingBegins
@@ -21,3 +23,7 @@ puts-the-last = record { spent = refl; notes = refl; stands = refl; works = refl
 pub unloads-in-order : UnloadsInOrder
 unfolding block_in is_frame sum_cause late_parts
 unloads-in-order = record { first = refl; left = refl; second = refl; none = refl; inactive = refl }
+
+pub calls-of-works : CallsOfWorks
+unfolding copy_bytes
+calls-of-works = record { puts = refl; drops = refl; purges = refl; tries = refl; reserves = refl; overwrites = refl }

@@ -400,7 +400,8 @@ module _ (plan : EquipmentPlan) (slots : ℕ) (list : List Put) (before : List H
           stop : (tried : Option ℕ)
               → TurnEnds plan slots list before
               (stopped_turn tried
-              (λ later. leads Draw (tried_turn (next_number later.numbers) own.ledger.first message on) later) step.next)
+              (λ later. leads Draw (tried_turn (next_number later.numbers) own.ledger.first message on) later)
+              step.next)
               step
           stop None = at step held
           stop (Some system) =

@@ -74,7 +74,7 @@ module _ {D : Type 0} (members : disk.Ghosts D) (old : D) (s : Story) (told : me
   -- ---- it is taken up
 
   module _ (v : SpoolView D) (is : Recovers members old (Ok v)) (g : GemSpool D) (same : g.spool ≡ v) where
-    now-told : members.told g.spool.disk ≡ Some (with_sync s)
+    pub now-told : members.told g.spool.disk ≡ Some (with_sync s)
     now-told =
         ap (λ (x : SpoolView D). members.told x.disk) same ∙ is.0.told ∙ ap (option_map with_sync) told
 
@@ -87,10 +87,10 @@ module _ {D : Type 0} (members : disk.Ghosts D) (old : D) (s : Story) (told : me
     rests : Rests (with_sync s) v.slots v.first v.len v.mark
     rests = (is.1 s told).0
 
-    slots-are : g.spool.slots ≡ file.slots
+    pub slots-are : g.spool.slots ≡ file.slots
     slots-are = ap (λ (x : SpoolView D). x.slots) same ∙ rests.slots_are
 
-    mark-is : g.spool.mark ≡ file.mark
+    pub mark-is : g.spool.mark ≡ file.mark
     mark-is = ap (λ (x : SpoolView D). x.mark) same ∙ rests.mark_is
 
     pub is-fresh : IsFresh members g

@@ -226,7 +226,8 @@ module _
 
   asked-keeps :
       (asked : Text) (text : List ℕ) (own : OwnView) (e : EndView Kind) (step : CoreStep)
-      → Holds plan said own step.next.drawn (so_far plan said before step) → HasSpare plan own (so_far plan said before step) text
+      → Holds plan said own step.next.drawn (so_far plan said before step)
+      → HasSpare plan own (so_far plan said before step) text
       → Ends plan said before (sent.asking_turn asked text own e).own
       (all_done Some (sent.asking_turn asked text own e).duties step)
   asked-keeps (answer.Body asked) text own e step holds spare =
@@ -324,7 +325,8 @@ module _
     (said : List ToolCommand) (before : List Happening) where
   -- the tables as the command leaves them are those that are looked back for
   told-tables :
-      {drawn : Option ℕ} (command : ToolCommand) (own : OwnView) (notes : List Happening) → Holds plan said own drawn notes
+      {drawn : Option ℕ} (command : ToolCommand) (own : OwnView) (notes : List Happening)
+      → Holds plan said own drawn notes
       → after_command command own.tables ≡ tables_in plan (recorded command ∷ notes)
   told-tables command own notes holds =
       ap (λ (t : TablesState). after_command command t) holds.tables_are
@@ -345,7 +347,8 @@ module _
   behind-so :
       (command : ToolCommand) (what : Happening) (own : OwnView) (step : CoreStep)
       → Holds plan (command ∷ said) own step.next.drawn (what ∷ recorded command ∷ so_far plan said before step)
-      → Holds plan (command ∷ said) own (behind command what step).next.drawn (so_far plan said before (behind command what step))
+      → Holds plan (command ∷ said) own (behind command what step).next.drawn
+      (so_far plan said before (behind command what step))
   behind-so command what own step holds =
       subst (λ (notes : List Happening). Holds plan (command ∷ said) own step.next.drawn notes)
       (sym (behind-is command what step)) holds
@@ -383,7 +386,8 @@ module _
   -- ---- a command with what came of it, where no event happens
 
   outcome-noted :
-      {drawn : Option ℕ} (command : ToolCommand) (what : Happening) (own : OwnView) (notes : List Happening) → IsOutcome what
+      {drawn : Option ℕ} (command : ToolCommand) (what : Happening) (own : OwnView) (notes : List Happening)
+      → IsOutcome what
       → brought_by own.tables own.events command ≡ Some what → Holds plan said own drawn notes
       → Holds plan (command ∷ said) (commanded command own) drawn (what ∷ recorded command ∷ notes)
   outcome-noted command what own notes is brings holds = record {
@@ -411,7 +415,8 @@ module _
 
   -- the tables stay as they were
   unchanged-noted :
-      {drawn : Option ℕ} (command : ToolCommand) (what : Happening) (own : OwnView) (notes : List Happening) → IsOutcome what
+      {drawn : Option ℕ} (command : ToolCommand) (what : Happening) (own : OwnView) (notes : List Happening)
+      → IsOutcome what
       → brought_by own.tables own.events command ≡ Some what → after_command command own.tables ≡ own.tables
       → Holds plan said own drawn notes → Holds plan (command ∷ said) own drawn (what ∷ recorded command ∷ notes)
   unchanged-noted command what own notes is brings same holds =
@@ -428,7 +433,8 @@ module _
   refused-keeps :
       (command : ToolCommand) (own : OwnView) (step : CoreStep)
       → brought_by own.tables own.events command ≡ Some Happening.Refused
-      → after_command command own.tables ≡ own.tables → Holds plan said own step.next.drawn (so_far plan said before step)
+      → after_command command own.tables ≡ own.tables
+      → Holds plan said own step.next.drawn (so_far plan said before step)
       → Ends plan (command ∷ said) before own
       (all_done Some (led_turn (Note (recorded command)) (refused_turn own)).duties step)
   refused-keeps command own step brings same holds =
@@ -439,7 +445,8 @@ module _
 
   set-keeps :
       (refusal : Option Setting) (vid : ℕ) (value : Item) (own : OwnView) (step : CoreStep)
-      → refusal_of own.tables.vars vid value ≡ refusal → Holds plan said own step.next.drawn (so_far plan said before step)
+      → refusal_of own.tables.vars vid value ≡ refusal
+      → Holds plan said own step.next.drawn (so_far plan said before step)
       → Ends plan (tool.Set vid value ∷ said) before (set_turn refusal vid value own).own
       (all_done Some
       (led_turn (Note (recorded (tool.Set vid value))) (set_turn refusal vid value own)).duties step)
@@ -471,7 +478,8 @@ module _
 
   alarm-keeps :
       (found : AlarmStep) (alid : ℕ) (is_set : Bool) (own : OwnView) (e : EndView Kind) (step : CoreStep)
-      → step_of own.tables.alarms alid is_set ≡ found → Holds plan said own step.next.drawn (so_far plan said before step)
+      → step_of own.tables.alarms alid is_set ≡ found
+      → Holds plan said own step.next.drawn (so_far plan said before step)
       → Ends plan (tool.Alarm alid is_set ∷ said) before (alarm_turn found alid is_set own e).own
       (all_done Some
       (led_turn (Note (recorded (tool.Alarm alid is_set))) (alarm_turn found alid is_set own e)).duties step)

@@ -715,7 +715,8 @@ module _ (plan : EquipmentPlan) (TriedIs : Option ℕ → Type 0) (fits : Equipm
         led-quiet (GiveUp header) (timeout_turn now (option_map primary_with_kind (answered_by e header)) own
         (core_after (GiveUp header) e))
         (record { calls = (tt, tt); may = (tt, tt) })
-        (timeout-quiet now (option_map primary_with_kind (answered_by e header)) own (core_after (GiveUp header) e) sound)
+        (timeout-quiet now (option_map primary_with_kind (answered_by e header)) own
+        (core_after (GiveUp header) e) sound)
 
     by-t4-quiet :
         (now : ℕ) (dropped : Option Header) (own : OwnView) (e : EndView Kind) → Sound own
@@ -796,7 +797,8 @@ module _ (plan : EquipmentPlan) (TriedIs : Option ℕ → Type 0) (fits : Equipm
     -- ---- what is kept of an unload that goes on
 
     taken-held :
-        (number system : ℕ) (message : Spooled) → CanBeSent message → (own : OwnView) → Sound own → TriedIs (Some system)
+        (number system : ℕ) (message : Spooled) → CanBeSent message → (own : OwnView) → Sound own
+        → TriedIs (Some system)
         → Sound
         (with_tried system (with_ledger (taken_up number system (waiting_text message) own.ledger).next own))
     taken-held number system message can own sound is = record {
@@ -1021,7 +1023,8 @@ module _ (plan : EquipmentPlan) (TriedIs : Option ℕ → Type 0) (fits : Equipm
         → Quiet (request_turn request message own)
     request-is-quiet request.GoOffline message own sound =
         control-request-quiet control_in.RequestOffline message own sound
-    request-is-quiet request.GoOnline message own sound = control-request-quiet control_in.RequestOnline message own sound
+    request-is-quiet request.GoOnline message own sound =
+        control-request-quiet control_in.RequestOnline message own sound
     request-is-quiet request.AreYouThere message own sound = answer-quiet request.AreYouThere message own sound
     request-is-quiet (request.StatusValues ids) message own sound =
         answer-quiet (request.StatusValues ids) message own sound
@@ -1097,7 +1100,8 @@ module _ (plan : EquipmentPlan) (TriedIs : Option ℕ → Type 0) (fits : Equipm
     offline-quiet : (message : Message) (own : OwnView) → Sound own → Quiet (offline_turn message own)
     offline-quiet message own sound = go message.wait
       where
-        go : (wait : Bool) → Quiet (if wait then turn_of own (sent.abort_duty message ∷ []) else dropped_turn message own)
+        go : (wait : Bool) → Quiet
+            (if wait then turn_of own (sent.abort_duty message ∷ []) else dropped_turn message own)
         go true = record { quiet = abort-is-quiet message; sound = sound }
         go false = dropped-quiet message own sound
 
@@ -1113,7 +1117,8 @@ module _ (plan : EquipmentPlan) (TriedIs : Option ℕ → Type 0) (fits : Equipm
             else if offline then offline_turn message own else known_turn header message own)
         go true silent offline = established-quiet now message own sound
         go false true offline =
-            led-quiet (Note (Happening.Dropped (message_name message))) (states.comms_turn comms_in.OtherMessage now own)
+            led-quiet (Note (Happening.Dropped (message_name message)))
+            (states.comms_turn comms_in.OtherMessage now own)
             (one-note (Happening.Dropped (message_name message)) tt) (comms-quiet comms_in.OtherMessage now own sound)
         go false false true = offline-quiet message own sound
         go false false false = known-quiet header message own sound
@@ -1351,7 +1356,8 @@ module _ (plan : EquipmentPlan) (TriedIs : Option ℕ → Type 0) (fits : Equipm
         → Quiet (command_turn command now own e)
     command-quiet (tool.Set vid value) now own e sound =
         set-quiet (refusal_of own.tables.vars vid value) vid value own sound
-    command-quiet (tool.Event ceid) now own e sound = event-is-quiet (is_planned own.tables.reports ceid) ceid own e sound
+    command-quiet (tool.Event ceid) now own e sound =
+        event-is-quiet (is_planned own.tables.reports ceid) ceid own e sound
     command-quiet (tool.Alarm alid is_set) now own e sound =
         alarm-quiet (step_of own.tables.alarms alid is_set) alid is_set own e sound
     command-quiet tool.Enable now own e sound = comms-quiet comms_in.Enable now own sound

@@ -5,6 +5,7 @@ pub mod Carried
 pub mod Codes
 pub mod Cut
 pub mod Disk
+pub mod DiskCalls
 pub mod End
 pub mod Ending
 pub mod Equipment
@@ -20,14 +21,17 @@ pub mod Live
 pub mod Messages
 pub mod Node
 pub mod Own
+pub mod Putting
 pub mod Replies
 pub mod Reported
 pub mod Reports
 pub mod Sent
 pub mod Sound
+pub mod SpentSteps
 pub mod SpoolKept
 pub mod SpoolSound
 pub mod Spooling
+pub mod StartCalls
 pub mod StartOver
 pub mod States
 pub mod Step
@@ -38,5 +42,7 @@ pub mod TriedCores
 pub mod TriedDoings
 pub mod TriedParts
 pub mod TriedSteps
+pub mod WorkedCalls
 pub mod WorkedReports
+pub mod WorkedSpent
 pub mod WorkedSpool

@@ -393,7 +393,8 @@ module _ (plan : EndPlan) (base : ℕ) (fits : LinePlanFits plan.line) (doings :
           untried : Has tries system → ⊥
           untried has = let below = at.turn.below system has in let same = number_is.0 in omega (arith, below, same)
 
-          some : (went : NodeWent) → OnEither (NodeTried (system ∷ tries) Called) (NodeTried (system ∷ tries) Called) went
+          some : (went : NodeWent) → OnEither (NodeTried (system ∷ tries) Called)
+              (NodeTried (system ∷ tries) Called) went
               → OnEither (SomeTried Called) (SomeTried Called) went
           some (Goes last) so = record { tries = system ∷ tries; at = so }
           some (Spent last) so = record { tries = system ∷ tries; at = so }

@@ -347,7 +347,8 @@ last_view =
               ∷ record { system = 2; message = report 2 7 } ∷ [];
         };
         core = does_all
-            (Primary (live_report (report 0 7)) ∷ Primary (live_report (report 1 7)) ∷ Primary (live_report (report 2 7))
+            (Primary (live_report (report 0 7)) ∷ Primary (live_report (report 1 7))
+            ∷ Primary (live_report (report 2 7))
             ∷ Offer 0 ∷ []) s.node.core;
       };
       list = [];

@@ -1,22 +1,26 @@
 //! A step over the spool's disk. It is asked at three places alone: for more system bytes before all else, for the works
 //! that are owed behind what the step is given, and for the oldest message before an unload goes on.
 
-ghost use Rattle.std.specs.Prelude.{All, ◌≡◌, ◌∷◌, [], ◌<◌, ◌≤◌, ◌%◌, ◌^◌, ◌-◌, nat_le, length, ℕ, true, Err, IfOk, Some};
+ghost use Rattle.std.specs.Prelude.{All, ◌≡◌, ◌∷◌, [], ◌<◌, ◌≤◌, ◌%◌, ◌^◌, ◌-◌, nat_le, length, List, ℕ, true, Err, IfOk, Some};
 ghost use Rattle.arrayvec.specs.ArrayVec.{array_vec_len};
-ghost use Rattle.gem_spool.specs.Standing.{count_of};
+ghost use Rattle.disk_base.specs.Story.{Story};
+ghost use Rattle.gem_spool.specs.Standing.{Standing, count_in, count_of};
 ghost use Rattle.gem_spool.specs.Works.{AreDue, counts_after};
 ghost use Rattle.trace_log.specs.Log.{Happening};
 ghost use Rattle.trace_log.specs.declared.commands.ToolCommand.{ToolCommand};
 ghost use Rattle.trace_log.specs.Commands.{ToolCommandFits};
 ghost use Rattle.message_end.specs.declared.end.Stop.TheVariants.{NumbersSpent};
 ghost use Rattle.message_end.specs.Core.{Step};
+ghost use Rattle.message_end.specs.Core.Went.{Goes};
 ghost use Rattle.message_end.specs.Ends.{Input, IsEmpty, MayTake, input_of};
 ghost use Rattle.spool_ledger.specs.Ledger.{carried_out, stood_count};
 ghost use Rattle.spool_ledger.specs.Unloading.{next_number as unload_number};
 ghost use Rattle.equipment_tables.specs.Tables.{most_transmitted};
 ghost use Rattle.equipment_node.specs.Amid.{Acts, Carries, DoesLast, EndsSo, HasOpened, IsAt, IsBegun, IsReady, IsSendable, Opens, StopsAt, asked_node, opened, settled_node};
 ghost use Rattle.equipment_node.specs.Asked.{HasAsked, asked_for, read_asks};
-ghost use Rattle.equipment_node.specs.Disk.{asks, reserve_works, standing_in, works_behind};
+ghost use Rattle.equipment_node.specs.Disk.{asks, read_works, reserve_works, standing_in, works_behind};
+ghost use Rattle.equipment_node.specs.Disk.DiskWork.{ReadOldest};
+ghost use Rattle.equipment_node.specs.DiskCalls.{CallsInStep, HasCalled, disk_in};
 ghost use Rattle.equipment_node.specs.Equipment.{EquipmentView, begun_step, needs_numbers};
 ghost use Rattle.equipment_node.specs.Node.{node_of, own_of};
 ghost use Rattle.equipment_node.specs.Sound.{CanBeSent};
@@ -76,6 +80,8 @@ impl Tool {
         ensures asks { (s : EquipmentView) → node_of self.old ≡ s.node → IsOn D.Disk spool.spool s
             → IsTold (D.told spool.spool.disk)
             → HasAsked D.Disk spool.spool.disk (asks s (input_of input.entry) now) result }
+        ensures calls { (s : EquipmentView) → node_of self.old ≡ s.node → IsOn D.Disk spool.spool s
+            → CallsInStep D.Disk disk_in spool.spool.disk s (input_of input.entry) now result }
     {
         match self.act(alloc, spool, input, now, out) {
             Ok(spool) => Ok(spool),
@@ -106,6 +112,8 @@ impl Tool {
         ensures asks { (s : EquipmentView) → node_of self.old ≡ s.node → IsOn D.Disk spool.spool s
             → IsTold (D.told spool.spool.disk)
             → HasAsked D.Disk spool.spool.disk (asks s (input_of input.entry) now) result }
+        ensures calls { (s : EquipmentView) → node_of self.old ≡ s.node → IsOn D.Disk spool.spool s
+            → CallsInStep D.Disk disk_in spool.spool.disk s (input_of input.entry) now result }
     {
         match self.reserve(spool, out) {
             Ok(spool) => self.act_on(alloc, spool, input, now, out),
@@ -125,6 +133,9 @@ impl Tool {
         ensures asks { (s : EquipmentView) → node_of self.old ≡ s.node → IsOn D.Disk spool.spool s
             → IsTold (D.told spool.spool.disk)
             → HasAsked D.Disk spool.spool.disk (asked_for (standing_in s) (reserve_works s)) result }
+        ensures calls { (s : EquipmentView) → node_of self.old ≡ s.node → IsOn D.Disk spool.spool s
+            → (t : Story) → D.told spool.spool.disk ≡ Some t
+            → HasCalled D.Disk disk_in spool.spool.disk t.now.bytes (standing_in s) (reserve_works s) result }
         ensures ready { IfOk result (λ g. IsReady g.spool (node_of self.new)) }
         ensures notes { out.new.notes ≡ out.old.notes }
         ensures line { out.new.line.items ≡ out.old.line.items }
@@ -155,6 +166,9 @@ impl Tool {
         ensures asks { (s : EquipmentView) → node_of self.old ≡ s.node → needs_numbers s ≡ true
             → IsOn D.Disk spool.spool s
             → HasAsked D.Disk spool.spool.disk (asked_for (standing_in s) (reserve_works s)) result }
+        ensures calls { (s : EquipmentView) → node_of self.old ≡ s.node → needs_numbers s ≡ true
+            → IsOn D.Disk spool.spool s → (t : Story) → D.told spool.spool.disk ≡ Some t
+            → HasCalled D.Disk disk_in spool.spool.disk t.now.bytes (standing_in s) (reserve_works s) result }
         ensures ready { IfOk result (λ g. IsReady g.spool (node_of self.new)) }
         ensures notes { out.new.notes ≡ out.old.notes }
         ensures line { out.new.line.items ≡ out.old.line.items }
@@ -189,6 +203,10 @@ impl Tool {
             → HasAsked D.Disk spool.spool.disk
             (asked_for (standing_in (opened s)) (works_behind (begun_step s (input_of input.entry) now)))
             result }
+        ensures calls { (s : EquipmentView) → HasOpened D.Disk s (node_of self.old) spool → (bytes : List ℕ)
+            → HasCalled D.Disk disk_in spool.spool.disk bytes (standing_in (opened s))
+            (works_behind (begun_step s (input_of input.entry) now))
+            result }
     {
         match self.do_first(alloc, input, now, out) {
             Ok(()) => self.act_behind(alloc, spool, now, out),
@@ -216,6 +234,11 @@ impl Tool {
             → HasAsked D.Disk spool.spool.disk
             (asked_for (standing_in (opened s)) (works_behind (begun_step s input now)))
             result }
+        ensures calls { (s : EquipmentView) → (input : Input ToolCommand) → IsBegun s input now (node_of self.old) out.old
+            → HasOpened D.Disk s (opened s).node spool → (bytes : List ℕ)
+            → HasCalled D.Disk disk_in spool.spool.disk bytes (standing_in (opened s))
+            (works_behind (begun_step s input now))
+            result }
     {
         match self.carry_out(alloc, spool, out) {
             Ok(spool) => self.act_last(alloc, spool, now, out),
@@ -239,6 +262,12 @@ impl Tool {
             → StopsAt s input now (node_of self.old) out.old stop → HasOpened D.Disk s (opened s).node spool
             → HasAsked D.Disk spool.spool.disk
             (asked_for (standing_in (opened s)) (works_behind (begun_step s input now)))
+            (Err result) }
+        ensures calls { (s : EquipmentView) → (input : Input ToolCommand) → (now : ℕ)
+            → StopsAt s input now (node_of self.old) out.old stop → HasOpened D.Disk s (opened s).node spool
+            → (bytes : List ℕ)
+            → HasCalled D.Disk disk_in spool.spool.disk bytes (standing_in (opened s))
+            (works_behind (begun_step s input now))
             (Err result) }
     {
         match stop {
@@ -267,6 +296,12 @@ impl Tool {
             → StopsAt s input now (node_of self.old) out.old NumbersSpent → HasOpened D.Disk s (opened s).node spool
             → HasAsked D.Disk spool.spool.disk
             (asked_for (standing_in (opened s)) (works_behind (begun_step s input now)))
+            (Err result) }
+        ensures calls { (s : EquipmentView) → (input : Input ToolCommand) → (now : ℕ)
+            → StopsAt s input now (node_of self.old) out.old NumbersSpent → HasOpened D.Disk s (opened s).node spool
+            → (bytes : List ℕ)
+            → HasCalled D.Disk disk_in spool.spool.disk bytes (standing_in (opened s))
+            (works_behind (begun_step s input now))
             (Err result) }
     {
         match self.carry_out(alloc, spool, out) {
@@ -308,6 +343,9 @@ impl Tool {
         ensures ends { (t : Step EquipmentView Happening) → IsAt D.Disk t (node_of self.old) out.old spool
             → EndsSo D.Disk now t (node_of self.new) out.new result }
         ensures asks { HasAsked D.Disk spool.spool.disk (read_asks (own_of self.old.own)) result }
+        ensures calls { (t : Step EquipmentView Happening) → IsAt D.Disk t (node_of self.old) out.old spool
+            → (bytes : List ℕ)
+            → HasCalled D.Disk disk_in spool.spool.disk bytes (standing_in t.next) (read_works (Goes t)) result }
     {
         match self.next_unload() {
             Some(number) => self.act_reading(alloc, spool, number, now, out),
@@ -333,6 +371,8 @@ impl Tool {
             → IsAt D.Disk t t.next.node out.old spool
             → EndsSo D.Disk now t (node_of self.new) out.new result }
         ensures asks { HasAsked D.Disk spool.spool.disk (record { calls = 1; bytes = 0 }) result }
+        ensures calls { (st : Standing) → count_of spool.spool ≡ count_in st → 0 < length st.list
+            → (bytes : List ℕ) → HasCalled D.Disk disk_in spool.spool.disk bytes st (ReadOldest ∷ []) result }
     {
         let mut spool = spool;
         match spool.oldest_message(alloc) {

@@ -2,12 +2,16 @@
 
 ghost use Rattle.std.specs.Prelude.{◌≡◌, ◌+◌, ◌≤◌, ◌<◌, ◌^◌, IfOk, Some};
 ghost use Rattle.disk_base.specs.Story.{Story};
+ghost use Rattle.spool_slots.specs.File.{file_in};
 ghost use Rattle.trace_log.specs.Commands.{ToolCommandFits};
 ghost use Rattle.message_end.specs.Ends.{IsEmpty, MayTake, input_of};
 ghost use Rattle.equipment_tables.specs.Plan.{EquipmentPlanFits};
 ghost use Rattle.equipment_node.specs.Amid.{IsReady};
-ghost use Rattle.equipment_node.specs.Held.{Begins, IsIn, Moves, starting_by};
+ghost use Rattle.equipment_node.specs.DiskCalls.{CallsInStep, disk_held};
+ghost use Rattle.equipment_node.specs.Held.{Begins, IsIn, Moves, starting_by, view_in};
 ghost use Rattle.equipment_node.specs.Node.{node_of};
+ghost use Rattle.equipment_node.specs.SpentSteps.{IsSpentByCause, IsStartSpentByCause};
+ghost use Rattle.equipment_node.specs.StartCalls.{CallsInStart, MovesMark, StartMoves};
 ghost use Rattle.equipment_node.specs.StartOver.{BeginsOver, IsFresh, IsStartNoted, StartAsks, StartsOver, StartsWith, new_node};
 ghost use Rattle.equipment_node.specs.Step.{deadline_of};
 
@@ -70,7 +74,8 @@ pub enum Starting<D> {
 
 impl<D: Disk> Equipment<D> {
     /// A start: the spool is taken up from its device, and system bytes are reserved there. The plan is copied where it
-    /// is kept, and must fit.
+    /// is kept, and must fit. The disk's calls are a sync, reads, and those that move the mark. `NumbersSpent` comes
+    /// where the mark of the file can't move on, and nowhere else, and no start goes on there.
     pub fn start(
         alloc: Global,
         plan: &EquipmentPlan,
@@ -80,7 +85,9 @@ impl<D: Disk> Equipment<D> {
     ) -> Result<Equipment<D>, Starting<D>>
         requires plan { EquipmentPlanFits plan.now }
         requires out { IsEmpty out.old }
-        ensures { (s : Story) → D.told raw.disk ≡ Some s → Begins D.Disk plan.now s out.new result }
+        ensures begins { (s : Story) → D.told raw.disk ≡ Some s → Begins D.Disk plan.now s out.new result }
+        ensures spent { (s : Story) → D.told raw.disk ≡ Some s → IsStartSpentByCause (file_in s.now.bytes) result }
+        ensures calls { (s : Story) → D.told raw.disk ≡ Some s → CallsInStart D.Disk raw.disk s result }
     {
         let _ = now;
         match raw.recover() {
@@ -98,7 +105,9 @@ impl<D: Disk> Equipment<D> {
     ) -> Result<Equipment<D>, Starting<D>>
         requires plan { EquipmentPlanFits plan.now }
         requires out { IsEmpty out.old }
-        ensures { IsFresh D.Disk spool → BeginsOver D.Disk plan.now spool out.new result }
+        ensures begins { IsFresh D.Disk spool → BeginsOver D.Disk plan.now spool out.new result }
+        ensures calls { (t : Story) → D.told spool.spool.disk ≡ Some t
+            → StartMoves D.Disk spool.spool.disk t.now.bytes spool.spool.mark result }
     {
         match start_over(alloc, plan, spool, out) {
             Ok(Seat { tool, spool }) => Ok(Equipment { tool, spool }),
@@ -109,7 +118,10 @@ impl<D: Disk> Equipment<D> {
     }
 
     /// One step. On an ending the notes keep what was noted before it, and no character is written. All that the disk
-    /// is asked in a step is done before its characters are sent.
+    /// is asked in a step is done before its characters are sent: its calls are those of the works of the step, in
+    /// their order, up to the first that fails, and no others. `NumbersSpent` comes where it needs more system bytes and
+    /// the mark of the file can't move on, or puts a message into a spool whose numbers are at their end, and nowhere
+    /// else; where there is such a cause, the step doesn't go on.
     pub fn step(
         self,
         alloc: Global,
@@ -120,7 +132,16 @@ impl<D: Disk> Equipment<D> {
         requires now { now < 2 ^ 62 }
         requires input { MayTake ToolCommandFits (input_of input) }
         requires out { IsEmpty out.old }
-        ensures { IsIn D.Disk self → Moves D.Disk self (input_of input.entry) now out.new result }
+        ensures moves { IsIn D.Disk self → Moves D.Disk self (input_of input.entry) now out.new result }
+        ensures calls { IsIn D.Disk self → CallsInStep
+            D.Disk
+            disk_held
+            self.spool.spool.disk
+            (view_in D.Disk self)
+            (input_of input.entry)
+            now
+            result }
+        ensures spent { IsIn D.Disk self → IsSpentByCause D.Disk self (input_of input.entry) now result }
     {
         let Equipment { mut tool, spool } = self;
         match tool.step_on(alloc, spool, input, now, out) {
@@ -192,6 +213,8 @@ pub(crate) fn start_over<D: Disk>(
     ensures ready { IfOk result (λ e. IsReady e.spool.spool (node_of e.tool.value)) }
     ensures starts { IsFresh D.Disk spool → StartsOver D.Disk plan.now spool out.new result }
     ensures asks { StartAsks D.Disk spool.spool.disk result }
+    ensures calls { (t : Story) → D.told spool.spool.disk ≡ Some t
+        → MovesMark D.Disk spool.spool.disk t.now.bytes spool.spool.mark result }
 {
     // (that it stands as it says is told by the call that counts its messages)
     let _ = spool.len();

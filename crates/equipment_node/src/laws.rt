@@ -1,6 +1,10 @@
+ghost use Rattle.equipment_node.specs.DiskCalls.{CallsAreCounted};
 ghost use Rattle.equipment_node.specs.Laws.{EquipmentKeepsItsLaw, ReportsAreOfTheirEvents};
+ghost use Rattle.equipment_node.specs.SpentSteps.{DrawsFew, SpentByCause};
 ghost use Rattle.equipment_node.specs.SpoolKept.{SpoolIsKept, TriesAreInTurn};
+ghost use Rattle.equipment_node.specs.WorkedCalls.{CallsOfWorks};
 ghost use Rattle.equipment_node.specs.WorkedReports.{LaterSettingsAreNotReported};
+ghost use Rattle.equipment_node.specs.WorkedSpent.{NumbersEnd};
 ghost use Rattle.equipment_node.specs.WorkedSpool.{FullSpools, LosesInOrder, PutsTheLast, SpoolingBegins, UnloadsInOrder};
 
 use equipment_tables::tables_are_looked_back_for;
@@ -23,8 +27,8 @@ pub fn reports_are_of_their_events()
     tables_are_looked_back_for();
 }
 
-/// Over all its starts, from an empty spool on, what is stored goes behind all others; what leaves is the oldest, and it
-/// leaves once the host has taken it, as the host empties the spool, or as it is overwritten in a full one; what is
+/// Over all its starts, from an empty spool on, what is stored goes behind all others; what leaves is the oldest, and
+/// it leaves once the host has taken it, as the host empties the spool, or as it is overwritten in a full one; what is
 /// tried is the oldest, and goes out as it was put; and each start finds what stood. Each try of a message of the spool
 /// has new system bytes, and behind a try no block of an earlier one is given to the line.
 pub fn spool_is_kept()
@@ -34,19 +38,39 @@ pub fn spool_is_kept()
     tables_are_looked_back_for();
 }
 
+/// The disk's calls in a step are as many, and write as many bytes, as is counted of its works.
+pub fn calls_are_counted()
+    ensures { CallsAreCounted }
+{}
+
 /// An example of what is said of reports: where a variable is set between an event and its S6F11, the old value goes
 /// out.
 pub fn later_settings_are_not_reported()
     ensures { LaterSettingsAreNotReported }
 {}
 
-/// Examples of a spool. Nobody answers, and spooling begins; a message comes to a full spool, which overwrites or not; an
-/// unload of three messages, of which two may go at a time and the second is not confirmed at first; the communication
-/// is lost as five messages are open; and one number is left as three reports are to be put.
+/// Examples of a spool. Nobody answers, and spooling begins; a message comes to a full spool, which overwrites or not;
+/// an unload of three messages, of which two may go at a time and the second is not confirmed at first; the
+/// communication is lost as five messages are open; one number is left as three reports are to be put; and the disk's
+/// calls of each kind of work.
 pub fn worked_spool_runs()
     ensures begins { SpoolingBegins }
     ensures full { FullSpools }
     ensures unloads { UnloadsInOrder }
     ensures loses { LosesInOrder }
     ensures last { PutsTheLast }
+    ensures calls { CallsOfWorks }
+{}
+
+/// A step draws fewer than 128 system bytes, whatever it is given. So its numbers are spent exactly where it needs more
+/// and the mark of the file is at its end, or where it puts a message and `room` answers that the numbers of the spool
+/// are at their end.
+pub fn steps_are_spent_by_cause()
+    ensures draws { DrawsFew }
+    ensures cause { SpentByCause }
+{}
+
+/// Examples of steps whose numbers are spent, and of one that has as many as it may need.
+pub fn worked_spent_steps()
+    ensures { NumbersEnd }
 {}

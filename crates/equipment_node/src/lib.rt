@@ -41,7 +41,8 @@ pub use equipment::{Equipment, Starting};
 pub use equipment_tables::{EquipmentPlan, HostPlan, Plans};
 pub use in_memory::EquipmentEnd;
 pub use laws::{
-    equipment_keeps_the_law, later_settings_are_not_reported, reports_are_of_their_events,
-    spool_is_kept, worked_spool_runs,
+    calls_are_counted, equipment_keeps_the_law, later_settings_are_not_reported,
+    reports_are_of_their_events, spool_is_kept, steps_are_spent_by_cause, worked_spent_steps,
+    worked_spool_runs,
 };
 pub use trace_log::ToolCommand;

@@ -320,7 +320,8 @@ impl Tool {
     // The report whose S6F5 has these system bytes goes.
     fn grant(&mut self, alloc: Global, system: u32, out: &mut StepOut) -> Result<(), Stop>
         ensures does { Takes
-            (granted_turn (waiting_report system (own_of self.old.own)) (without_grant system (own_of self.old.own)) self.old.core)
+            (granted_turn (waiting_report system (own_of self.old.own)) (without_grant system (own_of self.old.own))
+            self.old.core)
             (node_of self.old)
             out.old
             (node_of self.new)

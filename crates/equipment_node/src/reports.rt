@@ -47,8 +47,8 @@ pub(crate) const TERMINAL_NAME: Name = Name {
 pub(crate) const ONE_BLOCK: usize = 244;
 
 impl Tool {
-    /// A report of this name was made, on-line, with this text. One that is too long is noted. While the spool is active
-    /// it is stored there, where the rule covers it. Else its body is the answer, to go to the host, where the
+    /// A report of this name was made, on-line, with this text. One that is too long is noted. While the spool is
+    /// active it is stored there, where the rule covers it. Else its body is the answer, to go to the host, where the
     /// communication is established, and it is dropped where it isn't.
     pub(crate) fn judge_text(
         &mut self,

@@ -164,7 +164,8 @@ impl Tool {
         out: &mut StepOut,
     ) -> Result<(), Stop>
         ensures does { Takes
-            (alarm_turn (step_of self.old.own.tables.alarms alid is_set) alid is_set (own_of self.old.own) self.old.core)
+            (alarm_turn (step_of self.old.own.tables.alarms alid is_set) alid is_set (own_of self.old.own)
+            self.old.core)
             (node_of self.old)
             out.old
             (node_of self.new)

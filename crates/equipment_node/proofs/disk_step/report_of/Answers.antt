@@ -1,4 +1,4 @@
-use Rattle.std.proofs.Common.{sym, ap, subst, ◌∙◌, ◌≤◌, length, take}
+use Rattle.std.proofs.Common.{sym, subst, ◌∙◌, ◌≤◌, length}
 use Rattle.block_codec.specs.Protocol.{longest_text}
 use Rattle.equipment_node.proofs.Found.{is-kept, short-enough}
 use Rattle.equipment_node.proofs.disk_step.report_of.Goals as goal

@@ -1,4 +1,4 @@
-use Rattle.std.proofs.Common.{◌≡◌, ◌≤◌, ◌++◌, drop, length, take}
+use Rattle.std.proofs.Common.{◌≡◌, ◌++◌, drop, take}
 use Rattle.equipment_node.specs.Cut.{cut_at}
 use Rattle.equipment_node.proofs.notes_cut.cut_place.Given as goal
 

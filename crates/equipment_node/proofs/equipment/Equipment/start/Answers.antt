@@ -1,19 +1,42 @@
 use Rattle.std.proofs.Common.{ap, subst, sym}
 use Rattle.std.specs.Prelude.{Err}
 use Rattle.equipment_node.specs.Held.{Begins}
+use Rattle.equipment_node.proofs.SpentMoves.{begun-by-cause}
+use Rattle.equipment_node.specs.StartCalls.{CallsInStart}
+use Rattle.equipment_node.proofs.StartCalled.{looked-only, looked-through}
 use Rattle.equipment_node.proofs.TakenUp.{begun-over, is-fresh, not-taken}
 use Rattle.equipment_node.proofs.equipment.Equipment.start.Goals as goal
 
-pub returns-in-Ok : goal.returns-in-Ok
-returns-in-Ok g c s told =
+pub returns-in-Ok-clause-begins : goal.returns-in-Ok-clause-begins
+returns-in-Ok-clause-begins g c s told =
     let same = ap (λ h. h.spool) c.new.ensures.made in
     begun-over g.D.Disk c.args.raw.disk s told c.in-Ok.spool c.in-Ok.ensures c.new.result same c.args.plan.now
     c.requires.plan c.start_on.new.out c.start_on.result
-    (c.start_on.ensures
+    (c.start_on.ensures.begins
     (is-fresh g.D.Disk c.args.raw.disk s told c.in-Ok.spool c.in-Ok.ensures c.new.result same))
 
-pub returns-in-Err : goal.returns-in-Err
-returns-in-Err g c s told =
+pub returns-in-Ok-clause-calls : goal.returns-in-Ok-clause-calls
+returns-in-Ok-clause-calls g c s told =
+    looked-through g.D.Disk c.args.raw.disk s told c.in-Ok.spool c.in-Ok.ensures c.new.result
+    (ap (λ h. h.spool) c.new.ensures.made) c.start_on.result c.start_on.ensures.calls
+
+pub returns-in-Err-clause-begins : goal.returns-in-Err-clause-begins
+returns-in-Err-clause-begins g c s told =
     subst (λ e. Begins g.D.Disk c.args.plan.now s c.args.out.now (Err e)) (sym c.why_not.ensures)
     (not-taken g.D.Disk c.args.raw.disk s told c.args.plan.now c.args.out.now c.in-Err.unknown c.requires.out
     c.in-Err.ensures)
+
+pub returns-in-Ok-clause-spent : goal.returns-in-Ok-clause-spent
+returns-in-Ok-clause-spent g c s told =
+    begun-by-cause g.D.Disk c.args.plan.now s c.start_on.new.out c.start_on.result
+    (returns-in-Ok-clause-begins g c s told)
+
+pub returns-in-Err-clause-spent : goal.returns-in-Err-clause-spent
+returns-in-Err-clause-spent g c s told =
+    begun-by-cause g.D.Disk c.args.plan.now s c.args.out.now (Err c.why_not.result)
+    (returns-in-Err-clause-begins g c s told)
+
+pub returns-in-Err-clause-calls : goal.returns-in-Err-clause-calls
+returns-in-Err-clause-calls g c s told =
+    subst (λ e. CallsInStart g.D.Disk c.args.raw.disk s (Err e)) (sym c.why_not.ensures)
+    (looked-only g.D.Disk c.args.raw.disk s told c.in-Err.unknown c.in-Err.ensures)

@@ -1,14 +1,16 @@
 use Rattle.std.proofs.Common.{ap, subst, sym}
-use Rattle.std.specs.Prelude.{Err}
+use Rattle.std.specs.Prelude.{Ok, Err}
 use Rattle.message_end.specs.Ends.{input_of}
 use Rattle.equipment_node.specs.declared.own.Tool.{Tool}
+use Rattle.equipment_node.specs.DiskCalls.{CallsInStep, disk_held}
 use Rattle.equipment_node.specs.Held.{HasMoved, IsIn, Moves, view_in}
 use Rattle.equipment_node.specs.Node.{node_of}
 use Rattle.equipment_node.proofs.Seated.{any-node, step-gone, step-on}
+use Rattle.equipment_node.proofs.SpentMoves.{moved-by-cause}
 use Rattle.equipment_node.proofs.equipment.Equipment.step.Goals as goal
 
-pub returns-in-Ok : goal.returns-in-Ok
-returns-in-Ok g c in_state =
+pub returns-in-Ok-clause-moves : goal.returns-in-Ok-clause-moves
+returns-in-Ok-clause-moves g c in_state =
     let was = subst (λ h. IsIn g.D.Disk h) (sym c.self.view_is) in_state in
     let is =
     c.in-Ok.ensures.steps (view_in g.D.Disk (record { tool = c.self.inside.tool.value; spool = c.self.inside.spool }))
@@ -32,8 +34,8 @@ returns-in-Ok g c in_state =
       };
     })
 
-pub returns-in-Err : goal.returns-in-Err
-returns-in-Err g c in_state =
+pub returns-in-Err-clause-moves : goal.returns-in-Err-clause-moves
+returns-in-Err-clause-moves g c in_state =
     let was = subst (λ h. IsIn g.D.Disk h) (sym c.self.view_is) in_state in
     subst
     (λ h. Moves g.D.Disk h (input_of c.args.input) c.args.now c.step_on.new.out (Err c.in-Err.ended))
@@ -45,3 +47,37 @@ returns-in-Err g c in_state =
     (c.in-Err.ensures.steps
     (view_in g.D.Disk (record { tool = c.self.inside.tool.value; spool = c.self.inside.spool }))
     (ap (λ (t : Tool). node_of t) c.deref_mut.ensures.value) was.on was.told))
+
+pub returns-in-Ok-clause-calls : goal.returns-in-Ok-clause-calls
+returns-in-Ok-clause-calls g c in_state =
+    let was = subst (λ h. IsIn g.D.Disk h) (sym c.self.view_is) in_state in
+    subst
+    (λ h.
+    CallsInStep g.D.Disk disk_held h.spool.spool.disk (view_in g.D.Disk h) (input_of c.args.input) c.args.now
+    (Ok (record { tool = c.step_on.new.self; spool = c.in-Ok.spool })))
+    c.self.view_is
+    (λ t told.
+    c.in-Ok.ensures.calls (view_in g.D.Disk (record { tool = c.self.inside.tool.value; spool = c.self.inside.spool }))
+    (ap (λ (x : Tool). node_of x) c.deref_mut.ensures.value) was.on t told)
+
+pub returns-in-Err-clause-calls : goal.returns-in-Err-clause-calls
+returns-in-Err-clause-calls g c in_state =
+    let was = subst (λ h. IsIn g.D.Disk h) (sym c.self.view_is) in_state in
+    subst
+    (λ h.
+    CallsInStep g.D.Disk disk_held h.spool.spool.disk (view_in g.D.Disk h) (input_of c.args.input) c.args.now
+    (Err c.in-Err.ended))
+    c.self.view_is
+    (λ t told.
+    c.in-Err.ensures.calls (view_in g.D.Disk (record { tool = c.self.inside.tool.value; spool = c.self.inside.spool }))
+    (ap (λ (x : Tool). node_of x) c.deref_mut.ensures.value) was.on t told)
+
+pub returns-in-Ok-clause-spent : goal.returns-in-Ok-clause-spent
+returns-in-Ok-clause-spent g c in_state =
+    moved-by-cause g.D.Disk _ (input_of c.args.input) c.args.now c.step_on.new.out in_state
+    (Ok (record { tool = c.step_on.new.self; spool = c.in-Ok.spool })) (returns-in-Ok-clause-moves g c in_state)
+
+pub returns-in-Err-clause-spent : goal.returns-in-Err-clause-spent
+returns-in-Err-clause-spent g c in_state =
+    moved-by-cause g.D.Disk _ (input_of c.args.input) c.args.now c.step_on.new.out in_state (Err c.in-Err.ended)
+    (returns-in-Err-clause-moves g c in_state)

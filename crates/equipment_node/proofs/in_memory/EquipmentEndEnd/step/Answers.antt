@@ -1,7 +1,7 @@
 use Rattle.std.proofs.Common.{sym, ◌∙◌}
 use Rattle.message_end.specs.Ends.{input_of}
 use Rattle.equipment_node.specs.Node.{node_of}
-use Rattle.equipment_node.proofs.Seated.{leaves-over, seat-in, uses-over}
+use Rattle.equipment_node.proofs.Seated.{leaves-over, uses-over}
 use Rattle.equipment_node.proofs.in_memory.EquipmentEndEnd.step.Goals as goal
 
 pub returns-in-Some-clause-step : goal.returns-in-Some-clause-step

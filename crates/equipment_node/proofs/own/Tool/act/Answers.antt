@@ -3,6 +3,7 @@ use Rattle.message_end.specs.Ends.{input_of}
 use Rattle.equipment_node.specs.Node.{node_of}
 use Rattle.equipment_node.proofs.Asking.{reserve-fallen, step-asked}
 use Rattle.equipment_node.proofs.OverDisk.{not-opened}
+use Rattle.equipment_node.proofs.StepCalls.{not-called, step-called}
 use Rattle.equipment_node.proofs.own.Tool.act.Goals as goal
 
 pub act_on-requires : goal.act_on-requires
@@ -36,3 +37,16 @@ pub returns-in-Err-clause-asks : goal.returns-in-Err-clause-asks
 returns-in-Err-clause-asks g c s node_is on told =
     reserve-fallen g.D.Disk s (input_of c.args.input) c.args.now c.args.spool.spool.disk c.in-Err.ended
     (c.in-Err.ensures.asks s node_is on told)
+
+pub returns-in-Ok-clause-calls : goal.returns-in-Ok-clause-calls
+returns-in-Ok-clause-calls g c s node_is on t told =
+    let begin = c.in-Ok.ensures.opens s node_is on (t, told) in
+    step-called g.D.Disk s (input_of c.args.input) c.args.now c.args.spool.spool.disk c.in-Ok.spool.spool.disk
+    t.now.bytes c.act_on.result begin.went (c.in-Ok.ensures.calls s node_is on t told)
+    (c.act_on.ensures.calls s begin t.now.bytes)
+
+pub returns-in-Err-clause-calls : goal.returns-in-Err-clause-calls
+returns-in-Err-clause-calls g c s node_is on t told =
+    not-called g.D.Disk s (input_of c.args.input) c.args.now c.args.spool.spool.disk t.now.bytes
+    (node_of c.reserve.new.self) c.in-Err.ended on.clear.owes (c.in-Err.ensures.opens s node_is on (t, told))
+    (c.in-Err.ensures.calls s node_is on t told)

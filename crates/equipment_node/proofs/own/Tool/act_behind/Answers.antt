@@ -5,6 +5,7 @@ use Rattle.equipment_node.specs.Equipment.{settled_step}
 use Rattle.equipment_node.proofs.Asking.{behind-asked, behind-fallen}
 use Rattle.equipment_node.proofs.OverDisk.{at-settled, carry-failed, ends-acts}
 use Rattle.equipment_node.proofs.Readying.{settled-ready}
+use Rattle.equipment_node.proofs.StepCalls.{behind-called, behind-stops}
 use Rattle.equipment_node.proofs.own.Tool.act_behind.Goals as goal
 
 pub carry_out-requires : goal.carry_out-requires
@@ -46,3 +47,20 @@ pub returns-in-Err-clause-asks : goal.returns-in-Err-clause-asks
 returns-in-Err-clause-asks g c s input begun begin =
     behind-fallen g.D.Disk s input c.args.now c.args.spool (node_of c.args.self.now) c.args.out.now
     c.carry_out.new.out begun c.in-Err.ended begin.clear c.in-Err.ensures.works
+
+pub returns-in-Ok-clause-calls : goal.returns-in-Ok-clause-calls
+returns-in-Ok-clause-calls g c s input begun begin bytes =
+    behind-called g.D.Disk s input c.args.now bytes c.args.spool begin.clear begin.went c.in-Ok.spool
+    (node_of c.args.self.now) c.args.out.now begun c.act_last.result c.requires.ready.count c.in-Ok.ensures.come_to
+    c.in-Ok.ensures.works.0
+    (c.act_last.ensures.calls (settled_step begun.step)
+    (at-settled g.D.Disk s input c.args.now begin.went c.args.spool c.in-Ok.spool (node_of c.args.self.now)
+    (node_of c.carry_out.new.self) c.args.out.now c.carry_out.new.out begun begin.clear begin.told
+    c.requires.ready.count c.in-Ok.ensures.come_to c.in-Ok.ensures.works.0 c.in-Ok.ensures.node
+    c.in-Ok.ensures.works.1)
+    bytes)
+
+pub returns-in-Err-clause-calls : goal.returns-in-Err-clause-calls
+returns-in-Err-clause-calls g c s input begun begin bytes =
+    behind-stops g.D.Disk s input c.args.now bytes c.args.spool begin.clear (node_of c.args.self.now) c.args.out.now
+    c.carry_out.new.out begun c.in-Err.ended c.in-Err.ensures.works

@@ -1,5 +1,6 @@
 use Rattle.std.proofs.Common.{[], ◌∷◌, None, Some}
 use Rattle.equipment_node.specs.Asked.{read_asks}
+use Rattle.equipment_node.specs.Disk.{standing_in}
 use Rattle.equipment_node.specs.Node.{node_of, own_of}
 use Rattle.equipment_node.specs.Spooling.{end_of_spooling}
 use Rattle.equipment_node.specs.Step.{offer}
@@ -7,6 +8,7 @@ use Rattle.equipment_node.specs.Stepping.{taking}
 use Rattle.equipment_node.proofs.Asking.{last-asked, reads-one}
 use Rattle.equipment_node.proofs.LastParts.{asked-is, last-done, none-asked, number-is, with-node}
 use Rattle.equipment_node.proofs.Readying.{asked-ready}
+use Rattle.equipment_node.proofs.StepCalls.{last-called, reads-by, some-asked}
 use Rattle.equipment_node.proofs.own.Tool.act_last.Goals as goal
 
 pub act_reading-requires : goal.act_reading-requires
@@ -55,3 +57,18 @@ pub returns-in-None-clause-asks : goal.returns-in-None-clause-asks
 returns-in-None-clause-asks g c =
     last-asked g.D.Disk c.args.spool (taking None ∷ end_of_spooling ∷ offer c.args.now ∷ []) (node_of c.next_unload.new.self) (node_of c.end_with.new.self) c.args.out.now
     c.end_with.new.out (read_asks (own_of c.args.self.now.own)) c.end_with.result c.end_with.ensures.ends
+
+pub returns-in-Some-clause-calls : goal.returns-in-Some-clause-calls
+returns-in-Some-clause-calls g c t at bytes =
+    let some = number-is (node_of c.args.self.now) t at.node_is (Some c.in-Some.number) c.in-Some.ensures.number in
+    reads-by g.D.Disk t bytes c.args.spool.spool.disk c.act_reading.result (Some c.in-Some.number) some
+    (c.act_reading.ensures.calls (standing_in t.next) at.clear.stands.count
+    (some-asked g.D.Disk c.args.spool.spool t c.in-Some.number at.clear some) bytes)
+
+pub returns-in-None-clause-calls : goal.returns-in-None-clause-calls
+returns-in-None-clause-calls g c t at bytes =
+    reads-by g.D.Disk t bytes c.args.spool.spool.disk c.end_with.result None
+    (number-is (node_of c.args.self.now) t at.node_is None c.in-None.ensures.number)
+    (last-called g.D.Disk bytes (standing_in t.next) c.args.spool
+    (taking None ∷ end_of_spooling ∷ offer c.args.now ∷ []) (node_of c.next_unload.new.self)
+    (node_of c.end_with.new.self) c.args.out.now c.end_with.new.out c.end_with.result c.end_with.ensures.ends)

@@ -11,6 +11,7 @@ use Rattle.equipment_node.specs.Stepping.{taking}
 use Rattle.equipment_node.proofs.Asking.{look-fallen, looked-asked, unlooked-asked}
 use Rattle.equipment_node.proofs.LastParts.{last-done, no-list, none-there, read-at, read-there}
 use Rattle.equipment_node.proofs.OverDisk.{kept-of}
+use Rattle.equipment_node.proofs.StepCalls.{look-called, looked-called, some-there, unread-called}
 use Rattle.equipment_node.proofs.own.Tool.act_reading.Goals as goal
 
 pub returns-in-Ok-clause-ends : goal.returns-in-Ok-clause-ends
@@ -78,3 +79,36 @@ returns-in-Err-Failed-clause-asks g c =
     (λ (why : Unread). ReadsOldest g.D.Disk c.args.spool.spool c.oldest_message.new.self.spool (Err why))
     c.in-Err-Failed.field-0-is c.in-Err-Failed.ensures.reads in
     look-fallen g.D.Disk c.args.spool.spool c.oldest_message.new.self.spool (first_slot c.args.spool.spool) reads.0
+
+pub returns-in-Ok-clause-calls : goal.returns-in-Ok-clause-calls
+returns-in-Ok-clause-calls g c st count some bytes =
+    looked-called g.D.Disk bytes st c.args.spool.spool count c.oldest_message.new.self
+    (taking (Some (c.args.number, c.report_of-report.result)) ∷ end_of_spooling ∷ offer c.args.now ∷ [])
+    (node_of c.args.self.now) (node_of c.end_with.new.self) c.args.out.now c.end_with.new.out c.end_with.result
+    c.in-Ok.ensures.reads.0 c.end_with.ensures.ends
+
+pub returns-in-Err-Empty-clause-calls : goal.returns-in-Err-Empty-clause-calls
+returns-in-Err-Empty-clause-calls g c st count some bytes =
+    let reads =
+    subst
+    (λ (why : Unread). ReadsOldest g.D.Disk c.args.spool.spool c.oldest_message.new.self.spool (Err why))
+    c.in-Err-Empty.field-0-is c.in-Err-Empty.ensures.reads in
+    absurd (some-there g.D.Disk bytes st c.args.spool.spool count reads.1 some)
+
+pub returns-in-Err-Failed-clause-calls : goal.returns-in-Err-Failed-clause-calls
+returns-in-Err-Failed-clause-calls g c st count some bytes =
+    let reads =
+    subst
+    (λ (why : Unread). ReadsOldest g.D.Disk c.args.spool.spool c.oldest_message.new.self.spool (Err why))
+    c.in-Err-Failed.field-0-is c.in-Err-Failed.ensures.reads in
+    look-called g.D.Disk bytes st c.args.spool.spool count c.oldest_message.new.self.spool c.retire.result reads.0
+    c.retire.ensures.disk
+
+pub returns-in-Err-NoMemory-clause-calls : goal.returns-in-Err-NoMemory-clause-calls
+returns-in-Err-NoMemory-clause-calls g c st count some bytes =
+    let reads =
+    subst
+    (λ (why : Unread). ReadsOldest g.D.Disk c.args.spool.spool c.oldest_message.new.self.spool (Err why))
+    c.in-Err-NoMemory.field-0-is c.in-Err-NoMemory.ensures.reads in
+    unread-called g.D.Disk bytes st c.args.spool.spool count c.oldest_message.new.self.spool
+    c.retire-in-Err-NoMemory.result reads.0 c.retire-in-Err-NoMemory.ensures.disk

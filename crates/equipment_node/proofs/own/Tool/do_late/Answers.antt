@@ -1,5 +1,4 @@
 use Rattle.std.proofs.Common.{[], ◌∷◌}
-use Rattle.std.specs.Prelude.{Err}
 use Rattle.equipment_node.specs.Node.{node_of}
 use Rattle.equipment_node.specs.Step.{delay_timer, late_parts}
 use Rattle.equipment_node.proofs.Following.{last_part, parts_go, parts_stop, reached}

@@ -1,6 +1,6 @@
 use Rattle.std.proofs.Common.{sym, ap, ◌∙◌, ℕ, List}
 use Rattle.equipment_tables.specs.Requests.{request_of}
-use Rattle.equipment_node.specs.Node.{node_of, own_of}
+use Rattle.equipment_node.specs.Node.{node_of}
 use Rattle.equipment_node.proofs.Heeding.{read_so}
 use Rattle.equipment_node.proofs.own.Tool.read.Goals as goal
 

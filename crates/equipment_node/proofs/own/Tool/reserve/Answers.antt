@@ -2,6 +2,7 @@ use Rattle.std.proofs.Common.{sym}
 use Rattle.equipment_node.specs.Node.{node_of}
 use Rattle.equipment_node.proofs.Asking.{spared-none}
 use Rattle.equipment_node.proofs.Opened.{made-ordered, need, no-need, opened-plain}
+use Rattle.equipment_node.proofs.StepCalls.{not-reserved}
 use Rattle.equipment_node.proofs.own.Tool.reserve.Goals as goal
 
 pub returns-then-has_enough-clause-opens : goal.returns-then-has_enough-clause-opens
@@ -23,3 +24,13 @@ pub returns-clause-asks : goal.returns-clause-asks
 returns-clause-asks g c s node_is on told =
     c.reserve_more.ensures.asks s node_is
     (need s (node_of c.args.self.now) node_is (sym c.if-has_enough.ensures) (made-ordered s on.made)) on
+
+pub returns-then-has_enough-clause-calls : goal.returns-then-has_enough-clause-calls
+returns-then-has_enough-clause-calls g c s node_is on t told =
+    not-reserved g.D.Disk s c.args.spool.spool.disk t.now.bytes
+    (no-need s (node_of c.args.self.now) node_is (sym c.if-has_enough.ensures))
+
+pub returns-clause-calls : goal.returns-clause-calls
+returns-clause-calls g c s node_is on t told =
+    c.reserve_more.ensures.calls s node_is
+    (need s (node_of c.args.self.now) node_is (sym c.if-has_enough.ensures) (made-ordered s on.made)) on t told

@@ -1,4 +1,4 @@
-use Rattle.std.proofs.Common.{refl, sym, ap, subst, ◌∙◌, ◌+◌, ℕ, Option}
+use Rattle.std.proofs.Common.{refl, ap, subst, ◌∙◌, ◌+◌, ℕ, Option}
 use Rattle.gem_spool.specs.Spool.{ReservesFrom}
 use Rattle.gem_spool.specs.Standing.{Stands}
 use Rattle.gem_spool.specs.Works.{standing_after_reserve}
@@ -10,8 +10,9 @@ use Rattle.equipment_node.specs.Equipment.{with_core}
 use Rattle.equipment_node.specs.Node.{node_of}
 use Rattle.equipment_node.specs.Own.{OwnView}
 use Rattle.equipment_node.proofs.Asking.{mark-fallen, mark-spared}
-use Rattle.equipment_node.proofs.Opened.{at-last, mark-failed, marked-out, more-core, more-line, more-notes, opened-more}
+use Rattle.equipment_node.proofs.Opened.{at-last, mark-failed, marked-out, more-core, opened-more}
 use Rattle.equipment_node.proofs.Readying.{same-ready}
+use Rattle.equipment_node.proofs.StepCalls.{reserve-made, reserve-spent, reserve-stops}
 use Rattle.equipment_node.proofs.own.Tool.reserve_more.Goals as goal
 
 pub returns-in-Ok-default-Some-clause-opens : goal.returns-in-Ok-default-Some-clause-opens
@@ -50,3 +51,16 @@ returns-in-Ok-default-Some-clause-asks g c s node_is needs on =
 pub returns-in-Err-clause-asks : goal.returns-in-Err-clause-asks
 returns-in-Err-clause-asks g c s node_is needs on =
     mark-fallen g.D.Disk s c.args.spool needs on.clear c.in-Err.spent c.in-Err.ensures.reserve
+
+pub returns-in-Ok-default-Some-clause-calls : goal.returns-in-Ok-default-Some-clause-calls
+returns-in-Ok-default-Some-clause-calls g c s node_is needs on t told =
+    reserve-made g.D.Disk s c.args.spool needs on.clear t told c.in-Ok-default-Some.spool _ (subst (λ (b : Option ℕ). ReservesFrom g.D.Disk c.args.spool c.in-Ok-default-Some.spool b) c.in-Ok-default-Some.field-0-1-is c.in-Ok-default-Some.ensures.reserve)
+
+pub returns-in-Ok-default-None-clause-calls : goal.returns-in-Ok-default-None-clause-calls
+returns-in-Ok-default-None-clause-calls g c s node_is needs on t told =
+    reserve-spent g.D.Disk s c.args.spool needs on.clear t told c.in-Ok-default-None.spool c.retire.result (subst (λ (b : Option ℕ). ReservesFrom g.D.Disk c.args.spool c.in-Ok-default-None.spool b) c.in-Ok-default-None.field-0-1-is c.in-Ok-default-None.ensures.reserve)
+    c.retire.ensures.disk
+
+pub returns-in-Err-clause-calls : goal.returns-in-Err-clause-calls
+returns-in-Err-clause-calls g c s node_is needs on t told =
+    reserve-stops g.D.Disk s c.args.spool needs on.clear t told c.in-Err.spent c.in-Err.ensures.reserve

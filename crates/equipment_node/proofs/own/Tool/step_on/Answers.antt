@@ -1,6 +1,5 @@
 use Rattle.std.proofs.Common.{refl, sym}
 use Rattle.message_end.specs.Ends.{input_of}
-use Rattle.equipment_node.specs.Equipment.{EquipmentView}
 use Rattle.equipment_node.proofs.Making.{next-made}
 use Rattle.equipment_node.proofs.own.Tool.step_on.Goals as goal
 
@@ -30,3 +29,9 @@ returns-in-Ok-clause-asks g c s node_is on told = c.in-Ok.ensures.asks s node_is
 
 pub returns-in-Err-clause-asks : goal.returns-in-Err-clause-asks
 returns-in-Err-clause-asks g c s node_is on told = c.in-Err.ensures.asks s node_is on told
+
+pub returns-in-Ok-clause-calls : goal.returns-in-Ok-clause-calls
+returns-in-Ok-clause-calls g c s node_is on t told = c.in-Ok.ensures.calls s node_is on t told
+
+pub returns-in-Err-clause-calls : goal.returns-in-Err-clause-calls
+returns-in-Err-clause-calls g c s node_is on t told = c.in-Err.ensures.calls s node_is on t told

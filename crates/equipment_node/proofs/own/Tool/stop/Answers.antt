@@ -3,6 +3,7 @@ use Rattle.message_end.specs.declared.end.Stop.{Stop}
 use Rattle.equipment_node.specs.Amid.{StopsAt}
 use Rattle.equipment_node.specs.Node.{node_of}
 use Rattle.equipment_node.proofs.OverDisk.{no-memory}
+use Rattle.equipment_node.proofs.StepCalls.{none-called}
 use Rattle.equipment_node.proofs.own.Tool.stop.Goals as goal
 
 pub stop_spent-requires : goal.stop_spent-requires
@@ -32,5 +33,20 @@ returns-in-NumbersSpent-clause-asks g c s input now stops begin =
 
 pub returns-in-DiskFailed-clause-asks : goal.returns-in-DiskFailed-clause-asks
 returns-in-DiskFailed-clause-asks g c s input now stops begin =
+    absurd
+    (subst (λ (end : Stop). StopsAt s input now (node_of c.args.self.now) c.args.out.now end) c.in-DiskFailed.is stops)
+
+pub returns-in-NumbersSpent-clause-calls : goal.returns-in-NumbersSpent-clause-calls
+returns-in-NumbersSpent-clause-calls g c s input now stops begin bytes =
+    c.stop_spent.ensures.calls s input now
+    (subst (λ (end : Stop). StopsAt s input now (node_of c.args.self.now) c.args.out.now end) c.in-NumbersSpent.is stops)
+    begin bytes
+
+pub returns-in-NoMemory-clause-calls : goal.returns-in-NoMemory-clause-calls
+returns-in-NoMemory-clause-calls g c s input now stops begin bytes =
+    none-called g.D.Disk s input now bytes c.args.spool begin.clear c.retire.result c.retire.ensures.disk
+
+pub returns-in-DiskFailed-clause-calls : goal.returns-in-DiskFailed-clause-calls
+returns-in-DiskFailed-clause-calls g c s input now stops begin bytes =
     absurd
     (subst (λ (end : Stop). StopsAt s input now (node_of c.args.self.now) c.args.out.now end) c.in-DiskFailed.is stops)

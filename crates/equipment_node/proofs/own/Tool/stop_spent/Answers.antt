@@ -3,6 +3,7 @@ use Rattle.message_flow.specs.declared.step.StepOut.{StepOut}
 use Rattle.equipment_node.specs.Node.{node_of}
 use Rattle.equipment_node.proofs.Asking.{spent-fallen}
 use Rattle.equipment_node.proofs.OverDisk.{carry-spent-failed, spent-before}
+use Rattle.equipment_node.proofs.StepCalls.{spent-called, spent-stops}
 use Rattle.equipment_node.proofs.own.Tool.stop_spent.Goals as goal
 
 pub returns-in-Ok-clause-acts : goal.returns-in-Ok-clause-acts
@@ -22,3 +23,13 @@ pub returns-in-Err-clause-asks : goal.returns-in-Err-clause-asks
 returns-in-Err-clause-asks g c s input now stops begin =
     spent-fallen g.D.Disk s input now c.args.spool (node_of c.args.self.now) c.args.out.now c.carry_out.new.out stops
     c.in-Err.ended begin.clear c.in-Err.ensures.works
+
+pub returns-in-Ok-clause-calls : goal.returns-in-Ok-clause-calls
+returns-in-Ok-clause-calls g c s input now stops begin bytes =
+    spent-called g.D.Disk s input now bytes c.args.spool begin.clear c.in-Ok.spool (node_of c.args.self.now)
+    c.args.out.now stops c.retire.result c.in-Ok.ensures.works.0 c.retire.ensures.disk
+
+pub returns-in-Err-clause-calls : goal.returns-in-Err-clause-calls
+returns-in-Err-clause-calls g c s input now stops begin bytes =
+    spent-stops g.D.Disk s input now bytes c.args.spool begin.clear (node_of c.args.self.now) c.args.out.now
+    c.carry_out.new.out stops c.in-Err.ended c.in-Err.ensures.works

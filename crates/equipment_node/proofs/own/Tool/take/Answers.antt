@@ -4,7 +4,7 @@ use Rattle.message_end.specs.declared.end.Took.{Took}
 use Rattle.message_end.specs.Calls.{took_at}
 use Rattle.message_end.specs.Core.{EndView}
 use Rattle.message_end.specs.Core.Command.{Take}
-use Rattle.message_end.specs.Parts.{after_turn, on_the_way}
+use Rattle.message_end.specs.Parts.{on_the_way}
 use Rattle.message_end.proofs.Parts.{after-take}
 use Rattle.equipment_node.specs.declared.kind.Kind.{Kind}
 use Rattle.equipment_node.specs.Calls.{Reaches}

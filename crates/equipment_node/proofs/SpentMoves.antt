@@ -1,0 +1,64 @@
+-- That a step and a start of the program end with their numbers spent where there is a cause.
+use Rattle.std.proofs.Common.{◌≡◌, refl, sym, ap, ◌∙◌, ℕ, Bool, true, false, List, if◌then◌else◌}
+use Rattle.std.specs.Prelude.{Result, Ok, Err}
+use Rattle.disk_base.specs.Story.{Story}
+use Rattle.disk_base.specs.declared.disk.Disk as disk
+use Rattle.spool_slots.specs.File.{file_in}
+use Rattle.spool_slots.specs.Slot.{Message}
+use Rattle.message_flow.specs.declared.step.StepOut.{StepOut}
+use Rattle.trace_log.specs.declared.commands.ToolCommand.{ToolCommand}
+use Rattle.trace_log.specs.Log.{Happening}
+use Rattle.message_end.specs.Core.{Step, Went, at_first}
+use Rattle.message_end.specs.Core.Went.{Goes, Spent}
+use Rattle.message_end.specs.Ends.{Input}
+use Rattle.equipment_node.specs.declared.disk_step.Ended.{Ended}
+use Rattle.equipment_node.specs.declared.disk_step.Ended.TheVariants as ended
+use Rattle.equipment_node.specs.declared.equipment.Starting.{Starting}
+use Rattle.equipment_node.specs.declared.equipment.Starting.TheVariants as starting
+use Rattle.equipment_tables.specs.declared.plan.EquipmentPlan.{EquipmentPlan}
+use Rattle.equipment_node.specs.Equipment.{EquipmentView, act, is_marked_out, started_on, starts}
+use Rattle.equipment_node.specs.Held.{Begins, Held, IsIn, Moves, view_in}
+use Rattle.equipment_node.specs.SpentSteps.{IsSpentByCause, IsStartSpentByCause, ends_spent, finds_spent}
+use Rattle.equipment_node.proofs.SpentCauses.{spent-by-cause}
+
+module _ {D : Type 0} (members : disk.Ghosts D) (h : Held D) (input : Input ToolCommand) (now : ℕ) (out : StepOut)
+    (in_state : IsIn members h)
+  where
+    cause : finds_spent (view_in members h) input now ≡ ends_spent (act (view_in members h) input now)
+    cause =
+        let made = in_state.on.made in
+        sym (spent-by-cause made.plan made.base made.doings (view_in members h) input now made.did)
+
+    so : (went : Went EquipmentView Happening) → act (view_in members h) input now ≡ went
+        → finds_spent (view_in members h) input now ≡ ends_spent went
+    so went is = cause ∙ ap (λ (w : Went EquipmentView Happening). ends_spent w) is
+
+    pub moved-by-cause : (result : Result (Held D) (Ended D)) → Moves members h input now out result
+        → IsSpentByCause members h input now result
+    moved-by-cause (Ok k) moved = so _ moved.gone.is
+    moved-by-cause (Err (ended.NumbersSpent spent)) moved = so _ moved.0.is
+    moved-by-cause (Err (ended.DiskFailed spent)) moved = tt
+    moved-by-cause (Err (ended.NoMemory spent)) moved = tt
+
+-- a start goes on where the mark can move on
+goes-on :
+    (plan : EquipmentPlan) (slots : ℕ) (list : List Message) (mark : ℕ) (step : Step EquipmentView Happening)
+    → starts plan slots list mark ≡ Goes step → is_marked_out mark ≡ false
+goes-on plan slots list mark step = go (is_marked_out mark)
+  where
+    go : (out : Bool)
+        → (if out then Spent (at_first (record (started_on plan slots list mark).next { mark = mark }))
+        else Goes (started_on plan slots list mark)) ≡ Goes step → out ≡ false
+    go true is = absurd (cc)
+    go false is = refl
+
+pub begun-by-cause :
+    {D : Type 0} (members : disk.Ghosts D) (plan : EquipmentPlan) (s : Story) (out : StepOut)
+    (result : Result (Held D) (Starting D))
+    → Begins members plan s out result → IsStartSpentByCause (file_in s.now.bytes) result
+begun-by-cause members plan s out (Ok h) begun =
+    let file = file_in s.now.bytes in goes-on plan file.slots file.list file.mark begun.gone.step begun.gone.is
+begun-by-cause members plan s out (Err (starting.NumbersSpent spent)) begun = begun.1
+begun-by-cause members plan s out (Err (starting.NotSpool raw break)) begun = tt
+begun-by-cause members plan s out (Err (starting.DiskFailed spent)) begun = tt
+begun-by-cause members plan s out (Err (starting.NoMemory spent)) begun = tt
