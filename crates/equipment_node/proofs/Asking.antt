@@ -1,5 +1,5 @@
 -- How much of its room the disk of the spool uses up for the works of a step.
-use Rattle.std.proofs.Common.{◌≡◌, refl, sym, ap, subst, ◌∙◌, ◌⊎◌, inl, inr, arith, zero, suc, ◌+◌, ◌-◌, ◌<◌, ◌≤◌, nat_lt, ◌&&◌, not, Bool, true, false, ℕ, List, [], ◌∷◌, ◌++◌, length, map, take, Option, Some, None, is_some, if◌then◌else◌}
+use Rattle.std.proofs.Common.{◌≡◌, refl, sym, ap, subst, ◌∙◌, ◌⊎◌, inl, inr, arith, zero, suc, ◌+◌, ◌-◌, ◌<◌, ◌≤◌, nat_lt, Bool, true, false, ℕ, List, [], ◌∷◌, ◌++◌, map, take, Option, Some, is_some, if◌then◌else◌}
 use Rattle.std.proofs.lemmas.Bool.Decides.{nat_tests}
 use Rattle.std.specs.List.{slice_get}
 use Rattle.std.specs.Prelude.{Result, Ok, Err}
@@ -175,17 +175,20 @@ count-step st one =
     made-count : ℕ → ℕ → ℕ → Count
     made-count slots next len = record { slots = slots; next = next; len = len }
 
-pub changes-stand : (st : Standing) (works : List Work) → standings_behind st (map Change works) ≡ standings_after st works
+pub changes-stand :
+    (st : Standing) (works : List Work) → standings_behind st (map Change works) ≡ standings_after st works
 changes-stand st [] = refl
 changes-stand st (one ∷ works) = changes-stand (standing_after st one) works
 
-calls-change : (st : Standing) (works : List Work) → spool.all_calls (count_in st) works ≡ all_calls st (map Change works)
+calls-change :
+    (st : Standing) (works : List Work) → spool.all_calls (count_in st) works ≡ all_calls st (map Change works)
 calls-change st [] = refl
 calls-change st (one ∷ works) =
     ap (λ (n : ℕ). spool.calls_of (count_in st) one + n)
     (ap (λ (c : Count). spool.all_calls c works) (sym (count-step st one)) ∙ calls-change (standing_after st one) works)
 
-bytes-change : (st : Standing) (works : List Work) → spool.all_bytes (count_in st) works ≡ all_bytes st (map Change works)
+bytes-change :
+    (st : Standing) (works : List Work) → spool.all_bytes (count_in st) works ≡ all_bytes st (map Change works)
 bytes-change st [] = refl
 bytes-change st (one ∷ works) =
     ap (λ (n : ℕ). spool.bytes_of (count_in st) one + n)
@@ -312,8 +315,8 @@ module _ {D : Type 0} (members : disk.Ghosts D) where
         (asked_for (standing_in (opened s)) (works_behind (begun_step s input now))) result
     behind-asked g h node next out begun result clear carried next_is last =
         subst (λ (x : Asked). HasAsked members g.spool.disk x result) (sym asks-are)
-        (asked-then members g.spool.disk h.spool.disk (asked_for st (map Change works)) (read_asks begun.step.next.node.own)
-        result (carried-asked members g works st clear.stands.count h carried-is)
+        (asked-then members g.spool.disk h.spool.disk (asked_for st (map Change works))
+        (read_asks begun.step.next.node.own) result (carried-asked members g works st clear.stands.count h carried-is)
         (subst (λ (x : Asked). HasAsked members h.spool.disk x result) read-is last))
       where
         st : Standing
@@ -330,7 +333,8 @@ module _ {D : Type 0} (members : disk.Ghosts D) where
         read-is =
             ap (λ (n : Node OwnView Kind). read_asks n.own) next_is
             ∙ ap (λ (n : Node OwnView Kind). read_asks (settled_node n).own) (sym begun.node_is)
-            ∙ ap (λ (takes : Bool). made-asked (if takes then 1 else 0) 0) (takes-settled members s input now begun.step.next)
+            ∙ ap (λ (takes : Bool). made-asked (if takes then 1 else 0) 0)
+            (takes-settled members s input now begun.step.next)
 
         asks-are :
             asked_for st (works_behind (begun_step s input now))
@@ -352,9 +356,10 @@ module _ {D : Type 0} (members : disk.Ghosts D) where
         (λ (w : Went EquipmentView Happening).
         HasAsked members g.spool.disk (asked_for (standing_in (opened s)) (works_behind w)) (Err end))
         (sym begun.is)
-        (carry-fallen g begun.step.next.node.own.ledger.works (read_works (Goes begun.step)) (standing_in (opened s)) out
-        after end clear.stands.count
-        (subst (λ (n : Node OwnView Kind). Carries members g n.own.ledger.works out after (Err end)) (sym begun.node_is)
+        (carry-fallen g begun.step.next.node.own.ledger.works (read_works (Goes begun.step)) (standing_in (opened s))
+        out after end clear.stands.count
+        (subst (λ (n : Node OwnView Kind). Carries members g n.own.ledger.works out after (Err end))
+        (sym begun.node_is)
         cut))
 
     pub spent-fallen :
@@ -368,7 +373,8 @@ module _ {D : Type 0} (members : disk.Ghosts D) where
         (λ (w : Went EquipmentView Happening).
         HasAsked members g.spool.disk (asked_for (standing_in (opened s)) (works_behind w)) (Err end))
         (sym begun.is)
-        (carry-fallen g begun.step.next.node.own.ledger.works [] (standing_in (opened s)) out after end clear.stands.count
+        (carry-fallen g begun.step.next.node.own.ledger.works [] (standing_in (opened s)) out after end
+        clear.stands.count
         (subst (λ (l : LedgerView). Carries members g l.works out after (Err end)) (sym begun.ledger) cut))
 
     -- all of it
@@ -406,7 +412,8 @@ module _ {D : Type 0} (members : disk.Ghosts D) where
   abbrev healths : D → D → Asked → Type 0
   healths old new asked = HasSpared (members.health old) (members.health new) asked
 
-  module _ (s : EquipmentView) (g : GemSpool D) (needs : needs_numbers s ≡ true) (clear : IsClear members g.spool s) where
+  module _ (s : EquipmentView) (g : GemSpool D) (needs : needs_numbers s ≡ true)
+      (clear : IsClear members g.spool s) where
     pub mark-spared :
         (h : GemSpool D) (base : ℕ) → ReservesFrom members g h (Some base)
         → healths g.spool.disk h.spool.disk (asked_for (standing_in s) (reserve_works s))

@@ -4,7 +4,7 @@ use Rattle.std.proofs.lemmas.Bool.Decides.{nat_tests}
 use Rattle.std.proofs.lemmas.List.Elements.{All-nil}
 use Rattle.std.specs.Prelude.{IfOk, Result, Ok, Err}
 use Rattle.disk_base.specs.Story.{Story}
-use Rattle.disk_base.specs.Through.{EachImage, GoesThrough}
+use Rattle.disk_base.specs.Through.{GoesThrough}
 use Rattle.disk_base.specs.declared.disk.Disk as disk
 use Rattle.gem_spool.specs.declared.count.Count.{Count}
 use Rattle.gem_spool.specs.declared.spool.GemSpool.{GemSpool}
@@ -18,12 +18,9 @@ use Rattle.spool_slots.specs.Slot.{Message}
 use Rattle.spool_slots.specs.Spool.{SpoolView}
 use Rattle.spool_slots.specs.declared.states.Reserving.TheVariants as reserving
 use Rattle.spool_slots.specs.declared.states.Spent.{Spent as Device}
-use Rattle.trace_log.specs.Log.{Happening}
 use Rattle.trace_log.specs.Log.Happening.{EquipmentStarted}
-use Rattle.trace_log.specs.Names.{Spooled}
 use Rattle.trace_log.specs.Text.{note_of}
-use Rattle.message_end.specs.Core.{Step}
-use Rattle.message_end.specs.Ends.{IsEmpty, printed}
+use Rattle.message_end.specs.Ends.{IsEmpty}
 use Rattle.message_end.specs.Parts.{Node}
 use Rattle.spool_ledger.specs.Ledger.{LedgerView, new_ledger}
 use Rattle.equipment_tables.specs.declared.plan.EquipmentPlan.{EquipmentPlan}
@@ -32,21 +29,21 @@ use Rattle.equipment_node.specs.declared.disk_step.Ended.{Ended}
 use Rattle.equipment_node.specs.declared.disk_step.Ended.TheVariants as ended
 use Rattle.equipment_node.specs.declared.equipment.Seat.{Seat}
 use Rattle.equipment_node.specs.declared.kind.Kind.{Kind}
-use Rattle.equipment_node.specs.Amid.{IsReady, Keeps}
+use Rattle.equipment_node.specs.Amid.{IsReady}
 use Rattle.equipment_node.specs.Asked.{HasSpared}
-use Rattle.equipment_node.specs.Equipment.{EquipmentView, first_in, found_in, is_marked_out, spooled_of}
+use Rattle.equipment_node.specs.Equipment.{EquipmentView, first_in, found_in}
 use Rattle.equipment_node.specs.Grants.{GrantView}
 use Rattle.equipment_node.specs.Live.{ReportView}
 use Rattle.equipment_node.specs.Node.{node_of}
 use Rattle.equipment_node.specs.Own.{OwnView}
 use Rattle.equipment_node.specs.Sound.{CanBeSent}
 use Rattle.equipment_node.specs.SpoolSound.{new-good}
-use Rattle.equipment_node.specs.StartOver.{IsFresh, IsLeftMarked, IsStartNoted, StartAsks, StartsOver, StartsWith, new_node, started_over}
+use Rattle.equipment_node.specs.StartOver.{IsFresh, StartAsks, StartsOver, StartsWith, new_node, started_over}
 use Rattle.equipment_node.specs.Stepping.{IsClear, IsTold}
 use Rattle.message_end.specs.Core.{IsText}
 use Rattle.equipment_node.proofs.Asking.{fallen-fault, spared-used}
 use Rattle.equipment_node.proofs.Opened.{at-last}
-use Rattle.equipment_node.proofs.OverDisk.{held, kept-of}
+use Rattle.equipment_node.proofs.OverDisk.{kept-of}
 
 -- ---- it is ready for its first step
 

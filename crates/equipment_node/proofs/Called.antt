@@ -1,5 +1,5 @@
 -- That the calls which works make are theirs.
-use Rattle.std.proofs.Common.{◌≡◌, refl, sym, ap, subst, ◌∙◌, ◌⊎◌, inl, inr, arith, ℕ, zero, suc, ◌+◌, ◌-◌, ◌%◌, ◌<◌, ◌≤◌, nat_lt, Bool, true, false, List, [], ◌∷◌, ◌++◌, append_assoc, append-nil, length, length-append, map, take, Option, Some, None}
+use Rattle.std.proofs.Common.{◌≡◌, refl, sym, ap, subst, ◌∙◌, ◌⊎◌, inl, inr, arith, ℕ, zero, suc, ◌+◌, ◌%◌, ◌<◌, ◌≤◌, nat_lt, Bool, true, false, List, [], ◌∷◌, ◌++◌, append_assoc, append-nil, length, length-append, map, take, Option, Some, None}
 use Rattle.std.proofs.lemmas.Bool.Decides.{nat_tests}
 use Rattle.std.specs.Prelude.{Ok, Err}
 use Rattle.std.specs.List.{slice_get}
@@ -25,8 +25,7 @@ use Rattle.spool_slots.specs.Slot.{slot_place}
 use Rattle.spool_slots.specs.Spool.{SpoolView, first_slot, next_of, next_slot}
 use Rattle.spool_slots.specs.declared.states.Dropping.TheVariants as dropping
 use Rattle.spool_slots.specs.declared.states.Spent.{Spent as Device}
-use Rattle.spool_slots.specs.declared.states.Staging.TheVariants as staging
-use Rattle.equipment_node.specs.DiskCalls.{HasFailedIn, HasMade, all_disk_calls, change_calls, drop_calls, failing, mark_calls, oldest_calls, oldest_in, purge_calls, put_calls, reads, syncs, with_calls, writes, written_by}
+use Rattle.equipment_node.specs.DiskCalls.{HasFailedIn, HasMade, all_disk_calls, change_calls, drop_calls, failing, mark_calls, oldest_calls, oldest_in, purge_calls, reads, syncs, with_calls, writes, written_by}
 use Rattle.equipment_node.specs.Disk.DiskWork.{Change}
 
 -- ---- lists of calls

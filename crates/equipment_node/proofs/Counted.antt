@@ -1,7 +1,5 @@
 -- That the calls of works are as many as are counted of them, and write as many bytes.
-use Rattle.std.proofs.Common.{◌≡◌, arith, ℕ, zero, suc, ◌+◌, ◌*◌, List, [], ◌∷◌, ◌++◌, length, length-append}
-use Rattle.disk_base.specs.Calls.{DiskCall}
-use Rattle.gate_cell.specs.Cell.{copy_bytes}
+use Rattle.std.proofs.Common.{◌≡◌, arith, ℕ, zero, suc, ◌+◌, ◌*◌, List, [], ◌∷◌, length, length-append}
 use Rattle.gem_spool.specs.declared.count.Count.{Count}
 use Rattle.gem_spool.specs.declared.works.Work.{Work}
 use Rattle.gem_spool.specs.declared.works.Work.TheVariants as work

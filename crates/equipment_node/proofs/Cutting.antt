@@ -1,7 +1,7 @@
 -- The notes up to the line of a work that failed: how the code counts them, and that they are those of the definition.
-use Rattle.std.proofs.Common.{◌≡◌, refl, sym, ap, subst, ◌∙◌, inl, inr, ◌⊎◌, arith, zero, suc, ◌+◌, ◌-◌, ◌<◌, ◌≤◌, Bool, true, false, ◌||◌, ℕ, List, [], ◌∷◌, ◌++◌, append_assoc, append-nil, codes, drop, get_or, length, map, take, Option, Some, None, if◌then◌else◌}
+use Rattle.std.proofs.Common.{◌≡◌, refl, sym, ap, ◌∙◌, inl, inr, ◌⊎◌, arith, zero, suc, ◌+◌, ◌-◌, ◌<◌, ◌≤◌, Bool, true, false, ℕ, List, [], ◌∷◌, ◌++◌, append_assoc, append-nil, drop, get_or, length, map, take, Option, Some, None, if◌then◌else◌}
 use Rattle.std.proofs.Math.Seq.{drop-cons, take-suc}
-use Rattle.std.specs.List.{filter_map, cons_option, slice_get}
+use Rattle.std.specs.List.{cons_option, slice_get}
 use Rattle.gem_spool.specs.declared.works.Work.{Work}
 use Rattle.message_flow.specs.declared.step.Note.{Note}
 use Rattle.message_end.specs.Ends.{IsFront, printed}

@@ -1,8 +1,7 @@
 -- That the parts before the works come to what a step has begun.
-use Rattle.std.proofs.Common.{◌≡◌, refl, sym, ap, subst, ◌∙◌, ℕ, ◌+◌, List, [], ◌∷◌, Some}
-use Rattle.std.specs.Prelude.{Ok, Err}
+use Rattle.std.proofs.Common.{◌≡◌, refl, sym, ap, subst, ◌∙◌, ℕ, ◌+◌, List, [], Some}
+use Rattle.std.specs.Prelude.{Err}
 use Rattle.disk_base.specs.declared.disk.Disk as disk
-use Rattle.gem_spool.specs.declared.count.Count.{Count}
 use Rattle.gem_spool.specs.declared.spool.GemSpool.{GemSpool}
 use Rattle.gem_spool.specs.Standing.{count_of}
 use Rattle.message_flow.specs.declared.step.Note.{Note}
@@ -22,9 +21,9 @@ use Rattle.spool_slots.specs.Spool.{SpoolView}
 use Rattle.spool_ledger.specs.Ledger.{LedgerView, stood_count}
 use Rattle.spool_ledger.specs.declared.ledger.Stand.{Stand}
 use Rattle.equipment_node.specs.declared.kind.Kind.{Kind}
-use Rattle.equipment_node.specs.Amid.{HasOpened, IsBegun, IsBegunSpent, IsReady, IsSoundOwn, StopsAt, opened}
+use Rattle.equipment_node.specs.Amid.{HasOpened, IsBegun, IsReady, IsSoundOwn, StopsAt, opened}
 use Rattle.equipment_node.specs.Calls.{IsReached, IsSpent}
-use Rattle.equipment_node.specs.Equipment.{EquipmentView, begun_step, file_step, parts_done, reserving, went_with_file}
+use Rattle.equipment_node.specs.Equipment.{EquipmentView, begun_step, file_step, parts_done, went_with_file}
 use Rattle.equipment_node.specs.Lawful.{first-sound, parts-sound, sound-self}
 use Rattle.equipment_node.specs.Own.{OwnView, ToolPart}
 use Rattle.equipment_node.specs.Sound.{IsSound}

@@ -1,14 +1,13 @@
 -- That the messages for which a file of the spool stands can go to the host.
-use Rattle.std.proofs.Common.{◌≡◌, refl, sym, ap, subst, ◌∙◌, arith, zero, suc, ◌+◌, ◌<◌, ◌≤◌, ◌%◌, ◌==◌, nat_lt, Bool, true, false, ℕ, List, [], ◌∷◌, length, take, Option, Some, None, if◌then◌else◌}
+use Rattle.std.proofs.Common.{◌≡◌, refl, ap, subst, ◌∙◌, arith, zero, suc, ◌<◌, ◌≤◌, ◌%◌, ◌==◌, nat_lt, Bool, true, false, ℕ, List, [], ◌∷◌, length, take, Option, Some, None, if◌then◌else◌}
 use Rattle.std.proofs.lemmas.Bool.Decides.{nat_tests}
 use Rattle.std.proofs.lemmas.List.{take_all}
 use Rattle.std.specs.List.{slice_get}
-use Rattle.std.specs.Option.{option_map}
 use Rattle.block_codec.specs.Protocol.{longest_text}
 use Rattle.trace_log.specs.Names.{Spooled}
 use Rattle.spool_slots.specs.Area.{first_at, messages_below, or_else, put_by_number, put_if}
-use Rattle.spool_slots.specs.File.{SpoolFile, StandsFor, file_in, slots_in, spool_break}
-use Rattle.spool_slots.specs.Slot.{Message, Slot, head_break, in_slot, is_open, message_of, slot_break, slot_in}
+use Rattle.spool_slots.specs.File.{SpoolFile, StandsFor, file_in, slots_in}
+use Rattle.spool_slots.specs.Slot.{Message, head_break, in_slot, is_open, message_of, slot_break, slot_in}
 use Rattle.spool_slots.specs.declared.slot.SlotHead.{SlotHead}
 
 pub record IsGood (m : Message) : Type 0 where

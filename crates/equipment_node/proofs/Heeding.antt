@@ -1,16 +1,11 @@
 -- How a message is heeded, as the code does it.
-use Rattle.std.proofs.Common.{◌≡◌, ◌≢◌, refl, sym, ap, subst, ◌∙◌, Bool, true, not, ◌&&◌, ℕ, List, [], ◌∷◌, ◌++◌, Option, Some, None, if◌then◌else◌}
-use Rattle.std.specs.Prelude.{Result, Ok, Err, IfOk, map, slice_get}
+use Rattle.std.proofs.Common.{◌≡◌, refl, sym, ap, subst, ◌∙◌, Bool, true, not, ◌&&◌, ℕ, List, [], ◌∷◌, ◌++◌, Option, Some, if◌then◌else◌}
+use Rattle.std.specs.Prelude.{Result, Ok, Err, IfOk, map}
 use Rattle.std.specs.List.{filter_map}
-use Rattle.std.specs.Option.{option_map}
 use Rattle.block_codec.specs.declared.header.Header.{Header}
 use Rattle.gem_shapes.specs.declared.request.Request.{Request}
-use Rattle.gem_shapes.specs.declared.request.Request.TheVariants as request
 use Rattle.gem_shapes.specs.Primaries.{is_known, is_known_stream}
 use Rattle.gem_states.specs.declared.comms.CommsIn.TheVariants.{HostRequest}
-use Rattle.gem_states.specs.declared.control.ControlIn.{ControlIn}
-use Rattle.gem_states.specs.declared.control.ControlOut.{ControlOut}
-use Rattle.gem_states.specs.Control.{control_step}
 use Rattle.message_flow.specs.declared.message.Message.{Message}
 use Rattle.message_flow.specs.declared.step.Note.{Note}
 use Rattle.message_flow.specs.declared.step.StepOut.{StepOut}
@@ -18,23 +13,21 @@ use Rattle.trace_log.specs.declared.names.Name.{Name}
 use Rattle.trace_log.specs.Log.{Happening, Past}
 use Rattle.trace_log.specs.Names.{message_name}
 use Rattle.trace_log.specs.Text.{printed_note}
-use Rattle.transact.specs.Transactions.{primary_of}
 use Rattle.message_end.specs.declared.end.Stop.{Stop}
 use Rattle.message_end.specs.Core.{EndView, Went, and_then, carried, carry}
 use Rattle.message_end.specs.Core.Command.{End, Note as NoteThis, Remove}
 use Rattle.message_end.specs.Core.Went.{Goes}
-use Rattle.message_end.specs.Duties.{all_done}
-use Rattle.message_end.specs.Parts.{Takes, after_turn, on_the_way, went_with}
+use Rattle.message_end.specs.Parts.{Takes, on_the_way}
 use Rattle.equipment_tables.specs.declared.answers.Answer.{Answer}
 use Rattle.equipment_tables.specs.Requests.{request_of}
 use Rattle.equipment_tables.specs.Tables.{TablesState}
 use Rattle.equipment_node.specs.declared.kind.Kind.{Kind}
 use Rattle.equipment_node.specs.declared.kind.Kind.TheVariants as kind
-use Rattle.equipment_node.specs.Messages.{answer_turn, control_answer_duties, control_request_turn, dropped_turn, error_turn, established_duties, established_turn, is_establish_request, is_online_request, known_turn, offline_turn, own_request_commands, own_request_duty, primary_turn, read_turn, request_turn, stray_turn}
+use Rattle.equipment_node.specs.Messages.{dropped_turn, error_turn, established_duties, established_turn, is_establish_request, is_online_request, known_turn, offline_turn, own_request_commands, own_request_duty, primary_turn, read_turn, request_turn, stray_turn}
 use Rattle.equipment_node.specs.Own.{OwnView, ToolDuty, ToolTurn, is_communicating, is_online, turn_of, with_tables}
 use Rattle.equipment_node.specs.Reports.{unreported_turn}
 use Rattle.equipment_node.specs.Sent.{answer_duties}
-use Rattle.equipment_node.specs.States.{comms_turn, control_commands, control_turn}
+use Rattle.equipment_node.specs.States.{comms_turn}
 use Rattle.equipment_node.proofs.Following.{behind_lines, node}
 use Rattle.equipment_node.proofs.Taking.{duties_end, turned}
 use Rattle.equipment_node.proofs.Turned.{HasTaken, ToolNode, behind, recorded}

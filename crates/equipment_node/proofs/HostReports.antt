@@ -2,7 +2,7 @@
 use Rattle.std.proofs.Common.{◌≡◌, refl, sym, ap, subst, ◌∙◌, Bool, true, false, not, ℕ, ◌%◌, ◌==◌, ◌≤◌, ◌+◌, ◌&&◌, nat_le, List, [], ◌∷◌, length, map, Option, Some, None, cond, if◌then◌else◌}
 use Rattle.std.specs.List.{find}
 use Rattle.std.specs.Option.{option_and_then, option_map}
-use Rattle.std.specs.Prelude.{bytes_eq, filter, slice_get}
+use Rattle.std.specs.Prelude.{slice_get}
 use Rattle.std.proofs.lemmas.Bool.{eqb-true}
 use Rattle.block_codec.specs.declared.header.Header.{Header}
 use Rattle.gem_remote.specs.Commands.{ackc10_of}

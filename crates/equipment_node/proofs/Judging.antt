@@ -1,20 +1,16 @@
 -- Reports that were judged, as their turns.
-use Rattle.std.proofs.Common.{◌≡◌, refl, sym, ap, subst, ◌∙◌, Bool, true, false, ◌&&◌, ℕ, List, [], ◌∷◌, ◌++◌, Option, Some, None}
-use Rattle.std.specs.Prelude.{Result, Ok, Err}
-use Rattle.message_flow.specs.declared.step.Note.{Note}
+use Rattle.std.proofs.Common.{◌≡◌, sym, ap, subst, ◌∙◌, true, ℕ, List}
+use Rattle.std.specs.Prelude.{Result, Err}
 use Rattle.message_flow.specs.declared.step.StepOut.{StepOut}
-use Rattle.trace_log.specs.Names.{Spooled, spooled_name}
-use Rattle.trace_log.specs.Text.{printed_note}
+use Rattle.trace_log.specs.Names.{Spooled}
 use Rattle.message_end.specs.declared.end.Stop.{Stop}
 use Rattle.message_end.specs.declared.end.Stop.TheVariants.{DiskFailed, NoMemory, NumbersSpent}
 use Rattle.message_end.specs.Parts.{Takes}
 use Rattle.equipment_tables.specs.declared.answers.Answer.{Answer}
-use Rattle.equipment_tables.specs.declared.answers.Answer.TheVariants as answer
 use Rattle.equipment_node.specs.Judged.{IsJudged, IsJudgedSo, MayGo}
-use Rattle.equipment_node.specs.Own.{OwnView, ToolTurn, is_communicating, is_online}
-use Rattle.equipment_node.specs.Reports.{judged_turn, text_turn, unreported_turn}
-use Rattle.equipment_node.specs.Spooling.{is_spooled, stored_turn}
-use Rattle.equipment_node.proofs.Texts.{made_going, made_stored, made_unreported, on_line}
+use Rattle.equipment_node.specs.Own.{ToolTurn, is_online}
+use Rattle.equipment_node.specs.Reports.{judged_turn, text_turn}
+use Rattle.equipment_node.proofs.Texts.{made_going, on_line}
 use Rattle.equipment_node.proofs.Turned.{ToolNode}
 
 -- one that is to be sent, and was

@@ -16,7 +16,6 @@ use Rattle.message_flow.specs.declared.step.StepOut.{StepOut}
 use Rattle.spool_slots.specs.File.{SpoolFile, file_in}
 use Rattle.spool_slots.specs.Slot.{Message}
 use Rattle.spool_slots.specs.Spool.{SpoolView}
-use Rattle.spool_slots.specs.declared.states.Spent.{Spent as Device}
 use Rattle.trace_log.specs.Log.{Happening}
 use Rattle.trace_log.specs.Names.{Spooled}
 use Rattle.trace_log.specs.Text.{printed_note}
@@ -33,9 +32,8 @@ use Rattle.equipment_node.specs.declared.disk_step.Ended.{Ended}
 use Rattle.equipment_node.specs.declared.disk_step.Ended.TheVariants as ended
 use Rattle.equipment_node.specs.declared.kind.Kind.{Kind}
 use Rattle.equipment_node.specs.Amid.{DoesLast, EndsSo, IsAt, asked_node}
-use Rattle.equipment_node.specs.Calls.{IsSpent}
 use Rattle.equipment_node.specs.Disk.{standing_in}
-use Rattle.equipment_node.specs.Equipment.{EquipmentView, ended_step, file_step, node_step, oldest_of, spooled_of, with_node, went_with_file}
+use Rattle.equipment_node.specs.Equipment.{EquipmentView, file_step, node_step, oldest_of, spooled_of, with_node, went_with_file}
 use Rattle.equipment_node.specs.Own.{OwnView, ToolPart, ToolTurn}
 use Rattle.equipment_node.specs.Spooling.{end_of_spooling, taking_turn, unload_part}
 use Rattle.equipment_node.specs.Step.{last_parts, offer}

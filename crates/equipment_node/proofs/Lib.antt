@@ -14,6 +14,7 @@ mod DrawnTurns
 mod FirstParts
 mod Following
 mod Found
+mod HandingBack
 mod Heeding
 mod HeldReports
 mod HostReports

@@ -1,5 +1,5 @@
 -- A block made its message too long: that the error is told first changes nothing of what is given up.
-use Rattle.std.proofs.Common.{◌≡◌, refl, sym, ap, subst, ◌∙◌, Bool, true, false, ℕ, List, [], ◌∷◌, ◌++◌, Option, Some, None, if◌then◌else◌}
+use Rattle.std.proofs.Common.{◌≡◌, refl, sym, ap, subst, ◌∙◌, Bool, true, false, ℕ, List, [], ◌∷◌, Option, Some, None, if◌then◌else◌}
 use Rattle.std.specs.Prelude.{Result}
 use Rattle.std.specs.List.{find}
 use Rattle.std.specs.Option.{option_map}

@@ -1,5 +1,5 @@
 -- The open transactions end, one by one, with what is lost by each.
-use Rattle.std.proofs.Common.{◌≡◌, ◌++◌, ◌∷◌, [], rules, refl, sym, ap, subst, ◌∙◌, true, false, Bool, ℕ, List, length, Option, Some, None, if◌then◌else◌}
+use Rattle.std.proofs.Common.{◌≡◌, ◌++◌, ◌∷◌, refl, sym, ap, subst, ◌∙◌, true, false, Bool, ℕ, List, length, Option, Some, None, if◌then◌else◌}
 use Rattle.std.specs.Prelude.{◌||◌, IfOk, Result, Ok, Err}
 use Rattle.std.specs.List.{filter_map, list_any}
 use Rattle.std.proofs.lemmas.List.{append-nil, append_assoc}

@@ -1,26 +1,24 @@
 -- That system bytes are reserved as a step begins.
-use Rattle.std.proofs.Common.{◌≡◌, refl, sym, ap, subst, ◌∙◌, arith, ◌+◌, ◌-◌, ◌^◌, ◌<◌, ◌≤◌, ◌==◌, ◌≢◌, nat_le, nat_lt, ◌&&◌, not, ◌∷◌, Bool, true, false, ℕ, List, [], Option, Some, None, if◌then◌else◌}
+use Rattle.std.proofs.Common.{◌≡◌, refl, sym, ap, subst, ◌∙◌, arith, ◌+◌, ◌-◌, ◌^◌, ◌≤◌, nat_le, nat_lt, ◌&&◌, not, ◌∷◌, Bool, true, false, ℕ, List, [], Option, Some, None, if◌then◌else◌}
 use Rattle.std.proofs.lemmas.Bool.Decides.{nat_tests}
-use Rattle.std.specs.Prelude.{Ok, Err}
 use Rattle.disk_base.specs.Story.{Story}
 use Rattle.disk_base.specs.Through.{EachImage, GoesThrough}
 use Rattle.disk_base.specs.declared.disk.Disk as disk
 use Rattle.gem_spool.specs.declared.spool.GemSpool.{GemSpool}
 use Rattle.gem_spool.specs.Spool.{ReservesFrom}
-use Rattle.gem_spool.specs.Standing.{Stands, count_of}
+use Rattle.gem_spool.specs.Standing.{Stands}
 use Rattle.gem_spool.specs.Works.{IsMarked, reserved as marked}
 use Rattle.message_flow.specs.declared.step.Note.{Note}
 use Rattle.message_flow.specs.declared.step.StepOut.{StepOut}
 use Rattle.spool_slots.specs.declared.states.Spent.{Spent as Device}
-use Rattle.trace_log.specs.Log.{Happening}
 use Rattle.message_end.specs.Calls.{IsCarried}
-use Rattle.message_end.specs.Core.{Command, EndView, Step, Went, at_first}
+use Rattle.message_end.specs.Core.{Command, EndView, Step, at_first}
 use Rattle.message_end.specs.Core.Went.{Goes, Spent}
 use Rattle.message_end.specs.Parts.{Node, core_after}
-use Rattle.transact.specs.Numbers.{NumbersView, next_number}
+use Rattle.transact.specs.Numbers.{NumbersView}
 use Rattle.equipment_node.specs.declared.kind.Kind.{Kind}
 use Rattle.equipment_node.specs.Amid.{HasOpened, Keeps, opened}
-use Rattle.equipment_node.specs.Disk.{DiskWork, reserve_works, standing_in}
+use Rattle.equipment_node.specs.Disk.{reserve_works, standing_in}
 use Rattle.equipment_node.specs.Disk.DiskWork.{Reserve}
 use Rattle.equipment_node.specs.Equipment.{EquipmentView, is_marked_out, needs_numbers, reserved, reserving, with_core}
 use Rattle.equipment_node.specs.Own.{OwnView}

@@ -1,7 +1,6 @@
 -- That the pieces of a step over the disk come to the step.
-use Rattle.std.proofs.Common.{◌≡◌, refl, sym, ap, subst, ◌∙◌, inl, inr, ◌⊎◌, arith, zero, suc, ◌+◌, ◌-◌, ◌^◌, ◌<◌, ◌≤◌, ◌&&◌, not, nat_lt, Bool, true, false, ℕ, List, [], ◌∷◌, ◌++◌, append_assoc, fold, length, length-append, map, take, Option, Some, None, is_some, if◌then◌else◌}
-use Rattle.std.proofs.lemmas.Bool.Decides.{nat_tests}
-use Rattle.std.specs.Prelude.{Result, Ok, Err, min}
+use Rattle.std.proofs.Common.{◌≡◌, refl, sym, ap, subst, ◌∙◌, inl, inr, arith, zero, suc, ◌≤◌, ◌&&◌, not, Bool, true, false, ℕ, List, [], ◌∷◌, ◌++◌, length, length-append, map, take, Option, Some, None, is_some, if◌then◌else◌}
+use Rattle.std.specs.Prelude.{Result, Ok, Err}
 use Rattle.std.specs.List.{slice_get}
 use Rattle.disk_base.specs.Story.{Story}
 use Rattle.disk_base.specs.Through.{EachImage}
@@ -11,10 +10,8 @@ use Rattle.gem_spool.specs.declared.count.Count.{Count}
 use Rattle.gem_spool.specs.declared.spool.GemSpool.{GemSpool}
 use Rattle.gem_spool.specs.declared.works.Work.{Work}
 use Rattle.gem_spool.specs.declared.works.Work.TheVariants as work
-use Rattle.gem_spool.specs.Spool.{ReservesFrom, ReservesMore}
 use Rattle.gem_spool.specs.Standing.{Standing, Stands, count_in, count_of, file_of}
-use Rattle.gem_spool.specs.Works.{HasCarried, HasUndone, IsMarked, counts_after, len_after, list_after, lists_after, next_after, reserved as marked, standing_after, standing_after_reserve, standings_after}
-use Rattle.message_flow.specs.declared.step.Note.{Note}
+use Rattle.gem_spool.specs.Works.{HasCarried, counts_after, len_after, list_after, lists_after, next_after, reserved as marked, standing_after, standings_after}
 use Rattle.message_flow.specs.declared.step.StepOut.{StepOut}
 use Rattle.spool_slots.specs.File.{StandsFor}
 use Rattle.spool_slots.specs.Slot.{Message}
@@ -22,13 +19,11 @@ use Rattle.spool_slots.specs.Spool.{SpoolView}
 use Rattle.spool_slots.specs.declared.states.Spent.{Spent as Device}
 use Rattle.trace_log.specs.declared.commands.ToolCommand.{ToolCommand}
 use Rattle.trace_log.specs.Log.{Happening}
-use Rattle.trace_log.specs.Text.{printed_note}
-use Rattle.message_end.specs.declared.end.Stop.TheVariants as stop
-use Rattle.message_end.specs.Core.{Command, EndView, Step, Went, and_then, at_first, step_in}
+use Rattle.message_end.specs.Core.{Went, and_then, at_first, step_in}
 use Rattle.message_end.specs.Core.Went.{Goes, Spent}
-use Rattle.message_end.specs.Ends.{HasSpent, HasStopped, Input, IsEmpty, IsFront, printed}
+use Rattle.message_end.specs.Ends.{Input, IsFront, printed}
 use Rattle.message_end.specs.Own.{Has}
-use Rattle.message_end.specs.Parts.{Node, after_parts, core_after, on_the_way}
+use Rattle.message_end.specs.Parts.{Node, after_parts}
 use Rattle.message_end.proofs.Growing.{front-both, front-same, parts-grow}
 use Rattle.spool_ledger.specs.Ledger.{LedgerView, carried_out, next_of, stood_count}
 use Rattle.equipment_tables.specs.Tables.{most_transmitted}
@@ -37,15 +32,15 @@ use Rattle.spool_ledger.specs.declared.unload.Unload.{Unload}
 use Rattle.equipment_node.specs.declared.disk_step.Ended.{Ended}
 use Rattle.equipment_node.specs.declared.disk_step.Ended.TheVariants as ended
 use Rattle.equipment_node.specs.declared.kind.Kind.{Kind}
-use Rattle.equipment_node.specs.Amid.{Acts, Carries, EndsSo, HasActed, HasCut, HasEnded, HasOpened, IsAt, IsBegun, IsBegunSpent, Keeps, Opens, opened, settled_node}
+use Rattle.equipment_node.specs.Amid.{Acts, Carries, EndsSo, HasCut, IsAt, IsBegun, IsBegunSpent, Keeps, Opens, opened, settled_node}
 use Rattle.equipment_node.specs.Cut.{cut_at, noted_to}
-use Rattle.equipment_node.specs.Disk.{DiskWork, IsAmidWork, behind_change, fronts_of, owed_in, read_works, reserve_works, standing_in, standings_behind, stops, takes_up, up_to_change, works_behind, works_of}
+use Rattle.equipment_node.specs.Disk.{DiskWork, IsAmidWork, fronts_of, owed_in, read_works, reserve_works, standing_in, standings_behind, stops, takes_up, works_behind, works_of}
 use Rattle.equipment_node.specs.Disk.DiskWork.{Change, ReadOldest, Reserve}
-use Rattle.equipment_node.specs.Equipment.{EquipmentView, act, begun_step, ended_step, is_marked_out, needs_numbers, node_step, oldest_of, parts_done, reserved, reserving, settled, settled_list, settled_step, settled_went, with_core, went_with_file}
+use Rattle.equipment_node.specs.Equipment.{EquipmentView, act, begun_step, ended_step, is_marked_out, needs_numbers, node_step, oldest_of, parts_done, reserved, reserving, settled, settled_list, settled_step, settled_went, went_with_file}
 use Rattle.equipment_node.specs.Left as left
 use Rattle.equipment_node.specs.Own.{OwnView, ToolPart}
 use Rattle.equipment_node.specs.Step.{first_parts, last_parts}
-use Rattle.equipment_node.specs.Stepping.{HasLeft, IsClear, IsTold, Steps}
+use Rattle.equipment_node.specs.Stepping.{IsClear, IsTold}
 use Rattle.equipment_node.proofs.Cutting.{change-front, cut-noted, noted-front, read-front}
 
 -- ---- lists

@@ -1,8 +1,8 @@
 -- How the communication is left, as the code does it.
 use Rattle.std.proofs.Common.{◌≡◌, refl, sym, ap, subst, ◌∙◌, Bool, true, false, not, ◌&&◌, ◌||◌, ℕ, List, [], ◌∷◌, ◌++◌, Option, Some, None, if◌then◌else◌}
-use Rattle.std.specs.Prelude.{Result, Ok, Err, map}
-use Rattle.std.specs.List.{filter_map, find}
-use Rattle.std.proofs.lemmas.List.{append-nil, append_assoc}
+use Rattle.std.specs.Prelude.{Result, Err, map}
+use Rattle.std.specs.List.{filter_map}
+use Rattle.std.proofs.lemmas.List.{append-nil}
 use Rattle.block_codec.specs.declared.header.Header.{Header}
 use Rattle.gem_states.specs.Comms.{CommsOutcome, CommsView, comms_step}
 use Rattle.gem_states.specs.declared.comms.CommsIn.{CommsIn}
@@ -18,26 +18,25 @@ use Rattle.transact.specs.declared.begun.Begun.{Begun}
 use Rattle.transact.specs.Transactions.{system_of}
 use Rattle.message_end.specs.declared.end.Stop.{Stop}
 use Rattle.message_end.specs.declared.end.Stop.TheVariants as stop
-use Rattle.message_end.specs.Core.{Command, EndView, Step, Went, and_then, carried}
+use Rattle.message_end.specs.Core.{EndView, Step, Went, and_then, carried}
 use Rattle.message_end.specs.Core.Command.{Halt, Note as NoteThis}
 use Rattle.message_end.specs.Core.Went.{Goes, Spent}
-use Rattle.message_end.specs.Duties.{Duty, all_done}
+use Rattle.message_end.specs.Duties.{all_done}
 use Rattle.message_end.specs.Endings.{ends_open}
-use Rattle.message_end.specs.Parts.{AreCarried, AreDone, ComesTo, Takes, after_turn, core_step, fixed_turn, on_the_way, went_with}
-use Rattle.message_end.proofs.Carrying.{carried_append, done_append}
+use Rattle.message_end.specs.Parts.{AreCarried, AreDone, Takes, after_turn, fixed_turn, on_the_way, went_with}
+use Rattle.message_end.proofs.Carrying.{carried_append}
 use Rattle.spool_ledger.specs.Activity.{activated, changed}
 use Rattle.spool_ledger.specs.Ledger.{Booked, LedgerView, quiet}
 use Rattle.spool_ledger.specs.Unloading.{with_unload}
 use Rattle.equipment_tables.specs.Tables.{delay_of, may_spool, overwrites}
 use Rattle.equipment_node.specs.declared.kind.Kind.{Kind}
 use Rattle.equipment_node.specs.declared.kind.Kind.TheVariants as kind
-use Rattle.equipment_node.specs.Ending.{all_stored, ends_with, stored_with, stores_of, stores_turn, with_active}
-use Rattle.equipment_node.specs.Own.{OwnView, ToolCommands, ToolDuty, ToolTurn, sent_report, turn_of, waiting_report, with_comms, with_ledger}
-use Rattle.equipment_node.specs.Sent.{establish_commands}
+use Rattle.equipment_node.specs.Ending.{all_stored, ends_with, stored_with, stores_turn, with_active}
+use Rattle.equipment_node.specs.Own.{OwnView, ToolCommands, ToolTurn, sent_report, turn_of, waiting_report, with_comms, with_ledger}
 use Rattle.equipment_node.specs.Spooling.{Stores, is_covered, lines_commands, stores_all, stores_commands}
-use Rattle.equipment_node.specs.States.{activity_of, begins_spooling, comms_lines, comms_outcome, ending_commands, ends_report, is_same_comms, leaving_turn, left_commands, left_turn, parted_turn, request_commands, stored_by, stored_of, stored_one, without_open}
+use Rattle.equipment_node.specs.States.{begins_spooling, comms_lines, comms_outcome, ending_commands, ends_report, is_same_comms, leaving_turn, left_commands, left_turn, parted_turn, request_commands, stored_by, stored_of, stored_one, without_open}
 use Rattle.equipment_node.proofs.Following.{lines_carried, node}
-use Rattle.equipment_node.proofs.Storing.{lines_taken, stores_then}
+use Rattle.equipment_node.proofs.Storing.{stores_then}
 use Rattle.equipment_node.proofs.Taking.{commands_then, turned}
 use Rattle.equipment_node.proofs.Turned.{HasTaken, ToolNode, behind}
 

@@ -1,6 +1,6 @@
 -- Turns that say nothing of reports.
 use Rattle.std.proofs.Common.{◌≡◌, refl, sym, ap, subst, inl, inr, ◌⊎◌, arith, ◌≤◌, ◌+◌, ◌%◌, ◌==◌, ◌&&◌, not, Bool, true, false, ℕ, List, [], ◌∷◌, ◌++◌, length, Option, Some, None, cond, if◌then◌else◌}
-use Rattle.std.specs.Option.{option_map, option_map_or}
+use Rattle.std.specs.Option.{option_map_or}
 use Rattle.std.specs.Prelude.{IfSome, bytes_eq, filter, flat_map}
 use Rattle.block_codec.specs.declared.header.Header.{Header}
 use Rattle.gem_states.specs.Comms.{CommsOutcome}
@@ -23,7 +23,6 @@ use Rattle.trace_log.specs.Names.{Spooled, message_name, spooled_name}
 use Rattle.trace_log.specs.declared.names.Cause.TheVariants.{Confirmed, Purged}
 use Rattle.transact.specs.Numbers.{next_number}
 use Rattle.transact.specs.declared.begun.Begun.{Begun}
-use Rattle.transact.specs.Transactions.{primary_of as primary_with_kind}
 use Rattle.message_end.specs.declared.unsent.Unsent.{Unsent}
 use Rattle.message_end.specs.Core.{Command, EndView, is_crowded_out}
 use Rattle.message_end.specs.Core.Command.{Abort, Halt, Note, Primary, Reply}

@@ -1,5 +1,5 @@
 -- That the spool in hand stays ready for the next step, whatever its disk tells.
-use Rattle.std.proofs.Common.{◌≡◌, refl, sym, ap, subst, ◌∙◌, ℕ, [], ◌∷◌, List, Option, Some, None}
+use Rattle.std.proofs.Common.{◌≡◌, sym, ap, subst, ◌∙◌, ℕ, [], ◌∷◌, Option, Some, None}
 use Rattle.std.specs.Prelude.{IfOk, Result, Ok, Err}
 use Rattle.disk_base.specs.declared.disk.Disk as disk
 use Rattle.gem_spool.specs.declared.count.Count.{Count}
@@ -12,7 +12,7 @@ use Rattle.spool_slots.specs.Spool.{SpoolView}
 use Rattle.trace_log.specs.Names.{Spooled}
 use Rattle.trace_log.specs.Text.{printed_note}
 use Rattle.message_end.specs.Core.{EndView, Went, step_in}
-use Rattle.message_end.specs.Parts.{Node, after_parts, on_the_way}
+use Rattle.message_end.specs.Parts.{Node, on_the_way}
 use Rattle.equipment_tables.specs.declared.plan.EquipmentPlan.{EquipmentPlan}
 use Rattle.equipment_tables.specs.Plan.{EquipmentPlanFits}
 use Rattle.equipment_tables.specs.Tables.{most_transmitted}
@@ -23,7 +23,7 @@ use Rattle.equipment_node.specs.declared.kind.Kind.{Kind}
 use Rattle.equipment_node.specs.Amid.{DoesLast, IsReady, IsSendable, IsSoundOwn, asked_node, settled_node}
 use Rattle.equipment_node.specs.Equipment.{EquipmentView, settled_own}
 use Rattle.equipment_node.specs.Lawful.{AllKeepSound, KeepsSound, ended-sound, parts-sound, sound-self, taking-sound}
-use Rattle.equipment_node.specs.Own.{OwnView, ToolPart}
+use Rattle.equipment_node.specs.Own.{OwnView}
 use Rattle.equipment_node.specs.Sound.{IsSound}
 use Rattle.equipment_node.specs.Spooling.{end_of_spooling}
 use Rattle.equipment_node.specs.SpoolSound.{carried-good, next-good}

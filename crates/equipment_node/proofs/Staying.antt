@@ -1,10 +1,10 @@
 -- That what comes behind the works of a step leaves the spool as the disk has it.
-use Rattle.std.proofs.Common.{◌≡◌, ◌≢◌, refl, ◌∙◌, ◌&&◌, Bool, true, false, ℕ, List, [], ◌∷◌, length, Option, Some, None, if◌then◌else◌}
+use Rattle.std.proofs.Common.{◌≡◌, refl, ◌∙◌, ◌&&◌, Bool, true, false, ℕ, List, [], ◌∷◌, length, Option, Some, None, if◌then◌else◌}
 use Rattle.std.specs.Option.{option_map}
 use Rattle.trace_log.specs.Log.{Happening}
 use Rattle.trace_log.specs.Names.{Spooled}
 use Rattle.transact.specs.Numbers.{next_number}
-use Rattle.message_end.specs.Core.{EndView, Step, Went, and_then, at_first, is_crowded_out, step_in}
+use Rattle.message_end.specs.Core.{EndView, Step, Went, and_then, is_crowded_out, step_in}
 use Rattle.message_end.specs.Core.Command.{Draw, Remove}
 use Rattle.message_end.specs.Core.Went.{Goes, Spent}
 use Rattle.message_end.specs.Duties.{all_done}

@@ -1,5 +1,5 @@
 -- That the calls of the disk in a step are those of its works.
-use Rattle.std.proofs.Common.{◌≡◌, refl, sym, ap, subst, ◌∙◌, arith, ℕ, zero, suc, ◌+◌, ◌^◌, ◌<◌, ◌==◌, ◌&&◌, ◌||◌, nat_le, nat_lt, not, Bool, true, false, List, [], ◌∷◌, ◌++◌, append_assoc, length, map, Option, Some, None, is_some, if◌then◌else◌}
+use Rattle.std.proofs.Common.{◌≡◌, refl, sym, ap, subst, ◌∙◌, arith, ℕ, zero, suc, ◌+◌, ◌<◌, ◌==◌, ◌&&◌, ◌||◌, nat_le, nat_lt, not, Bool, true, false, List, [], ◌∷◌, ◌++◌, append_assoc, length, map, Option, Some, None, is_some, if◌then◌else◌}
 use Rattle.std.proofs.lemmas.Bool.Decides.{nat_tests}
 use Rattle.std.specs.Prelude.{Result, Ok, Err, is_none}
 use Rattle.disk_base.specs.Calls.{DiskCall}
@@ -30,8 +30,8 @@ use Rattle.spool_ledger.specs.declared.unload.Unload.{Unload}
 use Rattle.equipment_node.specs.declared.disk_step.Ended.{Ended}
 use Rattle.equipment_node.specs.declared.disk_step.Ended.TheVariants as ended
 use Rattle.equipment_node.specs.declared.kind.Kind.{Kind}
-use Rattle.equipment_node.specs.Amid.{Carries, DoesLast, IsAt, IsBegun, IsBegunSpent, Opens, opened}
-use Rattle.equipment_node.specs.Disk.{DiskWork, read_works, reserve_works, standing_behind, standing_in, standings_behind, takes_up, works_behind, works_of}
+use Rattle.equipment_node.specs.Amid.{Carries, DoesLast, IsBegun, IsBegunSpent, Opens, opened}
+use Rattle.equipment_node.specs.Disk.{DiskWork, read_works, reserve_works, standing_behind, standing_in, standings_behind, works_behind, works_of}
 use Rattle.equipment_node.specs.Disk.DiskWork.{Change, ReadOldest, Reserve}
 use Rattle.equipment_node.specs.DiskCalls.{HasBegunWorks, HasCalled, HasFailedIn, HasMade, all_disk_calls, disk_calls, disk_in, mark_calls}
 use Rattle.equipment_node.specs.Equipment.{EquipmentView, begun_step, is_marked_out, needs_numbers, parts_done, reserving as opening, settled, settled_step}
@@ -47,7 +47,8 @@ use Rattle.equipment_node.proofs.OverDisk.{done-standing, takes-settled}
 
 calls-both :
     (bytes : List ℕ) (st : Standing) (xs ys : List DiskWork)
-    → all_disk_calls bytes st (xs ++ ys) ≡ all_disk_calls bytes st xs ++ all_disk_calls bytes (standings_behind st xs) ys
+    → all_disk_calls bytes st (xs ++ ys)
+    ≡ all_disk_calls bytes st xs ++ all_disk_calls bytes (standings_behind st xs) ys
 calls-both bytes st [] ys = refl
 calls-both bytes st (x ∷ xs) ys =
     ap (λ (calls : List DiskCall). disk_calls bytes st x ++ calls) (calls-both bytes (standing_behind st x) xs ys)
@@ -188,10 +189,12 @@ module _ {D : Type 0} (members : disk.Ghosts D) where
         (works_behind (begun_step s input now))
         (subst
         (λ (works : List DiskWork).
-        HasMade members spent.disk spent.disk (all_disk_calls bytes (standings_behind (standing_in s) (reserve_works s)) works))
+        HasMade members spent.disk spent.disk
+        (all_disk_calls bytes (standings_behind (standing_in s) (reserve_works s)) works))
         (sym (none-owed opens.0 owes)) (made-same members spent.disk spent.disk refl))
     not-called old bytes node (ended.DiskFailed spent) owes opens called =
-        called-wider old spent.disk bytes (standing_in s) (reserve_works s) (works_behind (begun_step s input now)) called
+        called-wider old spent.disk bytes (standing_in s) (reserve_works s) (works_behind (begun_step s input now))
+        called
     not-called old bytes node (ended.NoMemory spent) owes opens called = absurd opens
 
     -- the disk failed at a work
@@ -226,7 +229,8 @@ module _ {D : Type 0} (members : disk.Ghosts D) where
           (λ (w : Went EquipmentView Happening).
           HasCalled members disk_in g.spool.disk bytes stood (works_behind w) result) (sym begun.is)
           (called-then g.spool.disk h.spool.disk bytes stood (map Change works)
-          (all-made members bytes g works h stood clear.stands.count carried-is.done) (read_works (Goes begun.step)) result
+          (all-made members bytes g works h stood clear.stands.count carried-is.done) (read_works (Goes begun.step))
+          result
           (subst
           (λ (x : Standing).
           HasCalled members disk_in h.spool.disk bytes x (read_works (Goes begun.step)) result)
@@ -248,7 +252,8 @@ module _ {D : Type 0} (members : disk.Ghosts D) where
 
           standing : standings_after stood works ≡ standing_in (settled begun.step.next)
           standing =
-              done-standing members s input now went (Goes begun.step) begun.is g h clear (count ∙ ap stood_count ledger-is)
+              done-standing members s input now went (Goes begun.step) begun.is g h clear
+              (count ∙ ap stood_count ledger-is)
               (subst (λ (l : LedgerView). counts_after (stood_count l) l.works ≡ stood_count (carried_out l)) ledger-is
               come)
               begun.list begun.mark
@@ -263,7 +268,8 @@ module _ {D : Type 0} (members : disk.Ghosts D) where
           HasCalled members disk_in g.spool.disk bytes stood (works_behind w) (Err end)) (sym begun.is)
           (carry-stops g begun.step.next.node.own.ledger.works (read_works (Goes begun.step)) stood bytes out after end
           clear.stands.count
-          (subst (λ (n : Node OwnView Kind). Carries members g n.own.ledger.works out after (Err end)) (sym begun.node_is)
+          (subst (λ (n : Node OwnView Kind). Carries members g n.own.ledger.works out after (Err end))
+          (sym begun.node_is)
           cut))
 
       -- a number was wanting
@@ -327,7 +333,8 @@ module _ {D : Type 0} (members : disk.Ghosts D) where
         → DoesLast members g parts old out new after result
         → HasCalled members disk_in v.disk bytes st (ReadOldest ∷ []) result
     looked-called g parts old new out after result looked does =
-        called-then v.disk g.spool.disk bytes st (ReadOldest ∷ []) (look-made members v g.spool st count looked) [] result
+        called-then v.disk g.spool.disk bytes st (ReadOldest ∷ []) (look-made members v g.spool st count looked) []
+        result
         (last-called bytes st g parts old new out after result does)
 
     pub look-called :

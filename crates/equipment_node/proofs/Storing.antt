@@ -1,5 +1,5 @@
 -- Reports that are stored, one after the other.
-use Rattle.std.proofs.Common.{◌≡◌, refl, sym, ap, subst, ◌∙◌, Bool, true, false, List, [], ◌∷◌, ◌++◌, Option, Some, None, if◌then◌else◌}
+use Rattle.std.proofs.Common.{◌≡◌, sym, ap, subst, ◌∙◌, Bool, true, false, List, [], ◌∷◌, ◌++◌, Option, Some, None, if◌then◌else◌}
 use Rattle.std.specs.Prelude.{Result, Ok, Err, map}
 use Rattle.std.specs.List.{filter_map}
 use Rattle.std.specs.Option.{option_map_or}
@@ -11,7 +11,7 @@ use Rattle.trace_log.specs.Names.{Spooled}
 use Rattle.trace_log.specs.Text.{printed_note}
 use Rattle.message_end.specs.declared.end.Stop.{Stop}
 use Rattle.message_end.specs.declared.end.Stop.TheVariants.{DiskFailed, NoMemory, NumbersSpent}
-use Rattle.message_end.specs.Core.{Command, EndView, Step, Went, and_then, carried}
+use Rattle.message_end.specs.Core.{EndView, Step, Went, and_then, carried}
 use Rattle.message_end.specs.Core.Command.{Halt, Note as NoteThis}
 use Rattle.message_end.specs.Core.Went.{Goes, Spent}
 use Rattle.message_end.specs.Duties.{all_done}
@@ -21,8 +21,8 @@ use Rattle.spool_ledger.specs.Ledger.{Booked, LedgerView}
 use Rattle.spool_ledger.specs.Storing.{Account, Books, account_of, stored}
 use Rattle.equipment_tables.specs.Tables.{overwrites}
 use Rattle.equipment_node.specs.declared.kind.Kind.{Kind}
-use Rattle.equipment_node.specs.Ending.{stores_of, stores_turn}
-use Rattle.equipment_node.specs.Own.{OwnView, ToolCommands, ToolTurn, with_ledger}
+use Rattle.equipment_node.specs.Ending.{stores_of}
+use Rattle.equipment_node.specs.Own.{OwnView, ToolCommands, with_ledger}
 use Rattle.equipment_node.specs.Spooling.{Stores, booked_turn, lines_commands, stored_turn, stores_all, stores_behind, stores_commands, stores_none}
 use Rattle.equipment_node.proofs.Following.{lines_carried, node}
 use Rattle.equipment_node.proofs.Taking.{commands_then}

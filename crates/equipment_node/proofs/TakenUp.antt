@@ -1,5 +1,5 @@
 -- That a start from a device comes to the start from what the device tells.
-use Rattle.std.proofs.Common.{◌≡◌, refl, sym, ap, subst, ◌∙◌, inl, inr, ℕ, ◌+◌, Bool, true, List, [], ◌∷◌, Option, Some, None}
+use Rattle.std.proofs.Common.{◌≡◌, refl, sym, ap, subst, ◌∙◌, inl, inr, ℕ, true, List, [], ◌∷◌, Option, Some, None}
 use Rattle.std.specs.Option.{option_map}
 use Rattle.std.specs.Prelude.{Result, Ok, Err}
 use Rattle.disk_base.specs.Story.{Story, with_sync}
@@ -9,8 +9,8 @@ use Rattle.gem_spool.specs.declared.spool.GemSpool.{GemSpool}
 use Rattle.gem_spool.specs.Standing.{Standing, file_of, list_told, standing_of}
 use Rattle.message_flow.specs.declared.step.StepOut.{StepOut}
 use Rattle.spool_slots.specs.Area.{first_of}
-use Rattle.spool_slots.specs.Changes.{Recovers, with_mark}
-use Rattle.spool_slots.specs.File.{SpoolFile, StandsFor, file_in}
+use Rattle.spool_slots.specs.Changes.{Recovers}
+use Rattle.spool_slots.specs.File.{SpoolFile, StandsFor, file_in, spool_break}
 use Rattle.spool_slots.specs.Slot.{Message}
 use Rattle.spool_slots.specs.Spool.{Rests, SpoolView}
 use Rattle.spool_slots.specs.declared.reading.NotSpool.{NotSpool}
@@ -24,7 +24,7 @@ use Rattle.equipment_tables.specs.Plan.{EquipmentPlanFits}
 use Rattle.equipment_node.specs.declared.equipment.Starting.{Starting}
 use Rattle.equipment_node.specs.declared.equipment.Starting.TheVariants as starting
 use Rattle.equipment_node.specs.Equipment.{first_in, is_marked_out, starts}
-use Rattle.equipment_node.specs.Held.{Begins, HasMark, Held, IsUntouched, starting_by, view_in}
+use Rattle.equipment_node.specs.Held.{Begins, FindsFile, HasMark, Held, starting_by, view_in}
 use Rattle.equipment_node.specs.Sound.{AllCanBeSent}
 use Rattle.equipment_node.specs.StartOver.{BeginsOver, IsFresh}
 use Rattle.equipment_node.proofs.Seated.{start-gone, start-on}
@@ -35,6 +35,19 @@ same-story a b same = cc
 first-same : (list : List Message) → first_of list ≡ first_in list
 first-same [] = refl
 first-same (message ∷ list) = refl
+
+-- a start that has found a spool file
+pub found : {D : Type 0} (s : Story) (result : Result (Held D) (Starting D)) → spool_break s.now.bytes ≡ None
+    → FindsFile s result
+found s (Ok h) sound = sound
+found s (Err (starting.NoMemory spent)) sound = sound
+found s (Err (starting.NumbersSpent spent)) sound = sound
+found s (Err (starting.NotSpool raw break)) sound = tt
+found s (Err (starting.DiskFailed spent)) sound = tt
+
+pub not-found : {D : Type 0} (s : Story) (why : Recovering D) → FindsFile s (Err (starting_by why))
+not-found s (recovering.NotSpool raw break) = tt
+not-found s (recovering.Failed spent) = tt
 
 module _ {D : Type 0} (members : disk.Ghosts D) (old : D) (s : Story) (told : members.told old ≡ Some s) where
   abbrev file : SpoolFile

@@ -9,7 +9,6 @@ use Rattle.trace_log.specs.Text.{printed_note}
 use Rattle.transact.specs.Numbers.{NumbersView, next_number}
 use Rattle.message_end.specs.declared.end.Stop.{Stop}
 use Rattle.message_end.specs.declared.end.Stop.TheVariants as stop
-use Rattle.message_end.specs.declared.unsent.Unsent.{Unsent}
 use Rattle.message_end.specs.Core.{and_then, carried, draws, is_crowded_out, noted, sends, unsent_name}
 use Rattle.message_end.specs.Core.Command.{Note as NoteThis}
 use Rattle.message_end.specs.Core.Went.{Goes, Spent}

@@ -1,5 +1,5 @@
 -- A message of the spool is taken up behind one that was tried before.
-use Rattle.std.proofs.Common.{◌≡◌, refl, sym, ap, subst, true, ℕ, Option, Some, None}
+use Rattle.std.proofs.Common.{◌≡◌, ap, subst, true, ℕ, Option, Some, None}
 use Rattle.std.specs.Prelude.{Result}
 use Rattle.message_flow.specs.declared.step.Note.{Note}
 use Rattle.message_flow.specs.declared.step.StepOut.{StepOut}

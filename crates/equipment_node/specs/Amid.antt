@@ -30,7 +30,7 @@ use Rattle.equipment_node.specs.declared.disk_step.Ended.TheVariants as ended
 use Rattle.equipment_node.specs.declared.kind.Kind.{Kind}
 use Rattle.equipment_node.specs.Calls.{IsSpent}
 use Rattle.equipment_node.specs.Cut.{cut_at}
-use Rattle.equipment_node.specs.Disk.{DiskWork, reserve_works, standing_in, takes_up}
+use Rattle.equipment_node.specs.Disk.{reserve_works, standing_in, takes_up}
 use Rattle.equipment_node.specs.Disk.DiskWork.{Reserve}
 use Rattle.equipment_node.specs.Equipment.{EquipmentView, act, begun_step, ended_step, needs_numbers, reserved, reserving, settled_own}
 use Rattle.equipment_node.specs.Left.{Holds}

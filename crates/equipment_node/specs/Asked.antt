@@ -1,5 +1,5 @@
 -- What the disk of the spool has room for, and how much of it a call of the code uses up.
-use Rattle.std.specs.Prelude.{◌≡◌, ◌<◌, false, List, Result, Ok, Err, if◌then◌else◌}
+use Rattle.std.specs.Prelude.{◌≡◌, false, List, Result, Ok, Err, if◌then◌else◌}
 use Rattle.disk_base.specs.Faults.{DiskHealth}
 use Rattle.disk_base.specs.declared.disk.Disk as disk
 use Rattle.gem_spool.specs.declared.spool.GemSpool.{GemSpool}

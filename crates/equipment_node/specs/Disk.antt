@@ -1,6 +1,5 @@
 -- What a step asks of the disk, in its order, and what there is where the disk fails on the way.
-use Rattle.std.specs.Prelude.{ℕ, Bool, true, false, ◌+◌, ◌&&◌, not, List, [], ◌∷◌, ◌++◌, fold, is_some, length, map, if◌then◌else◌}
-use Rattle.disk_base.specs.Through.{EachImage}
+use Rattle.std.specs.Prelude.{ℕ, Bool, true, false, ◌+◌, ◌&&◌, not, List, [], ◌∷◌, ◌++◌, fold, is_some, map, if◌then◌else◌}
 use Rattle.gem_spool.specs.declared.works.Work.{Work}
 use Rattle.gem_spool.specs.Standing.{Standing, count_in, file_of}
 use Rattle.gem_spool.specs.Works as spool
@@ -9,7 +8,7 @@ use Rattle.spool_slots.specs.File.{StandsFor}
 use Rattle.trace_log.specs.declared.commands.ToolCommand.{ToolCommand}
 use Rattle.trace_log.specs.Log.{Happening}
 use Rattle.trace_log.specs.Log.Happening.{Leaving, Storing}
-use Rattle.message_end.specs.Core.{Step, Went, step_in}
+use Rattle.message_end.specs.Core.{Went, step_in}
 use Rattle.message_end.specs.Core.Went.{Goes, Spent}
 use Rattle.message_end.specs.Ends.{Asked, Input}
 use Rattle.equipment_tables.specs.Tables.{most_transmitted}

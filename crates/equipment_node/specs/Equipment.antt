@@ -10,7 +10,7 @@ use Rattle.trace_log.specs.Log.{Happening}
 use Rattle.trace_log.specs.Log.Happening.{EquipmentStarted}
 use Rattle.trace_log.specs.Names.{Spooled}
 use Rattle.transact.specs.Numbers.{numbers_from}
-use Rattle.message_end.specs.Core.{Command, EndView, Step, Went, and_then, at_first}
+use Rattle.message_end.specs.Core.{EndView, Step, Went, and_then, at_first}
 use Rattle.message_end.specs.Core.Command.{More}
 use Rattle.message_end.specs.Core.Went.{Goes, Spent}
 use Rattle.message_end.specs.Ends.{Input}

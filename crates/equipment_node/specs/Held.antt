@@ -1,5 +1,5 @@
 -- The equipment over its disk as a value of the program, and what the code says of it as a whole.
-use Rattle.std.specs.Prelude.{◌≡◌, ◌⊎◌, refl, ℕ, ◌+◌, Bool, true, List, [], Some, Result, Ok, Err}
+use Rattle.std.specs.Prelude.{◌≡◌, ◌⊎◌, refl, ℕ, ◌+◌, Bool, true, List, [], Some, None, Result, Ok, Err}
 use Rattle.std.specs.Coded.{Coded, code_by, coded×, coded_bool}
 use Rattle.disk_base.specs.Story.{Story, with_sync}
 use Rattle.disk_base.specs.Through.{EachImage}
@@ -12,7 +12,6 @@ use Rattle.spool_slots.specs.Reading.{IsBreak}
 use Rattle.spool_slots.specs.Spool.{SpoolView, spool_code}
 use Rattle.spool_slots.specs.declared.states.Recovering.{Recovering}
 use Rattle.spool_slots.specs.declared.states.Recovering.TheVariants as recovering
-use Rattle.spool_slots.specs.declared.states.Spent.{Spent}
 use Rattle.trace_log.specs.declared.commands.ToolCommand.{ToolCommand}
 use Rattle.message_end.specs.Ends.{HasGone, Input, IsEmpty}
 use Rattle.equipment_tables.specs.declared.plan.EquipmentPlan.{EquipmentPlan}
@@ -48,8 +47,8 @@ pub record IsIn {D : Type 0} (members : disk.Ghosts D) (h : Held D) : Type 0 whe
 -- ---- a step
 
 pub record HasMoved
-    {D : Type 0} (members : disk.Ghosts D) (h : Held D) (input : Input ToolCommand) (now : ℕ) (out : StepOut) (k : Held D)
-    : Type 0 where
+    {D : Type 0} (members : disk.Ghosts D) (h : Held D) (input : Input ToolCommand) (now : ℕ) (out : StepOut)
+    (k : Held D) : Type 0 where
   pub gone : HasGone (act (view_in members h) input now) (view_in members k) out
   pub in_state : IsIn members k
 
@@ -94,6 +93,15 @@ Begins members plan s out (Err (starting.DiskFailed spent)) =
 Begins members plan s out (Err (starting.NoMemory spent)) =
     (out.line.items ≡ [])
     × ((t : Story) → members.told spent.disk ≡ Some t → EachImage (HasMark (file_in s.now.bytes)) t.now)
+
+-- what it told stands for a spool where it starts, or lacks memory or numbers; of bytes that are no spool `Begins`
+-- tells the break
+abbrev pub FindsFile : {D : Type 0} → Story → Result (Held D) (Starting D) → Type 0
+FindsFile s (Ok h) = spool_break s.now.bytes ≡ None
+FindsFile s (Err (starting.NoMemory spent)) = spool_break s.now.bytes ≡ None
+FindsFile s (Err (starting.NumbersSpent spent)) = spool_break s.now.bytes ≡ None
+FindsFile s (Err (starting.NotSpool raw break)) = Unit {0}
+FindsFile s (Err (starting.DiskFailed spent)) = Unit {0}
 
 -- why it doesn't start, where its device gives no spool
 abbrev pub starting_by : {D : Type 0} → Recovering D → Starting D

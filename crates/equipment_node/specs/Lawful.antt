@@ -1,11 +1,11 @@
 -- That the equipment keeps the law of an end: the proof, which stands here since an impl cites it.
 use Rattle.std.proofs.Common.{rules, append_assoc, ◌⊎◌, inl, inr, ◌≡◌, ◌≢◌, ◌^◌, ◌+◌, refl, sym, ap, subst, ◌∙◌, arith, Bool, true, false, not, ℕ, ◌<◌, ◌≤◌, ◌%◌, ◌==◌, ◌&&◌, ◌||◌, List, [], ◌∷◌, ◌++◌, All, append-nil, length, map, replicate, Option, Some, None, if◌then◌else◌, nat_le, nat_lt, zero, suc}
-use Rattle.std.specs.List.{cons_option, filter_map, find, list_all, position_or_len, remove}
+use Rattle.std.specs.List.{cons_option, filter_map, find, list_all}
 use Rattle.std.specs.Option.{option_map, option_map_or}
 use Rattle.std.proofs.Math.Nat.{le_trans}
 use Rattle.std.specs.Prelude.{IfSome, flat_map, is_some, min, slice_get}
 use Rattle.std.proofs.lemmas.Bool.Decides.{nat_tests}
-use Rattle.std.proofs.lemmas.List.Elements.{All-nil, All-cons, All-head, All-tail}
+use Rattle.std.proofs.lemmas.List.Elements.{All-nil, All-cons, All-head}
 use Rattle.block_codec.specs.Protocol.{longest_text}
 use Rattle.block_codec.specs.declared.header.Header.{Header}
 use Rattle.gem_alarms.specs.declared.alarms.AlarmStep.{AlarmStep}
@@ -49,7 +49,7 @@ use Rattle.trace_log.specs.declared.names.Name.{Name}
 use Rattle.transact.specs.declared.begun.Begun.{Begun}
 use Rattle.transact.specs.declared.transactions.Match.{Match}
 use Rattle.transact.specs.declared.transactions.Match.TheVariants as match
-use Rattle.transact.specs.Numbers.{IsNumbers, NumbersView, after_draw, next_number, numbers_from}
+use Rattle.transact.specs.Numbers.{IsNumbers, NumbersView, next_number, numbers_from}
 use Rattle.transact.specs.Transactions.{match_of, primary_of as primary_with_kind, system_of}
 use Rattle.message_end.specs.declared.end.Took.{Took}
 use Rattle.message_end.specs.declared.end.Took.TheVariants as took
@@ -58,13 +58,13 @@ use Rattle.message_end.specs.Calls.{answered_by, dropped_now, due_now, failed_at
 use Rattle.line_end.specs.Step.{LineCall}
 use Rattle.message_end.specs.Core.{Command, EndView, IsText, IsUnsent, Step, Went, and_then, at_first, carried, draws, is_crowded_out, noted, sends, step_in}
 use Rattle.message_end.specs.Core.Went.{Goes, Spent}
-use Rattle.message_end.specs.Core.Command.{Abort, Answer, Draw, DrawnPrimary, DropDue, Expire, GiveUp, Halt, More, Note, Offer, Primary, Remove, Reply, Take, Tick}
+use Rattle.message_end.specs.Core.Command.{Abort, Answer, Draw, DrawnPrimary, DropDue, Expire, GiveUp, Halt, More, Note, Primary, Remove, Reply, Take, Tick}
 use Rattle.message_end.specs.Doings.{Doing, own_of}
-use Rattle.message_end.specs.Duties.{Duty, all_done}
+use Rattle.message_end.specs.Duties.{all_done}
 use Rattle.message_end.specs.Endings.{ends_failed, ends_front, ends_one, ends_open, is_of_open, notes_failed}
 use Rattle.message_end.specs.Ends.{AreBegunOf, AreOfStep, DoesMore, DoesStep, HasRestarted, HasStarted, Input, IsFront, KeepsLaw, MayTake, OnStart}
 use Rattle.message_end.specs.Ends.Input.{Char, Command as Told, Time}
-use Rattle.message_end.specs.Parts.{Did, Node, after_parts, after_turn, core_after, core_step, fixed_turn, leads, led_turn, went_with, with_own}
+use Rattle.message_end.specs.Parts.{Node, after_parts, after_turn, core_after, core_step, fixed_turn, leads, led_turn, went_with, with_own}
 use Rattle.message_end.proofs.Lower.{lower}
 use Rattle.message_end.proofs.Parts.{OnEither, begins-new, begun-none, either-less, either-then, history-says}
 use Rattle.message_end.proofs.Steps.{IsAt, at-carried}
@@ -77,7 +77,7 @@ use Rattle.equipment_node.specs.Grants.{GrantView}
 use Rattle.equipment_node.specs.declared.kind.Kind.{Kind}
 use Rattle.equipment_node.specs.declared.kind.Kind.TheVariants as kind
 use Rattle.equipment_tables.specs.declared.plan.EquipmentPlan.{EquipmentPlan}
-use Rattle.equipment_tables.specs.Answers.{Reply as AnswerReply, alarm_item_of, answer_by, answer_of, carried_lines, established_of, event_item, has_bytes, identity_of, is_accepted, is_too_long, lines_of, remoted_of_item, reply_to, shown_lines, spelled_body}
+use Rattle.equipment_tables.specs.Answers.{Reply as AnswerReply, alarm_item_of, answer_by, answer_of, carried_lines, established_of, event_item, has_bytes, identity_of, is_accepted, lines_of, remoted_of_item, reply_to, shown_lines, spelled_body}
 use Rattle.gem_remote.specs.Commands.{ackc10_of}
 use Rattle.gem_remote.specs.declared.remote.Ackc10.{Ackc10}
 use Rattle.gem_remote.specs.declared.remote.Ackc10.TheVariants as ackc10
@@ -89,7 +89,7 @@ use Rattle.equipment_node.specs.Replies.{block_timer, given_up_by_t4, given_up_t
 use Rattle.equipment_tables.specs.Requests.{request_of}
 use Rattle.equipment_node.specs.Sent as sent
 use Rattle.equipment_node.specs.Reports.{judged_turn, made_turn, report_turn, text_turn, unreported_turn}
-use Rattle.equipment_node.specs.Sound.{AllCanBeSent, CanBeSent, IsGoodLedger, IsHeld, IsKept, IsSound}
+use Rattle.equipment_node.specs.Sound.{AllCanBeSent, CanBeSent, IsGoodLedger, IsHeld, IsSound}
 use Rattle.equipment_node.specs.Spooling.{Stores, booked_turn, dataid_in, end_of_spooling, is_spooled, leave_given_turn, leave_turn, let_go_turn, lines_commands, needs_leave, purge_turn, rsda_duties, sent_turn, stopped_turn, stored_turn, stores_all, stores_commands, taking_turn, transmit_turn, tried_turn, unload_part, unload_request, unloaded, unloaded_own, unloading_turn, waiting_text}
 use Rattle.equipment_node.specs.SpoolSound.{AllPlain, All-snoc, IsGoodBooked, IsGoodStores, activated-good, all-out-good, carried-good, confirmed-good, let-go-good, new-good, next-good, rested-good, settled-good, stored-good, stores-good, taken-good, unload-good}
 use Rattle.equipment_node.specs.States as states
@@ -97,7 +97,7 @@ use Rattle.equipment_node.specs.Disk.{DiskWork, behind_change, fronts_of, is_bef
 use Rattle.equipment_node.specs.End.{machine}
 use Rattle.equipment_node.specs.Equipment.{EquipmentView, act, begun_step, ended_step, first_in, found_in, is_marked_out, needs_numbers, new_own, node_step, oldest_of, parts_done, reserved, restarts, settled, settled_step, settled_went, spooled_of, started_on, starts, went_with_file}
 use Rattle.equipment_node.specs.Laws.{DidOf}
-use Rattle.equipment_node.specs.Step.{begun, beginning, character, delay_timer, due_parts, end_plan, failed_turn, first_parts, flow_turn, input_part, is_spent, last_parts, late_parts, line_timer, long_turn, offer, took_turn}
+use Rattle.equipment_node.specs.Step.{begun, beginning, delay_timer, end_plan, failed_turn, first_parts, flow_turn, input_part, is_spent, last_parts, late_parts, line_timer, long_turn, offer, took_turn}
 use Rattle.equipment_tables.specs.Tables.{TablesState, alarm_after, may_spool, most_transmitted, overwrites, set_after, tables_after}
 use Rattle.spool_ledger.specs.Activity.{rested, rsda_of}
 use Rattle.spool_ledger.specs.declared.ledger.Stand.{Stand}

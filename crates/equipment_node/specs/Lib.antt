@@ -10,6 +10,7 @@ pub mod End
 pub mod Ending
 pub mod Equipment
 pub mod Grants
+pub mod HandedBack
 pub mod Held
 pub mod Histories
 pub mod InMemory

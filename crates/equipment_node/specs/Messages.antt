@@ -1,5 +1,5 @@
 -- How the equipment treats a whole message of the host.
-use Rattle.std.specs.Prelude.{ℕ, Bool, true, false, not, ◌==◌, ◌&&◌, List, [], ◌∷◌, ◌++◌, map, slice_get, Option, Some, None, if◌then◌else◌}
+use Rattle.std.specs.Prelude.{ℕ, Bool, true, not, ◌==◌, ◌&&◌, List, [], ◌∷◌, ◌++◌, map, slice_get, Option, Some, None, if◌then◌else◌}
 use Rattle.std.specs.Option.{option_map}
 use Rattle.block_codec.specs.declared.header.Header.{Header}
 use Rattle.gem_shapes.specs.declared.request.Request.{Request}
@@ -17,7 +17,7 @@ use Rattle.message_flow.specs.Message.{is_primary}
 use Rattle.trace_log.specs.Log.{Happening, Past}
 use Rattle.trace_log.specs.Names.{message_name}
 use Rattle.transact.specs.Transactions.{primary_of}
-use Rattle.message_end.specs.Core.{Command, EndView}
+use Rattle.message_end.specs.Core.{EndView}
 use Rattle.message_end.specs.Core.Command.{End, Note, Remove}
 use Rattle.message_end.specs.Parts.{fixed_turn, led_turn}
 use Rattle.equipment_node.specs.declared.kind.Kind.{Kind}

@@ -13,7 +13,7 @@ use Rattle.trace_log.specs.Log.{Happening}
 use Rattle.trace_log.specs.Names.{Spooled}
 use Rattle.transact.specs.Numbers.{next_number}
 use Rattle.message_end.specs.declared.unsent.Unsent.{Unsent}
-use Rattle.message_end.specs.Core.{Command, EndView, is_crowded_out, reply_function}
+use Rattle.message_end.specs.Core.{EndView, is_crowded_out, reply_function}
 use Rattle.message_end.specs.Core.Command.{Abort, Note, Primary, Reply}
 use Rattle.message_end.specs.Parts.{fixed_turn}
 use Rattle.equipment_node.specs.declared.kind.Kind.{Kind}

@@ -1,36 +1,18 @@
 -- That the equipment keeps the laws of its spool: over its notes, and over what it sends.
-use Rattle.std.specs.Prelude.{◌≡◌, ◌<◌, ◌==◌, ◌&&◌, ◌^◌, ℕ, Bool, true, false, List, [], ◌∷◌, All, IfSome, length, Option, Some, None}
+use Rattle.std.specs.Prelude.{◌<◌, ◌==◌, ◌&&◌, ◌^◌, ℕ, Bool, true, false, List, [], length, Option, Some}
 use Rattle.gem_shapes.specs.declared.request.Request.{Request}
 use Rattle.gem_shapes.specs.declared.request.Request.TheVariants as request
-use Rattle.message_flow.specs.declared.waiting.Waiting.{Waiting}
-use Rattle.message_flow.specs.Message.{is_primary}
-use Rattle.spool_slots.specs.Run.{IsRunFrom}
-use Rattle.spool_slots.specs.Slot.{Message}
 use Rattle.trace_log.specs.declared.commands.ToolCommand.{ToolCommand}
-use Rattle.trace_log.specs.Log.{Happening}
-use Rattle.trace_log.specs.Names.{Spooled}
-use Rattle.transact.specs.declared.begun.Begun.{Begun}
-use Rattle.transact.specs.Transactions.{system_of}
-use Rattle.message_end.specs.Core.{EndView}
 use Rattle.message_end.specs.Course.{Meeting, course_of, notes_of}
 use Rattle.message_end.specs.Doings.{Doing}
-use Rattle.message_end.specs.Own.{Has}
-use Rattle.message_end.specs.Plan.{EndPlan}
-use Rattle.spool_law.specs.Shelf.{IsAtRest, KeepsSpool, Policy, Shelf, Tried, shelf_of, told_with}
-use Rattle.spool_law.specs.Tries.{MayDoTried, tries_in}
-use Rattle.spool_ledger.specs.declared.unload.Tried.{Tried as UnderWay}
-use Rattle.spool_ledger.specs.Ledger.{LedgerView}
-use Rattle.spool_ledger.specs.Unloading.{tried_in, waiting_in}
+use Rattle.spool_law.specs.Shelf.{KeepsSpool, Policy}
 use Rattle.equipment_tables.specs.declared.plan.EquipmentPlan.{EquipmentPlan}
 use Rattle.equipment_tables.specs.Plan.{EquipmentPlanFits}
 use Rattle.equipment_tables.specs.Requests.{request_of}
 use Rattle.equipment_tables.specs.Tables.{overwrites}
-use Rattle.equipment_node.specs.declared.kind.Kind.{Kind}
-use Rattle.equipment_node.specs.declared.kind.Kind.TheVariants as kind
 use Rattle.equipment_node.specs.End.{machine}
-use Rattle.equipment_node.specs.Equipment.{EquipmentView, found_in, started_on}
+use Rattle.equipment_node.specs.Equipment.{EquipmentView, started_on}
 use Rattle.equipment_node.specs.Laws.{DidOf}
-use Rattle.equipment_node.specs.Own.{event_report}
 use Rattle.equipment_node.specs.Reported.{tables_in}
 use Rattle.equipment_node.specs.Step.{end_plan}
 use Rattle.equipment_node.specs.Tried.{AreTried}

@@ -1,8 +1,7 @@
 -- That the ledger of the spool stays good, and notes what no law of messages speaks of.
-use Rattle.std.proofs.Common.{rules, ◌≡◌, refl, sym, ap, subst, ◌∙◌, Bool, true, false, not, ℕ, ◌+◌, ◌&&◌, ◌==◌, List, [], ◌∷◌, ◌++◌, All, Option, Some, None, if◌then◌else◌, length}
-use Rattle.std.specs.List.{filter_map}
+use Rattle.std.proofs.Common.{refl, Bool, true, false, not, ℕ, ◌+◌, ◌&&◌, ◌==◌, List, [], ◌∷◌, ◌++◌, All, Option, Some, None, if◌then◌else◌, length}
 use Rattle.std.specs.Option.{option_map, option_map_or}
-use Rattle.std.specs.Prelude.{IfSome, nat_lt, is_none}
+use Rattle.std.specs.Prelude.{IfSome, is_none}
 use Rattle.std.proofs.lemmas.List.Elements.{All-nil, All-cons, All-head, All-tail}
 use Rattle.gem_spool.specs.declared.spool.Room.{Room}
 use Rattle.gem_spool.specs.declared.spool.Room.TheVariants as room
@@ -13,15 +12,15 @@ use Rattle.spool_slots.specs.Slot.{Message}
 use Rattle.trace_log.specs.declared.names.Cause.{Cause}
 use Rattle.trace_log.specs.declared.names.Cause.TheVariants.{Confirmed, Overwritten, Purged}
 use Rattle.trace_log.specs.Log.{Happening}
-use Rattle.trace_log.specs.Names.{Spooled, spooled_name}
+use Rattle.trace_log.specs.Names.{Spooled}
 use Rattle.message_end.specs.Core.{IsText}
 use Rattle.spool_ledger.specs.declared.ledger.Stand.{Stand}
 use Rattle.spool_ledger.specs.declared.unload.Tried.{Tried}
 use Rattle.spool_ledger.specs.declared.unload.Unload.{Unload}
 use Rattle.spool_ledger.specs.Activity.{activated, changed, is_done, rested}
 use Rattle.spool_ledger.specs.Ledger.{Booked, LedgerView, and_then, carried_out, new_ledger, owed, quiet, room_for}
-use Rattle.spool_ledger.specs.Storing.{all_out, oldest_out, put, stored, stored_by, unstored}
-use Rattle.spool_ledger.specs.Unloading.{after_next, confirmed, counted, fresh, is_oldest_tried, is_over, let_go, settled, taken_up, tried_in, trying, unload_next, waiting_in, with_each, with_unload}
+use Rattle.spool_ledger.specs.Storing.{all_out, oldest_out, put, stored, stored_by}
+use Rattle.spool_ledger.specs.Unloading.{after_next, confirmed, counted, is_oldest_tried, is_over, let_go, settled, taken_up, trying, unload_next, waiting_in, with_each, with_unload}
 use Rattle.equipment_node.specs.Equipment.{settled_list, spooled_of}
 use Rattle.equipment_node.specs.Sound.{AllCanBeSent, CanBeSent, IsGoodLedger, PutsGood}
 use Rattle.equipment_node.specs.Spooling.{Stores, stores_all, stores_behind, stores_none}

@@ -11,7 +11,7 @@ use Rattle.trace_log.specs.Log.{Happening}
 use Rattle.trace_log.specs.Names.{Spooled}
 use Rattle.transact.specs.Numbers as numbers
 use Rattle.message_end.specs.declared.unsent.Unsent.{Unsent}
-use Rattle.message_end.specs.Core.{Command, EndView, is_crowded_out}
+use Rattle.message_end.specs.Core.{EndView, is_crowded_out}
 use Rattle.message_end.specs.Core.Command.{Draw, DrawnPrimary, Halt, Note, Primary, Remove}
 use Rattle.message_end.specs.Parts.{fixed_turn, leads}
 use Rattle.equipment_tables.specs.declared.answers.Answer.{Answer}

@@ -11,7 +11,7 @@ use Rattle.gem_states.specs.declared.control.ControlIn.{ControlIn}
 use Rattle.gem_states.specs.declared.control.ControlIn.TheVariants.{AttemptFailed}
 use Rattle.gem_states.specs.declared.control.ControlState.{ControlState}
 use Rattle.gem_states.specs.declared.control.ControlState.TheVariants as control
-use Rattle.gem_states.specs.Comms.{CommsOutcome, CommsView, comms_step}
+use Rattle.gem_states.specs.Comms.{CommsOutcome, comms_step}
 use Rattle.gem_states.specs.Control.{ControlView, control_next}
 use Rattle.trace_log.specs.declared.names.CommsName.{CommsName}
 use Rattle.trace_log.specs.declared.names.CommsName.TheVariants as comms_name
@@ -22,7 +22,7 @@ use Rattle.trace_log.specs.Log.{Happening}
 use Rattle.trace_log.specs.Names.{Spooled}
 use Rattle.transact.specs.declared.begun.Begun.{Begun}
 use Rattle.transact.specs.Transactions.{system_of}
-use Rattle.message_end.specs.Core.{Command, EndView}
+use Rattle.message_end.specs.Core.{EndView}
 use Rattle.message_end.specs.Core.Command.{Note}
 use Rattle.message_end.specs.Endings.{ends_open, notes_failed}
 use Rattle.message_end.specs.Parts.{fixed_turn}

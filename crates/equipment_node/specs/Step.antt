@@ -10,7 +10,7 @@ use Rattle.trace_log.specs.Names.{Spooled}
 use Rattle.message_end.specs.declared.end.Took.{Took}
 use Rattle.message_end.specs.declared.end.Took.TheVariants as took
 use Rattle.message_end.specs.Calls.{deadline_of_end, failed_at, least, took_at}
-use Rattle.message_end.specs.Core.{Command, EndView}
+use Rattle.message_end.specs.Core.{EndView}
 use Rattle.message_end.specs.Core.Command.{Halt, Offer, Take, Tick}
 use Rattle.message_end.specs.Ends.{Input}
 use Rattle.message_end.specs.Parts.{Node, fixed_turn, leads, led_turn}

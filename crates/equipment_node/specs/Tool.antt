@@ -1,10 +1,9 @@
 -- The commands of the tool.
-use Rattle.std.specs.Prelude.{ℕ, Bool, true, false, not, ◌+◌, ◌%◌, ◌^◌, List, [], ◌∷◌, ◌++◌, length, Option, Some, None, if◌then◌else◌}
+use Rattle.std.specs.Prelude.{ℕ, Bool, true, false, ◌+◌, ◌%◌, ◌^◌, List, [], ◌∷◌, Option, Some, None, if◌then◌else◌}
 use Rattle.gem_alarms.specs.Alarms.{step_of}
 use Rattle.gem_alarms.specs.declared.alarms.AlarmStep.{AlarmStep}
 use Rattle.gem_alarms.specs.declared.alarms.AlarmStep.TheVariants.{Unknown, Same, Changed}
 use Rattle.gem_states.specs.declared.comms.CommsIn.TheVariants.{Disable, Enable}
-use Rattle.gem_states.specs.declared.control.ControlIn.{ControlIn}
 use Rattle.gem_states.specs.declared.control.ControlIn.TheVariants.{AttemptFailed, Offline, Online, ToLocal, ToRemote}
 use Rattle.gem_states.specs.declared.control.ControlOut.{ControlOut}
 use Rattle.gem_states.specs.declared.control.ControlOut.TheVariants.{SendAttempt}
@@ -13,7 +12,6 @@ use Rattle.gem_reports.specs.Reporting.{is_enabled_in, is_planned}
 use Rattle.gem_vars.specs.declared.settings.Setting.{Setting}
 use Rattle.gem_vars.specs.Settings as settings
 use Rattle.secs_items.specs.declared.item.Item.{Item}
-use Rattle.secs_items.specs.Spelling.{shortest_spelling}
 use Rattle.trace_log.specs.declared.commands.ToolCommand.{ToolCommand}
 use Rattle.trace_log.specs.declared.commands.ToolCommand.TheVariants as tool
 use Rattle.trace_log.specs.Log.{Happening, Past}

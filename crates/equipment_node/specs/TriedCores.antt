@@ -34,7 +34,7 @@ use Rattle.message_end.specs.Core.{Command, EndView, Step, Went, answers, asked_
 use Rattle.message_end.specs.Core.Went.{Goes, Spent}
 use Rattle.message_end.specs.Duties.{all_done}
 use Rattle.message_end.specs.Own.{Has}
-use Rattle.message_end.specs.Parts.{Node, after_parts, after_turn, core_step, went_with, with_own}
+use Rattle.message_end.specs.Parts.{Node, after_parts, after_turn, core_step, went_with}
 use Rattle.message_end.proofs.Parts.{OnEither, either-less, either-then}
 use Rattle.spool_law.specs.Tries.{IsNewest}
 use Rattle.equipment_node.specs.declared.kind.Kind.{Kind}

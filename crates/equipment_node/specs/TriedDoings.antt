@@ -1,6 +1,6 @@
 -- What the law of tries asks of doings: of those that are of no try, of the note of one, and of a block that goes to
 -- the line.
-use Rattle.std.proofs.Common.{◌≡◌, ◌≢◌, refl, sym, ap, subst, ◌∙◌, inl, inr, ◌⊎◌, arith, ◌<◌, ◌+◌, ◌%◌, ◌==◌, Bool, true, ℕ, List, [], ◌∷◌, ◌++◌, append-nil, append_assoc, Option, Some, None}
+use Rattle.std.proofs.Common.{◌≡◌, refl, sym, ap, subst, ◌∙◌, inl, ◌+◌, ◌%◌, ◌==◌, true, ℕ, List, [], ◌∷◌, ◌++◌, append-nil, append_assoc, Option, Some, None}
 use Rattle.block_codec.specs.Block.{BlockView}
 use Rattle.line_end.specs.declared.event.Phase.{Phase}
 use Rattle.line_end.specs.declared.event.Phase.TheVariants as phase

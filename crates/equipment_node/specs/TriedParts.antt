@@ -1,6 +1,6 @@
 -- The parts of a step, with tries in turn.
-use Rattle.std.proofs.Common.{cond, ◌≡◌, refl, sym, ap, subst, ◌∙◌, inl, inr, ◌⊎◌, arith, ◌<◌, ◌≤◌, ◌+◌, ◌==◌, ◌&&◌, Bool, true, false, ℕ, List, [], ◌∷◌, ◌++◌, append_assoc, length, map, replicate, zero, suc, Option, Some, None, if◌then◌else◌}
-use Rattle.std.proofs.lemmas.Bool.{eq-eqb, ne_eqb}
+use Rattle.std.proofs.Common.{cond, ◌≡◌, refl, sym, ap, subst, ◌∙◌, inl, inr, arith, ◌<◌, ◌+◌, ◌==◌, ◌&&◌, Bool, true, false, ℕ, List, [], ◌∷◌, ◌++◌, append_assoc, length, map, replicate, zero, suc, Option, Some, None, if◌then◌else◌}
+use Rattle.std.proofs.lemmas.Bool.{eq-eqb}
 use Rattle.std.proofs.lemmas.Bool.Decides.{nat_tests}
 use Rattle.std.specs.Bool.{beq}
 use Rattle.line_end.specs.Plan.{LinePlanFits}
@@ -15,26 +15,26 @@ use Rattle.trace_log.specs.Log.{Happening}
 use Rattle.trace_log.specs.Log.Happening.{Try}
 use Rattle.trace_log.specs.Names.{Spooled}
 use Rattle.transact.specs.Numbers.{NumbersView, after_draw, next_number}
-use Rattle.message_end.specs.Core.{Command, EndView, Went, and_then, carried, carry, draws, keeps_drawn, noted, offers, waits, with_end, with_numbers, with_outgoing}
-use Rattle.message_end.specs.Core.Command.{Draw, DropDue, Offer, Remove, Tick}
+use Rattle.message_end.specs.Core.{Command, EndView, Went, and_then, carried, carry, draws, keeps_drawn, noted, waits, with_end, with_numbers, with_outgoing}
+use Rattle.message_end.specs.Core.Command.{Draw, DropDue, Offer, Remove}
 use Rattle.message_end.specs.Core.Went.{Goes, Spent}
 use Rattle.message_end.specs.Doings.{Doing, own_of}
 use Rattle.message_end.specs.Duties.{all_done}
-use Rattle.message_end.specs.Ends.{AreBegunOf, AreDecidedAt, AreOfStep, Input, taking_calls}
+use Rattle.message_end.specs.Ends.{AreDecidedAt, AreOfStep, Input, taking_calls}
 use Rattle.message_end.specs.History.{AreApart, AreNew, AreWaiting, IsHistoryOf, Item, waiting_of}
 use Rattle.message_end.specs.LineCalls.{IsOffer}
 use Rattle.message_end.specs.Own.{Has, given_in, heard_in, sent_at, sent_in}
-use Rattle.message_end.specs.Parts.{Node, after_parts, after_turn, core_after, core_step, fixed_turn, leads, led_turn, went_with, with_own}
+use Rattle.message_end.specs.Parts.{Node, after_parts, after_turn, core_after, core_step, fixed_turn, leads, led_turn, went_with}
 use Rattle.message_end.specs.Plan.{EndPlan}
 use Rattle.message_end.proofs.Parts.{OnEither, either-less, either-then}
 use Rattle.spool_law.specs.Tries.{IsNewest}
 use Rattle.spool_ledger.specs.Unloading.{taken_up}
 use Rattle.equipment_node.specs.declared.kind.Kind.{Kind}
-use Rattle.equipment_node.specs.Own.{OwnView, ToolPart, ToolTurn, quiet_turn, with_ledger, with_tried}
-use Rattle.equipment_node.specs.Spooling.{lines_commands, sent_turn, stopped_turn, taking_turn, tried_turn, waiting_text}
+use Rattle.equipment_node.specs.Own.{OwnView, ToolPart, ToolTurn, with_ledger, with_tried}
+use Rattle.equipment_node.specs.Spooling.{sent_turn, stopped_turn, taking_turn, tried_turn, waiting_text}
 use Rattle.equipment_node.specs.Tried.{AreInTurn, WaitsIn, newest_of}
 use Rattle.equipment_node.specs.TriedCores.{CoreStep, NodeStep, NoneWaits}
-use Rattle.equipment_node.specs.TriedSteps.{AreMildDuties, IsMild, TriedAt, at-such-calls, carry-at, drop-at, duties-at, offer-at, try-at}
+use Rattle.equipment_node.specs.TriedSteps.{AreMildDuties, TriedAt, at-such-calls, carry-at, drop-at, duties-at, offer-at, try-at}
 
 -- ---- the message of the try before waits no longer
 

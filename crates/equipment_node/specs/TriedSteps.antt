@@ -1,6 +1,5 @@
 -- What keeps tries in turn in the last parts of a step, doing by doing.
-use Rattle.std.proofs.Common.{◌≡◌, refl, sym, ap, subst, ◌∙◌, inl, inr, ◌⊎◌, arith, ◌<◌, ◌≤◌, Bool, true, false, ℕ, ◌+◌, ◌%◌, ◌==◌, nat_le, List, [], ◌∷◌, ◌++◌, append-nil, append_assoc, length, Option, Some, None, if◌then◌else◌}
-use Rattle.std.proofs.lemmas.Bool.Decides.{nat_tests}
+use Rattle.std.proofs.Common.{◌≡◌, refl, sym, ap, subst, ◌∙◌, inl, inr, ◌<◌, Bool, true, false, ℕ, ◌%◌, ◌==◌, nat_le, List, [], ◌∷◌, ◌++◌, append-nil, append_assoc, length, Option, Some, None, if◌then◌else◌}
 use Rattle.std.specs.List.{find}
 use Rattle.std.specs.Prelude.{is_some}
 use Rattle.block_codec.specs.Block.{BlockView}
@@ -25,9 +24,9 @@ use Rattle.transact.specs.Numbers.{next_number}
 use Rattle.transact.specs.Transactions as transactions
 use Rattle.transact.specs.Transactions.{is_answered_by}
 use Rattle.message_end.specs.declared.unsent.Unsent.{Unsent}
-use Rattle.message_end.specs.Core.{Command, EndView, MayCarry, MayCarryAll, Step, Went, and_then, answers, at_first, calls, carried, carry, drawn_primary, draws, drops, gives, held_header, is_crowded_out, judges, keeps_drawn, noted, offers, primary_of, queues, replies, reply_function, reply_of, sends, step_in, takes, takes_back, tells, times_out, unsent_name, with_asked, with_assembly, with_end, with_outgoing}
+use Rattle.message_end.specs.Core.{Command, EndView, MayCarry, MayCarryAll, Went, answers, at_first, calls, carried, carry, drawn_primary, draws, drops, gives, held_header, is_crowded_out, judges, keeps_drawn, noted, offers, primary_of, queues, replies, reply_function, reply_of, sends, step_in, takes, takes_back, tells, times_out, unsent_name, with_asked, with_assembly, with_end, with_outgoing}
 use Rattle.message_end.specs.Core.Went.{Goes, Spent}
-use Rattle.message_end.specs.Doings.{AreLawful, Doing, line_of, own_of}
+use Rattle.message_end.specs.Doings.{Doing}
 use Rattle.message_end.specs.Doings.Doing.{Calls, Does, Gives, Says}
 use Rattle.message_end.specs.Drops.{AreDroppedAt, Drops}
 use Rattle.message_end.specs.Duties.{all_done}
@@ -38,7 +37,7 @@ use Rattle.message_end.specs.Own.{Has}
 use Rattle.message_end.specs.Plan.{EndPlan}
 use Rattle.message_end.proofs.Limits.{AddsNone, carry-limit, limit_of}
 use Rattle.message_end.proofs.Lower.{lower}
-use Rattle.message_end.proofs.Parts.{AllStayOff, IsDue, IsQuiet, OnEither, StaysOff, commands-due, either-then}
+use Rattle.message_end.proofs.Parts.{AllStayOff, IsQuiet, OnEither, StaysOff, commands-due, either-then}
 use Rattle.message_end.proofs.Steps.{CallsNone, Exactly, IsAt, IsDone, OnWent, at-carry, offer-made, take-made, tick-made}
 use Rattle.message_flow.specs.declared.message.Message.{Message}
 use Rattle.spool_law.specs.Shelf.{change_of}
@@ -46,7 +45,7 @@ use Rattle.spool_law.specs.Tries.{tries_in}
 use Rattle.equipment_node.specs.declared.kind.Kind.{Kind}
 use Rattle.equipment_node.specs.Own.{ToolCommands, ToolDuty}
 use Rattle.equipment_node.specs.Tried.{AreInTurn, AreTried}
-use Rattle.equipment_node.specs.TriedCores.{AsksOfPrimary, CoreStep, NoneWaits, Turned, carried-turned, carry-turned, still-in-turn, tried-in-turn}
+use Rattle.equipment_node.specs.TriedCores.{AsksOfPrimary, CoreStep, NoneWaits, Turned, carry-turned, still-in-turn, tried-in-turn}
 use Rattle.equipment_node.specs.TriedDoings.{AreNoTries, GiveNone, GoesTried, IsNoTry, both-no, done-notes, may-try, offer-done, offer-may, quiet-done, said-history}
 
 -- ---- commands that note no try

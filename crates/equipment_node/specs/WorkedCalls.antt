@@ -1,6 +1,5 @@
 -- Calls of the disk that can be followed by hand.
 use Rattle.std.specs.Prelude.{◌≡◌, ℕ, List, [], ◌∷◌, ◌++◌, replicate}
-use Rattle.disk_base.specs.Calls.{DiskCall}
 use Rattle.gem_spool.specs.declared.works.Work.TheVariants.{DropOldest, Purge, Put}
 use Rattle.gem_spool.specs.Standing.{Standing}
 use Rattle.spool_slots.specs.Front.{magic}

@@ -1,7 +1,7 @@
-//! A step over the spool's disk. It is asked at three places alone: for more system bytes before all else, for the works
-//! that are owed behind what the step is given, and for the oldest message before an unload goes on.
+//! A step over the spool's disk. It is asked at three places alone: for more system bytes before all else, for the
+//! works that are owed behind what the step is given, and for the oldest message before an unload goes on.
 
-ghost use Rattle.std.specs.Prelude.{All, ◌≡◌, ◌∷◌, [], ◌<◌, ◌≤◌, ◌%◌, ◌^◌, ◌-◌, nat_le, length, List, ℕ, true, Err, IfOk, Some};
+ghost use Rattle.std.specs.Prelude.{All, ◌≡◌, ◌≢◌, ◌∷◌, [], ◌<◌, ◌≤◌, ◌%◌, ◌^◌, ◌-◌, nat_le, length, List, ℕ, true, Err, IfOk, Some};
 ghost use Rattle.arrayvec.specs.ArrayVec.{array_vec_len};
 ghost use Rattle.disk_base.specs.Story.{Story};
 ghost use Rattle.gem_spool.specs.Standing.{Standing, count_in, count_of};
@@ -9,7 +9,7 @@ ghost use Rattle.gem_spool.specs.Works.{AreDue, counts_after};
 ghost use Rattle.trace_log.specs.Log.{Happening};
 ghost use Rattle.trace_log.specs.declared.commands.ToolCommand.{ToolCommand};
 ghost use Rattle.trace_log.specs.Commands.{ToolCommandFits};
-ghost use Rattle.message_end.specs.declared.end.Stop.TheVariants.{NumbersSpent};
+ghost use Rattle.message_end.specs.declared.end.Stop.TheVariants.{DiskFailed, NumbersSpent};
 ghost use Rattle.message_end.specs.Core.{Step};
 ghost use Rattle.message_end.specs.Core.Went.{Goes};
 ghost use Rattle.message_end.specs.Ends.{Input, IsEmpty, MayTake, input_of};
@@ -22,6 +22,7 @@ ghost use Rattle.equipment_node.specs.Disk.{asks, read_works, reserve_works, sta
 ghost use Rattle.equipment_node.specs.Disk.DiskWork.{ReadOldest};
 ghost use Rattle.equipment_node.specs.DiskCalls.{CallsInStep, HasCalled, disk_in};
 ghost use Rattle.equipment_node.specs.Equipment.{EquipmentView, begun_step, needs_numbers};
+ghost use Rattle.equipment_node.specs.HandedBack.{HandsBack};
 ghost use Rattle.equipment_node.specs.Node.{node_of, own_of};
 ghost use Rattle.equipment_node.specs.Sound.{CanBeSent};
 ghost use Rattle.equipment_node.specs.Spooling.{end_of_spooling};
@@ -82,6 +83,7 @@ impl Tool {
             → HasAsked D.Disk spool.spool.disk (asks s (input_of input.entry) now) result }
         ensures calls { (s : EquipmentView) → node_of self.old ≡ s.node → IsOn D.Disk spool.spool s
             → CallsInStep D.Disk disk_in spool.spool.disk s (input_of input.entry) now result }
+        ensures disk { HandsBack D.Disk spool.spool.disk result }
     {
         match self.act(alloc, spool, input, now, out) {
             Ok(spool) => Ok(spool),
@@ -114,6 +116,7 @@ impl Tool {
             → HasAsked D.Disk spool.spool.disk (asks s (input_of input.entry) now) result }
         ensures calls { (s : EquipmentView) → node_of self.old ≡ s.node → IsOn D.Disk spool.spool s
             → CallsInStep D.Disk disk_in spool.spool.disk s (input_of input.entry) now result }
+        ensures disk { HandsBack D.Disk spool.spool.disk result }
     {
         match self.reserve(spool, out) {
             Ok(spool) => self.act_on(alloc, spool, input, now, out),
@@ -139,6 +142,7 @@ impl Tool {
         ensures ready { IfOk result (λ g. IsReady g.spool (node_of self.new)) }
         ensures notes { out.new.notes ≡ out.old.notes }
         ensures line { out.new.line.items ≡ out.old.line.items }
+        ensures disk { HandsBack D.Disk spool.spool.disk result }
     {
         if self.has_enough() {
             return Ok(spool);
@@ -172,6 +176,7 @@ impl Tool {
         ensures ready { IfOk result (λ g. IsReady g.spool (node_of self.new)) }
         ensures notes { out.new.notes ≡ out.old.notes }
         ensures line { out.new.line.items ≡ out.old.line.items }
+        ensures disk { HandsBack D.Disk spool.spool.disk result }
     {
         match spool.reserve() {
             Ok((spool, Some(_))) => {
@@ -207,6 +212,7 @@ impl Tool {
             → HasCalled D.Disk disk_in spool.spool.disk bytes (standing_in (opened s))
             (works_behind (begun_step s (input_of input.entry) now))
             result }
+        ensures disk { HandsBack D.Disk spool.spool.disk result }
     {
         match self.do_first(alloc, input, now, out) {
             Ok(()) => self.act_behind(alloc, spool, now, out),
@@ -226,19 +232,21 @@ impl Tool {
         requires ready { IsReady spool.spool (node_of self.old) }
         requires room { array_vec_len out.old.line ≤ 514 }
         ensures ready { IfOk result (λ g. IsReady g.spool (node_of self.new)) }
-        ensures acts { (s : EquipmentView) → (input : Input ToolCommand) → IsBegun s input now (node_of self.old) out.old
-            → HasOpened D.Disk s (opened s).node spool
+        ensures acts { (s : EquipmentView) → (input : Input ToolCommand)
+            → IsBegun s input now (node_of self.old) out.old → HasOpened D.Disk s (opened s).node spool
             → Acts D.Disk s input now (node_of self.new) out.new result }
-        ensures asks { (s : EquipmentView) → (input : Input ToolCommand) → IsBegun s input now (node_of self.old) out.old
-            → HasOpened D.Disk s (opened s).node spool
+        ensures asks { (s : EquipmentView) → (input : Input ToolCommand)
+            → IsBegun s input now (node_of self.old) out.old → HasOpened D.Disk s (opened s).node spool
             → HasAsked D.Disk spool.spool.disk
             (asked_for (standing_in (opened s)) (works_behind (begun_step s input now)))
             result }
-        ensures calls { (s : EquipmentView) → (input : Input ToolCommand) → IsBegun s input now (node_of self.old) out.old
-            → HasOpened D.Disk s (opened s).node spool → (bytes : List ℕ)
+        ensures calls { (s : EquipmentView) → (input : Input ToolCommand)
+            → IsBegun s input now (node_of self.old) out.old → HasOpened D.Disk s (opened s).node spool
+            → (bytes : List ℕ)
             → HasCalled D.Disk disk_in spool.spool.disk bytes (standing_in (opened s))
             (works_behind (begun_step s input now))
             result }
+        ensures disk { HandsBack D.Disk spool.spool.disk result }
     {
         match self.carry_out(alloc, spool, out) {
             Ok(spool) => self.act_last(alloc, spool, now, out),
@@ -269,6 +277,7 @@ impl Tool {
             → HasCalled D.Disk disk_in spool.spool.disk bytes (standing_in (opened s))
             (works_behind (begun_step s input now))
             (Err result) }
+        ensures disk { stop ≢ DiskFailed → HandsBack D.Disk spool.spool.disk (Err result) }
     {
         match stop {
             Stop::NumbersSpent => self.stop_spent(alloc, spool, out),
@@ -303,6 +312,7 @@ impl Tool {
             → HasCalled D.Disk disk_in spool.spool.disk bytes (standing_in (opened s))
             (works_behind (begun_step s input now))
             (Err result) }
+        ensures disk { HandsBack D.Disk spool.spool.disk (Err result) }
     {
         match self.carry_out(alloc, spool, out) {
             Ok(spool) => Ended::NumbersSpent(spool.retire()),
@@ -346,6 +356,7 @@ impl Tool {
         ensures calls { (t : Step EquipmentView Happening) → IsAt D.Disk t (node_of self.old) out.old spool
             → (bytes : List ℕ)
             → HasCalled D.Disk disk_in spool.spool.disk bytes (standing_in t.next) (read_works (Goes t)) result }
+        ensures disk { HandsBack D.Disk spool.spool.disk result }
     {
         match self.next_unload() {
             Some(number) => self.act_reading(alloc, spool, number, now, out),
@@ -373,6 +384,7 @@ impl Tool {
         ensures asks { HasAsked D.Disk spool.spool.disk (record { calls = 1; bytes = 0 }) result }
         ensures calls { (st : Standing) → count_of spool.spool ≡ count_in st → 0 < length st.list
             → (bytes : List ℕ) → HasCalled D.Disk disk_in spool.spool.disk bytes st (ReadOldest ∷ []) result }
+        ensures disk { HandsBack D.Disk spool.spool.disk result }
     {
         let mut spool = spool;
         match spool.oldest_message(alloc) {

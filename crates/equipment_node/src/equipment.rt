@@ -8,7 +8,8 @@ ghost use Rattle.message_end.specs.Ends.{IsEmpty, MayTake, input_of};
 ghost use Rattle.equipment_tables.specs.Plan.{EquipmentPlanFits};
 ghost use Rattle.equipment_node.specs.Amid.{IsReady};
 ghost use Rattle.equipment_node.specs.DiskCalls.{CallsInStep, disk_held};
-ghost use Rattle.equipment_node.specs.Held.{Begins, IsIn, Moves, starting_by, view_in};
+ghost use Rattle.equipment_node.specs.HandedBack.{SeatHandsBack, StartHandsBack, StepHandsBack};
+ghost use Rattle.equipment_node.specs.Held.{Begins, FindsFile, IsIn, Moves, starting_by, view_in};
 ghost use Rattle.equipment_node.specs.Node.{node_of};
 ghost use Rattle.equipment_node.specs.SpentSteps.{IsSpentByCause, IsStartSpentByCause};
 ghost use Rattle.equipment_node.specs.StartCalls.{CallsInStart, MovesMark, StartMoves};
@@ -75,7 +76,9 @@ pub enum Starting<D> {
 impl<D: Disk> Equipment<D> {
     /// A start: the spool is taken up from its device, and system bytes are reserved there. The plan is copied where it
     /// is kept, and must fit. The disk's calls are a sync, reads, and those that move the mark. `NumbersSpent` comes
-    /// where the mark of the file can't move on, and nowhere else, and no start goes on there.
+    /// where the mark of the file can't move on, and nowhere else, and no start goes on there. Whether the disk tells
+    /// its bytes or not, it is handed back with its file, and counts a fault where the answer is `DiskFailed` and
+    /// nowhere else.
     pub fn start(
         alloc: Global,
         plan: &EquipmentPlan,
@@ -88,6 +91,8 @@ impl<D: Disk> Equipment<D> {
         ensures begins { (s : Story) → D.told raw.disk ≡ Some s → Begins D.Disk plan.now s out.new result }
         ensures spent { (s : Story) → D.told raw.disk ≡ Some s → IsStartSpentByCause (file_in s.now.bytes) result }
         ensures calls { (s : Story) → D.told raw.disk ≡ Some s → CallsInStart D.Disk raw.disk s result }
+        ensures finds { (s : Story) → D.told raw.disk ≡ Some s → FindsFile s result }
+        ensures disk { StartHandsBack D.Disk raw.disk result }
     {
         let _ = now;
         match raw.recover() {
@@ -108,6 +113,7 @@ impl<D: Disk> Equipment<D> {
         ensures begins { IsFresh D.Disk spool → BeginsOver D.Disk plan.now spool out.new result }
         ensures calls { (t : Story) → D.told spool.spool.disk ≡ Some t
             → StartMoves D.Disk spool.spool.disk t.now.bytes spool.spool.mark result }
+        ensures disk { StartHandsBack D.Disk spool.spool.disk result }
     {
         match start_over(alloc, plan, spool, out) {
             Ok(Seat { tool, spool }) => Ok(Equipment { tool, spool }),
@@ -119,9 +125,9 @@ impl<D: Disk> Equipment<D> {
 
     /// One step. On an ending the notes keep what was noted before it, and no character is written. All that the disk
     /// is asked in a step is done before its characters are sent: its calls are those of the works of the step, in
-    /// their order, up to the first that fails, and no others. `NumbersSpent` comes where it needs more system bytes and
-    /// the mark of the file can't move on, or puts a message into a spool whose numbers are at their end, and nowhere
-    /// else; where there is such a cause, the step doesn't go on.
+    /// their order, up to the first that fails, and no others. `NumbersSpent` comes where it needs more system bytes
+    /// and the mark of the file can't move on, or puts a message into a spool whose numbers are at their end, and
+    /// nowhere else; where there is such a cause, the step doesn't go on. The disk is handed back as by a start.
     pub fn step(
         self,
         alloc: Global,
@@ -142,6 +148,7 @@ impl<D: Disk> Equipment<D> {
             now
             result }
         ensures spent { IsIn D.Disk self → IsSpentByCause D.Disk self (input_of input.entry) now result }
+        ensures disk { StepHandsBack D.Disk self.spool.spool.disk result }
     {
         let Equipment { mut tool, spool } = self;
         match tool.step_on(alloc, spool, input, now, out) {
@@ -215,6 +222,7 @@ pub(crate) fn start_over<D: Disk>(
     ensures asks { StartAsks D.Disk spool.spool.disk result }
     ensures calls { (t : Story) → D.told spool.spool.disk ≡ Some t
         → MovesMark D.Disk spool.spool.disk t.now.bytes spool.spool.mark result }
+    ensures disk { SeatHandsBack D.Disk spool.spool.disk result }
 {
     // (that it stands as it says is told by the call that counts its messages)
     let _ = spool.len();

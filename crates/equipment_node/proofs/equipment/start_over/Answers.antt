@@ -3,6 +3,7 @@ use Rattle.gem_spool.specs.Spool.{ReservesFrom}
 use Rattle.gem_spool.specs.Standing.{Stands, standing_of}
 use Rattle.gem_spool.specs.Works.{standing_after_reserve}
 use Rattle.equipment_node.proofs.Beginning.{none-left, start-asked, start-failed, start-fallen, start-ready, started}
+use Rattle.equipment_node.proofs.HandingBack.{kept-at, kept-then, reserved-back, seat-then, seated-back, unreserved-back}
 use Rattle.equipment_node.proofs.StartCalled.{mark-moved, mark-stays, move-stops}
 use Rattle.equipment_node.proofs.equipment.start_over.Goals as goal
 
@@ -79,3 +80,19 @@ returns-in-None-clause-calls g c t told =
 pub returns-in-Err-clause-calls : goal.returns-in-Err-clause-calls
 returns-in-Err-clause-calls g c t told =
     move-stops g.D.Disk c.args.spool t told c.in-Err.spent c.in-Err.ensures.reserve
+
+pub returns-in-Some-clause-disk : goal.returns-in-Some-clause-disk
+returns-in-Some-clause-disk g c =
+    seat-then g.D.Disk c.args.spool.spool.disk c.in-Ok.spool.spool.disk c.start_with.result
+    (reserved-back g.D.Disk c.args.spool c.in-Ok.spool _ c.in-Ok.ensures.reserve)
+    (seated-back g.D.Disk c.args.plan.now c.in-Ok.spool c.in-Some.base c.args.out.now c.start_with.new.out
+    c.start_with.result c.start_with.ensures.starts)
+
+pub returns-in-None-clause-disk : goal.returns-in-None-clause-disk
+returns-in-None-clause-disk g c =
+    kept-then g.D.Disk c.args.spool.spool.disk c.in-Ok.spool.spool.disk c.retire.result.disk
+    (reserved-back g.D.Disk c.args.spool c.in-Ok.spool _ c.in-Ok.ensures.reserve)
+    (kept-at g.D.Disk c.in-Ok.spool.spool.disk c.retire.result.disk c.retire.ensures.disk)
+
+pub returns-in-Err-clause-disk : goal.returns-in-Err-clause-disk
+returns-in-Err-clause-disk g c = unreserved-back g.D.Disk c.args.spool c.in-Err.spent c.in-Err.ensures.reserve

@@ -1,10 +1,12 @@
 use Rattle.std.proofs.Common.{ap, subst, sym}
 use Rattle.std.specs.Prelude.{Err}
-use Rattle.equipment_node.specs.Held.{Begins}
-use Rattle.equipment_node.proofs.SpentMoves.{begun-by-cause}
+use Rattle.equipment_node.specs.HandedBack.{StartHandsBack}
+use Rattle.equipment_node.specs.Held.{Begins, FindsFile}
 use Rattle.equipment_node.specs.StartCalls.{CallsInStart}
+use Rattle.equipment_node.proofs.HandingBack.{kept-at, kept-then, start-then, taken-back, untaken-back}
+use Rattle.equipment_node.proofs.SpentMoves.{begun-by-cause}
 use Rattle.equipment_node.proofs.StartCalled.{looked-only, looked-through}
-use Rattle.equipment_node.proofs.TakenUp.{begun-over, is-fresh, not-taken}
+use Rattle.equipment_node.proofs.TakenUp.{begun-over, found, is-fresh, not-found, not-taken}
 use Rattle.equipment_node.proofs.equipment.Equipment.start.Goals as goal
 
 pub returns-in-Ok-clause-begins : goal.returns-in-Ok-clause-begins
@@ -40,3 +42,23 @@ pub returns-in-Err-clause-calls : goal.returns-in-Err-clause-calls
 returns-in-Err-clause-calls g c s told =
     subst (λ e. CallsInStart g.D.Disk c.args.raw.disk s (Err e)) (sym c.why_not.ensures)
     (looked-only g.D.Disk c.args.raw.disk s told c.in-Err.unknown c.in-Err.ensures)
+
+pub returns-in-Ok-clause-disk : goal.returns-in-Ok-clause-disk
+returns-in-Ok-clause-disk g c =
+    start-then g.D.Disk c.args.raw.disk c.new.result.spool.disk c.start_on.result
+    (kept-then g.D.Disk c.args.raw.disk c.in-Ok.spool.disk c.new.result.spool.disk
+    (taken-back g.D.Disk c.args.raw.disk c.in-Ok.spool c.in-Ok.ensures)
+    (kept-at g.D.Disk c.in-Ok.spool.disk c.new.result.spool.disk (ap (λ h. h.spool.disk) c.new.ensures.made)))
+    c.start_on.ensures.disk
+
+pub returns-in-Err-clause-disk : goal.returns-in-Err-clause-disk
+returns-in-Err-clause-disk g c =
+    subst (λ e. StartHandsBack g.D.Disk c.args.raw.disk (Err e)) (sym c.why_not.ensures)
+    (untaken-back g.D.Disk c.args.raw.disk c.in-Err.unknown c.in-Err.ensures)
+
+pub returns-in-Ok-clause-finds : goal.returns-in-Ok-clause-finds
+returns-in-Ok-clause-finds g c s told = found s c.start_on.result (c.in-Ok.ensures.1 s told).0.sound
+
+pub returns-in-Err-clause-finds : goal.returns-in-Err-clause-finds
+returns-in-Err-clause-finds g c s told =
+    subst (λ e. FindsFile s (Err e)) (sym c.why_not.ensures) (not-found s c.in-Err.unknown)

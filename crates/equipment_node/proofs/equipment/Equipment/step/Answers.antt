@@ -3,6 +3,7 @@ use Rattle.std.specs.Prelude.{Ok, Err}
 use Rattle.message_end.specs.Ends.{input_of}
 use Rattle.equipment_node.specs.declared.own.Tool.{Tool}
 use Rattle.equipment_node.specs.DiskCalls.{CallsInStep, disk_held}
+use Rattle.equipment_node.specs.HandedBack.{IsEnded, IsKept}
 use Rattle.equipment_node.specs.Held.{HasMoved, IsIn, Moves, view_in}
 use Rattle.equipment_node.specs.Node.{node_of}
 use Rattle.equipment_node.proofs.Seated.{any-node, step-gone, step-on}
@@ -81,3 +82,11 @@ pub returns-in-Err-clause-spent : goal.returns-in-Err-clause-spent
 returns-in-Err-clause-spent g c in_state =
     moved-by-cause g.D.Disk _ (input_of c.args.input) c.args.now c.step_on.new.out in_state (Err c.in-Err.ended)
     (returns-in-Err-clause-moves g c in_state)
+
+pub returns-in-Ok-clause-disk : goal.returns-in-Ok-clause-disk
+returns-in-Ok-clause-disk g c =
+    subst (λ h. IsKept g.D.Disk h.spool.spool.disk c.in-Ok.spool.spool.disk) c.self.view_is c.in-Ok.ensures.disk
+
+pub returns-in-Err-clause-disk : goal.returns-in-Err-clause-disk
+returns-in-Err-clause-disk g c =
+    subst (λ h. IsEnded g.D.Disk h.spool.spool.disk c.in-Err.ended) c.self.view_is c.in-Err.ensures.disk

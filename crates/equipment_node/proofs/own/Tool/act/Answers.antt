@@ -2,6 +2,7 @@ use Rattle.std.proofs.Common.{◌∙◌}
 use Rattle.message_end.specs.Ends.{input_of}
 use Rattle.equipment_node.specs.Node.{node_of}
 use Rattle.equipment_node.proofs.Asking.{reserve-fallen, step-asked}
+use Rattle.equipment_node.proofs.HandingBack.{handed-then}
 use Rattle.equipment_node.proofs.OverDisk.{not-opened}
 use Rattle.equipment_node.proofs.StepCalls.{not-called, step-called}
 use Rattle.equipment_node.proofs.own.Tool.act.Goals as goal
@@ -50,3 +51,11 @@ returns-in-Err-clause-calls g c s node_is on t told =
     not-called g.D.Disk s (input_of c.args.input) c.args.now c.args.spool.spool.disk t.now.bytes
     (node_of c.reserve.new.self) c.in-Err.ended on.clear.owes (c.in-Err.ensures.opens s node_is on (t, told))
     (c.in-Err.ensures.calls s node_is on t told)
+
+pub returns-in-Ok-clause-disk : goal.returns-in-Ok-clause-disk
+returns-in-Ok-clause-disk g c =
+    handed-then g.D.Disk c.args.spool.spool.disk c.in-Ok.spool.spool.disk c.act_on.result c.in-Ok.ensures.disk
+    c.act_on.ensures.disk
+
+pub returns-in-Err-clause-disk : goal.returns-in-Err-clause-disk
+returns-in-Err-clause-disk g c = c.in-Err.ensures.disk

@@ -1,8 +1,10 @@
 use Rattle.std.proofs.Common.{◌≤◌, sym, subst}
+use Rattle.std.specs.Prelude.{Ok, Err}
 use Rattle.arrayvec.specs.ArrayVec.{array_vec_len}
 use Rattle.equipment_node.specs.Node.{node_of}
 use Rattle.equipment_node.specs.Equipment.{settled_step}
 use Rattle.equipment_node.proofs.Asking.{behind-asked, behind-fallen}
+use Rattle.equipment_node.proofs.HandingBack.{handed-then, works-back}
 use Rattle.equipment_node.proofs.OverDisk.{at-settled, carry-failed, ends-acts}
 use Rattle.equipment_node.proofs.Readying.{settled-ready}
 use Rattle.equipment_node.proofs.StepCalls.{behind-called, behind-stops}
@@ -22,9 +24,9 @@ act_last-requires g c = record {
 
 pub returns-in-Ok-clause-acts : goal.returns-in-Ok-clause-acts
 returns-in-Ok-clause-acts g c s input begun begin =
-    ends-acts g.D.Disk s input c.args.now begin.went c.args.spool (node_of c.args.self.now) (node_of c.act_last.new.self)
-    c.args.out.now c.act_last.new.out begun c.act_last.result begin.clear c.requires.ready.count
-    c.in-Ok.ensures.come_to
+    ends-acts g.D.Disk s input c.args.now begin.went c.args.spool (node_of c.args.self.now)
+    (node_of c.act_last.new.self) c.args.out.now c.act_last.new.out begun c.act_last.result begin.clear
+    c.requires.ready.count c.in-Ok.ensures.come_to
     (c.act_last.ensures.ends (settled_step begun.step)
     (at-settled g.D.Disk s input c.args.now begin.went c.args.spool c.in-Ok.spool (node_of c.args.self.now)
     (node_of c.carry_out.new.self) c.args.out.now c.carry_out.new.out begun begin.clear begin.told
@@ -64,3 +66,13 @@ pub returns-in-Err-clause-calls : goal.returns-in-Err-clause-calls
 returns-in-Err-clause-calls g c s input begun begin bytes =
     behind-stops g.D.Disk s input c.args.now bytes c.args.spool begin.clear (node_of c.args.self.now) c.args.out.now
     c.carry_out.new.out begun c.in-Err.ended c.in-Err.ensures.works
+
+pub returns-in-Ok-clause-disk : goal.returns-in-Ok-clause-disk
+returns-in-Ok-clause-disk g c =
+    handed-then g.D.Disk c.args.spool.spool.disk c.in-Ok.spool.spool.disk c.act_last.result
+    (works-back g.D.Disk c.args.spool _ c.args.out.now c.carry_out.new.out (Ok c.in-Ok.spool) c.in-Ok.ensures.works)
+    c.act_last.ensures.disk
+
+pub returns-in-Err-clause-disk : goal.returns-in-Err-clause-disk
+returns-in-Err-clause-disk g c =
+    works-back g.D.Disk c.args.spool _ c.args.out.now c.carry_out.new.out (Err c.in-Err.ended) c.in-Err.ensures.works

@@ -6,6 +6,7 @@ use Rattle.equipment_node.specs.Spooling.{end_of_spooling}
 use Rattle.equipment_node.specs.Step.{offer}
 use Rattle.equipment_node.specs.Stepping.{taking}
 use Rattle.equipment_node.proofs.Asking.{last-asked, reads-one}
+use Rattle.equipment_node.proofs.HandingBack.{last-back}
 use Rattle.equipment_node.proofs.LastParts.{asked-is, last-done, none-asked, number-is, with-node}
 use Rattle.equipment_node.proofs.Readying.{asked-ready}
 use Rattle.equipment_node.proofs.StepCalls.{last-called, reads-by, some-asked}
@@ -55,7 +56,8 @@ returns-in-Some-clause-asks g c =
 
 pub returns-in-None-clause-asks : goal.returns-in-None-clause-asks
 returns-in-None-clause-asks g c =
-    last-asked g.D.Disk c.args.spool (taking None ∷ end_of_spooling ∷ offer c.args.now ∷ []) (node_of c.next_unload.new.self) (node_of c.end_with.new.self) c.args.out.now
+    last-asked g.D.Disk c.args.spool (taking None ∷ end_of_spooling ∷ offer c.args.now ∷ [])
+    (node_of c.next_unload.new.self) (node_of c.end_with.new.self) c.args.out.now
     c.end_with.new.out (read_asks (own_of c.args.self.now.own)) c.end_with.result c.end_with.ensures.ends
 
 pub returns-in-Some-clause-calls : goal.returns-in-Some-clause-calls
@@ -72,3 +74,12 @@ returns-in-None-clause-calls g c t at bytes =
     (last-called g.D.Disk bytes (standing_in t.next) c.args.spool
     (taking None ∷ end_of_spooling ∷ offer c.args.now ∷ []) (node_of c.next_unload.new.self)
     (node_of c.end_with.new.self) c.args.out.now c.end_with.new.out c.end_with.result c.end_with.ensures.ends)
+
+pub returns-in-Some-clause-disk : goal.returns-in-Some-clause-disk
+returns-in-Some-clause-disk g c = c.act_reading.ensures.disk
+
+pub returns-in-None-clause-disk : goal.returns-in-None-clause-disk
+returns-in-None-clause-disk g c =
+    last-back g.D.Disk c.args.spool (taking None ∷ end_of_spooling ∷ offer c.args.now ∷ [])
+    (node_of c.next_unload.new.self) (node_of c.end_with.new.self) c.args.out.now c.end_with.new.out c.end_with.result
+    c.end_with.ensures.ends

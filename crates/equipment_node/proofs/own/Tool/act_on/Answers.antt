@@ -2,6 +2,7 @@ use Rattle.std.proofs.Common.{refl}
 use Rattle.message_end.specs.Ends.{input_of}
 use Rattle.equipment_node.specs.Node.{node_of}
 use Rattle.equipment_node.proofs.FirstParts.{begun-of, first-ready, spent-count, stops-of}
+use Rattle.equipment_node.proofs.HandingBack.{reached-not-failed}
 use Rattle.equipment_node.proofs.own.Tool.act_on.Goals as goal
 
 pub act_behind-requires : goal.act_behind-requires
@@ -69,3 +70,11 @@ returns-in-Err-clause-calls g c s begin bytes =
     c.args.out.now c.do_first.new.out c.requires.out c.requires.ready.sound g.D.Disk s c.args.spool begin
     c.in-Err.stop c.in-Err.ensures.does)
     (record { went = begin.went; node_is = refl; clear = begin.clear; told = begin.told }) bytes
+
+pub returns-in-Ok-clause-disk : goal.returns-in-Ok-clause-disk
+returns-in-Ok-clause-disk g c = c.act_behind.ensures.disk
+
+pub returns-in-Err-clause-disk : goal.returns-in-Err-clause-disk
+returns-in-Err-clause-disk g c =
+    c.stop.ensures.disk
+    (reached-not-failed _ (node_of c.do_first.new.self) c.do_first.new.out c.in-Err.stop c.in-Err.ensures.does)

@@ -1,14 +1,16 @@
-use Rattle.std.proofs.Common.{ap, subst, [], ◌∷◌, None, Some, is_some, Option, ℕ}
+use Rattle.std.proofs.Common.{ap, subst, sym, [], ◌∷◌, None, Some, is_some, Option, ℕ}
 use Rattle.std.specs.Prelude.{Err}
 use Rattle.gem_spool.specs.Oldest.{ReadsOldest}
 use Rattle.gem_spool.specs.declared.kept.Unread.{Unread}
 use Rattle.spool_slots.specs.Spool.{first_slot}
 use Rattle.equipment_node.specs.Disk.{standing_in}
+use Rattle.equipment_node.specs.HandedBack.{HasFailed}
 use Rattle.equipment_node.specs.Node.{node_of}
 use Rattle.equipment_node.specs.Spooling.{end_of_spooling}
 use Rattle.equipment_node.specs.Step.{offer}
 use Rattle.equipment_node.specs.Stepping.{taking}
 use Rattle.equipment_node.proofs.Asking.{look-fallen, looked-asked, unlooked-asked}
+use Rattle.equipment_node.proofs.HandingBack.{handed-then, kept-at, kept-then, last-back, looked-back, unlooked-back}
 use Rattle.equipment_node.proofs.LastParts.{last-done, no-list, none-there, read-at, read-there}
 use Rattle.equipment_node.proofs.OverDisk.{kept-of}
 use Rattle.equipment_node.proofs.StepCalls.{look-called, looked-called, some-there, unread-called}
@@ -112,3 +114,47 @@ returns-in-Err-NoMemory-clause-calls g c st count some bytes =
     c.in-Err-NoMemory.field-0-is c.in-Err-NoMemory.ensures.reads in
     unread-called g.D.Disk bytes st c.args.spool.spool count c.oldest_message.new.self.spool
     c.retire-in-Err-NoMemory.result reads.0 c.retire-in-Err-NoMemory.ensures.disk
+
+pub returns-in-Ok-clause-disk : goal.returns-in-Ok-clause-disk
+returns-in-Ok-clause-disk g c =
+    handed-then g.D.Disk c.args.spool.spool.disk c.oldest_message.new.self.spool.disk c.end_with.result
+    (looked-back g.D.Disk c.args.spool.spool c.oldest_message.new.self.spool (first_slot c.args.spool.spool)
+    c.in-Ok.ensures.reads.0)
+    (last-back g.D.Disk c.oldest_message.new.self
+    (taking (Some (c.args.number, c.report_of-report.result)) ∷ end_of_spooling ∷ offer c.args.now ∷ [])
+    (node_of c.args.self.now) (node_of c.end_with.new.self) c.args.out.now c.end_with.new.out c.end_with.result
+    c.end_with.ensures.ends)
+
+pub returns-in-Err-Empty-clause-disk : goal.returns-in-Err-Empty-clause-disk
+returns-in-Err-Empty-clause-disk g c =
+    let reads =
+    subst
+    (λ (why : Unread). ReadsOldest g.D.Disk c.args.spool.spool c.oldest_message.new.self.spool (Err why))
+    c.in-Err-Empty.field-0-is c.in-Err-Empty.ensures.reads in
+    handed-then g.D.Disk c.args.spool.spool.disk c.oldest_message.new.self.spool.disk c.end_with-in-Err-Empty.result
+    (kept-at g.D.Disk c.args.spool.spool.disk c.oldest_message.new.self.spool.disk (ap (λ v. v.disk) reads.0))
+    (last-back g.D.Disk c.oldest_message.new.self (taking None ∷ end_of_spooling ∷ offer c.args.now ∷ [])
+    (node_of c.args.self.now) (node_of c.end_with-in-Err-Empty.new.self) c.args.out.now
+    c.end_with-in-Err-Empty.new.out c.end_with-in-Err-Empty.result c.end_with-in-Err-Empty.ensures.ends)
+
+pub returns-in-Err-Failed-clause-disk : goal.returns-in-Err-Failed-clause-disk
+returns-in-Err-Failed-clause-disk g c =
+    let reads =
+    subst
+    (λ (why : Unread). ReadsOldest g.D.Disk c.args.spool.spool c.oldest_message.new.self.spool (Err why))
+    c.in-Err-Failed.field-0-is c.in-Err-Failed.ensures.reads in
+    subst (λ d. HasFailed g.D.Disk c.args.spool.spool.disk d) (sym c.retire.ensures.disk)
+    (unlooked-back g.D.Disk c.args.spool.spool c.oldest_message.new.self.spool (first_slot c.args.spool.spool)
+    reads.0)
+
+pub returns-in-Err-NoMemory-clause-disk : goal.returns-in-Err-NoMemory-clause-disk
+returns-in-Err-NoMemory-clause-disk g c =
+    let reads =
+    subst
+    (λ (why : Unread). ReadsOldest g.D.Disk c.args.spool.spool c.oldest_message.new.self.spool (Err why))
+    c.in-Err-NoMemory.field-0-is c.in-Err-NoMemory.ensures.reads in
+    kept-then g.D.Disk c.args.spool.spool.disk c.oldest_message.new.self.spool.disk
+    c.retire-in-Err-NoMemory.result.disk
+    (looked-back g.D.Disk c.args.spool.spool c.oldest_message.new.self.spool (first_slot c.args.spool.spool) reads.0)
+    (kept-at g.D.Disk c.oldest_message.new.self.spool.disk c.retire-in-Err-NoMemory.result.disk
+    c.retire-in-Err-NoMemory.ensures.disk)

@@ -1,6 +1,7 @@
 use Rattle.std.proofs.Common.{sym}
 use Rattle.equipment_node.specs.Node.{node_of}
 use Rattle.equipment_node.proofs.Asking.{spared-none}
+use Rattle.equipment_node.proofs.HandingBack.{kept-still}
 use Rattle.equipment_node.proofs.Opened.{made-ordered, need, no-need, opened-plain}
 use Rattle.equipment_node.proofs.StepCalls.{not-reserved}
 use Rattle.equipment_node.proofs.own.Tool.reserve.Goals as goal
@@ -34,3 +35,9 @@ pub returns-clause-calls : goal.returns-clause-calls
 returns-clause-calls g c s node_is on t told =
     c.reserve_more.ensures.calls s node_is
     (need s (node_of c.args.self.now) node_is (sym c.if-has_enough.ensures) (made-ordered s on.made)) on t told
+
+pub returns-then-has_enough-clause-disk : goal.returns-then-has_enough-clause-disk
+returns-then-has_enough-clause-disk g c = kept-still g.D.Disk c.args.spool.spool.disk
+
+pub returns-clause-disk : goal.returns-clause-disk
+returns-clause-disk g c = c.reserve_more.ensures.disk

@@ -10,6 +10,7 @@ use Rattle.equipment_node.specs.Equipment.{with_core}
 use Rattle.equipment_node.specs.Node.{node_of}
 use Rattle.equipment_node.specs.Own.{OwnView}
 use Rattle.equipment_node.proofs.Asking.{mark-fallen, mark-spared}
+use Rattle.equipment_node.proofs.HandingBack.{kept-at, kept-then, reserved-back, unreserved-back}
 use Rattle.equipment_node.proofs.Opened.{at-last, mark-failed, marked-out, more-core, opened-more}
 use Rattle.equipment_node.proofs.Readying.{same-ready}
 use Rattle.equipment_node.proofs.StepCalls.{reserve-made, reserve-spent, reserve-stops}
@@ -17,11 +18,16 @@ use Rattle.equipment_node.proofs.own.Tool.reserve_more.Goals as goal
 
 pub returns-in-Ok-default-Some-clause-opens : goal.returns-in-Ok-default-Some-clause-opens
 returns-in-Ok-default-Some-clause-opens g c s node_is needs on told =
+    let made =
+    subst
+    (λ (b : Option ℕ). ReservesFrom g.D.Disk c.args.spool c.in-Ok-default-Some.spool b)
+    c.in-Ok-default-Some.field-0-1-is c.in-Ok-default-Some.ensures.reserve in
     opened-more g.D.Disk s _ c.args.spool c.in-Ok-default-Some.spool _
     (ap (λ (core : EndView Kind). with_core core (node_of c.args.self.now))
     (more-core c.args.self.now.core c.more.new.self c.args.out.now c.more.new.out c.more.ensures)
     ∙ ap (λ (node : Node OwnView Kind). with_core (core_after (Command.More 4096) node.core) node) node_is)
-    needs on.clear told (subst (λ (b : Option ℕ). ReservesFrom g.D.Disk c.args.spool c.in-Ok-default-Some.spool b) c.in-Ok-default-Some.field-0-1-is c.in-Ok-default-Some.ensures.reserve) (subst
+    needs on.clear told made
+    (subst
     (λ (b : Option ℕ).
     Stands g.D.Disk c.in-Ok-default-Some.spool.spool (standing_after_reserve b (standing_in s)))
     c.in-Ok-default-Some.field-0-1-is (c.in-Ok-default-Some.ensures.stands (standing_in s) on.clear.stands))
@@ -29,12 +35,20 @@ returns-in-Ok-default-Some-clause-opens g c s node_is needs on told =
 
 pub returns-in-Ok-default-Some-clause-ready : goal.returns-in-Ok-default-Some-clause-ready
 returns-in-Ok-default-Some-clause-ready g c =
-    same-ready c.args.spool.spool c.in-Ok-default-Some.spool.spool (c.args.spool.spool.mark + 4096) (node_of c.args.self.now) _
-    c.requires.ready refl (subst (λ (b : Option ℕ). ReservesFrom g.D.Disk c.args.spool c.in-Ok-default-Some.spool b) c.in-Ok-default-Some.field-0-1-is c.in-Ok-default-Some.ensures.reserve).0.2
+    let made =
+    subst
+    (λ (b : Option ℕ). ReservesFrom g.D.Disk c.args.spool c.in-Ok-default-Some.spool b)
+    c.in-Ok-default-Some.field-0-1-is c.in-Ok-default-Some.ensures.reserve in
+    same-ready c.args.spool.spool c.in-Ok-default-Some.spool.spool (c.args.spool.spool.mark + 4096)
+    (node_of c.args.self.now) _ c.requires.ready refl made.0.2
 
 pub returns-in-Ok-default-None-clause-opens : goal.returns-in-Ok-default-None-clause-opens
 returns-in-Ok-default-None-clause-opens g c s node_is needs on told =
-    marked-out g.D.Disk s c.args.spool c.in-Ok-default-None.spool c.retire.result needs on.clear (subst (λ (b : Option ℕ). ReservesFrom g.D.Disk c.args.spool c.in-Ok-default-None.spool b) c.in-Ok-default-None.field-0-1-is c.in-Ok-default-None.ensures.reserve)
+    let made =
+    subst
+    (λ (b : Option ℕ). ReservesFrom g.D.Disk c.args.spool c.in-Ok-default-None.spool b)
+    c.in-Ok-default-None.field-0-1-is c.in-Ok-default-None.ensures.reserve in
+    marked-out g.D.Disk s c.args.spool c.in-Ok-default-None.spool c.retire.result needs on.clear made
     c.retire.ensures.disk
 
 pub returns-in-Err-clause-opens : goal.returns-in-Err-clause-opens
@@ -46,7 +60,11 @@ returns-in-Err-clause-opens g c s node_is needs on told = (
 
 pub returns-in-Ok-default-Some-clause-asks : goal.returns-in-Ok-default-Some-clause-asks
 returns-in-Ok-default-Some-clause-asks g c s node_is needs on =
-    mark-spared g.D.Disk s c.args.spool needs on.clear c.in-Ok-default-Some.spool _ (subst (λ (b : Option ℕ). ReservesFrom g.D.Disk c.args.spool c.in-Ok-default-Some.spool b) c.in-Ok-default-Some.field-0-1-is c.in-Ok-default-Some.ensures.reserve)
+    let made =
+    subst
+    (λ (b : Option ℕ). ReservesFrom g.D.Disk c.args.spool c.in-Ok-default-Some.spool b)
+    c.in-Ok-default-Some.field-0-1-is c.in-Ok-default-Some.ensures.reserve in
+    mark-spared g.D.Disk s c.args.spool needs on.clear c.in-Ok-default-Some.spool _ made
 
 pub returns-in-Err-clause-asks : goal.returns-in-Err-clause-asks
 returns-in-Err-clause-asks g c s node_is needs on =
@@ -54,13 +72,34 @@ returns-in-Err-clause-asks g c s node_is needs on =
 
 pub returns-in-Ok-default-Some-clause-calls : goal.returns-in-Ok-default-Some-clause-calls
 returns-in-Ok-default-Some-clause-calls g c s node_is needs on t told =
-    reserve-made g.D.Disk s c.args.spool needs on.clear t told c.in-Ok-default-Some.spool _ (subst (λ (b : Option ℕ). ReservesFrom g.D.Disk c.args.spool c.in-Ok-default-Some.spool b) c.in-Ok-default-Some.field-0-1-is c.in-Ok-default-Some.ensures.reserve)
+    let made =
+    subst
+    (λ (b : Option ℕ). ReservesFrom g.D.Disk c.args.spool c.in-Ok-default-Some.spool b)
+    c.in-Ok-default-Some.field-0-1-is c.in-Ok-default-Some.ensures.reserve in
+    reserve-made g.D.Disk s c.args.spool needs on.clear t told c.in-Ok-default-Some.spool _ made
 
 pub returns-in-Ok-default-None-clause-calls : goal.returns-in-Ok-default-None-clause-calls
 returns-in-Ok-default-None-clause-calls g c s node_is needs on t told =
-    reserve-spent g.D.Disk s c.args.spool needs on.clear t told c.in-Ok-default-None.spool c.retire.result (subst (λ (b : Option ℕ). ReservesFrom g.D.Disk c.args.spool c.in-Ok-default-None.spool b) c.in-Ok-default-None.field-0-1-is c.in-Ok-default-None.ensures.reserve)
+    let made =
+    subst
+    (λ (b : Option ℕ). ReservesFrom g.D.Disk c.args.spool c.in-Ok-default-None.spool b)
+    c.in-Ok-default-None.field-0-1-is c.in-Ok-default-None.ensures.reserve in
+    reserve-spent g.D.Disk s c.args.spool needs on.clear t told c.in-Ok-default-None.spool c.retire.result made
     c.retire.ensures.disk
 
 pub returns-in-Err-clause-calls : goal.returns-in-Err-clause-calls
 returns-in-Err-clause-calls g c s node_is needs on t told =
     reserve-stops g.D.Disk s c.args.spool needs on.clear t told c.in-Err.spent c.in-Err.ensures.reserve
+
+pub returns-in-Ok-default-Some-clause-disk : goal.returns-in-Ok-default-Some-clause-disk
+returns-in-Ok-default-Some-clause-disk g c =
+    reserved-back g.D.Disk c.args.spool c.in-Ok-default-Some.spool _ c.in-Ok-default-Some.ensures.reserve
+
+pub returns-in-Ok-default-None-clause-disk : goal.returns-in-Ok-default-None-clause-disk
+returns-in-Ok-default-None-clause-disk g c =
+    kept-then g.D.Disk c.args.spool.spool.disk c.in-Ok-default-None.spool.spool.disk c.retire.result.disk
+    (reserved-back g.D.Disk c.args.spool c.in-Ok-default-None.spool _ c.in-Ok-default-None.ensures.reserve)
+    (kept-at g.D.Disk c.in-Ok-default-None.spool.spool.disk c.retire.result.disk c.retire.ensures.disk)
+
+pub returns-in-Err-clause-disk : goal.returns-in-Err-clause-disk
+returns-in-Err-clause-disk g c = unreserved-back g.D.Disk c.args.spool c.in-Err.spent c.in-Err.ensures.reserve

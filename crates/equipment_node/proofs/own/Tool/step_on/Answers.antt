@@ -35,3 +35,9 @@ returns-in-Ok-clause-calls g c s node_is on t told = c.in-Ok.ensures.calls s nod
 
 pub returns-in-Err-clause-calls : goal.returns-in-Err-clause-calls
 returns-in-Err-clause-calls g c s node_is on t told = c.in-Err.ensures.calls s node_is on t told
+
+pub returns-in-Ok-clause-disk : goal.returns-in-Ok-clause-disk
+returns-in-Ok-clause-disk g c = c.in-Ok.ensures.disk
+
+pub returns-in-Err-clause-disk : goal.returns-in-Err-clause-disk
+returns-in-Err-clause-disk g c = c.in-Err.ensures.disk

@@ -1,7 +1,9 @@
 use Rattle.std.proofs.Common.{ap}
+use Rattle.std.specs.Prelude.{Ok, Err}
 use Rattle.message_flow.specs.declared.step.StepOut.{StepOut}
 use Rattle.equipment_node.specs.Node.{node_of}
 use Rattle.equipment_node.proofs.Asking.{spent-fallen}
+use Rattle.equipment_node.proofs.HandingBack.{kept-at, kept-then, works-back}
 use Rattle.equipment_node.proofs.OverDisk.{carry-spent-failed, spent-before}
 use Rattle.equipment_node.proofs.StepCalls.{spent-called, spent-stops}
 use Rattle.equipment_node.proofs.own.Tool.stop_spent.Goals as goal
@@ -33,3 +35,13 @@ pub returns-in-Err-clause-calls : goal.returns-in-Err-clause-calls
 returns-in-Err-clause-calls g c s input now stops begin bytes =
     spent-stops g.D.Disk s input now bytes c.args.spool begin.clear (node_of c.args.self.now) c.args.out.now
     c.carry_out.new.out stops c.in-Err.ended c.in-Err.ensures.works
+
+pub returns-in-Ok-clause-disk : goal.returns-in-Ok-clause-disk
+returns-in-Ok-clause-disk g c =
+    kept-then g.D.Disk c.args.spool.spool.disk c.in-Ok.spool.spool.disk c.retire.result.disk
+    (works-back g.D.Disk c.args.spool _ c.args.out.now c.carry_out.new.out (Ok c.in-Ok.spool) c.in-Ok.ensures.works)
+    (kept-at g.D.Disk c.in-Ok.spool.spool.disk c.retire.result.disk c.retire.ensures.disk)
+
+pub returns-in-Err-clause-disk : goal.returns-in-Err-clause-disk
+returns-in-Err-clause-disk g c =
+    works-back g.D.Disk c.args.spool _ c.args.out.now c.carry_out.new.out (Err c.in-Err.ended) c.in-Err.ensures.works
