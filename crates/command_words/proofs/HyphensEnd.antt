@@ -1,5 +1,5 @@
 -- Words behind `--`, by computing.
-use Rattle.std.proofs.Common.{◌≡◌, ◌∙◌, ◌++◌, ℕ, List, [], ◌∷◌, codes, Option, Some, None, refl, ap}
+use Rattle.std.proofs.Common.{◌≡◌, ◌∙◌, ◌++◌, ℕ, List, [], ◌∷◌, codes, Option, Some, refl, ap}
 use Rattle.std.specs.Option.{option_map, option_zip}
 use Rattle.clap.proofs.OnLiterals.{clap_on_literals}
 use Rattle.command_words.specs.Asked.{Asked, Host}
@@ -23,6 +23,7 @@ pub takes_all : TakesAllBehindHyphens
 unfolding clap_on_literals app_for refusals found_in
 takes_all = record {
   replay = λ plan schedule. refl;
+  equipment = λ plan address spool. refl;
   host = λ plan address. refl;
   polls = λ plan address polls n is. host_polls plan address polls ∙ ap (host_with plan address) is;
   outside = λ plan address polls is. host_polls plan address polls ∙ ap (host_with plan address) is;

@@ -16,6 +16,7 @@ refuses_others word words other =
       differs word _ other.show,
       differs word _ other.spell,
       differs word _ other.replay,
+      differs word _ other.equipment,
       differs word _ other.host,
       differs word _ other.format,
       differs word _ other.spool,

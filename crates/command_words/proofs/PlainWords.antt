@@ -1,5 +1,5 @@
 -- A walk by `clap` over words that begin with no hyphen.
-use Rattle.std.proofs.Common.{◌≡◌, ◌∙◌, ◌==◌, ℕ, Bool, true, false, not, List, [], ◌∷◌, Some, None, refl, sym, ap, bytes_eq, ◌&&◌, if◌then◌else◌}
+use Rattle.std.proofs.Common.{◌≡◌, ◌∙◌, ◌==◌, ℕ, suc, Bool, true, false, not, List, [], ◌∷◌, Some, None, refl, sym, ap, bytes_eq, ◌&&◌, fold, if◌then◌else◌}
 use Rattle.std.specs.Option.{option_and_then, option_map_or}
 use Rattle.clap.specs.Lexer.{long_of, long_of_rest, short_of, short_of_rest, strip_byte}
 use Rattle.clap.specs.Faults.{bundle_fault, check_fault, defaults_fault, flag_word_fault, level_fault, settle_fault, step_fault, turn_fault, walk_fault, word_fault}
@@ -66,54 +66,47 @@ turn_is s held position word plain =
     ∙ ap (λ step. step_fault s position step.0 step.1) (met_is s.rules position held word plain)
 
 -- what is checked where the words end
-abbrev ended : Shape → Walk → Kinds
-ended s w =
-    or_else (settle_fault s.rules s.args_override_self w.held)
-    (or_else (defaults_fault (settled s.rules w.held).rows s.rules) (check_fault s (finished s.rules w.held) false))
+abbrev pub ended : Shape → Held → Kinds
+ended s last =
+    or_else (settle_fault s.rules s.args_override_self last)
+    (or_else (defaults_fault (settled s.rules last).rows s.rules) (check_fault s (finished s.rules last) false))
 
--- ---- one word
+-- plain words are values, each in its place, from a position on: so each is refused, and the last leaves this
+pub data Walks (s : Shape)
+    : (held : Held) (position : ℕ) (words : List Text) (refused : Kinds) (last : Held) → Type 0 where
+  ends : {held : Held} {position : ℕ} → Walks s held position [] [] held
+  goes :
+      {held last : Held} {position : ℕ} {word : Text} {words : List Text} {refused : Kinds} {more : Held} → IsPlain word
+      → next s.rules held position word ≡ at more (suc position) → Walks s more (suc position) words refused last
+      → Walks s held position (word ∷ words) (or_else (step_fault s position held value) refused) last
 
-module _ (s : Shape) (a : Text) (plain : IsPlain a) where
-  abbrev first : Walk
-  first = next s.rules nothing_held 1 a
+-- where they lead
+leads_to : {s : Shape} {held last : Held} {position : ℕ} {words : List Text} {refused : Kinds}
+    → Walks s held position words refused last
+    → (fold (walked s.rules []) (at held position) words).held ≡ last
+leads_to ends = refl
+leads_to {s} (goes {held = held} {position = position} {word = word} {words = words} plain next more) =
+    ap (λ w. (fold (walked s.rules []) w words).held) (walked_is s.rules held position word plain ∙ next)
+    ∙ leads_to more
 
-  pub one_refused : level_fault s [] nothing_held (a ∷ []) false []
-      ≡ or_else (or_else (step_fault s 1 nothing_held value) []) (ended s first)
-  unfolding walk_fault
-  one_refused =
-      ap (λ kinds. or_else (or_else kinds []) (ended s (walked s.rules [] (walk_from nothing_held) a)))
-      (turn_is s nothing_held 1 a plain)
-      ∙ ap (λ w. or_else (or_else (step_fault s 1 nothing_held value) []) (ended s w))
-      (walked_is s.rules nothing_held 1 a plain)
+refused_by : {s : Shape} {held last : Held} {position : ℕ} {words : List Text} {refused : Kinds}
+    → Walks s held position words refused last → walk_fault s [] (at held position) words ≡ refused
+unfolding walk_fault
+refused_by ends = refl
+refused_by {s} (goes {held = held} {position = position} {word = word} {words = words} {more = after} plain next more) =
+    ap (λ w. or_else (turn_fault s [] (at held position) word) (walk_fault s [] w words))
+    (walked_is s.rules held position word plain ∙ next)
+    ∙ ap (λ kinds. or_else kinds (walk_fault s [] (at after (suc position)) words)) (turn_is s held position word plain)
+    ∙ ap (or_else (step_fault s position held value)) (refused_by more)
 
-  pub one_found : rows_after s.rules [] (a ∷ []) ≡ finished s.rules first.held
-  one_found = ap (λ w. finished s.rules w.held) (walked_is s.rules nothing_held 1 a plain)
+module _ {s : Shape} {words : List Text} {refused : Kinds} {last : Held}
+    (walks : Walks s nothing_held 1 words refused last)
+  where
+    pub all_refused : level_fault s [] nothing_held words false [] ≡ or_else refused (ended s last)
+    all_refused =
+        ap (λ kinds. or_else kinds (ended s (fold (walked s.rules []) (walk_from nothing_held) words).held))
+        (refused_by walks)
+        ∙ ap (λ held. or_else refused (ended s held)) (leads_to walks)
 
--- ---- two words, where the first is a single value
-
-module _ (s : Shape) (a b : Text) (plain_a : IsPlain a) (plain_b : IsPlain b) (held : Held)
-    (leads : next s.rules nothing_held 1 a ≡ at held 2) where
-  abbrev second : Walk
-  second = next s.rules held 2 b
-
-  from_first : walked s.rules [] (walk_from nothing_held) a ≡ at held 2
-  from_first = walked_is s.rules nothing_held 1 a plain_a ∙ leads
-
-  to_second : walked s.rules [] (walked s.rules [] (walk_from nothing_held) a) b ≡ second
-  to_second = ap (λ w. walked s.rules [] w b) from_first ∙ walked_is s.rules held 2 b plain_b
-
-  pub two_refused : level_fault s [] nothing_held (a ∷ b ∷ []) false []
-      ≡ or_else (or_else (step_fault s 1 nothing_held value) (or_else (step_fault s 2 held value) [])) (ended s second)
-  unfolding walk_fault
-  two_refused =
-      ap (λ w. or_else (or_else (turn_fault s [] (walk_from nothing_held) a)
-      (or_else (turn_fault s [] (walked s.rules [] (walk_from nothing_held) a) b) [])) (ended s w)) to_second
-      ∙ ap (λ w. or_else (or_else (turn_fault s [] (walk_from nothing_held) a) (or_else (turn_fault s [] w b) []))
-      (ended s second)) from_first
-      ∙ ap (λ kinds. or_else (or_else kinds (or_else (turn_fault s [] (at held 2) b) [])) (ended s second))
-      (turn_is s nothing_held 1 a plain_a)
-      ∙ ap (λ kinds. or_else (or_else (step_fault s 1 nothing_held value) (or_else kinds [])) (ended s second))
-      (turn_is s held 2 b plain_b)
-
-  pub two_found : rows_after s.rules [] (a ∷ b ∷ []) ≡ finished s.rules second.held
-  two_found = ap (λ w. finished s.rules w.held) to_second
+    pub all_found : rows_after s.rules [] words ≡ finished s.rules last
+    all_found = ap (finished s.rules) (leads_to walks)

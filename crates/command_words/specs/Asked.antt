@@ -9,6 +9,7 @@ pub data Asked : Type 0 where
   Spell : Asked
   SpellHex : Asked
   Replay : (plan schedule : List ℕ) → Asked
+  Equipment : (plan address spool : List ℕ) (polls : ℕ) → Asked
   Host : (plan address : List ℕ) (polls : ℕ) → Asked
   Format : (spool : List ℕ) (slots : ℕ) → Asked
   Spool : (spool : List ℕ) → Asked
@@ -19,12 +20,14 @@ asked_by command.Show = Show
 asked_by command.Spell = Spell
 asked_by command.SpellHex = SpellHex
 asked_by (command.Replay plan schedule) = Replay plan.now schedule.now
+asked_by (command.Equipment plan address spool polls) = Equipment plan.now address.now spool.now polls
 asked_by (command.Host plan address polls) = Host plan.now address.now polls
 asked_by (command.Format spool slots) = Format spool.now slots
 asked_by (command.Spool spool) = Spool spool.now
 
 -- the numbers of a command are in their ranges
 abbrev pub IsInRange : Asked → Type 0
+IsInRange (Equipment plan address spool polls) = (1 ≤ polls) × (polls ≤ 4294967295)
 IsInRange (Host plan address polls) = (1 ≤ polls) × (polls ≤ 4294967295)
 IsInRange (Format spool slots) = (1 ≤ slots) × (slots ≤ 65535)
 IsInRange _ = Unit {0}

@@ -1,6 +1,6 @@
 -- What holds of all words.
 use Rattle.std.specs.Prelude.{◌≡◌, ◌≢◌, ◌==◌, ◌++◌, ℕ, Bool, true, not, List, [], ◌∷◌, codes, Some, None}
-use Rattle.command_words.specs.Asked.{Format, Host, Replay, Spool}
+use Rattle.command_words.specs.Asked.{Equipment, Format, Host, Replay, Spool}
 use Rattle.command_words.specs.Numbers.{number_in}
 use Rattle.command_words.specs.Words.{asked_of}
 
@@ -9,6 +9,7 @@ pub record IsNoName (word : List ℕ) : Type 0 where
   pub show : word ≢ codes "show"
   pub spell : word ≢ codes "spell"
   pub replay : word ≢ codes "replay"
+  pub equipment : word ≢ codes "equipment"
   pub host : word ≢ codes "host"
   pub format : word ≢ codes "format"
   pub spool : word ≢ codes "spool"
@@ -30,6 +31,9 @@ pub record TakesPlainWords : Type 0 where
   pub replay :
       (plan schedule : List ℕ) → IsPlain plan → IsPlain schedule
       → asked_of (codes "replay" ∷ plan ∷ schedule ∷ []) ≡ Some (Replay plan schedule)
+  pub equipment :
+      (plan address spool : List ℕ) → IsPlain plan → IsPlain address → IsPlain spool
+      → asked_of (codes "equipment" ∷ plan ∷ address ∷ spool ∷ []) ≡ Some (Equipment plan address spool 1000000)
   pub host :
       (plan address : List ℕ) → IsPlain plan → IsPlain address
       → asked_of (codes "host" ∷ plan ∷ address ∷ []) ≡ Some (Host plan address 1000000)
@@ -46,6 +50,10 @@ pub record TakesAllBehindHyphens : Type 0 where
   pub replay :
       (plan schedule : List ℕ)
       → asked_of (codes "replay" ∷ codes "--" ∷ plan ∷ schedule ∷ []) ≡ Some (Replay plan schedule)
+  pub equipment :
+      (plan address spool : List ℕ)
+      → asked_of (codes "equipment" ∷ codes "--" ∷ plan ∷ address ∷ spool ∷ [])
+      ≡ Some (Equipment plan address spool 1000000)
   pub host :
       (plan address : List ℕ)
       → asked_of (codes "host" ∷ codes "--" ∷ plan ∷ address ∷ []) ≡ Some (Host plan address 1000000)

@@ -4,14 +4,14 @@ use Rattle.std.specs.Option.{option_and_then, option_map, option_map_or, option_
 use Rattle.clap.specs.Walk.{is_empty, rows_of}
 use Rattle.clap.specs.Words.{Kinds, Row, Text, fault_of, first_of, found_of, matches_of}
 use Rattle.clap.specs.declared.parser.matches.ArgMatches.{ArgMatches}
-use Rattle.command_words.specs.Asked.{Asked, asked_by, Format as AskedFormat, Host as AskedHost, Replay as AskedReplay, Show as AskedShow, Spell as AskedSpell, SpellHex as AskedSpellHex, Spool as AskedSpool}
+use Rattle.command_words.specs.Asked.{Asked, asked_by, Equipment as AskedEquipment, Format as AskedFormat, Host as AskedHost, Replay as AskedReplay, Show as AskedShow, Spell as AskedSpell, SpellHex as AskedSpellHex, Spool as AskedSpool}
 use Rattle.command_words.specs.Forms.{app_for}
 use Rattle.command_words.specs.Numbers.{number_in}
 use Rattle.command_words.specs.declared.command.Command.{Command}
 use Rattle.command_words.specs.declared.command.WordsFault.{WordsFault}
 use Rattle.command_words.specs.declared.command.WordsFault.TheVariants.{Usage, NoMemory}
 use Rattle.command_words.specs.declared.names.Name.{Name}
-use Rattle.command_words.specs.declared.names.Name.TheVariants.{Show, Spell, Replay, Host, Format, Spool}
+use Rattle.command_words.specs.declared.names.Name.TheVariants.{Show, Spell, Replay, Equipment, Host, Format, Spool}
 
 -- the name that a word is, spelled exactly so
 abbrev pub name_of : Text → Option Name
@@ -19,6 +19,7 @@ name_of word =
     if bytes_eq word (codes "show") then Some Show
     else if bytes_eq word (codes "spell") then Some Spell
     else if bytes_eq word (codes "replay") then Some Replay
+    else if bytes_eq word (codes "equipment") then Some Equipment
     else if bytes_eq word (codes "host") then Some Host
     else if bytes_eq word (codes "format") then Some Format
     else if bytes_eq word (codes "spool") then Some Spool else None
@@ -45,6 +46,10 @@ meant_by Spell rows = Some (if is_set (codes "hex") rows then AskedSpellHex else
 meant_by Replay rows =
     option_map (λ files. AskedReplay files.0 files.1)
     (option_zip (first_of (codes "PLAN") rows) (first_of (codes "SCHEDULE") rows))
+meant_by Equipment rows =
+    option_map (λ parts. AskedEquipment parts.0 parts.1.0 parts.1.1.0 parts.1.1.1)
+    (option_zip (first_of (codes "PLAN") rows) (option_zip (first_of (codes "ADDRESS") rows)
+    (option_zip (first_of (codes "SPOOL") rows) (polls_in rows))))
 meant_by Host rows =
     option_map (λ parts. AskedHost parts.0 parts.1.0 parts.1.1)
     (option_zip (first_of (codes "PLAN") rows) (option_zip (first_of (codes "ADDRESS") rows) (polls_in rows)))

@@ -1,6 +1,6 @@
 -- Words with what they ask for, worked by `clap`'s own definitions.
 use Rattle.std.specs.Prelude.{◌≡◌, ℕ, List, [], ◌∷◌, codes, map, Option, Some, None}
-use Rattle.command_words.specs.Asked.{Asked, Format, Host, Replay, Show, Spell, SpellHex, Spool}
+use Rattle.command_words.specs.Asked.{Asked, Equipment, Format, Host, Replay, Show, Spell, SpellHex, Spool}
 use Rattle.command_words.specs.Words.{asked_of}
 
 abbrev pub Row : Type 0
@@ -15,6 +15,14 @@ taken =
     ∷ (codes "replay" ∷ codes "a" ∷ codes "b" ∷ [], Some (Replay (codes "a") (codes "b")))
     ∷ (codes "replay" ∷ [] ∷ [] ∷ [], Some (Replay [] []))
     ∷ (codes "replay" ∷ codes "-" ∷ codes "--" ∷ codes "-b" ∷ [], Some (Replay (codes "-") (codes "-b")))
+    ∷ (
+      codes "equipment" ∷ codes "p" ∷ codes "a" ∷ codes "f" ∷ [],
+      Some (Equipment (codes "p") (codes "a") (codes "f") 1000000),
+    )
+    ∷ (
+      codes "equipment" ∷ codes "--polls=7" ∷ codes "p" ∷ codes "a" ∷ codes "f" ∷ [],
+      Some (Equipment (codes "p") (codes "a") (codes "f") 7),
+    )
     ∷ (codes "host" ∷ codes "p" ∷ codes "a" ∷ [], Some (Host (codes "p") (codes "a") 1000000))
     ∷ (codes "host" ∷ codes "p" ∷ codes "a" ∷ codes "--polls" ∷ codes "5" ∷ [], Some (Host (codes "p") (codes "a") 5))
     ∷ (codes "host" ∷ codes "p" ∷ codes "--polls=05" ∷ codes "a" ∷ [], Some (Host (codes "p") (codes "a") 5))
@@ -44,6 +52,7 @@ refused =
     ∷ (codes "replay" ∷ codes "a" ∷ [])
     ∷ (codes "replay" ∷ codes "a" ∷ codes "b" ∷ codes "c" ∷ [])
     ∷ (codes "replay" ∷ codes "a" ∷ codes "-b" ∷ [])
+    ∷ (codes "equipment" ∷ codes "p" ∷ codes "a" ∷ [])
     ∷ (codes "host" ∷ codes "p" ∷ [])
     ∷ (codes "host" ∷ codes "p" ∷ codes "--polls" ∷ codes "5" ∷ [])
     ∷ (codes "host" ∷ codes "p" ∷ codes "a" ∷ codes "s" ∷ [])

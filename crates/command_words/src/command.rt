@@ -32,6 +32,14 @@ pub enum Command<'a> {
         plan: &'a str,
         schedule: &'a str,
     },
+    /// Run the equipment's end of a line with the peer that calls at an address, over a spool file, up to so many
+    /// polls.
+    Equipment {
+        plan: &'a str,
+        address: &'a str,
+        spool: &'a str,
+        polls: u32,
+    },
     /// Run the host's end of a line with the peer at an address, up to so many polls.
     Host {
         plan: &'a str,
@@ -108,6 +116,7 @@ fn meant_by<'a>(name: Name, matches: &ArgMatches<'a>) -> Option<Command<'a>>
         Name::Show => Some(Command::Show),
         Name::Spell => Some(spelling(matches)),
         Name::Replay => replay(matches),
+        Name::Equipment => equipment(matches),
         Name::Host => host(matches),
         Name::Format => format(matches),
         Name::Spool => spool(matches),
@@ -131,6 +140,22 @@ fn replay<'a>(matches: &ArgMatches<'a>) -> Option<Command<'a>>
     let plan = text_of(matches, "PLAN")?;
     let schedule = text_of(matches, "SCHEDULE")?;
     Some(Command::Replay { plan, schedule })
+}
+
+fn equipment<'a>(matches: &ArgMatches<'a>) -> Option<Command<'a>>
+    ensures command { option_map asked_by result ≡ meant_by Name.Equipment (rows_of (found_of matches.now)) }
+    ensures range { IfSome result (λ command. IsInRange (asked_by command)) }
+{
+    let plan = text_of(matches, "PLAN")?;
+    let address = text_of(matches, "ADDRESS")?;
+    let spool = text_of(matches, "SPOOL")?;
+    let polls = polls_in(matches)?;
+    Some(Command::Equipment {
+        plan,
+        address,
+        spool,
+        polls,
+    })
 }
 
 fn host<'a>(matches: &ArgMatches<'a>) -> Option<Command<'a>>

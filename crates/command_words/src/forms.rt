@@ -28,6 +28,13 @@ pub(crate) fn app_for<'a>(alloc: Global, name: Name) -> Result<Command<'a>, Allo
         Name::Show => app_with(alloc, "show", &[], &[], &[]),
         Name::Spell => app_with(alloc, "spell", &[], &[], &["hex"]),
         Name::Replay => app_with(alloc, "replay", &["PLAN", "SCHEDULE"], &[], &[]),
+        Name::Equipment => app_with(
+            alloc,
+            "equipment",
+            &["PLAN", "ADDRESS", "SPOOL"],
+            &["polls"],
+            &[],
+        ),
         Name::Host => app_with(alloc, "host", &["PLAN", "ADDRESS"], &["polls"], &[]),
         Name::Format => app_with(alloc, "format", &["SPOOL", "SLOTS"], &[], &[]),
         Name::Spool => app_with(alloc, "spool", &["SPOOL"], &[], &[]),

@@ -9,6 +9,7 @@ pub(crate) enum Name {
     Show,
     Spell,
     Replay,
+    Equipment,
     Host,
     Format,
     Spool,
@@ -24,6 +25,8 @@ pub(crate) fn name_of(word: &str) -> Option<Name>
         Some(Name::Spell)
     } else if word == "replay" {
         Some(Name::Replay)
+    } else if word == "equipment" {
+        Some(Name::Equipment)
     } else if word == "host" {
         Some(Name::Host)
     } else if word == "format" {

@@ -177,12 +177,32 @@ static WRONG_HOSTS: [Case; 7] = [
     (&["host", "p", "a", "s"], USAGE),
 ];
 
-/// Commands that aren't built yet.
-static NOT_BUILT: [Case; 3] = [
-    (&["equipment", "p", "a", "s"], USAGE),
-    (&["equipment", "p", "a", "s", "--polls", "5"], USAGE),
-    (&["make", "1"], USAGE),
+/// Words of `equipment`, taken and refused.
+static EQUIPMENTS: [Case; 4] = [
+    (
+        &["equipment", "p", "a", "s"],
+        Ok(Command::Equipment {
+            plan: "p",
+            address: "a",
+            spool: "s",
+            polls: 1_000_000,
+        }),
+    ),
+    (
+        &["equipment", "p", "a", "--polls", "5", "s"],
+        Ok(Command::Equipment {
+            plan: "p",
+            address: "a",
+            spool: "s",
+            polls: 5,
+        }),
+    ),
+    (&["equipment", "p", "a", "s", "--polls=0"], USAGE),
+    (&["equipment", "p", "a", "s", "t"], USAGE),
 ];
+
+/// A command that isn't built yet.
+static NOT_BUILT: [Case; 1] = [(&["make", "1"], USAGE)];
 
 #[test]
 fn takes_each_command(rt: HostRuntime) {
@@ -196,6 +216,7 @@ fn reads_the_number_of_slots(rt: HostRuntime) {
 
 #[test]
 fn reads_the_number_of_polls(rt: HostRuntime) {
+    assert!(rt; are_answered(rt.alloc(), EQUIPMENTS.as_slice()));
     assert!(rt; are_answered(rt.alloc(), HOSTS.as_slice()));
     assert!(rt; are_answered(rt.alloc(), WRONG_HOSTS.as_slice()));
 }
