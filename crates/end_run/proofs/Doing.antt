@@ -3,39 +3,42 @@ use Rattle.std.proofs.Common.{◌≡◌, List, [], ◌++◌, Option, Some, None,
 use Rattle.end_run.specs.declared.ending.Ending.{Ending}
 use Rattle.end_run.specs.declared.ending.Ending.TheVariants.{Closed, DiskFailed, LinkFailed, NoMemory, NumbersSpent, Stopped, Turns, WriteFailed}
 use Rattle.end_run.specs.Acts.{Act}
-use Rattle.end_run.specs.Outcome.{Did, DiskFails, Does, LinkFails, Made, MadePart, Runs, WriteFails}
+use Rattle.end_run.specs.Outcome.{Did, DiskFails, Does, IsSpent, LinkFails, Made, MadePart, Runs, WriteFails}
 use Rattle.end_run.specs.Pieces.{Piece, and_more, and_on, behind, still}
 use Rattle.end_run.specs.Scenes.{Scene}
-use Rattle.end_run.proofs.Joining.{did_both, did_none, disk_before, disk_behind, link_before, link_behind, made_both, part_before, part_behind, write_before, write_behind}
+use Rattle.end_run.proofs.Joining.{did_both, did_none, disk_before, disk_behind, link_before, link_behind, made_both, part_before, part_behind, spent_behind, write_before, write_behind}
 
-module _ {S : Type 0} {a b : Scene S} (c : Scene S) (first : List (Act S)) (one : Did a b first) where
+module _ {S C : Type 0} {a b : Scene S C} (c : Scene S C) (first : List (Act S C)) (one : Did a b first) where
   -- more acts were to be done
-  pub does_behind : (how : Option Ending) (second : List (Act S)) (result : Option Ending) → Does b c how second result
+  pub does_behind : (how : Option Ending) (second : List (Act S C)) (result : Option Ending)
+      → Does b c how second result
       → Does a c how (first ++ second) result
   does_behind how second None two = (two.0, did_both c first second one two.1)
   does_behind how second (Some Stopped) two = (two.0, did_both c first second one two.1)
   does_behind how second (Some Closed) two = (two.0, did_both c first second one two.1)
   does_behind how second (Some Turns) two = (two.0, did_both c first second one two.1)
-  does_behind how second (Some NumbersSpent) two = (two.0, made_both c first second second one.made two.1)
+  does_behind how second (Some NumbersSpent) two =
+      (two.0, made_both c first second second one.made two.1, spent_behind c first second one second two.2)
   does_behind how second (Some DiskFailed) two = disk_behind c first second one two
   does_behind how second (Some LinkFailed) two = link_behind c first second one two
   does_behind how second (Some WriteFailed) two = write_behind c first second one two
   does_behind how second (Some NoMemory) two = part_behind c first second one two
 
-  pub runs_behind : (piece : Piece S) (result : Option Ending) → Runs b c piece result
+  pub runs_behind : (piece : Piece S C) (result : Option Ending) → Runs b c piece result
       → Runs a c (behind first piece) result
   runs_behind piece result two = does_behind piece.ended piece.acts result two
 
 -- the first piece went on
-pub more_on : {S : Type 0} (first : Piece S) (more : S → Piece S) → first.ended ≡ None
+pub more_on : {S C : Type 0} (first : Piece S C) (more : S → Piece S C) → first.ended ≡ None
     → and_more first more ≡ behind first.acts (more first.end)
 more_on first more on = ap (λ (ended : Option Ending). and_on ended first more) on
 
 -- it ended the run
 pub runs_stop :
-    {S : Type 0} (a b : Scene S) (first : Piece S) (more : S → Piece S) (how : Ending) → Runs a b first (Some how)
+    {S C : Type 0} (a b : Scene S C) (first : Piece S C) (more : S → Piece S C) (how : Ending)
+    → Runs a b first (Some how)
     → Runs a b (and_more first more) (Some how)
-runs_stop {S} a b first more how one = go how one
+runs_stop {S} {C} a b first more how one = go how one
   where
     same : (how : Ending) → first.ended ≡ Some how → and_more first more ≡ first
     same how is = ap (λ (ended : Option Ending). and_on ended first more) is
@@ -43,15 +46,17 @@ runs_stop {S} a b first more how one = go how one
     exact : (how : Ending) → first.ended ≡ Some how → Did a b first.acts
         → ((and_more first more).ended ≡ Some how) × Did a b (and_more first more).acts
     exact how is did =
-        subst (λ (piece : Piece S). (piece.ended ≡ Some how) × Did a b piece.acts) (sym (same how is)) (is, did)
+        subst (λ (piece : Piece S C). (piece.ended ≡ Some how) × Did a b piece.acts) (sym (same how is)) (is, did)
 
-    spent : first.ended ≡ Some NumbersSpent → Made a b first.acts
+    spent : first.ended ≡ Some NumbersSpent → Made a b first.acts → IsSpent a b first.acts
         → ((and_more first more).ended ≡ Some NumbersSpent) × Made a b (and_more first more).acts
-    spent is made =
-        subst (λ (piece : Piece S). (piece.ended ≡ Some NumbersSpent) × Made a b piece.acts)
-        (sym (same NumbersSpent is)) (is, made)
+        × IsSpent a b (and_more first more).acts
+    spent is made at =
+        subst
+        (λ (piece : Piece S C). (piece.ended ≡ Some NumbersSpent) × Made a b piece.acts × IsSpent a b piece.acts)
+        (sym (same NumbersSpent is)) (is, made, at)
 
-    with_more : (P : List (Act S) → Type 0) → P first.acts → ((second : List (Act S)) → P (first.acts ++ second))
+    with_more : (P : List (Act S C) → Type 0) → P first.acts → ((second : List (Act S C)) → P (first.acts ++ second))
         → (ended : Option Ending) → P (and_on ended first more).acts
     with_more P all cut None = cut (more first.end).acts
     with_more P all cut (Some how) = all
@@ -60,7 +65,7 @@ runs_stop {S} a b first more how one = go how one
     go Stopped one = exact Stopped one.0 one.1
     go Closed one = exact Closed one.0 one.1
     go Turns one = exact Turns one.0 one.1
-    go NumbersSpent one = spent one.0 one.1
+    go NumbersSpent one = spent one.0 one.1 one.2
     go DiskFailed one =
         with_more (λ acts. DiskFails a b acts) one (λ second. disk_before a b first.acts second one) first.ended
     go LinkFailed one =
@@ -72,33 +77,34 @@ runs_stop {S} a b first more how one = go how one
 
 -- a piece went on, and more was to be done
 pub runs_more :
-    {S : Type 0} {a b : Scene S} (c : Scene S) (first : Piece S) (more : S → Piece S) (mid : S) (result : Option Ending)
+    {S C : Type 0} {a b : Scene S C} (c : Scene S C) (first : Piece S C) (more : S → Piece S C)
+    (mid : S) (result : Option Ending)
     → Runs a b first None → mid ≡ first.end → Runs b c (more mid) result → Runs a c (and_more first more) result
-runs_more {S} {a} {b} c first more mid result one is two =
-    subst (λ (piece : Piece S). Runs a c piece result) (sym (more_on first more one.0))
+runs_more {S} {C} {a} {b} c first more mid result one is two =
+    subst (λ (piece : Piece S C). Runs a c piece result) (sym (more_on first more one.0))
     (runs_behind c first.acts one.1 (more first.end) result (subst (λ (s : S). Runs b c (more s) result) is two))
 
 -- ---- what is left of a piece
 
 -- these acts were done, and with what is left behind them they are the whole
-pub record Leads {S : Type 0} (a b : Scene S) (whole left : Piece S) : Type 0 where
-  pub acts : List (Act S)
+pub record Leads {S C : Type 0} (a b : Scene S C) (whole left : Piece S C) : Type 0 where
+  pub acts : List (Act S C)
   pub did : Did a b acts
   pub leads : whole ≡ behind acts left
 
-pub leads_first : {S : Type 0} (a : Scene S) (whole : Piece S) → Leads a a whole whole
+pub leads_first : {S C : Type 0} (a : Scene S C) (whole : Piece S C) → Leads a a whole whole
 leads_first a whole = record { acts = []; did = did_none a; leads = refl }
 
-abbrev with_acts : {S : Type 0} → Piece S → List (Act S) → Piece S
+abbrev with_acts : {S C : Type 0} → Piece S C → List (Act S C) → Piece S C
 with_acts piece acts = record { end = piece.end; acts = acts; ended = piece.ended }
 
-pub behind_both : {S : Type 0} (first second : List (Act S)) (piece : Piece S)
+pub behind_both : {S C : Type 0} (first second : List (Act S C)) (piece : Piece S C)
     → behind first (behind second piece) ≡ behind (first ++ second) piece
 behind_both first second piece = ap (with_acts piece) (sym (append_assoc first second piece.acts))
 
-module _ {S : Type 0} {a b : Scene S} (c : Scene S) (whole left : Piece S) (here : Leads a b whole left) where
+module _ {S C : Type 0} {a b : Scene S C} (c : Scene S C) (whole left : Piece S C) (here : Leads a b whole left) where
   pub leads_on :
-      (first : Piece S) (more : S → Piece S) (mid : S) → left ≡ and_more first more → Runs b c first None
+      (first : Piece S C) (more : S → Piece S C) (mid : S) → left ≡ and_more first more → Runs b c first None
       → mid ≡ first.end → Leads a c whole (more mid)
   leads_on first more mid is_left one is = record {
     acts = here.acts ++ first.acts;
@@ -109,22 +115,22 @@ module _ {S : Type 0} {a b : Scene S} (c : Scene S) (whole left : Piece S) (here
   }
 
   pub leads_stop :
-      (first : Piece S) (more : S → Piece S) (how : Ending) → left ≡ and_more first more → Runs b c first (Some how)
+      (first : Piece S C) (more : S → Piece S C) (how : Ending) → left ≡ and_more first more → Runs b c first (Some how)
       → Runs a c whole (Some how)
   leads_stop first more how is_left one =
-      subst (λ (piece : Piece S). Runs a c piece (Some how)) (sym here.leads)
+      subst (λ (piece : Piece S C). Runs a c piece (Some how)) (sym here.leads)
       (runs_behind c here.acts here.did left (Some how)
-      (subst (λ (piece : Piece S). Runs b c piece (Some how)) (sym is_left) (runs_stop b c first more how one)))
+      (subst (λ (piece : Piece S C). Runs b c piece (Some how)) (sym is_left) (runs_stop b c first more how one)))
 
 pub leads_done :
-    {S : Type 0} (a b : Scene S) (whole left : Piece S) (s : S) → Leads a b whole left → left ≡ still s
+    {S C : Type 0} (a b : Scene S C) (whole left : Piece S C) (s : S) → Leads a b whole left → left ≡ still s
     → Runs a b whole None × (s ≡ whole.end)
-leads_done {S} a b whole left s here is =
+leads_done {S} {C} a b whole left s here is =
     let same : whole ≡ behind here.acts (still s) = here.leads ∙ ap (behind here.acts) is in (
       (
-        ap (λ (piece : Piece S). piece.ended) same,
-        subst (λ (acts : List (Act S)). Did a b acts)
-            (sym (append-nil here.acts) ∙ sym (ap (λ (piece : Piece S). piece.acts) same)) here.did,
+        ap (λ (piece : Piece S C). piece.ended) same,
+        subst (λ (acts : List (Act S C)). Did a b acts)
+            (sym (append-nil here.acts) ∙ sym (ap (λ (piece : Piece S C). piece.acts) same)) here.did,
       ),
-      sym (ap (λ (piece : Piece S). piece.end) same),
+      sym (ap (λ (piece : Piece S C). piece.end) same),
     )

@@ -1,3 +1,5 @@
+pub mod Coming
+pub mod Counting
 pub mod Doing
 pub mod Joining
 pub mod NoDisk

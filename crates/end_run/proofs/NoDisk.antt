@@ -13,72 +13,71 @@ use Rattle.message_end.specs.Own.{Has}
 use Rattle.trace_log.specs.Log.{Entry, Happening}
 use Rattle.end_run.specs.declared.ending.Ending.{Ending}
 use Rattle.end_run.specs.declared.ending.Ending.TheVariants as ending
-use Rattle.end_run.specs.Acts.{Act}
+use Rattle.end_run.specs.Acts.{Act, StepAt}
 use Rattle.end_run.specs.Acts.Act.{Connects, Polls, Sends, Stands, Writes}
 use Rattle.end_run.specs.Outcome.{DiskFails, RunsOver}
 use Rattle.end_run.specs.Pieces.{Piece, and_more, and_on}
-use Rattle.end_run.specs.Run.{begun, end_run, polled, started_run, turned, upon}
+use Rattle.end_run.specs.Run.{begun, polled, started_run, turned, upon}
 use Rattle.end_run.specs.Scenes.{Scene}
 use Rattle.end_run.specs.Script.{ScriptLine, Telling, due_lines, later_lines}
 use Rattle.end_run.specs.Script.Telling.{IsOther, Stops, Tells}
-use Rattle.end_run.specs.Steps.{all_told, answered, entries_at, made, sends, started, stepped, tells}
+use Rattle.end_run.specs.Steps.{all_told, answered, entries_at, made, sends, started, step_at, stepped, tells}
 
 -- its machine lists nothing at which a disk may stop it
 abbrev pub StopsNowhere : {S C : Type 0} → Machine S C → Type 0
 StopsNowhere {S} {C} machine =
-    ((s : S) (input : Input C) (now : ℕ) → machine.stops s input now ≡ []) × (machine.start_stops ≡ [])
+    (s : S) (input : Input C) (now : ℕ) → machine.stops s input now ≡ []
 
 -- no step among these acts may be stopped
-abbrev GoOn : {S : Type 0} → List (Act S) → Type 0
+abbrev GoOn : {S C : Type 0} → List (Act S C) → Type 0
 GoOn [] = Unit {0}
-GoOn (Stands stops asked end ∷ acts) = (stops ≡ []) × GoOn acts
+GoOn (Stands at stops asked end ∷ acts) = (stops ≡ []) × GoOn acts
 GoOn (Connects ∷ acts) = GoOn acts
 GoOn (Polls until answer ∷ acts) = GoOn acts
 GoOn (Writes entries ∷ acts) = GoOn acts
 GoOn (Sends characters ∷ acts) = GoOn acts
 
-go-both : {S : Type 0} (first second : List (Act S)) → GoOn first → GoOn second → GoOn (first ++ second)
+go-both : {S C : Type 0} (first second : List (Act S C)) → GoOn first → GoOn second → GoOn (first ++ second)
 go-both [] second one two = two
-go-both (Stands stops asked end ∷ first) second one two = (one.0, go-both first second one.1 two)
+go-both (Stands at stops asked end ∷ first) second one two = (one.0, go-both first second one.1 two)
 go-both (Connects ∷ first) second one two = go-both first second one two
 go-both (Polls until answer ∷ first) second one two = go-both first second one two
 go-both (Writes entries ∷ first) second one two = go-both first second one two
 go-both (Sends characters ∷ first) second one two = go-both first second one two
 
-go-behind : {S : Type 0} (first second : List (Act S)) → GoOn (first ++ second) → GoOn second
+go-behind : {S C : Type 0} (first second : List (Act S C)) → GoOn (first ++ second) → GoOn second
 go-behind [] second all = all
-go-behind (Stands stops asked end ∷ first) second all = go-behind first second all.1
+go-behind (Stands at stops asked end ∷ first) second all = go-behind first second all.1
 go-behind (Connects ∷ first) second all = go-behind first second all
 go-behind (Polls until answer ∷ first) second all = go-behind first second all
 go-behind (Writes entries ∷ first) second all = go-behind first second all
 go-behind (Sends characters ∷ first) second all = go-behind first second all
 
-never : {S : Type 0} (a b : Scene S) (acts : List (Act S)) → GoOn acts → DiskFails a b acts → ⊥
-never {S} a b acts on fails =
-    let all = subst (λ (acts : List (Act S)). GoOn acts) fails.whole on in
+never : {S C : Type 0} (a b : Scene S C) (acts : List (Act S C)) → GoOn acts → DiskFails a b acts → ⊥
+never {S} {C} a b acts on fails =
+    let all = subst (λ (acts : List (Act S C)). GoOn acts) fails.whole on in
     let none = go-behind fails.done _ all in
     subst (λ (stops : List (List Entry)). Has stops fails.entries) none.0 fails.may
 
 module _ {S C : Type 0} (machine : Machine S C) (due : S → Option ℕ) (told : ScriptStep → Telling C) (side : Side)
     (nowhere : StopsNowhere machine) where
-  none-at : (now : ℕ) (stops : List (List Happening)) → stops ≡ [] → map (entries_at side now) stops ≡ []
-  none-at now stops none = ap (map (entries_at side now)) none
-
-  sends-on : (characters : List ℕ) → GoOn (sends {S = S} characters)
+  sends-on : (characters : List ℕ) → GoOn (sends {S = S} {C = C} characters)
   sends-on [] = tt
   sends-on (byte ∷ bytes) = tt
 
-  made-on : (now : ℕ) (stops : List (List Happening)) (asked : Asked) (went : Went S Happening) → stops ≡ []
-      → GoOn (made side now stops asked went).acts
-  made-on now stops asked (Goes step) none = (none-at now stops none, sends-on step.written)
-  made-on now stops asked (Spent step) none = (none-at now stops none, tt)
+  made-on : (at : StepAt S C) (stops : List (List Happening)) (asked : Asked) (went : Went S Happening) → stops ≡ []
+      → GoOn (made at stops asked went).acts
+  made-on at stops asked (Goes step) none =
+      (ap (map (entries_at at.side at.moment)) none, sends-on step.written)
+  made-on at stops asked (Spent step) none = (ap (map (entries_at at.side at.moment)) none, tt)
 
   stepped-on : (now : ℕ) (input : Input C) (s : S) → GoOn (stepped machine side now input s).acts
   stepped-on now input s =
-      made-on now (machine.stops s input now) (machine.asks s input now) (machine.act s input now)
-      (nowhere.0 s input now)
+      made-on (step_at side now input s) (machine.stops s input now) (machine.asks s input now)
+      (machine.act s input now)
+      (nowhere s input now)
 
-  more-on : (first : Piece S) (more : S → Piece S) → GoOn first.acts → ((s : S) → GoOn (more s).acts)
+  more-on : (first : Piece S C) (more : S → Piece S C) → GoOn first.acts → ((s : S) → GoOn (more s).acts)
       → GoOn (and_more first more).acts
   more-on first more one two = go first.ended
     where
@@ -127,16 +126,9 @@ module _ {S C : Type 0} (machine : Machine S C) (due : S → Option ℕ) (told :
       (more-on (started side start) (stepped machine side 0 Time) tt (stepped-on 0 Time))
       (polled-on polls lines 0 answers)
 
-  run-on : (went : Went S Happening) (lines : List ScriptLine) (polls : ℕ) (answers : List LinkIn)
-      → GoOn (end_run machine due told side went lines polls answers).acts
-  run-on (Goes start) lines polls answers =
-      (none-at 0 machine.start_stops nowhere.1, started-on start lines polls answers)
-  run-on (Spent start) lines polls answers =
-      made-on 0 machine.start_stops machine.start_asks (Spent start) nowhere.1
-
   pub no_disk :
-      (went : Went S Happening) (lines : List ScriptLine) (polls : ℕ) (a b : Scene S)
-      → RunsOver a b (end_run machine due told side went lines polls) ending.DiskFailed → ⊥
-  no_disk went lines polls a b over =
-      never a b (end_run machine due told side went lines polls over.answers).acts
-      (run-on went lines polls over.answers) over.runs
+      (start : Step S Happening) (lines : List ScriptLine) (polls : ℕ) (a b : Scene S C)
+      → RunsOver a b (started_run machine due told side start lines polls) ending.DiskFailed → ⊥
+  no_disk start lines polls a b over =
+      never a b (started_run machine due told side start lines polls over.answers).acts
+      (started-on start lines polls over.answers) over.runs

@@ -1,5 +1,5 @@
 -- One step of an end, as the code makes it.
-use Rattle.std.proofs.Common.{◌≡◌, inl, inr, ℕ, ◌<◌, List, [], ◌∷◌, ◌++◌, length, map, take, Option, Some, None, refl, sym, ap, subst, ◌∙◌, append_assoc, append-nil, arith}
+use Rattle.std.proofs.Common.{◌≡◌, ◌≢◌, inl, inr, ℕ, ◌<◌, List, [], ◌∷◌, ◌++◌, length, map, take, Option, Some, None, refl, sym, ap, subst, ◌∙◌, append_assoc, append-nil, arith}
 use Rattle.std.specs.List.{flat_map}
 use Rattle.std.proofs.lemmas.Grind.{flat_map-append}
 use Rattle.std.proofs.lemmas.List.{length-map}
@@ -12,9 +12,11 @@ use Rattle.gl_base.specs.declared.link.LinkEntry.{LinkEntry}
 use Rattle.gl_base.specs.declared.link.LinkEntry.TheVariants.{Sent}
 use Rattle.gl_base.specs.declared.side.Side.{Side}
 use Rattle.gl_base.proofs.Appending.{wrote_nothing}
+use Rattle.message_end.specs.declared.end.Stop.{Stop}
+use Rattle.message_end.specs.declared.end.Stop.TheVariants as stop
 use Rattle.message_end.specs.Core.{Step, Went, step_in}
 use Rattle.message_end.specs.Core.Went.{Goes, Spent}
-use Rattle.message_end.specs.Ends.{Asked, HasGone, HasSpent, HasStopped, IsFront, IsLeft as LeavesRoom, IsShort, asked_both, none_asked, printed}
+use Rattle.message_end.specs.Ends.{Asked, Input, HasGone, HasSpent, HasStopped, IsFront, IsLeft as LeavesRoom, IsShort, asked_both, none_asked, printed}
 use Rattle.message_end.specs.Own.{Has}
 use Rattle.message_flow.specs.declared.step.Note.{Note}
 use Rattle.message_flow.specs.declared.step.StepOut.{StepOut}
@@ -24,14 +26,14 @@ use Rattle.trace_log.specs.Log.Entry.{Noted}
 use Rattle.trace_log.specs.Text.{note_line, printed_note, text_of}
 use Rattle.end_run.specs.declared.ending.Ending.{Ending}
 use Rattle.end_run.specs.declared.ending.Ending.TheVariants.{Closed, DiskFailed, LinkFailed, NoMemory, NumbersSpent, Stopped, Turns, WriteFailed}
-use Rattle.end_run.specs.Acts.{Act, list_of}
+use Rattle.end_run.specs.Acts.{Act, StepAt, list_of}
 use Rattle.end_run.specs.Acts.Act.{Sends, Stands, Writes}
 use Rattle.end_run.specs.Calls.{EndsWith, IsExact, PutsAsCan}
-use Rattle.end_run.specs.Outcome.{Did, DiskFails, Does, IfOn, Linked, Lists, Made, MadePart, PutsLast, Runs, WriteFails}
-use Rattle.end_run.specs.Scenes.{Scene, written}
+use Rattle.end_run.specs.Outcome.{Comes, Did, DiskFails, Does, IsSpent, Linked, Lists, Made, MadePart, PutsLast, Runs, WriteFails}
+use Rattle.end_run.specs.Scenes.{Scene, StopAt, written}
 use Rattle.end_run.specs.Steps.{entries_at, made, sends, stands, wrote}
 use Rattle.end_run.proofs.Doing.{does_behind}
-use Rattle.end_run.proofs.Joining.{carried_none, did_none, did_step, lists_still, made_both, made_none, made_step, room_none, with_end}
+use Rattle.end_run.proofs.Joining.{carried_none, did_none, did_step, goes_none, lists_still, made_both, made_none, made_step, room_none, with_end}
 
 -- ---- the lines of a step
 
@@ -49,16 +51,21 @@ step_text law side now noted written =
 
 -- ---- nothing but writing
 
--- nothing was done but by the end, and memory ran out
-pub part_none : {S : Type 0} (a : Scene S) (end : S) (room : Asked) (acts : List (Act S))
-    → MadePart a (with_end a end room) acts
-part_none a end room acts = record { done = []; later = acts; whole = refl; made = made_none a end room }
+-- nothing was done, and memory ran out
+pub part_none : {S C : Type 0} (a : Scene S C) (acts : List (Act S C)) → MadePart a a acts
+part_none a acts = record {
+  done = [];
+  later = acts;
+  whole = refl;
+  made = made_none a a.end a.room a.stop;
+  end = inl (goes_none a);
+}
 
 -- the same scene with more at the output
-abbrev pub with_out : {S : Type 0} → Scene S → Option (List ℕ) → SinkHealth → Scene S
+abbrev pub with_out : {S C : Type 0} → Scene S C → Option (List ℕ) → SinkHealth → Scene S C
 with_out a received out = record a { received = received; out = out }
 
-module _ {S : Type 0} (a : Scene S) (r' : Option (List ℕ)) (k' : SinkHealth) (entries : List Entry) (text : List ℕ)
+module _ {S C : Type 0} (a : Scene S C) (r' : Option (List ℕ)) (k' : SinkHealth) (entries : List Entry) (text : List ℕ)
     (is : text_of entries ≡ text) where
   linked_out : Linked a (with_out a r' k') []
   linked_out = record { listed = lists_still a.contents a.contents [] refl refl refl; clock = refl; timely = tt }
@@ -75,9 +82,9 @@ module _ {S : Type 0} (a : Scene S) (r' : Option (List ℕ)) (k' : SinkHealth) (
   }
 
   pub wrote_did : WroteText (written a (with_out a r' k')) text → Did a (with_out a r' k') (Writes entries ∷ [])
-  wrote_did text_wrote = record { made = wrote_made text_wrote; end = refl; room = room_none a.room }
+  wrote_did text_wrote = record { made = wrote_made text_wrote; end = refl; room = room_none a.room; stop = refl }
 
-  pub short_fails : (more : List (Act S)) → WroteShort (written a (with_out a r' k')) text
+  pub short_fails : (more : List (Act S C)) → WroteShort (written a (with_out a r' k')) text
       → WriteFails a (with_out a r' k') (Writes entries ∷ more)
   short_fails more short = record {
     done = [];
@@ -90,30 +97,31 @@ module _ {S : Type 0} (a : Scene S) (r' : Option (List ℕ)) (k' : SinkHealth) (
     short = subst (λ (t : List ℕ). short.count < length t) (sym is) short.short;
     received = short.received ∙ ap (λ (t : List ℕ). with_bytes a.received (take short.count t)) (sym is);
     fault = subst (λ (t : List ℕ). WriteFault a.out k' (length t)) (sym is) short.fault;
-    end = refl;
+    end = inl (record { end = refl; stop = refl });
   }
 
   -- nothing was written, for want of memory
-  pub none_wrote : (more : List (Act S)) → WroteText (written a (with_out a r' k')) []
+  pub none_wrote : (more : List (Act S C)) → WroteText (written a (with_out a r' k')) []
       → MadePart a (with_out a r' k') (Writes entries ∷ more)
   none_wrote more none = record {
     done = [];
     later = Writes entries ∷ more;
     whole = refl;
     made = record { linked = linked_out; carried = carried_none a.link; wrote = none };
+    end = inl (record { end = refl; stop = refl });
   }
 
   -- these lines are the last of a run
-  pub ends_does : (how result : Ending) → EndsWith (written a (with_out a r' k')) text how result
+  pub ends_does : (how result : Ending) → how ≢ NumbersSpent → EndsWith (written a (with_out a r' k')) text how result
       → Does a (with_out a r' k') (Some how) (Writes entries ∷ []) (Some result)
-  ends_does how Stopped ends = (ap Some ends.0, wrote_did ends.1)
-  ends_does how Closed ends = (ap Some ends.0, wrote_did ends.1)
-  ends_does how Turns ends = (ap Some ends.0, wrote_did ends.1)
-  ends_does how NumbersSpent ends = (ap Some ends.0, wrote_made ends.1)
-  ends_does how DiskFailed ends = absurd ends
-  ends_does how LinkFailed ends = absurd ends
-  ends_does how WriteFailed short = short_fails [] short
-  ends_does how NoMemory none = none_wrote [] none
+  ends_does how Stopped other ends = (ap Some ends.0, wrote_did ends.1)
+  ends_does how Closed other ends = (ap Some ends.0, wrote_did ends.1)
+  ends_does how Turns other ends = (ap Some ends.0, wrote_did ends.1)
+  ends_does how NumbersSpent other ends = absurd (other ends.0)
+  ends_does how DiskFailed other ends = absurd ends
+  ends_does how LinkFailed other ends = absurd ends
+  ends_does how WriteFailed other short = short_fails [] short
+  ends_does how NoMemory other none = none_wrote [] none
 
 -- the same of an ending that is exact
 pub ends_exact : (out : SinkTold) (text : List ℕ) (how : Ending) → IsExact how → WroteText out text
@@ -130,11 +138,11 @@ ends_exact out text NoMemory exact written = absurd exact
 -- ---- nothing but sending
 
 -- the same scene with another link
-abbrev pub with_link : {S : Type 0} → Scene S → Option LinkContents → ℕ → LinkHealth → Scene S
+abbrev pub with_link : {S C : Type 0} → Scene S C → Option LinkContents → ℕ → LinkHealth → Scene S C
 with_link a contents moment link = record a { contents = contents; moment = moment; link = link }
 
-module _ {S : Type 0} (a : Scene S) (l' : Option LinkContents) (m' : ℕ) (h' : LinkHealth) where
-  abbrev sending : List ℕ → List (Act S)
+module _ {S C : Type 0} (a : Scene S C) (l' : Option LinkContents) (m' : ℕ) (h' : LinkHealth) where
+  abbrev sending : List ℕ → List (Act S C)
   sending characters = Sends characters ∷ []
 
   sent_listed : (l : Option LinkContents) (characters : List ℕ) → l' ≡ told_after_send characters l
@@ -172,6 +180,7 @@ module _ {S : Type 0} (a : Scene S) (l' : Option LinkContents) (m' : ℕ) (h' : 
       };
       end = refl;
       room = room_none a.room;
+      stop = refl;
     },
   )
 
@@ -190,7 +199,7 @@ module _ {S : Type 0} (a : Scene S) (l' : Option LinkContents) (m' : ℕ) (h' : 
     linked = sent_linked (take part.0 (byte ∷ bytes)) part.2 clock;
     fault = subst (λ (n : ℕ). LinkFault a.link h' n) (sym (length-map (byte ∷ bytes) Sent)) fault;
     wrote = wrote_nothing;
-    end = refl;
+    end = record { end = refl; stop = refl };
   }
 
 -- ---- a step
@@ -220,168 +229,256 @@ has-map f (one ∷ xs) x (inl is) = inl (ap f is)
 has-map f (one ∷ xs) x (inr has) = inr (has-map f xs x has)
 
 -- a text was put as far as could be, and nothing else was done
-puts_last : {S : Type 0} (a : Scene S) (end : S) (room : Asked) (r' : Option (List ℕ)) (k' : SinkHealth) (text : List ℕ)
+puts_last : {S C : Type 0} (a : Scene S C) (end : S) (room : Asked) (stop : Option (StopAt S C))
+    (r' : Option (List ℕ)) (k' : SinkHealth) (text : List ℕ)
     → PutsAsCan (written a (with_out a r' k')) text
-    → PutsLast a (with_out (with_end a end room) r' k') [] text
-puts_last a end room r' k' text (inl all) = inl all
-puts_last a end room r' k' text (inr (inl short)) =
+    → PutsLast a (with_out (with_end a end room stop) r' k') [] text
+puts_last a end room stop r' k' text (inl all) = inl all
+puts_last a end room stop r' k' text (inr (inl short)) =
     inr (inl (record
     { count = short.count; short = short.short; received = short.received; fault = short.fault }))
-puts_last a end room r' k' text (inr (inr none)) = inr (inr none)
+puts_last a end room stop r' k' text (inr (inr none)) = inr (inr none)
 
-module _ {S : Type 0} (law : NotesAreLines) (side : Side) (now : ℕ) (stops : List (List Happening)) (asked : Asked)
+module _ {S C : Type 0} (law : NotesAreLines) (at : StepAt S C) (stops : List (List Happening)) (asked : Asked)
     (went : Went S Happening) (out : StepOut) where
   -- it goes on, and its lines are these
   gone_text : (next : S) (gone : HasGone went next out)
-      → text_of (entries_at side now (gone.step.notes ++ wrote gone.step.written))
-      ≡ flat_map (note_line now side) out.notes ++ flat_map (note_line now side) (printed (wrote out.line.items))
+      → text_of (entries_at at.side at.moment (gone.step.notes ++ wrote gone.step.written))
+      ≡ flat_map (note_line at.moment at.side) out.notes ++ flat_map (note_line at.moment at.side) (printed
+      (wrote out.line.items))
   gone_text next gone =
-      step_text law side now gone.step.notes gone.step.written
-      ∙ ap (λ (ns : List Note). flat_map (note_line now side) ns
-      ++ flat_map (note_line now side) (printed (wrote gone.step.written))) (sym gone.notes)
-      ∙ ap (λ (w : List ℕ). flat_map (note_line now side) out.notes
-      ++ flat_map (note_line now side) (printed (wrote w))) (sym gone.written)
+      step_text law at.side at.moment gone.step.notes gone.step.written
+      ∙ ap (λ (ns : List Note). flat_map (note_line at.moment at.side) ns
+      ++ flat_map (note_line at.moment at.side) (printed (wrote gone.step.written))) (sym gone.notes)
+      ∙ ap (λ (w : List ℕ). flat_map (note_line at.moment at.side) out.notes
+      ++ flat_map (note_line at.moment at.side) (printed (wrote w))) (sym gone.written)
 
   pub gone_runs :
-      (a c : Scene S) (next : S) (room : Asked) (gone : HasGone went next out) → LeavesRoom a.room asked room
+      (a c : Scene S C) (next : S) (room : Asked) (gone : HasGone went next out) → LeavesRoom a.room asked room
       → (result : Option Ending)
       → ((entries : List Entry) → text_of entries
-      ≡ flat_map (note_line now side) out.notes ++ flat_map (note_line now side) (printed (wrote out.line.items))
-      → Does (with_end a next room) c None (Writes entries ∷ sends out.line.items) result)
-      → Runs a c (made side now stops asked went) result
+      ≡ flat_map (note_line at.moment at.side) out.notes ++ flat_map (note_line at.moment at.side) (printed
+      (wrote out.line.items))
+      → Does (with_end a next room a.stop) c None (Writes entries ∷ sends out.line.items) result)
+      → Runs a c (made at stops asked went) result
   gone_runs a c next room gone used result does =
-      let entries : List Entry = entries_at side now (gone.step.notes ++ wrote gone.step.written) in
-      let first : Act S = stands side now stops asked (Some gone.step.next) in
-      subst (λ (went : Went S Happening). Runs a c (made side now stops asked went) result) (sym gone.is)
+      let entries : List Entry = entries_at at.side at.moment (gone.step.notes ++ wrote gone.step.written) in
+      let first : Act S C = stands at stops asked (Some gone.step.next) in
+      subst (λ (went : Went S Happening). Runs a c (made at stops asked went) result) (sym gone.is)
       (subst (λ (w : List ℕ). Does a c None (first ∷ Writes entries ∷ sends w) result)
       gone.written
       (does_behind c (first ∷ [])
-      (did_step a next room (map (entries_at side now) stops) asked (Some gone.step.next) (sym gone.next_is) used) None
+      (did_step a next room at (map (entries_at at.side at.moment) stops) asked (Some gone.step.next)
+      (sym gone.next_is) used) None
       (Writes entries ∷ sends out.line.items) result (does entries (gone_text next gone))))
 
-  pub gone_end : (next : S) (result : Option Ending) → HasGone went next out
-      → IfOn result (next ≡ (made side now stops asked went).end)
-  gone_end next None gone =
-      sym gone.next_is ∙ ap (λ (went : Went S Happening). (made side now stops asked went).end) (sym gone.is)
-  gone_end next (Some how) gone = tt
+  pub gone_end : (next : S) → HasGone went next out → next ≡ (made at stops asked went).end
+  gone_end next gone =
+      sym gone.next_is ∙ ap (λ (went : Went S Happening). (made at stops asked went).end) (sym gone.is)
 
-  module _ (a : Scene S) (end : S) (room : Asked) (r' : Option (List ℕ)) (k' : SinkHealth) where
-    abbrev stopped : Scene S
-    stopped = with_out (with_end a end room) r' k'
+  -- the end is known behind it
+  pub gone_comes :
+      {E : Type 0} (known : E → Type 0) (left : S → Input C → ℕ → StepOut → Stop → E → Type 0) (end : E)
+      (a : Scene S C) (c : Option (StopAt S C) → Scene S C) (next : S) (room : Asked) → (c None).end ≡ next
+      → (gone : HasGone went next out) → LeavesRoom a.room asked room → known end → (result : Option Ending)
+      → ((entries : List Entry) → text_of entries
+      ≡ flat_map (note_line at.moment at.side) out.notes
+      ++ flat_map (note_line at.moment at.side) (printed (wrote out.line.items))
+      → Does (with_end a next room a.stop) (c None) None (Writes entries ∷ sends out.line.items) result)
+      → Comes known left end a c (made at stops asked went) result
+  gone_comes known left end a c next room is gone used so None does =
+      (gone_runs a (c None) next room gone used None does, so, is ∙ gone_end next gone)
+  gone_comes known left end a c next room is gone used so (Some how) does =
+      (None, so, gone_runs a (c None) next room gone used (Some how) does)
 
-    -- its lines are the last, and nothing is said of the end
-    pub spent_does :
-        (entries : List Entry) (text : List ℕ) → text_of entries ≡ text → (result : Ending)
-        → EndsWith (written a (with_out a r' k')) text NumbersSpent result
-        → Does a stopped (Some NumbersSpent) (stands side now stops asked None ∷ Writes entries ∷ []) (Some result)
-    spent_does entries text is result ends = go result ends
-      where
-        all : List (List Entry)
-        all = map (entries_at side now) stops
+  -- memory runs out in it
+  pub lacks_memory : (a : Scene S C) → at.state ≡ a.end → (end : S) (room : Asked)
+      → Runs a (with_end a end room (Some (record { at = at; out = out; why = stop.NoMemory })))
+      (made at stops asked went) (Some NoMemory)
+  lacks_memory a here end room = go went
+    where
+      all : List (List Entry)
+      all = map (entries_at at.side at.moment) stops
 
-        linked : Linked a stopped (Stands all asked None ∷ [])
-        linked = record {
-          listed = lists_still a.contents a.contents (Stands all asked None ∷ []) refl refl refl;
-          clock = refl;
-          timely = (tt, tt);
-        }
-
-        begun : Made a (with_end a end room) (Stands all asked None ∷ [])
-        begun = made_step a end room all asked None
-
-        go : (result : Ending) → EndsWith (written a (with_out a r' k')) text NumbersSpent result
-            → Does a stopped (Some NumbersSpent) (Stands all asked None ∷ Writes entries ∷ []) (Some result)
-        go NumbersSpent ends = (
-          refl,
-          made_both stopped (Stands all asked None ∷ []) [] (Writes entries ∷ []) begun
-              (wrote_made (with_end a end room) r' k' entries text is ends.1),
-        )
-        go WriteFailed short = record {
-          done = Stands all asked None ∷ [];
-          entries = entries;
-          later = [];
+      lacks : (left : Option S) (more : List (Act S C))
+          → MadePart a (with_end a end room (Some (record { at = at; out = out; why = stop.NoMemory })))
+          (Stands at all asked left ∷ more)
+      lacks left more = record {
+        done = [];
+        later = Stands at all asked left ∷ more;
+        whole = refl;
+        made = made_none a end room (Some (record { at = at; out = out; why = stop.NoMemory }));
+        end = inr (inr (record {
+          at = at;
+          stops = all;
+          asked = asked;
+          end = left;
+          more = more;
           whole = refl;
-          linked = linked;
-          carried = carried_none a.link;
-          count = short.count;
-          short = subst (λ (t : List ℕ). short.count < length t) (sym is) short.short;
-          received = short.received ∙ ap (λ (t : List ℕ). with_bytes a.received (take short.count t)) (sym is);
-          fault = subst (λ (t : List ℕ). WriteFault a.out k' (length t)) (sym is) short.fault;
-          end = tt;
-        }
-        go NoMemory none = record {
-          done = Stands all asked None ∷ [];
-          later = Writes entries ∷ [];
-          whole = refl;
-          made = record { linked = linked; carried = carried_none a.link; wrote = none };
-        }
-        go Stopped ends = let is = ends.0 in absurd (cc)
-        go Closed ends = let is = ends.0 in absurd (cc)
-        go Turns ends = let is = ends.0 in absurd (cc)
-        go DiskFailed ends = absurd ends
-        go LinkFailed ends = absurd ends
+          before = here;
+          out = out;
+          stop = refl;
+        }));
+      }
 
-    -- the numbers are spent
-    pub spent_runs : (spent : HasSpent went out) (result : Ending)
-        → EndsWith (written a (with_out a r' k')) (flat_map (note_line now side) out.notes) NumbersSpent result
-        → Runs a stopped (made side now stops asked went) (Some result)
-    spent_runs spent result ends =
-        subst (λ (went : Went S Happening). Runs a stopped (made side now stops asked went) (Some result))
-        (sym spent.is)
-        (spent_does (entries_at side now spent.step.notes) (flat_map (note_line now side) out.notes)
-        (noted_text law side now spent.step.notes ∙ ap (flat_map (note_line now side)) (sym spent.notes))
-        result ends)
+      go : (went : Went S Happening)
+          → Runs a (with_end a end room (Some (record { at = at; out = out; why = stop.NoMemory })))
+          (made at stops asked went) (Some NoMemory)
+      go (Goes step) =
+          lacks (Some step.next)
+          (Writes (entries_at at.side at.moment (step.notes ++ wrote step.written)) ∷ sends step.written)
+      go (Spent step) = lacks None (Writes (entries_at at.side at.moment step.notes) ∷ [])
 
-    -- the disk stops it, whatever it was to write then
-    pub disk_stops :
-        (stop : HasStopped stops went out) (left : Option S) (noted : List Happening) (more : List (Act S))
-        → IsFront stop.front noted → IsShort a.room asked
-        → PutsAsCan (written a (with_out a r' k')) (flat_map (note_line now side) out.notes)
-        → DiskFails a stopped (stands side now stops asked left ∷ Writes (entries_at side now noted) ∷ more)
-    disk_stops stop left noted more first short puts = record {
-      done = [];
-      stops = map (entries_at side now) stops;
-      asked = asked;
-      end = left;
-      newer = entries_at side now first.rest;
-      entries = entries_at side now stop.front;
-      later = more;
-      whole =
-          ap (λ (es : List Entry). stands side now stops asked left ∷ Writes es ∷ more)
-          (ap (entries_at side now) first.whole ∙ entries_both side now stop.front first.rest);
-      may = has-map (entries_at side now) stops stop.front stop.may;
-      linked = record { listed = lists_still a.contents a.contents [] refl refl refl; clock = refl; timely = tt };
-      carried = carried_none a.link;
-      put =
-          puts_last a end room r' k' (text_of (entries_at side now stop.front))
-          (subst (λ (t : List ℕ). PutsAsCan (written a (with_out a r' k')) t)
-          (ap (flat_map (note_line now side)) stop.notes ∙ sym (noted_text law side now stop.front)) puts);
-      short = none_asked_yet short;
-    }
-      where
-        none_asked_yet : IsShort a.room asked → IsShort a.room (asked_both none_asked asked)
-        none_asked_yet (inl few) = inl (omega (arith, few))
-        none_asked_yet (inr few) = inr (omega (arith, few))
+  -- it has stopped, and this is what is seen behind it
+  module _ (a : Scene S C) (here : at.state ≡ a.end) (end : S) (room : Asked) (r' : Option (List ℕ)) (k' : SinkHealth)
+    where
+      abbrev pub stopped : Stop → Scene S C
+      stopped why = with_out (with_end a end room (Some (record { at = at; out = out; why = why }))) r' k'
 
-    pub stopped_runs :
-        HasStopped stops went out → IsShort a.room asked
-        → PutsAsCan (written a (with_out a r' k')) (flat_map (note_line now side) out.notes)
-        → Runs a stopped (made side now stops asked went) (Some DiskFailed)
-    stopped_runs stop short puts = go went stop.first
-      where
-        front_more : (notes last : List Happening) → IsFront stop.front notes → IsFront stop.front (notes ++ last)
-        front_more notes last first = record {
-          rest = first.rest ++ last;
-          whole =
-              ap (λ (ns : List Happening). ns ++ last) first.whole ∙ append_assoc stop.front first.rest last;
-        }
+      -- the numbers are spent: its lines are the last
+      spent_does :
+          (entries : List Entry) (text : List ℕ) → text_of entries ≡ text → (result : Ending)
+          → EndsWith (written a (with_out a r' k')) text NumbersSpent result
+          → Does a (stopped stop.NumbersSpent) (Some NumbersSpent) (stands at stops asked None ∷ Writes entries ∷ [])
+          (Some result)
+      spent_does entries text is result ends = go result ends
+        where
+          all : List (List Entry)
+          all = map (entries_at at.side at.moment) stops
 
-        go : (went : Went S Happening) → IsFront stop.front (step_in went).notes
-            → Runs a stopped (made side now stops asked went) (Some DiskFailed)
-        go (Goes step) first =
-            disk_stops stop (Some step.next) (step.notes ++ wrote step.written) (sends step.written)
-            (front_more step.notes (wrote step.written) first) short puts
-        go (Spent step) first = disk_stops stop None step.notes [] first short puts
+          stop_at : Option (StopAt S C)
+          stop_at = Some (record { at = at; out = out; why = stop.NumbersSpent })
+
+          linked : Linked a (stopped stop.NumbersSpent) (Stands at all asked None ∷ [])
+          linked = record {
+            listed = lists_still a.contents a.contents (Stands at all asked None ∷ []) refl refl refl;
+            clock = refl;
+            timely = (tt, tt);
+          }
+
+          begun : Made a (with_end a end room stop_at) (Stands at all asked None ∷ [])
+          begun = made_step a end room stop_at at all asked None
+
+          spent : (more : List (Act S C)) → IsSpent a (stopped stop.NumbersSpent) (Stands at all asked None ∷ more)
+          spent more = record {
+            first = [];
+            at = at;
+            stops = all;
+            asked = asked;
+            later = more;
+            whole = refl;
+            before = here;
+            out = out;
+            stop = refl;
+          }
+
+          go : (result : Ending) → EndsWith (written a (with_out a r' k')) text NumbersSpent result
+              → Does a (stopped stop.NumbersSpent) (Some NumbersSpent)
+              (Stands at all asked None ∷ Writes entries ∷ []) (Some result)
+          go NumbersSpent ends = (
+            refl,
+            made_both (stopped stop.NumbersSpent) (Stands at all asked None ∷ []) [] (Writes entries ∷ []) begun
+                (wrote_made (with_end a end room stop_at) r' k' entries text is ends.1),
+            spent (Writes entries ∷ []),
+          )
+          go WriteFailed short = record {
+            done = Stands at all asked None ∷ [];
+            entries = entries;
+            later = [];
+            whole = refl;
+            linked = linked;
+            carried = carried_none a.link;
+            count = short.count;
+            short = subst (λ (t : List ℕ). short.count < length t) (sym is) short.short;
+            received = short.received ∙ ap (λ (t : List ℕ). with_bytes a.received (take short.count t)) (sym is);
+            fault = subst (λ (t : List ℕ). WriteFault a.out k' (length t)) (sym is) short.fault;
+            end = inr (spent []);
+          }
+          go NoMemory none = record {
+            done = Stands at all asked None ∷ [];
+            later = Writes entries ∷ [];
+            whole = refl;
+            made = record { linked = linked; carried = carried_none a.link; wrote = none };
+            end = inr (inl (spent []));
+          }
+          go Stopped ends = let is = ends.0 in absurd (cc)
+          go Closed ends = let is = ends.0 in absurd (cc)
+          go Turns ends = let is = ends.0 in absurd (cc)
+          go DiskFailed ends = absurd ends
+          go LinkFailed ends = absurd ends
+
+      pub spent_runs : (spent : HasSpent went out) (result : Ending)
+          → EndsWith (written a (with_out a r' k')) (flat_map
+          (note_line at.moment at.side) out.notes) NumbersSpent result
+          → Runs a (stopped stop.NumbersSpent) (made at stops asked went) (Some result)
+      spent_runs spent result ends =
+          subst
+          (λ (went : Went S Happening). Runs a (stopped stop.NumbersSpent) (made at stops asked went) (Some result))
+          (sym spent.is)
+          (spent_does (entries_at at.side at.moment spent.step.notes) (flat_map (note_line at.moment at.side) out.notes)
+          (noted_text law at.side at.moment spent.step.notes
+          ∙ ap (flat_map (note_line at.moment at.side)) (sym spent.notes))
+          result ends)
+
+      -- the disk stops it, whatever it was to write then
+      disk_stops :
+          (halt : HasStopped stops went out) (left : Option S) (noted : List Happening) (more : List (Act S C))
+          → IsFront halt.front noted → IsShort a.room asked
+          → PutsAsCan (written a (with_out a r' k')) (flat_map (note_line at.moment at.side) out.notes)
+          → DiskFails a (stopped stop.DiskFailed)
+          (stands at stops asked left ∷ Writes (entries_at at.side at.moment noted) ∷ more)
+      disk_stops halt left noted more first short puts = record {
+        done = [];
+        at = at;
+        stops = map (entries_at at.side at.moment) stops;
+        asked = asked;
+        end = left;
+        newer = entries_at at.side at.moment first.rest;
+        entries = entries_at at.side at.moment halt.front;
+        later = more;
+        whole =
+            ap (λ (es : List Entry). stands at stops asked left ∷ Writes es ∷ more)
+            (ap (entries_at at.side at.moment) first.whole ∙ entries_both at.side at.moment halt.front first.rest);
+        before = here;
+        front = halt.front;
+        noted = refl;
+        out = out;
+        notes = halt.notes;
+        stop = refl;
+        may = has-map (entries_at at.side at.moment) stops halt.front halt.may;
+        linked = record { listed = lists_still a.contents a.contents [] refl refl refl; clock = refl; timely = tt };
+        carried = carried_none a.link;
+        put =
+            puts_last a end room _ r' k' (text_of (entries_at at.side at.moment halt.front))
+            (subst (λ (t : List ℕ). PutsAsCan (written a (with_out a r' k')) t)
+            (ap (flat_map (note_line at.moment at.side)) halt.notes
+            ∙ sym (noted_text law at.side at.moment halt.front)) puts);
+        short = none_asked_yet short;
+      }
+        where
+          none_asked_yet : IsShort a.room asked → IsShort a.room (asked_both none_asked asked)
+          none_asked_yet (inl few) = inl (omega (arith, few))
+          none_asked_yet (inr few) = inr (omega (arith, few))
+
+      pub stopped_runs :
+          HasStopped stops went out → IsShort a.room asked
+          → PutsAsCan (written a (with_out a r' k')) (flat_map (note_line at.moment at.side) out.notes)
+          → Runs a (stopped stop.DiskFailed) (made at stops asked went) (Some DiskFailed)
+      stopped_runs halt short puts = go went halt.first
+        where
+          front_more : (notes last : List Happening) → IsFront halt.front notes → IsFront halt.front (notes ++ last)
+          front_more notes last first = record {
+            rest = first.rest ++ last;
+            whole =
+                ap (λ (ns : List Happening). ns ++ last) first.whole ∙ append_assoc halt.front first.rest last;
+          }
+
+          go : (went : Went S Happening) → IsFront halt.front (step_in went).notes
+              → Runs a (stopped stop.DiskFailed) (made at stops asked went) (Some DiskFailed)
+          go (Goes step) first =
+              disk_stops halt (Some step.next) (step.notes ++ wrote step.written) (sends step.written)
+              (front_more step.notes (wrote step.written) first) short puts
+          go (Spent step) first = disk_stops halt None step.notes [] first short puts
 
 -- ---- a start
 

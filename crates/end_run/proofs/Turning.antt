@@ -1,6 +1,7 @@
 -- What a poll brings, and what the lines of a script bring.
-use Rattle.std.proofs.Common.{◌≡◌, ◌≢◌, ℕ, ◌+◌, ◌<◌, length, get_or, drop-cons, add-one, List, [], ◌∷◌, drop, Option, Some, None, inr, refl, sym, ap, subst, ◌∙◌}
-use Rattle.std.proofs.lemmas.List.{drop-drop}
+use Rattle.std.proofs.Common.{◌≡◌, ◌≢◌, ℕ, ◌+◌, ◌<◌, ◌≤◌, arith, length, get_or, drop-cons, add-one, List, [], ◌∷◌, drop, Option, Some, None, inr, refl, sym, ap, subst, ◌∙◌}
+use Rattle.std.proofs.lemmas.List.{drop-drop, length-drop}
+use Rattle.std.proofs.lemmas.List.Sums.{prefix_len-le-length}
 use Rattle.gl_base.specs.Events.{moment_after}
 use Rattle.gl_base.specs.Link.{HasPollCause, IsCarriedOn, IsTimely, IsToldAnswer, LinkContents, LinkHealth, told_after_poll}
 use Rattle.gl_base.specs.Sink.{SinkHealth}
@@ -9,8 +10,10 @@ use Rattle.gl_base.specs.declared.link.LinkIn.TheVariants as link
 use Rattle.gl_base.specs.declared.side.Side.{Side}
 use Rattle.gl_base.proofs.Appending.{wrote_nothing}
 use Rattle.line_schedule.specs.declared.script.ScriptStep.{ScriptStep}
+use Rattle.message_end.specs.declared.end.Stop.{Stop}
 use Rattle.message_end.specs.Ends.{Input, Machine, MayTake}
 use Rattle.message_end.specs.Ends.Input.{Char, Command, Time}
+use Rattle.message_flow.specs.declared.step.StepOut.{StepOut}
 use Rattle.trace_log.specs.Log.Happening.{Closed}
 use Rattle.trace_log.specs.Text.{text_of}
 use Rattle.end_run.specs.declared.ending.Ending.{Ending}
@@ -18,37 +21,39 @@ use Rattle.end_run.specs.declared.ending.Ending.TheVariants as ending
 use Rattle.end_run.specs.Acts.{Act}
 use Rattle.end_run.specs.Acts.Act.{Polls}
 use Rattle.end_run.specs.Calls.{EndsWith, HasTurned, IsPlainInput, Left}
-use Rattle.end_run.specs.Outcome.{Did, IfOn, Lists, Runs}
-use Rattle.end_run.specs.Pieces.{behind}
+use Rattle.end_run.specs.Outcome.{Comes, Did, IfOn, Lists, Runs}
+use Rattle.end_run.specs.Pieces.{Piece, behind}
 use Rattle.end_run.specs.Run.{closed, upon}
-use Rattle.end_run.specs.Scenes.{Scene, written}
-use Rattle.end_run.specs.Script.{ScriptLine, Telling, MayTell, command_of, due_count, later_lines, wait_until}
+use Rattle.end_run.specs.Scenes.{Scene, StopAt, written}
+use Rattle.end_run.specs.Script.{ScriptLine, Telling, MayTell, command_of, due_count, is_due_line, later_lines, wait_until}
 use Rattle.end_run.specs.Script.Telling.{IsOther, Stops, Tells}
 use Rattle.end_run.specs.Steps.{entries_at, stepped, tells}
-use Rattle.end_run.proofs.Doing.{runs_behind}
+use Rattle.end_run.proofs.Coming.{comes_after}
 use Rattle.end_run.proofs.Joining.{did_none, room_none}
 use Rattle.end_run.proofs.Stepping.{ends_does, with_link, with_out}
 
 -- ---- a poll that was answered
 
-abbrev polling : {S : Type 0} → ℕ → LinkIn → List (Act S)
+abbrev polling : {S C : Type 0} → ℕ → LinkIn → List (Act S C)
 polling until answer = Polls until answer ∷ []
 
-polled_listed : (S : Type 0) (l l' : Option LinkContents) (until : ℕ) (answer : LinkIn) → answer ≢ link.Failed
-    → IsToldAnswer l answer → l' ≡ told_after_poll until answer l → Lists l (polling {S = S} until answer) l'
-polled_listed S None l' until (link.Char byte now) other next is = is
-polled_listed S None l' until (link.Quiet now) other next is = is
-polled_listed S None l' until link.Closed other next is = is
-polled_listed S (Some c) l' until (link.Char byte now) other next is =
-    subst (λ (after : Option LinkContents). Lists (Some c) (polling {S = S} until (link.Char byte now)) after) (sym is)
+polled_listed : (S C : Type 0) (l l' : Option LinkContents) (until : ℕ) (answer : LinkIn) → answer ≢ link.Failed
+    → IsToldAnswer l answer → l' ≡ told_after_poll until answer l → Lists l (polling {S = S} {C = C} until answer) l'
+polled_listed S C None l' until (link.Char byte now) other next is = is
+polled_listed S C None l' until (link.Quiet now) other next is = is
+polled_listed S C None l' until link.Closed other next is = is
+polled_listed S C (Some k) l' until (link.Char byte now) other next is =
+    subst (λ (after : Option LinkContents). Lists (Some k) (polling {S = S} {C = C} until
+    (link.Char byte now)) after) (sym is)
     (record { entries = refl; left = next })
-polled_listed S (Some c) l' until (link.Quiet now) other next is =
-    subst (λ (after : Option LinkContents). Lists (Some c) (polling {S = S} until (link.Quiet now)) after) (sym is)
+polled_listed S C (Some k) l' until (link.Quiet now) other next is =
+    subst (λ (after : Option LinkContents). Lists (Some k) (polling {S = S} {C = C} until (link.Quiet now)) after)
+    (sym is)
     (record { entries = refl; left = next })
-polled_listed S (Some c) l' until link.Closed other next is =
-    subst (λ (after : Option LinkContents). Lists (Some c) (polling {S = S} until link.Closed) after) (sym is)
+polled_listed S C (Some k) l' until link.Closed other next is =
+    subst (λ (after : Option LinkContents). Lists (Some k) (polling {S = S} {C = C} until link.Closed) after) (sym is)
     (record { entries = refl; left = next ∙ sym (ap (λ (answers : List LinkIn). drop 1 answers) next) })
-polled_listed S l l' until link.Failed other next is = absurd (other refl)
+polled_listed S C l l' until link.Failed other next is = absurd (other refl)
 
 polled_carried : (h h' : LinkHealth) (answer : LinkIn) → answer ≢ link.Failed → HasPollCause h h' answer
     → IsCarriedOn h h' 1
@@ -57,15 +62,15 @@ polled_carried h h' (link.Quiet now) other cause = cause
 polled_carried h h' link.Closed other cause = cause
 polled_carried h h' link.Failed other cause = absurd (other refl)
 
-polled_did : {S : Type 0} (a : Scene S) (l' : Option LinkContents) (m' : ℕ) (h' : LinkHealth) (until : ℕ)
+polled_did : {S C : Type 0} (a : Scene S C) (l' : Option LinkContents) (m' : ℕ) (h' : LinkHealth) (until : ℕ)
     (answer : LinkIn)
     → answer ≢ link.Failed → IsToldAnswer a.contents answer → l' ≡ told_after_poll until answer a.contents
     → IsTimely until a.moment answer → m' ≡ moment_after a.moment answer → HasPollCause a.link h' answer
     → Did a (with_link a l' m' h') (Polls until answer ∷ [])
-polled_did {S} a l' m' h' until answer other next told timely clock cause = record {
+polled_did {S} {C} a l' m' h' until answer other next told timely clock cause = record {
   made = record {
     linked = record {
-      listed = polled_listed S a.contents l' until answer other next told;
+      listed = polled_listed S C a.contents l' until answer other next told;
       clock = clock;
       timely = (timely, tt);
     };
@@ -74,11 +79,14 @@ polled_did {S} a l' m' h' until answer other next told timely clock cause = reco
   };
   end = refl;
   room = room_none a.room;
+  stop = refl;
 }
 
-module _ {S C : Type 0} (machine : Machine S C) (due : S → Option ℕ) (told_by : ScriptStep → Telling C) (side : Side)
-    (a c : Scene S) (l' : Option LinkContents) (m' : ℕ) (h' : LinkHealth) (before after : Left S) (until : ℕ)
-    (deadline : Option ℕ) (lines : List ScriptLine) (is_lines : lines ≡ before.lines)
+module _
+    {E S C : Type 0} (known : E → Type 0) (left : S → Input C → ℕ → StepOut → Stop → E → Type 0) (end : E)
+    (machine : Machine S C) (due : S → Option ℕ) (told_by : ScriptStep → Telling C) (side : Side) (a : Scene S C)
+    (c : Option (StopAt S C) → Scene S C) (l' : Option LinkContents) (m' : ℕ) (h' : LinkHealth) (before after : Left S)
+    (until : ℕ) (deadline : Option ℕ) (lines : List ScriptLine) (is_lines : lines ≡ before.lines)
     (is_due : deadline ≡ due before.end) (is_until : until ≡ wait_until deadline lines)
   where
     waits : until ≡ wait_until (due before.end) before.lines
@@ -90,29 +98,26 @@ module _ {S C : Type 0} (machine : Machine S C) (due : S → Option ℕ) (told_b
         (answer : LinkIn) (result : Option Ending) → answer ≢ link.Failed → IsToldAnswer a.contents answer
         → l' ≡ told_after_poll until answer a.contents → IsTimely until a.moment answer
         → m' ≡ moment_after a.moment answer → HasPollCause a.link h' answer
-        → Runs (with_link a l' m' h') c (upon machine due told_by side lines before.moment answer before.end) result
-        → IfOn result (after.end ≡ (upon machine due told_by side lines before.moment answer before.end).end)
+        → Comes known left end (with_link a l' m' h') c
+        (upon machine due told_by side lines before.moment answer before.end) result
         → after.moment ≡ moment_after before.moment answer
         → IfOn result (after.lines ≡ later_lines after.moment before.lines)
-        → HasTurned machine due told_by side a c before after result
-    turned_by answer result other next told timely clock cause runs end moment later = inr (
+        → HasTurned known left end machine due told_by side a c before after result
+    turned_by answer result other next told timely clock cause runs moment later = inr (
       answer,
       record {
         next = next;
         other = other;
         runs =
-            subst (λ (act : Act S). Runs a c (behind (act ∷ [])
+            subst (λ (act : Act S C). Comes known left end a c (behind (act ∷ [])
             (upon machine due told_by side before.lines before.moment answer before.end)) result)
             (ap (λ (until : ℕ). Polls until answer) waits)
-            (runs_behind c (Polls until answer ∷ [])
+            (comes_after known left end c (Polls until answer ∷ [])
             (polled_did a l' m' h' until answer other next told timely clock cause)
             (upon machine due told_by side before.lines before.moment answer before.end) result
-            (subst (λ (lines : List ScriptLine). Runs (with_link a l' m' h') c
+            (subst (λ (lines : List ScriptLine). Comes known left end (with_link a l' m' h') c
             (upon machine due told_by side lines before.moment answer before.end) result)
             is_lines runs));
-        end =
-            subst (λ (lines : List ScriptLine). IfOn result (after.end
-            ≡ (upon machine due told_by side lines before.moment answer before.end).end)) is_lines end;
         moment = moment;
         lines = later;
       },
@@ -120,13 +125,13 @@ module _ {S C : Type 0} (machine : Machine S C) (due : S → Option ℕ) (told_b
 
 -- the peer has closed the connection
 pub closed_runs :
-    {S : Type 0} (a : Scene S) (r' : Option (List ℕ)) (k' : SinkHealth) (side : Side) (now : ℕ) (s : S)
+    {S C : Type 0} (a : Scene S C) (r' : Option (List ℕ)) (k' : SinkHealth) (side : Side) (now : ℕ) (s : S)
     (result : Ending)
     → EndsWith (written a (with_out a r' k')) (text_of (entries_at side now (Closed ∷ []))) ending.Closed result
     → Runs a (with_out a r' k') (closed side now s) (Some result)
 closed_runs a r' k' side now s result ends =
     ends_does a r' k' (entries_at side now (Closed ∷ [])) (text_of (entries_at side now (Closed ∷ []))) refl
-    ending.Closed result ends
+    ending.Closed result (λ is. cc) ends
 
 pub if_on : (result : Option Ending) (P : Type 0) → P → IfOn result P
 if_on None P holds = holds
@@ -147,40 +152,35 @@ past_due lines left given given' now now' is_left is_now is_given =
     ∙ sym (drop-drop (due_count now (drop given lines)) given lines)
     ∙ ap (λ (now : ℕ). later_lines now (drop given lines)) (sym is_now)
 
+-- no more lines are given than there are
+pub given_within :
+    (lines left : List ScriptLine) (given given' now : ℕ) → left ≡ drop given lines → given ≤ length lines
+    → given' ≡ given + due_count now left → given' ≤ length lines
+given_within lines left given given' now is within is_given =
+    let few : due_count now left ≤ length left = prefix_len-le-length (is_due_line now) left in
+    let long = ap length is ∙ length-drop given lines in
+    omega (arith, few, long, within, is_given)
+
 -- ---- a line of a script
 
 module _ {S C : Type 0} (machine : Machine S C) (side : Side) (now : ℕ) (takes : C → Type 0) where
   -- a line that tells no command, and isn't of the other end, stops the run
-  pub told_stops : (a : Scene S) (s : S) (telling : Telling C) → MayTell takes telling → command_of telling ≡ None
+  pub told_stops : (a : Scene S C) (s : S) (telling : Telling C) → MayTell takes telling → command_of telling ≡ None
       → Runs a a (tells machine side now telling s) (Some ending.Stopped)
   told_stops a s (Tells command) may is = absurd (cc)
   told_stops a s Stops may is = (refl, did_none a)
   told_stops a s IsOther may is = absurd may
 
   -- it tells a command
-  pub told_runs : (a b : Scene S) (s : S) (telling : Telling C) (given : C) (result : Option Ending)
-      → command_of telling ≡ Some given → Runs a b (stepped machine side now (Command given) s) result
-      → Runs a b (tells machine side now telling s) result
-  told_runs a b s (Tells command) given result is runs =
-      subst (λ (command : C). Runs a b (stepped machine side now (Command command) s) result) (sym (same is)) runs
+  pub told_as : (P : Piece S C → Type 0) (s : S) (telling : Telling C) (given : C) → command_of telling ≡ Some given
+      → P (stepped machine side now (Command given) s) → P (tells machine side now telling s)
+  told_as P s (Tells command) given is runs =
+      subst (λ (command : C). P (stepped machine side now (Command command) s)) (sym (same is)) runs
     where
       same : {command : C} → Some command ≡ Some given → command ≡ given
       same is = cc
-  told_runs a b s Stops given result is runs = absurd (cc)
-  told_runs a b s IsOther given result is runs = absurd (cc)
-
-  pub told_end : (new s : S) (telling : Telling C) (given : C) (result : Option Ending)
-      → command_of telling ≡ Some given
-      → IfOn result (new ≡ (stepped machine side now (Command given) s).end)
-      → IfOn result (new ≡ (tells machine side now telling s).end)
-  told_end new s (Tells command) given result is end =
-      subst (λ (command : C). IfOn result (new ≡ (stepped machine side now (Command command) s).end))
-      (sym (same is)) end
-    where
-      same : {command : C} → Some command ≡ Some given → command ≡ given
-      same is = cc
-  told_end new s Stops given result is end = absurd (cc)
-  told_end new s IsOther given result is end = absurd (cc)
+  told_as P s Stops given is runs = absurd (cc)
+  told_as P s IsOther given is runs = absurd (cc)
 
   -- its command is one that the end takes
   pub told_takes : (telling : Telling C) (given : C) → MayTell takes telling → command_of telling ≡ Some given

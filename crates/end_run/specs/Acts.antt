@@ -6,31 +6,39 @@ use Rattle.gl_base.specs.declared.link.LinkEntry.{LinkEntry}
 use Rattle.gl_base.specs.declared.link.LinkEntry.TheVariants.{Polled}
 use Rattle.gl_base.specs.declared.link.LinkIn.{LinkIn}
 use Rattle.gl_base.specs.declared.link.LinkIn.TheVariants.{Char, Quiet, Closed, Failed}
-use Rattle.message_end.specs.Ends.{Asked, asked_both, none_asked}
+use Rattle.gl_base.specs.declared.side.Side.{Side}
+use Rattle.message_end.specs.Ends.{Asked, Input, asked_both, none_asked}
 use Rattle.trace_log.specs.Log.{Entry}
 use Rattle.trace_log.specs.Text.{text_of}
+
+-- a step: of which side, at which moment, from which state, and what it was given
+pub record StepAt (S C : Type 0) : Type 0 where
+  pub side : Side
+  pub moment : ℕ
+  pub state : S
+  pub input : Input C
 
 -- it makes a step: its disk is asked for so much, and may stop it with these entries, one list for each piece of work;
 -- the end is this behind it, of which nothing is said where its numbers were spent. It connects. It waits up to a
 -- moment, and is answered so. It writes the lines of these entries, the newest entry first. It sends characters
-pub data Act (S : Type 0) : Type 0 where
-  Stands : (stops : List (List Entry)) (asked : Asked) (end : Option S) → Act S
-  Connects : Act S
-  Polls : (until : ℕ) (answer : LinkIn) → Act S
-  Writes : (entries : List Entry) → Act S
-  Sends : (characters : List ℕ) → Act S
+pub data Act (S C : Type 0) : Type 0 where
+  Stands : (at : StepAt S C) (stops : List (List Entry)) (asked : Asked) (end : Option S) → Act S C
+  Connects : Act S C
+  Polls : (until : ℕ) (answer : LinkIn) → Act S C
+  Writes : (entries : List Entry) → Act S C
+  Sends : (characters : List ℕ) → Act S C
 
 -- ---- the link
 
 -- what its list has of an act, and of all acts
-abbrev pub listed : {S : Type 0} → Act S → List LinkEntry
-listed (Stands stops asked end) = []
+abbrev pub listed : {S C : Type 0} → Act S C → List LinkEntry
+listed (Stands at stops asked end) = []
 listed Connects = []
 listed (Polls until answer) = Polled until answer ∷ []
 listed (Writes entries) = []
 listed (Sends characters) = entries_of characters
 
-abbrev pub list_of : {S : Type 0} → List (Act S) → List LinkEntry
+abbrev pub list_of : {S C : Type 0} → List (Act S C) → List LinkEntry
 list_of [] = []
 list_of (act ∷ acts) = listed act ++ list_of acts
 
@@ -41,82 +49,82 @@ taken_by (Quiet moment) = Quiet moment ∷ []
 taken_by Closed = []
 taken_by Failed = []
 
-abbrev pub taken : {S : Type 0} → Act S → List LinkIn
-taken (Stands stops asked end) = []
+abbrev pub taken : {S C : Type 0} → Act S C → List LinkIn
+taken (Stands at stops asked end) = []
 taken Connects = []
 taken (Polls until answer) = taken_by answer
 taken (Writes entries) = []
 taken (Sends characters) = []
 
-abbrev pub taken_of : {S : Type 0} → List (Act S) → List LinkIn
+abbrev pub taken_of : {S C : Type 0} → List (Act S C) → List LinkIn
 taken_of [] = []
 taken_of (act ∷ acts) = taken act ++ taken_of acts
 
 -- the moment of its last answer behind an act, and behind all acts: a connection begins its clock anew
-abbrev pub moment_with : {S : Type 0} → ℕ → Act S → ℕ
-moment_with before (Stands stops asked end) = before
+abbrev pub moment_with : {S C : Type 0} → ℕ → Act S C → ℕ
+moment_with before (Stands at stops asked end) = before
 moment_with before Connects = 0
 moment_with before (Polls until answer) = moment_after before answer
 moment_with before (Writes entries) = before
 moment_with before (Sends characters) = before
 
-abbrev pub moment_by : {S : Type 0} → ℕ → List (Act S) → ℕ
+abbrev pub moment_by : {S C : Type 0} → ℕ → List (Act S C) → ℕ
 moment_by before [] = before
 moment_by before (act ∷ acts) = moment_by (moment_with before act) acts
 
 -- each answer may come where the last one before it was of this moment
-abbrev pub IsTimelyAct : {S : Type 0} → ℕ → Act S → Type 0
-IsTimelyAct before (Stands stops asked end) = Unit {0}
+abbrev pub IsTimelyAct : {S C : Type 0} → ℕ → Act S C → Type 0
+IsTimelyAct before (Stands at stops asked end) = Unit {0}
 IsTimelyAct before Connects = Unit {0}
 IsTimelyAct before (Polls until answer) = IsTimely until before answer
 IsTimelyAct before (Writes entries) = Unit {0}
 IsTimelyAct before (Sends characters) = Unit {0}
 
-abbrev pub AreTimely : {S : Type 0} → ℕ → List (Act S) → Type 0
+abbrev pub AreTimely : {S C : Type 0} → ℕ → List (Act S C) → Type 0
 AreTimely before [] = Unit {0}
 AreTimely before (act ∷ acts) = IsTimelyAct before act × AreTimely (moment_with before act) acts
 
 -- ---- the output
 
 -- the log of all acts, the newest entry first, and its text
-abbrev pub noted : {S : Type 0} → Act S → List Entry
-noted (Stands stops asked end) = []
+abbrev pub noted : {S C : Type 0} → Act S C → List Entry
+noted (Stands at stops asked end) = []
 noted Connects = []
 noted (Polls until answer) = []
 noted (Writes entries) = entries
 noted (Sends characters) = []
 
-abbrev pub log_of : {S : Type 0} → List (Act S) → List Entry
+abbrev pub log_of : {S C : Type 0} → List (Act S C) → List Entry
 log_of [] = []
 log_of (act ∷ acts) = log_of acts ++ noted act
 
-abbrev pub lines_of : {S : Type 0} → List (Act S) → List ℕ
+abbrev pub lines_of : {S C : Type 0} → List (Act S C) → List ℕ
 lines_of acts = text_of (log_of acts)
 
 -- ---- the end
 
 -- what is said of it behind an act, and behind all acts: what its last step left
-abbrev pub end_with : {S : Type 0} → Option S → Act S → Option S
-end_with before (Stands stops asked end) = end
+abbrev pub end_with : {S C : Type 0} → Option S → Act S C → Option S
+end_with before (Stands at stops asked end) = end
 end_with before Connects = before
 end_with before (Polls until answer) = before
 end_with before (Writes entries) = before
 end_with before (Sends characters) = before
 
-abbrev pub end_by : {S : Type 0} → Option S → List (Act S) → Option S
+abbrev pub end_by : {S C : Type 0} → Option S → List (Act S C) → Option S
 end_by before [] = before
 end_by before (act ∷ acts) = end_by (end_with before act) acts
 
 -- ---- its disk
 
 -- what an act asks of it, and all acts
-abbrev pub asked_in : {S : Type 0} → Act S → Asked
-asked_in (Stands stops asked end) = asked
+abbrev pub asked_in : {S C : Type 0} → Act S C → Asked
+asked_in (Stands at stops asked end) = asked
 asked_in Connects = none_asked
 asked_in (Polls until answer) = none_asked
 asked_in (Writes entries) = none_asked
 asked_in (Sends characters) = none_asked
 
-abbrev pub asked_by : {S : Type 0} → List (Act S) → Asked
+abbrev pub asked_by : {S C : Type 0} → List (Act S C) → Asked
 asked_by [] = none_asked
 asked_by (act ∷ acts) = asked_both (asked_in act) (asked_by acts)

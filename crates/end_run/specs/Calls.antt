@@ -8,14 +8,16 @@ use Rattle.gl_base.specs.declared.link.LinkIn.{LinkIn}
 use Rattle.gl_base.specs.declared.link.LinkIn.TheVariants as link
 use Rattle.gl_base.specs.declared.side.Side.{Side}
 use Rattle.line_schedule.specs.declared.script.ScriptStep.{ScriptStep}
+use Rattle.message_end.specs.declared.end.Stop.{Stop}
 use Rattle.message_end.specs.Ends.{Input, Machine}
 use Rattle.message_end.specs.Ends.Input.{Char, Command, Time}
+use Rattle.message_flow.specs.declared.step.StepOut.{StepOut}
 use Rattle.end_run.specs.declared.ending.Ending.{Ending}
 use Rattle.end_run.specs.declared.ending.Ending.TheVariants.{Closed, DiskFailed, LinkFailed, NoMemory, NumbersSpent, Stopped, Turns, WriteFailed}
 use Rattle.end_run.specs.declared.polls.Place.{Place}
-use Rattle.end_run.specs.Outcome.{IfOn, Runs}
+use Rattle.end_run.specs.Outcome.{Comes, IfOn}
 use Rattle.end_run.specs.Run.{turned}
-use Rattle.end_run.specs.Scenes.{Scene}
+use Rattle.end_run.specs.Scenes.{Scene, StopAt}
 use Rattle.end_run.specs.Script.{ScriptLine, Telling, later_lines}
 
 -- ---- lines that are written
@@ -80,7 +82,7 @@ abbrev pub left_of : {S : Type 0} → S → List ScriptLine → Place → Left S
 left_of end lines place = record { end = end; lines = drop place.given lines; moment = place.now }
 
 -- a poll failed, and nothing else was done
-pub record PollFails {S : Type 0} (a b : Scene S) (result : Option Ending) : Type 0 where
+pub record PollFails {S C : Type 0} (a b : Scene S C) (result : Option Ending) : Type 0 where
   pub is : result ≡ Some LinkFailed
   pub contents : b.contents ≡ a.contents
   pub moment : b.moment ≡ a.moment
@@ -88,18 +90,25 @@ pub record PollFails {S : Type 0} (a b : Scene S) (result : Option Ending) : Typ
   pub received : b.received ≡ a.received
   pub out : b.out ≡ a.out
   pub end : b.end ≡ a.end
+  pub stop : b.stop ≡ a.stop
 
-module _ {S C : Type 0} (machine : Machine S C) (due : S → Option ℕ) (told : ScriptStep → Telling C) (side : Side) where
-  -- a poll came to this answer, which was the next to come, and what follows from it was done
-  pub record Turned (a b : Scene S) (before after : Left S) (result : Option Ending) (answer : LinkIn) : Type 0 where
-    pub next : IsToldAnswer a.contents answer
-    pub other : answer ≢ link.Failed
-    pub runs : Runs a b (turned machine due told side before.lines before.moment answer before.end) result
-    pub end : IfOn result (after.end ≡ (turned machine due told side before.lines before.moment answer before.end).end)
-    pub moment : after.moment ≡ moment_after before.moment answer
-    pub lines : IfOn result (after.lines ≡ later_lines after.moment before.lines)
+module _
+    {E S C : Type 0} (known : E → Type 0) (left : S → Input C → ℕ → StepOut → Stop → E → Type 0) (end : E)
+    (machine : Machine S C) (due : S → Option ℕ) (told : ScriptStep → Telling C) (side : Side)
+  where
+    -- a poll came to this answer, which was the next to come, and what follows from it was done
+    pub record Turned (a : Scene S C) (b : Option (StopAt S C) → Scene S C) (before after : Left S)
+        (result : Option Ending) (answer : LinkIn)
+        : Type 0 where
+      pub next : IsToldAnswer a.contents answer
+      pub other : answer ≢ link.Failed
+      pub runs :
+          Comes known left end a b (turned machine due told side before.lines before.moment answer before.end) result
+      pub moment : after.moment ≡ moment_after before.moment answer
+      pub lines : IfOn result (after.lines ≡ later_lines after.moment before.lines)
 
-  -- a poll came to some answer, or failed
-  abbrev pub HasTurned : Scene S → Scene S → Left S → Left S → Option Ending → Type 0
-  HasTurned a b before after result =
-      PollFails a b result ⊎ ((answer : LinkIn) × Turned a b before after result answer)
+    -- a poll came to some answer, or failed
+    abbrev pub HasTurned :
+        Scene S C → (Option (StopAt S C) → Scene S C) → Left S → Left S → Option Ending → Type 0
+    HasTurned a b before after result =
+        (PollFails a (b None) result × known end) ⊎ ((answer : LinkIn) × Turned a b before after result answer)

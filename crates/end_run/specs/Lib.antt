@@ -1,5 +1,6 @@
 pub mod Acts
 pub mod Calls
+pub mod Counts
 pub mod Outcome
 pub mod Pieces
 pub mod Run

@@ -5,8 +5,7 @@ use Rattle.gl_base.specs.declared.link.LinkIn.{LinkIn}
 use Rattle.gl_base.specs.declared.link.LinkIn.TheVariants as link
 use Rattle.gl_base.specs.declared.side.Side.{Side}
 use Rattle.line_schedule.specs.declared.script.ScriptStep.{ScriptStep}
-use Rattle.message_end.specs.Core.{Step, Went}
-use Rattle.message_end.specs.Core.Went.{Goes, Spent}
+use Rattle.message_end.specs.Core.{Step}
 use Rattle.message_end.specs.Ends.{Machine}
 use Rattle.message_end.specs.Ends.Input.{Char, Time}
 use Rattle.trace_log.specs.Log.{Happening}
@@ -15,10 +14,10 @@ use Rattle.end_run.specs.declared.ending.Ending.TheVariants as ending
 use Rattle.end_run.specs.Acts.Act.{Polls, Writes}
 use Rattle.end_run.specs.Pieces.{Piece, and_more, behind, stops}
 use Rattle.end_run.specs.Script.{ScriptLine, Telling, due_lines, later_lines, wait_until}
-use Rattle.end_run.specs.Steps.{answered, entries_at, made, stands, started, stepped}
+use Rattle.end_run.specs.Steps.{answered, entries_at, started, stepped}
 
 -- the peer has closed the connection, at the moment of the last answer that had one
-abbrev pub closed : {S : Type 0} → Side → ℕ → S → Piece S
+abbrev pub closed : {S C : Type 0} → Side → ℕ → S → Piece S C
 closed side now s = record {
   end = s;
   acts = Writes (entries_at side now (Closed ∷ [])) ∷ [];
@@ -29,18 +28,18 @@ closed side now s = record {
 module _ {S C : Type 0} (machine : Machine S C) (due : S → Option ℕ) (told : ScriptStep → Telling C) (side : Side)
   where
     -- what is done upon an answer, where the last one before it that had a moment had this one
-    abbrev pub upon : List ScriptLine → ℕ → LinkIn → S → Piece S
+    abbrev pub upon : List ScriptLine → ℕ → LinkIn → S → Piece S C
     upon lines before (link.Char byte now) s = answered machine side told now (due_lines now lines) (Char byte) s
     upon lines before (link.Quiet now) s = answered machine side told now (due_lines now lines) Time s
     upon lines before link.Closed s = closed side before s
     upon lines before link.Failed s = stops ending.LinkFailed s
 
     -- a poll asks for the moment at which the end acts next, by itself or by its script
-    abbrev pub turned : List ScriptLine → ℕ → LinkIn → S → Piece S
+    abbrev pub turned : List ScriptLine → ℕ → LinkIn → S → Piece S C
     turned lines before answer s = behind (Polls (wait_until (due s) lines) answer ∷ []) (upon lines before answer s)
 
     -- so many polls, as long as the run goes on; where no answer is left the peer has closed the connection
-    abbrev pub polled : ℕ → List ScriptLine → ℕ → List LinkIn → S → Piece S
+    abbrev pub polled : ℕ → List ScriptLine → ℕ → List LinkIn → S → Piece S C
     polled zero lines before answers s = stops ending.Turns s
     polled (suc n) lines before [] s = turned lines before link.Closed s
     polled (suc n) lines before (answer ∷ answers) s =
@@ -48,16 +47,9 @@ module _ {S C : Type 0} (machine : Machine S C) (due : S → Option ℕ) (told :
         and_more (turned lines before answer s) (polled n (later_lines now lines) now answers)
 
     -- the end has started so: its lines are written, it connects, and makes a step with time at moment 0
-    abbrev pub begun : Step S Happening → Piece S
+    abbrev pub begun : Step S Happening → Piece S C
     begun start = and_more (started side start) (stepped machine side 0 Time)
 
     -- all of the run from there, where these answers are to come
-    abbrev pub started_run : Step S Happening → List ScriptLine → ℕ → List LinkIn → Piece S
+    abbrev pub started_run : Step S Happening → List ScriptLine → ℕ → List LinkIn → Piece S C
     started_run start lines polls answers = and_more (begun start) (polled polls lines 0 answers)
-
-    -- the start is a step, too, which its disk may stop; one that has no numbers to start with doesn't connect
-    abbrev pub end_run : Went S Happening → List ScriptLine → ℕ → List LinkIn → Piece S
-    end_run (Goes start) lines polls answers =
-        behind (stands side 0 machine.start_stops machine.start_asks (Some start.next) ∷ [])
-        (started_run start lines polls answers)
-    end_run (Spent start) lines polls answers = made side 0 machine.start_stops machine.start_asks (Spent start)

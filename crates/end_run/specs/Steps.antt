@@ -10,7 +10,7 @@ use Rattle.trace_log.specs.Laws.{log_with}
 use Rattle.trace_log.specs.Log.{Entry, Happening}
 use Rattle.trace_log.specs.Log.Happening.{Wrote}
 use Rattle.end_run.specs.declared.ending.Ending.TheVariants as ending
-use Rattle.end_run.specs.Acts.{Act}
+use Rattle.end_run.specs.Acts.{Act, StepAt}
 use Rattle.end_run.specs.Acts.Act.{Connects, Sends, Stands, Writes}
 use Rattle.end_run.specs.Pieces.{Piece, and_more, still, stops}
 use Rattle.end_run.specs.Script.{ScriptLine, Telling}
@@ -26,52 +26,56 @@ wrote [] = []
 wrote (byte ∷ bytes) = Wrote (byte ∷ bytes) ∷ []
 
 -- and are sent
-abbrev pub sends : {S : Type 0} → List ℕ → List (Act S)
+abbrev pub sends : {S C : Type 0} → List ℕ → List (Act S C)
 sends [] = []
 sends (byte ∷ bytes) = Sends (byte ∷ bytes) ∷ []
 
--- a step at a moment, which its disk may stop with these notes
-abbrev pub stands : {S : Type 0} → Side → ℕ → List (List Happening) → Asked → Option S → Act S
-stands side now stops asked end = Stands (map (entries_at side now) stops) asked end
+-- a step, which its disk may stop with these notes
+abbrev pub stands : {S C : Type 0} → StepAt S C → List (List Happening) → Asked → Option S → Act S C
+stands at stops asked end = Stands at (map (entries_at at.side at.moment) stops) asked end
 
 -- a step is made, its lines are written, and then its characters are sent; where the numbers are spent nothing is sent,
 -- and the run ends
-abbrev pub made : {S : Type 0} → Side → ℕ → List (List Happening) → Asked → Went S Happening → Piece S
-made side now stops asked (Goes step) = record {
+abbrev pub made : {S C : Type 0} → StepAt S C → List (List Happening) → Asked → Went S Happening → Piece S C
+made at stops asked (Goes step) = record {
   end = step.next;
   acts =
-      stands side now stops asked (Some step.next) ∷ Writes (entries_at side now (step.notes ++ wrote step.written))
-      ∷ sends step.written;
+      stands at stops asked (Some step.next)
+      ∷ Writes (entries_at at.side at.moment (step.notes ++ wrote step.written)) ∷ sends step.written;
   ended = None;
 }
-made side now stops asked (Spent step) = record {
+made at stops asked (Spent step) = record {
   end = step.next;
-  acts = stands side now stops asked None ∷ Writes (entries_at side now step.notes) ∷ [];
+  acts = stands at stops asked None ∷ Writes (entries_at at.side at.moment step.notes) ∷ [];
   ended = Some ending.NumbersSpent;
 }
 
 -- the lines of a start are written before the end connects
-abbrev pub started : {S : Type 0} → Side → Step S Happening → Piece S
+abbrev pub started : {S C : Type 0} → Side → Step S Happening → Piece S C
 started side start = record {
   end = start.next;
   acts = Writes (entries_at side 0 start.notes) ∷ Connects ∷ [];
   ended = None;
 }
 
+abbrev pub step_at : {S C : Type 0} → Side → ℕ → Input C → S → StepAt S C
+step_at side now input s = record { side = side; moment = now; state = s; input = input }
+
 module _ {S C : Type 0} (machine : Machine S C) (side : Side) where
-  abbrev pub stepped : ℕ → Input C → S → Piece S
-  stepped now input s = made side now (machine.stops s input now) (machine.asks s input now) (machine.act s input now)
+  abbrev pub stepped : ℕ → Input C → S → Piece S C
+  stepped now input s =
+      made (step_at side now input s) (machine.stops s input now) (machine.asks s input now) (machine.act s input now)
 
   -- a line of a script is a step with its command, or stops the end; one of the other end does nothing
-  abbrev pub tells : ℕ → Telling C → S → Piece S
+  abbrev pub tells : ℕ → Telling C → S → Piece S C
   tells now (Tells command) s = stepped now (Command command) s
   tells now Stops s = stops ending.Stopped s
   tells now IsOther s = still s
 
-  abbrev pub all_told : (ScriptStep → Telling C) → ℕ → List ScriptLine → S → Piece S
+  abbrev pub all_told : (ScriptStep → Telling C) → ℕ → List ScriptLine → S → Piece S C
   all_told told now [] s = still s
   all_told told now (line ∷ lines) s = and_more (tells now (told line.1) s) (all_told told now lines)
 
   -- the lines that are due come first, each as a step of its own, and then what was answered
-  abbrev pub answered : (ScriptStep → Telling C) → ℕ → List ScriptLine → Input C → S → Piece S
+  abbrev pub answered : (ScriptStep → Telling C) → ℕ → List ScriptLine → Input C → S → Piece S C
   answered told now due input s = and_more (all_told told now due s) (stepped now input)

@@ -7,17 +7,16 @@ pub enum Ending {
     Closed,
     /// As many polls were made as it may make, and none of them ended it.
     Turns,
-    /// The end was to draw a number, and had none. The lines of its step or start were written, and nothing of it was
-    /// sent.
+    /// The end needed a number, and had none. The lines of its step were written, and nothing of it was sent.
     NumbersSpent,
-    /// A call of the end's disk failed, in a step or in its start. The lines of the steps before were written, and of
-    /// this one what it had noted by then, as far as memory and the output let it; nothing of it was sent.
+    /// A call of the end's disk failed in a step. The lines of the steps before were written, and of this one what it
+    /// had noted by then, as far as memory and the output let it; nothing of it was sent.
     DiskFailed,
     /// A call of the link failed. All lines before it were written; where it was a sending, among them the line of its
     /// characters, of which only a part from the front went out.
     LinkFailed,
-    /// The output failed. The lines of the steps before were written, and a part of those of this step from the front;
-    /// nothing of this step was sent.
+    /// The output failed. The lines of the start and of the steps before were written, and a part of those that failed
+    /// from the front; nothing of that step was sent.
     WriteFailed,
     /// Memory ran out. What was written and sent till then is a part of the run from the front.
     NoMemory,

@@ -3,15 +3,15 @@
 #![tactic(auto)]
 
 mod ending;
+mod linked_end;
 mod polls;
 mod putting;
 mod run;
-mod scripted;
 mod step;
 mod telling;
 #[cfg(test)]
 mod tests;
 
 pub use ending::Ending;
-pub use run::{run_end, run_started};
-pub use scripted::Scripted;
+pub use linked_end::LinkedEnd;
+pub use run::run_started;

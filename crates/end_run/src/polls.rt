@@ -1,24 +1,25 @@
 //! The polls of a run, one after the other.
 
-ghost use Rattle.std.specs.Prelude.{◌≡◌, ℕ, ◌<◌, ◌≤◌, ◌^◌, length, [], ◌∷◌, Option};
+ghost use Rattle.std.specs.Prelude.{◌≡◌, ℕ, ◌<◌, ◌≤◌, ◌^◌, length, [], ◌∷◌, None, Option, Some};
 ghost use Rattle.gl_base.specs.Told.{sink_told};
 ghost use Rattle.trace_log.specs.Log.Happening.{Closed};
 ghost use Rattle.trace_log.specs.Text.{text_of};
 ghost use Rattle.end_run.specs.declared.ending.Ending.TheVariants as ending;
 ghost use Rattle.end_run.specs.Calls.{EndsWith, HasTurned, left_of};
-ghost use Rattle.end_run.specs.Outcome.{RunsOver};
+ghost use Rattle.end_run.specs.Counts.{Counts, counted};
+ghost use Rattle.end_run.specs.Outcome.{ComesOver};
 ghost use Rattle.end_run.specs.Run.{polled};
 ghost use Rattle.end_run.specs.Scenes.{scene};
 ghost use Rattle.end_run.specs.Script.{AreTold, next_moment, wait_until};
 ghost use Rattle.end_run.specs.Steps.{entries_at};
 
 use crate::ending::Ending;
-use crate::scripted::Scripted;
+use crate::linked_end::LinkedEnd;
 use crate::step::end_with;
 use crate::telling::answer;
 use gl_base::{Link, LinkIn, Side, Sink};
 use line_schedule::ScriptStep;
-use message_end::{End, least};
+use message_end::least;
 use std::alloc::Global;
 use trace_log::{closed_note, notes_are_lines};
 
@@ -33,7 +34,7 @@ pub(crate) struct Place {
 }
 
 /// Polls so many times, or until the run ends.
-pub(crate) fn poll_all<E: End, D: Scripted<E>, L: Link, W: Sink>(
+pub(crate) fn poll_all<E: LinkedEnd, L: Link, W: Sink>(
     alloc: Global,
     side: Side,
     lines: &[(u64, ScriptStep)],
@@ -43,18 +44,22 @@ pub(crate) fn poll_all<E: End, D: Scripted<E>, L: Link, W: Sink>(
     out: &mut W,
 ) -> Ending
     requires sound { E.sound end.old }
-    requires lines { AreTold D.told E.takes lines.now }
-    ensures runs { RunsOver
-        (scene L.Link W.Sink link.old out.old (E.means end.old) (E.room end.old))
+    requires lines { AreTold E.told E.takes lines.now }
+    ensures runs { E.known end.old → ComesOver E.known E.left end.new
+        (scene L.Link W.Sink link.old out.old (E.means end.old) (E.room end.old) None)
         (scene L.Link W.Sink link.new out.new (E.means end.new) (E.room end.new))
-        (λ answers. polled E.machine E.due D.told side polls lines.now 0 answers (E.means end.old))
+        (λ answers. polled E.machine E.due E.told side polls lines.now 0 answers (E.means end.old))
         result }
+    ensures counts { Counts
+        (counted L.Link W.Sink link.old out.old (E.device end.old))
+        (counted L.Link W.Sink link.new out.new (E.device end.new))
+        (Some result) }
     ensures sound { E.sound end.new }
 {
     let mut place = Place { given: 0, now: 0 };
     let mut left = polls;
     'polls: while left > 0 {
-        match turn::<E, D, L, W>(alloc, side, lines, &mut place, end, link, out) {
+        match turn::<E, L, W>(alloc, side, lines, &mut place, end, link, out) {
             None => {}
             Some(ending) => return ending,
         }
@@ -64,7 +69,7 @@ pub(crate) fn poll_all<E: End, D: Scripted<E>, L: Link, W: Sink>(
 }
 
 // One poll, with all that follows from its answer.
-fn turn<E: End, D: Scripted<E>, L: Link, W: Sink>(
+fn turn<E: LinkedEnd, L: Link, W: Sink>(
     alloc: Global,
     side: Side,
     lines: &[(u64, ScriptStep)],
@@ -74,13 +79,17 @@ fn turn<E: End, D: Scripted<E>, L: Link, W: Sink>(
     out: &mut W,
 ) -> Option<Ending>
     requires sound { E.sound end.old }
-    requires lines { AreTold D.told E.takes lines.now }
+    requires lines { AreTold E.told E.takes lines.now }
     requires given { place.old.given ≤ length lines.now }
-    ensures turned { HasTurned E.machine E.due D.told side
-        (scene L.Link W.Sink link.old out.old (E.means end.old) (E.room end.old))
+    ensures turned { E.known end.old → HasTurned E.known E.left end.new E.machine E.due E.told side
+        (scene L.Link W.Sink link.old out.old (E.means end.old) (E.room end.old) None)
         (scene L.Link W.Sink link.new out.new (E.means end.new) (E.room end.new))
         (left_of (E.means end.old) lines.now place.old)
         (left_of (E.means end.new) lines.now place.new)
+        result }
+    ensures counts { Counts
+        (counted L.Link W.Sink link.old out.old (E.device end.old))
+        (counted L.Link W.Sink link.new out.new (E.device end.new))
         result }
     ensures sound { E.sound end.new }
     ensures given { place.new.given ≤ length lines.now }
@@ -89,10 +98,10 @@ fn turn<E: End, D: Scripted<E>, L: Link, W: Sink>(
     let until = wait_until(end.deadline(), left);
     match link.poll(until) {
         LinkIn::Char(byte, now) => {
-            answer::<E, D, L, W>(alloc, side, left, Some(byte), now, place, end, link, out)
+            answer::<E, L, W>(alloc, side, left, Some(byte), now, place, end, link, out)
         }
         LinkIn::Quiet(now) => {
-            answer::<E, D, L, W>(alloc, side, left, None, now, place, end, link, out)
+            answer::<E, L, W>(alloc, side, left, None, now, place, end, link, out)
         }
         LinkIn::Closed => Some(close(alloc, side, place.now, out)),
         LinkIn::Failed => Some(Ending::LinkFailed),

@@ -10,21 +10,23 @@ ghost use Rattle.trace_log.specs.Text.{note_line, text_of};
 ghost use Rattle.end_run.specs.Acts.Act.{Writes};
 ghost use Rattle.end_run.specs.declared.ending.Ending.TheVariants as ending;
 ghost use Rattle.end_run.specs.Calls.{EndsWith, IsExact, IsPlainInput, PutsAsCan, plain_input};
-ghost use Rattle.end_run.specs.Outcome.{Does, IfOn, Runs};
-ghost use Rattle.end_run.specs.Scenes.{beside, scene};
+ghost use Rattle.end_run.specs.Counts.{Counts, Device, counted, counted_by};
+ghost use Rattle.end_run.specs.Outcome.{Comes, Does};
+ghost use Rattle.end_run.specs.Scenes.{StopAt, beside, scene};
 ghost use Rattle.end_run.specs.Steps.{sends, stepped, wrote};
 
 use crate::ending::Ending;
+use crate::linked_end::LinkedEnd;
 use crate::putting::{lines_of_notes, lines_of_step};
 use arrayvec::ArrayVec;
 use gl_base::{Link, LinkAnswer, Row, Side, Sink, SinkAnswer, copy_out};
-use message_end::{End, Stop};
+use message_end::Stop;
 use message_flow::{NodeInput, Note, StepOut};
 use std::alloc::Global;
 use trace_log::notes_are_lines;
 
 /// An end makes a step with a character, or with time. Tells how the run ends with it, where it does.
-pub(crate) fn step_plain<E: End, L: Link, W: Sink>(
+pub(crate) fn step_plain<E: LinkedEnd, L: Link, W: Sink>(
     alloc: Global,
     side: Side,
     now: u64,
@@ -35,13 +37,15 @@ pub(crate) fn step_plain<E: End, L: Link, W: Sink>(
 ) -> Option<Ending>
     requires now { now < 2 ^ 62 }
     requires sound { E.sound end.old }
-    ensures runs { Runs
-        (scene L.Link W.Sink link.old out.old (E.means end.old) (E.room end.old))
+    ensures runs { E.known end.old → Comes E.known E.left end.new
+        (scene L.Link W.Sink link.old out.old (E.means end.old) (E.room end.old) None)
         (scene L.Link W.Sink link.new out.new (E.means end.new) (E.room end.new))
         (stepped E.machine side now (plain_input byte) (E.means end.old))
         result }
-    ensures end { IfOn result (E.means end.new
-        ≡ (stepped E.machine side now (plain_input byte) (E.means end.old)).end) }
+    ensures counts { Counts
+        (counted L.Link W.Sink link.old out.old (E.device end.old))
+        (counted L.Link W.Sink link.new out.new (E.device end.new))
+        result }
     ensures sound { E.sound end.new }
 {
     let input = plain_input(byte, &[]);
@@ -60,7 +64,7 @@ fn plain_input<C>(byte: Option<u8>, _commands: &[C]) -> NodeInput<'_, C>
 }
 
 /// An end makes a step. Tells how the run ends with it, where it does.
-pub(crate) fn step_end<E: End, L: Link, W: Sink>(
+pub(crate) fn step_end<E: LinkedEnd, L: Link, W: Sink>(
     alloc: Global,
     side: Side,
     now: u64,
@@ -72,13 +76,15 @@ pub(crate) fn step_end<E: End, L: Link, W: Sink>(
     requires now { now < 2 ^ 62 }
     requires input { MayTake E.takes (input_of input) }
     requires sound { E.sound end.old }
-    ensures runs { Runs
-        (scene L.Link W.Sink link.old out.old (E.means end.old) (E.room end.old))
+    ensures runs { E.known end.old → Comes E.known E.left end.new
+        (scene L.Link W.Sink link.old out.old (E.means end.old) (E.room end.old) None)
         (scene L.Link W.Sink link.new out.new (E.means end.new) (E.room end.new))
         (stepped E.machine side now (input_of input.entry) (E.means end.old))
         result }
-    ensures end { IfOn result (E.means end.new
-        ≡ (stepped E.machine side now (input_of input.entry) (E.means end.old)).end) }
+    ensures counts { Counts
+        (counted L.Link W.Sink link.old out.old (E.device end.old))
+        (counted L.Link W.Sink link.new out.new (E.device end.new))
+        result }
     ensures sound { E.sound end.new }
 {
     notes_are_lines();
@@ -107,7 +113,7 @@ pub(crate) fn step_end<E: End, L: Link, W: Sink>(
 }
 
 // Writes the lines of a step, and sends its characters. The end is past that step.
-fn hand_on<E: End, L: Link, W: Sink>(
+fn hand_on<E: LinkedEnd, L: Link, W: Sink>(
     alloc: Global,
     now: u64,
     side: Side,
@@ -115,14 +121,19 @@ fn hand_on<E: End, L: Link, W: Sink>(
     link: &mut L,
     out: &mut W,
 ) -> Option<Ending>
-    ensures { (s : E.State) (room : Asked) (entries : List Entry) → text_of entries
+    ensures does { (s : E.State) (room : Asked) (stop : Option (StopAt E.State E.Command)) (entries : List Entry)
+        → text_of entries
         ≡ flat_map (note_line now side) step.now.notes
         ++ flat_map (note_line now side) (printed (wrote step.now.line.items))
         → Does
-        (scene L.Link W.Sink link.old out.old s room)
-        (scene L.Link W.Sink link.new out.new s room)
+        (scene L.Link W.Sink link.old out.old s room stop)
+        (scene L.Link W.Sink link.new out.new s room stop)
         None
         (Writes entries ∷ sends step.now.line.items)
+        result }
+    ensures counts { (disk : Device E.Fixed) → Counts
+        (counted L.Link W.Sink link.old out.old disk)
+        (counted L.Link W.Sink link.new out.new disk)
         result }
 {
     let Ok(lines) = lines_of_step(alloc, now, side, step) else {
@@ -135,13 +146,17 @@ fn hand_on<E: End, L: Link, W: Sink>(
 }
 
 // Sends characters, where there are any.
-fn send_all<E: End, L: Link>(link: &mut L, characters: &[u8]) -> Option<Ending>
-    ensures { (received : Option (List ℕ)) (health : SinkHealth) (s : E.State) (room : Asked)
-        → Does
-        (beside L.Link received health s room link.old)
-        (beside L.Link received health s room link.new)
+fn send_all<E: LinkedEnd, L: Link>(link: &mut L, characters: &[u8]) -> Option<Ending>
+    ensures does { (received : Option (List ℕ)) (health : SinkHealth) (s : E.State) (room : Asked)
+        (stop : Option (StopAt E.State E.Command)) → Does
+        (beside L.Link received health s room stop link.old)
+        (beside L.Link received health s room stop link.new)
         None
         (sends characters.now)
+        result }
+    ensures counts { (out : ℕ) (disk : Device E.Fixed) → Counts
+        (counted_by (L.health link.old).faults out disk)
+        (counted_by (L.health link.new).faults out disk)
         result }
 {
     if characters.is_empty() {

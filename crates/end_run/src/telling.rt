@@ -1,24 +1,24 @@
 //! What an answer brings: the lines of the script that are due, and then its character or time.
 
-ghost use Rattle.std.specs.Prelude.{◌≡◌, ◌+◌, ◌<◌, ◌≤◌, ◌^◌, length};
+ghost use Rattle.std.specs.Prelude.{◌≡◌, ◌+◌, ◌<◌, ◌≤◌, ◌^◌, None, length};
 ghost use Rattle.end_run.specs.Calls.{plain_input};
-ghost use Rattle.end_run.specs.Outcome.{IfOn, Runs};
+ghost use Rattle.end_run.specs.Counts.{Counts, counted};
+ghost use Rattle.end_run.specs.Outcome.{Comes};
 ghost use Rattle.end_run.specs.Scenes.{scene};
 ghost use Rattle.end_run.specs.Script.{AreTold, MayTell, due_count, due_lines};
 ghost use Rattle.end_run.specs.Steps.{all_told, answered, tells};
 
 use crate::ending::Ending;
+use crate::linked_end::LinkedEnd;
 use crate::polls::Place;
-use crate::scripted::Scripted;
 use crate::step::{step_end, step_plain};
 use gl_base::{Link, Side, Sink};
 use line_schedule::ScriptStep;
-use message_end::End;
 use message_flow::NodeInput;
 use std::alloc::Global;
 
 /// The lines that are due at an answer's moment are given, and then its character, or time.
-pub(crate) fn answer<E: End, D: Scripted<E>, L: Link, W: Sink>(
+pub(crate) fn answer<E: LinkedEnd, L: Link, W: Sink>(
     alloc: Global,
     side: Side,
     lines: &[(u64, ScriptStep)],
@@ -31,15 +31,17 @@ pub(crate) fn answer<E: End, D: Scripted<E>, L: Link, W: Sink>(
 ) -> Option<Ending>
     requires now { now < 2 ^ 62 }
     requires sound { E.sound end.old }
-    requires lines { AreTold D.told E.takes lines.now }
+    requires lines { AreTold E.told E.takes lines.now }
     requires given { place.old.given + length lines.now < 2 ^ 64 }
-    ensures runs { Runs
-        (scene L.Link W.Sink link.old out.old (E.means end.old) (E.room end.old))
+    ensures runs { E.known end.old → Comes E.known E.left end.new
+        (scene L.Link W.Sink link.old out.old (E.means end.old) (E.room end.old) None)
         (scene L.Link W.Sink link.new out.new (E.means end.new) (E.room end.new))
-        (answered E.machine side D.told now (due_lines now lines.now) (plain_input byte) (E.means end.old))
+        (answered E.machine side E.told now (due_lines now lines.now) (plain_input byte) (E.means end.old))
         result }
-    ensures end { IfOn result (E.means end.new
-        ≡ (answered E.machine side D.told now (due_lines now lines.now) (plain_input byte) (E.means end.old)).end) }
+    ensures counts { Counts
+        (counted L.Link W.Sink link.old out.old (E.device end.old))
+        (counted L.Link W.Sink link.new out.new (E.device end.new))
+        result }
     ensures sound { E.sound end.new }
     ensures now { place.new.now ≡ now }
     ensures given { place.new.given ≡ place.old.given + due_count now lines.now }
@@ -48,7 +50,7 @@ pub(crate) fn answer<E: End, D: Scripted<E>, L: Link, W: Sink>(
     let (due, _) = lines.split_at(count);
     place.now = now;
     place.given += count;
-    match tell_all::<E, D, L, W>(alloc, side, now, due, end, link, out) {
+    match tell_all::<E, L, W>(alloc, side, now, due, end, link, out) {
         Some(ending) => Some(ending),
         None => step_plain(alloc, side, now, byte, end, link, out),
     }
@@ -72,7 +74,7 @@ fn due_count(now: u64, lines: &[(u64, ScriptStep)]) -> usize
 }
 
 // Gives lines of the script one after the other, as long as the run goes on.
-fn tell_all<E: End, D: Scripted<E>, L: Link, W: Sink>(
+fn tell_all<E: LinkedEnd, L: Link, W: Sink>(
     alloc: Global,
     side: Side,
     now: u64,
@@ -83,17 +85,20 @@ fn tell_all<E: End, D: Scripted<E>, L: Link, W: Sink>(
 ) -> Option<Ending>
     requires now { now < 2 ^ 62 }
     requires sound { E.sound end.old }
-    requires lines { AreTold D.told E.takes lines.now }
-    ensures runs { Runs
-        (scene L.Link W.Sink link.old out.old (E.means end.old) (E.room end.old))
+    requires lines { AreTold E.told E.takes lines.now }
+    ensures runs { E.known end.old → Comes E.known E.left end.new
+        (scene L.Link W.Sink link.old out.old (E.means end.old) (E.room end.old) None)
         (scene L.Link W.Sink link.new out.new (E.means end.new) (E.room end.new))
-        (all_told E.machine side D.told now lines.now (E.means end.old))
+        (all_told E.machine side E.told now lines.now (E.means end.old))
         result }
-    ensures end { IfOn result (E.means end.new ≡ (all_told E.machine side D.told now lines.now (E.means end.old)).end) }
+    ensures counts { Counts
+        (counted L.Link W.Sink link.old out.old (E.device end.old))
+        (counted L.Link W.Sink link.new out.new (E.device end.new))
+        result }
     ensures sound { E.sound end.new }
 {
     'lines: for line in lines {
-        match tell::<E, D, L, W>(alloc, side, now, &line.1, end, link, out) {
+        match tell::<E, L, W>(alloc, side, now, &line.1, end, link, out) {
             None => {}
             Some(ending) => return Some(ending),
         }
@@ -102,7 +107,7 @@ fn tell_all<E: End, D: Scripted<E>, L: Link, W: Sink>(
 }
 
 // Gives one line of the script.
-fn tell<E: End, D: Scripted<E>, L: Link, W: Sink>(
+fn tell<E: LinkedEnd, L: Link, W: Sink>(
     alloc: Global,
     side: Side,
     now: u64,
@@ -113,16 +118,19 @@ fn tell<E: End, D: Scripted<E>, L: Link, W: Sink>(
 ) -> Option<Ending>
     requires now { now < 2 ^ 62 }
     requires sound { E.sound end.old }
-    requires step { MayTell E.takes (D.told step.now) }
-    ensures runs { Runs
-        (scene L.Link W.Sink link.old out.old (E.means end.old) (E.room end.old))
+    requires step { MayTell E.takes (E.told step.now) }
+    ensures runs { E.known end.old → Comes E.known E.left end.new
+        (scene L.Link W.Sink link.old out.old (E.means end.old) (E.room end.old) None)
         (scene L.Link W.Sink link.new out.new (E.means end.new) (E.room end.new))
-        (tells E.machine side now (D.told step.now) (E.means end.old))
+        (tells E.machine side now (E.told step.now) (E.means end.old))
         result }
-    ensures end { IfOn result (E.means end.new ≡ (tells E.machine side now (D.told step.now) (E.means end.old)).end) }
+    ensures counts { Counts
+        (counted L.Link W.Sink link.old out.old (E.device end.old))
+        (counted L.Link W.Sink link.new out.new (E.device end.new))
+        result }
     ensures sound { E.sound end.new }
 {
-    match D::told(step) {
+    match E::told(step) {
         None => Some(Ending::Stopped),
         Some(command) => {
             step_end(

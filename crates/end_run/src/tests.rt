@@ -1,19 +1,94 @@
+ghost use Rattle.std.specs.Prelude.{◌<◌, ◌^◌, []};
 ghost use Rattle.line_end.specs.Plan.{HostPlanFits};
+ghost use Rattle.trace_log.specs.Commands.{HostCommandFits};
+ghost use Rattle.message_end.specs.Ends.{IsEmpty, Leaves, MayTake, Uses, input_of, none_asked};
+ghost use Rattle.host_node.specs.Host.{host_machine};
+ghost use Rattle.end_run.specs.Counts.{StepCounts, no_device};
+ghost use Rattle.end_run.specs.Scenes.{Always, NothingLeft, Stays};
 
 use super::*;
-use gl_base::{Link, LinkAnswer, LinkEntry, LinkIn, Side, Sink, WriteAnswer};
+use arrayvec::ArrayVec;
+use gl_base::{Link, LinkAnswer, LinkEntry, LinkIn, Row, Side, Sink, WriteAnswer};
 use host_node::{Host, HostCommand, HostPlan};
 use line_end::{LinePlan, Times};
 use line_schedule::{ScriptStep, read_script};
+use message_end::{End, Stop};
+use message_flow::{NodeInput, StepOut};
 use std::alloc::Global;
 
-/// The host with what a script tells it.
-struct ScriptedHost {}
+/// A host that is run over a link.
+#[derive(Drop)]
+struct LinkedHost {
+    host: Host,
+}
 
-impl Scripted<Host> for ScriptedHost {
+impl LinkedEnd for LinkedHost {
+    type Command = HostCommand;
+
+    ghost use Rattle.message_end.specs.Calls.{deadline_of_end};
+    ghost use Rattle.message_end.specs.Ends.{none_asked};
+    ghost use Rattle.message_end.specs.Parts.{Node};
+    ghost use Rattle.trace_log.specs.Commands.{HostCommandFits};
+    ghost use Rattle.host_node.specs.Host.{HostOwn, Kind, host_machine};
+    ghost use Rattle.end_run.specs.Counts.{no_device};
+    ghost use Rattle.end_run.specs.Scenes.{Always, NothingLeft};
     ghost use Rattle.end_run.specs.Sides.{told_host};
 
+    ghost State = { Node HostOwn Kind };
+
+    ghost means = { λ linked. linked.host };
+
+    ghost known = { Always };
+
+    ghost sound = { λ linked. Unit {0} };
+
+    ghost takes = { HostCommandFits };
+
+    ghost machine = { host_machine };
+
+    ghost left = { NothingLeft };
+
+    ghost due = { λ s. deadline_of_end s.core };
+
+    ghost room = { λ linked. none_asked };
+
+    ghost Fixed = { Unit {0} };
+
+    ghost device = { λ linked. no_device };
+
     ghost told = { told_host };
+
+    fn step(
+        &mut self,
+        alloc: Global,
+        input: NodeInput<'_, HostCommand>,
+        now: u64,
+        out: &mut StepOut,
+    ) -> Result<(), Stop>
+        requires now { now < 2 ^ 62 }
+        requires input { MayTake HostCommandFits (input_of input) }
+        requires out { IsEmpty out.old }
+        ensures step { Leaves []
+            (host_machine.act self.old.host (input_of input.entry) now)
+            self.new.host
+            out.new
+            result }
+        ensures end { Stays Always NothingLeft
+            self.old.host
+            (input_of input.entry)
+            now
+            out.new
+            self.new
+            result }
+        ensures room { Uses none_asked none_asked none_asked result }
+        ensures device { StepCounts no_device no_device result }
+    {
+        End::step(&mut self.host, alloc, input, now, out)
+    }
+
+    fn deadline(&self) -> Option<u64> {
+        End::deadline(&self.host)
+    }
 
     fn told(step: &ScriptStep) -> Option<&HostCommand> {
         match step {
@@ -209,20 +284,28 @@ fn ends<L: Link>(
     link: &mut L,
     out: &mut TestOutput,
 ) -> Option<Ending> {
-    match read_script(alloc, script, Side::Host) {
-        Ok(script) => Some(run_end::<Host, ScriptedHost, L, TestOutput>(
-            alloc,
-            &plan(enable),
-            (),
-            &script,
-            Side::Host,
-            ADDRESS,
-            polls,
-            link,
-            out,
-        )),
-        Err(_) => None,
-    }
+    let Ok(script) = read_script(alloc, script, Side::Host) else {
+        return None;
+    };
+    let mut step = StepOut {
+        line: ArrayVec::new(),
+        notes: Row::new(alloc),
+    };
+    let Ok(host) = Host::start(alloc, &plan(enable), (), &mut step) else {
+        return None;
+    };
+    let mut linked = LinkedHost { host };
+    Some(run_started::<LinkedHost, L, TestOutput>(
+        alloc,
+        &mut linked,
+        step.notes.as_slice(),
+        &script,
+        Side::Host,
+        ADDRESS,
+        polls,
+        link,
+        out,
+    ))
 }
 
 /// A run of the enabled host: its script, what comes over the link, which call of the link and which

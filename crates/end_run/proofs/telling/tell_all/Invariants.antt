@@ -1,4 +1,5 @@
-use Rattle.std.proofs.Common.{drop}
+use Rattle.std.proofs.Common.{None, drop}
+use Rattle.end_run.specs.Counts.{CountsNone, counted}
 use Rattle.end_run.specs.Scenes.{scene}
 use Rattle.end_run.specs.Steps.{all_told}
 use Rattle.end_run.proofs.Doing.{Leads}
@@ -7,9 +8,12 @@ use Rattle.end_run.proofs.telling.tell_all.Given as goal
 -- the lines so far were given, and those that are left lead to the whole
 abbrev pub invariant-lines : goal.invariant-lines
 invariant-lines g l =
-    let e = g.E.End in
-    Leads
-    (scene g.L.Link g.W.Sink l.fn.link l.fn.out (e.means l.fn.end) (e.room l.fn.end))
-    (scene g.L.Link g.W.Sink l.link l.out (e.means l.end) (e.room l.end))
-    (all_told e.machine l.side g.D.Scripted.told l.now l.lines (e.means l.fn.end))
-    (all_told e.machine l.side g.D.Scripted.told l.now (drop l.line-index l.lines) (e.means l.end)) × e.sound l.end
+    let e = g.E.LinkedEnd in
+    e.sound l.end
+    × CountsNone (counted g.L.Link g.W.Sink l.fn.link l.fn.out (e.device l.fn.end))
+    (counted g.L.Link g.W.Sink l.link l.out (e.device l.end))
+    × (e.known l.fn.end → Leads
+    (scene g.L.Link g.W.Sink l.fn.link l.fn.out (e.means l.fn.end) (e.room l.fn.end) None)
+    (scene g.L.Link g.W.Sink l.link l.out (e.means l.end) (e.room l.end) None)
+    (all_told e.machine l.side e.told l.now l.lines (e.means l.fn.end))
+    (all_told e.machine l.side e.told l.now (drop l.line-index l.lines) (e.means l.end)) × e.known l.end)
