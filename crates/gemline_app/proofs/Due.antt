@@ -1,6 +1,6 @@
 -- Which outcome is due, and when another one comes in its place.
 use Rattle.std.proofs.Common.{◌≡◌, ◌⊎◌, ◌≤◌, ℕ, true, List, length, Option, Some, None, Result, Ok, Err, refl, sym, ap, subst, ◌∙◌, inl, inr, arith}
-use Rattle.command_words.specs.Asked.{Asked, Format, Host, Replay, Show, Spell, SpellHex, Spool}
+use Rattle.command_words.specs.Asked.{Asked, Equipment, Format, Host, Replay, Show, Spell, SpellHex, Spool}
 use Rattle.command_words.specs.Words.{asked_of}
 use Rattle.gl_base.specs.Sink.{with_bytes}
 use Rattle.gl_base.specs.Told.{FilesTold, SinkTold, SourceTold}
@@ -30,6 +30,7 @@ use Rattle.gemline_app.specs.Words.{capture_limit, item_limit}
 use Rattle.gemline_app.specs.declared.outcome.Outcome.{Outcome}
 use Rattle.gemline_app.specs.declared.outcome.Outcome.TheVariants.{Done, Usage, BadFrame, BadText, BadHex, BadItem, BadLine, Longer, FileLonger, FileFailed, ReadFailed, NoMemory, WriteFailed, TurnsSpent, NumbersSpent, Slip, DiskFailed, NotSpool, BadPlan, LineNotBuilt, BadScript, LinkFailed}
 use Rattle.gemline_app.proofs.HexLaws.{means_read, one_break}
+use Rattle.gemline_app.proofs.EquipmentDue.{equipment_due}
 use Rattle.gemline_app.proofs.HostDue.{host_due}
 use Rattle.gemline_app.proofs.InputDue.{input_due, read_of}
 use Rattle.gemline_app.proofs.ReplayDue.{Comes, replay_due}
@@ -200,8 +201,10 @@ comes_due (Some SpellHex) source files disk link out outcome due (files_unread, 
     (λ digits was asks. printed_due digits source files disk link out outcome due was asks) comes is_due
 comes_due (Some (Replay plan schedule)) source files disk link out outcome due (unread, unused, uncalled, comes) (bytes, told, is_due) =
     replay_due source files disk link out plan schedule bytes outcome due told comes is_due
-comes_due (Some (Host plan address polls)) source files disk link out outcome due (unused, comes) (bytes, told, is_due) =
-    host_due source files disk link out plan polls bytes outcome due told comes is_due
+comes_due (Some (Equipment plan address spool polls)) source files disk link out outcome due comes is_due =
+    equipment_due source files disk link out plan spool polls outcome due comes is_due
+comes_due (Some (Host plan address polls)) source files disk link out outcome due (unused, comes) is_due =
+    host_due source files disk link out plan polls outcome due comes is_due
 comes_due (Some (Format spool slots)) source files disk link out outcome due (unread, files_unread, uncalled, was) is_due =
     formatted_due source files disk link out spool slots outcome due was is_due
 comes_due (Some (Spool spool)) source files disk link out outcome due (unread, files_unread, uncalled, was) is_due =

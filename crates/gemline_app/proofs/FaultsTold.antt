@@ -1,9 +1,11 @@
 -- Each fault of the input, the files, the disk and the output is the outcome.
-use Rattle.std.proofs.Common.{◌≡◌, ◌≢◌, ℕ, Bool, false, List, Option, Some, None, Result, Ok, Err, refl, sym, ap, subst, inl, inr}
+use Rattle.std.proofs.Common.{◌≡◌, ◌≢◌, ◌⊎◌, ℕ, Bool, false, List, Option, Some, None, Result, Ok, Err, refl, sym, ap, subst, inl, inr}
+use Rattle.equipment_tables.specs.declared.plan.EquipmentPlan.{EquipmentPlan}
 use Rattle.equipment_tables.specs.declared.plan.Plans.{Plans}
+use Rattle.gl_base.specs.Faults.{Rose}
 use Rattle.gem_config.specs.declared.fault.ConfigFault.{ConfigFault}
 use Rattle.gem_config.specs.declared.fault.ConfigFault.TheVariants as plan_fault
-use Rattle.command_words.specs.Asked.{Asked, Format, Host, Replay, Show, Spell, SpellHex, Spool}
+use Rattle.command_words.specs.Asked.{Asked, Equipment, Format, Host, Replay, Show, Spell, SpellHex, Spool}
 use Rattle.command_words.specs.Words.{asked_of}
 use Rattle.gl_base.specs.Sink.{SinkHealth}
 use Rattle.gl_base.specs.Files.{FilesHealth}
@@ -23,8 +25,11 @@ use Rattle.line_end.specs.declared.plan.HostPlan.{HostPlan}
 use Rattle.message_end.specs.Ends.{Asked as Room}
 use Rattle.message_end.specs.Parts.{Node}
 use Rattle.host_node.specs.Host.{HostOwn, Kind}
+use Rattle.trace_log.specs.declared.commands.HostCommand.{HostCommand}
 use Rattle.end_run.specs.Acts.{Act}
+use Rattle.end_run.specs.Counts.{Counts, CountsNone, Device}
 use Rattle.end_run.specs.Outcome.{Does, Made}
+use Rattle.end_run.specs.Scenes.{StopAt}
 use Rattle.end_run.specs.Script.{ScriptLine}
 use Rattle.end_run.specs.declared.ending.Ending.{Ending as RunEnding}
 use Rattle.end_run.specs.declared.ending.Ending.TheVariants as ending
@@ -36,8 +41,10 @@ use Rattle.spool_show.specs.Showing.{ShowsFile, ShowsSpool}
 use Rattle.spool_show.specs.declared.spool_end.SpoolEnd.{SpoolEnd}
 use Rattle.spool_show.specs.declared.spool_end.SpoolEnd.TheVariants as spool
 use Rattle.gemline_app.specs.Files.{FileRefuses, plan_refusal}
-use Rattle.gemline_app.specs.Host.{HostComes, IsIdle, ScriptRuns, WasRun, after_run, before_run, outcome_of_ending, script_refusal}
+use Rattle.gemline_app.specs.Equipment.{EquipmentComes, FileRuns, StartRefuses, counted_after, counted_before, with_file}
+use Rattle.gemline_app.specs.Host.{HostComes, HostRuns, WasRun}
 use Rattle.gemline_app.specs.LinkTold.{IsUncalled, LinkTold}
+use Rattle.gemline_app.specs.Linked.{IsIdle, after_run, before_run, outcome_of_ending, script_refusal}
 use Rattle.gemline_app.specs.Spool.{EndedAs, IsUnused, outcome_of_spool}
 use Rattle.gemline_app.proofs.SpoolDue.{rose_of}
 use Rattle.gemline_app.specs.Gemline.{ComesFrom, ComesOnInput, HexRefuses, IsRefused, IsRun, RunComes, TextRefuses, WasPrinted, WasShown, WasSpelled, WasWritten}
@@ -51,6 +58,15 @@ use Rattle.gemline_app.specs.declared.outcome.FileRole.{FileRole}
 use Rattle.gemline_app.specs.declared.outcome.FileRole.TheVariants as role
 use Rattle.gemline_app.specs.declared.outcome.Outcome.{Outcome}
 use Rattle.gemline_app.specs.declared.outcome.Outcome.TheVariants.{Done, Usage, BadFrame, BadText, BadHex, BadItem, BadLine, Longer, FileLonger, FileFailed, ReadFailed, NoMemory, WriteFailed, TurnsSpent, NumbersSpent, Slip, DiskFailed, NotSpool, BadPlan, LineNotBuilt, BadScript, LinkFailed}
+
+-- what a run came to: a fault of each object is the outcome
+record CountsAll (source : SourceTold) (files : FilesTold) (disk : DiskTold) (link : LinkTold) (out : SinkTold)
+    (outcome : Outcome) : Type 0 where
+  read : IsCounted (is_read_fault outcome) source.health.faults source.health_after.faults
+  file : IsCounted (is_file_fault outcome) files.health.faults files.health_after.faults
+  on_disk : IsCounted (is_disk_fault outcome) disk.faults disk.faults_after
+  on_link : IsCounted (is_link_fault outcome) link.health.faults link.health_after.faults
+  write : IsCounted (is_write_fault outcome) out.health.faults out.health_after.faults
 
 -- ---- the output
 
@@ -183,7 +199,7 @@ record OthersStand (files : FilesTold) (disk : DiskTold) (link : LinkTold) : Typ
 
 module _ (source : SourceTold) (files : FilesTold) (disk : DiskTold) (link : LinkTold) (out : SinkTold) where
   unread_counts : (limit : ℕ) → OthersStand files disk link → out.health_after.faults ≡ out.health.faults → (outcome : Outcome) → InputRefuses limit source outcome →
-      CountsFaults source files disk link out outcome
+      CountsAll source files disk link out outcome
   unread_counts limit stands left Done was = absurd was
   unread_counts limit stands left Usage was = absurd was
   unread_counts limit stands left (BadFrame named) was = absurd was
@@ -209,7 +225,7 @@ module _ (source : SourceTold) (files : FilesTold) (disk : DiskTold) (link : Lin
 
   -- the source, the files, the disk and the link stand
   written_only : (outcome : Outcome) → source.health_after.faults ≡ source.health.faults → OthersStand files disk link → CountsWrites out outcome
-      → CountsFaults source files disk link out outcome
+      → CountsAll source files disk link out outcome
   written_only outcome read stands counts = record {
     read = subst (λ (b : Bool). IsCounted b source.health.faults source.health_after.faults) (sym counts.read) read;
     file = subst (λ (b : Bool). IsCounted b files.health.faults files.health_after.faults) (sym counts.file) stands.file;
@@ -220,7 +236,7 @@ module _ (source : SourceTold) (files : FilesTold) (disk : DiskTold) (link : Lin
 
   input_counts : (limit : ℕ) (Was : List ℕ → SinkTold → Outcome → Type 0) (outcome : Outcome) → OthersStand files disk link →
       ((bytes : List ℕ) → Was bytes out outcome → CountsWrites out outcome) → ComesOnInput limit Was source out outcome →
-      CountsFaults source files disk link out outcome
+      CountsAll source files disk link out outcome
   input_counts limit Was outcome stands each (inl (refuses, left)) = unread_counts limit stands (untouched out left) outcome refuses
   input_counts limit Was outcome stands each (inr (bytes, read, was)) = written_only outcome read.cause.same stands (each bytes was)
 
@@ -388,7 +404,7 @@ by_listing disk out spool.WriteFailed was =
 spool_counts : (source : SourceTold) (files : FilesTold) (disk : DiskTold) (link : LinkTold) (out : SinkTold) (outcome : Outcome)
     (Ends : SpoolEnd → Type 0) → IsUnread source → AreUnread files → IsUncalled link
     → ((ended : SpoolEnd) → Ends ended → CountsDisk disk out (outcome_of_spool ended)) → EndedAs Ends outcome
-    → CountsFaults source files disk link out outcome
+    → CountsAll source files disk link out outcome
 spool_counts source files disk link out outcome Ends unread files_unread uncalled each was =
     let counts = subst (CountsDisk disk out) (sym was.outcome_is) (each was.ended was.ends) in
     record {
@@ -414,9 +430,10 @@ record CountsLink (link : LinkTold) (out : SinkTold) (outcome : Outcome) : Type 
 
 -- all of a run was made, or a part of it for want of memory: no fault was counted
 made_counts : (link : LinkTold) (out : SinkTold) (host left : Node HostOwn Kind) (room : Room)
-    (acts : List (Act (Node HostOwn Kind))) (outcome : Outcome) → IsPlain outcome
-    → Made (before_run link out host) (after_run link out left room) acts → CountsLink link out outcome
-made_counts link out host left room acts outcome plain made = record {
+    (stop : Option (StopAt (Node HostOwn Kind) HostCommand))
+    (acts : List (Act (Node HostOwn Kind) HostCommand)) (outcome : Outcome) → IsPlain outcome
+    → Made (before_run link out host) (after_run link out left room stop) acts → CountsLink link out outcome
+made_counts link out host left room stop acts outcome plain made = record {
   read = plain.read;
   file = plain.file;
   on_disk = plain.on_disk;
@@ -427,32 +444,35 @@ made_counts link out host left room acts outcome plain made = record {
 }
 
 by_run : (link : LinkTold) (out : SinkTold) (host left : Node HostOwn Kind) (room : Room)
-    (how : Option RunEnding) (acts : List (Act (Node HostOwn Kind))) (ended : RunEnding) → ended ≢ ending.DiskFailed
-    → Does (before_run link out host) (after_run link out left room) how acts (Some ended)
+    (stop : Option (StopAt (Node HostOwn Kind) HostCommand))
+    (how : Option RunEnding) (acts : List (Act (Node HostOwn Kind) HostCommand)) (ended : RunEnding)
+    → ended ≢ ending.DiskFailed
+    → Does (before_run link out host) (after_run link out left room stop) how acts (Some ended)
     → CountsLink link out (outcome_of_ending ended)
-by_run link out host left room how acts ending.Stopped none (at, did) = made_counts link out host left room acts Done
+by_run link out host left room stop how acts ending.Stopped none (at, did) = made_counts link out host left room stop acts Done
     (record { read = refl; file = refl; on_disk = refl; on_link = refl; write = refl }) did.made
-by_run link out host left room how acts ending.Closed none (at, did) = made_counts link out host left room acts Done
+by_run link out host left room stop how acts ending.Closed none (at, did) = made_counts link out host left room stop acts Done
     (record { read = refl; file = refl; on_disk = refl; on_link = refl; write = refl }) did.made
-by_run link out host left room how acts ending.Turns none (at, did) =
-    made_counts link out host left room acts TurnsSpent
+by_run link out host left room stop how acts ending.Turns none (at, did) =
+    made_counts link out host left room stop acts TurnsSpent
     (record { read = refl; file = refl; on_disk = refl; on_link = refl; write = refl }) did.made
-by_run link out host left room how acts ending.NumbersSpent none (at, made) =
-    made_counts link out host left room acts NumbersSpent
+by_run link out host left room stop how acts ending.NumbersSpent none (at, made, spent) =
+    made_counts link out host left room stop acts NumbersSpent
     (record { read = refl; file = refl; on_disk = refl; on_link = refl; write = refl }) made
-by_run link out host left room how acts ending.DiskFailed none fails = absurd (none refl)
-by_run link out host left room how acts ending.LinkFailed none fails =
+by_run link out host left room stop how acts ending.DiskFailed none fails = absurd (none refl)
+by_run link out host left room stop how acts ending.LinkFailed none fails =
     record { read = refl; file = refl; on_disk = refl; on_link = fails.fault.rose; write = fails.wrote.health.same }
-by_run link out host left room how acts ending.WriteFailed none fails =
+by_run link out host left room stop how acts ending.WriteFailed none fails =
     record { read = refl; file = refl; on_disk = refl; on_link = fails.carried.same; write = fails.fault.rose }
-by_run link out host left room how acts ending.NoMemory none part =
-    made_counts link out host left room part.done NoMemory
+by_run link out host left room stop how acts ending.NoMemory none part =
+    made_counts link out host left room stop part.done NoMemory
     (record { read = refl; file = refl; on_disk = refl; on_link = refl; write = refl }) part.made
 
 ran_counts : (plan : HostPlan) (lines : List ScriptLine) (polls : ℕ) (link : LinkTold) (out : SinkTold)
     (outcome : Outcome) → WasRun plan lines polls link out outcome → CountsLink link out outcome
 ran_counts plan lines polls link out outcome was =
-    subst (CountsLink link out) (sym was.outcome_is) (by_run link out _ was.left was.room _ _ was.ended was.no_disk was.runs.runs)
+    subst (CountsLink link out) (sym was.outcome_is)
+    (by_run link out _ was.left was.room was.stop _ _ was.ended was.no_disk was.runs.runs)
 
 -- a refusal is no fault of an object, and none was touched
 idle_counts : (link : LinkTold) (out : SinkTold) (outcome : Outcome) → IsPlain outcome → IsIdle link out
@@ -476,7 +496,7 @@ script_plain schedule_fault.NoMemory =
     record { read = refl; file = refl; on_disk = refl; on_link = refl; write = refl }
 
 script_counts : (plan : HostPlan) (text : List ℕ) (polls : ℕ) (link : LinkTold) (out : SinkTold) (outcome : Outcome)
-    → ScriptRuns plan text polls link out outcome → CountsLink link out outcome
+    → HostRuns plan text polls link out outcome → CountsLink link out outcome
 script_counts plan text polls link out outcome runs = elim runs.because [
   | inl (lines, is, was) ↦ ran_counts plan lines polls link out outcome was
   | inr (fault, refuses, is, idle) ↦
@@ -487,7 +507,7 @@ module _ (source : SourceTold) (files : FilesTold) (disk : DiskTold) (link : Lin
     (polls : ℕ) (outcome : Outcome) (unused : IsUnused disk) where
   -- the files and the disk stand
   linked_only : source.health_after.faults ≡ source.health.faults → files.health_after.faults ≡ files.health.faults
-      → CountsLink link out outcome → CountsFaults source files disk link out outcome
+      → CountsLink link out outcome → CountsAll source files disk link out outcome
   linked_only read file counts = record {
     read = subst (λ (b : Bool). IsCounted b source.health.faults source.health_after.faults) (sym counts.read) read;
     file = subst (λ (b : Bool). IsCounted b files.health.faults files.health_after.faults) (sym counts.file) file;
@@ -498,7 +518,7 @@ module _ (source : SourceTold) (files : FilesTold) (disk : DiskTold) (link : Lin
 
   -- the input, the disk and the link stand
   filed_only : IsUnread source → IsUncalled link → CountsFiles files out outcome
-      → CountsFaults source files disk link out outcome
+      → CountsAll source files disk link out outcome
   filed_only unread uncalled counts = record {
     read = subst (λ (b : Bool). IsCounted b source.health.faults source.health_after.faults) (sym counts.read)
         (source_stands source unread);
@@ -509,7 +529,7 @@ module _ (source : SourceTold) (files : FilesTold) (disk : DiskTold) (link : Lin
     write = counts.write;
   }
 
-  host_counts : HostComes plan polls source files link out outcome → CountsFaults source files disk link out outcome
+  host_counts : HostComes plan polls source files link out outcome → CountsAll source files disk link out outcome
   host_counts (inl (inl refuses, unread, idle)) =
       filed_only unread idle.uncalled (file_refused role.Plan plan files out (untouched out idle.written) outcome refuses)
   host_counts (inl (inr bad, unread, idle)) =
@@ -522,15 +542,194 @@ module _ (source : SourceTold) (files : FilesTold) (disk : DiskTold) (link : Lin
   host_counts (inr (plans, are, inr (text, read, runs))) =
       linked_only read.cause.same are.read.cause.same (script_counts plans.host text polls link out outcome runs)
 
+-- ---- the equipment's end
+
+module _ (asked : Option Asked) (source : SourceTold) (files : FilesTold) (disk : DiskTold) (link : LinkTold)
+    (out : SinkTold) where
+  all_told : (outcome : Outcome) → CountsAll source files disk link out outcome
+      → CountsFaults asked source files disk link out outcome
+  all_told outcome counts = record {
+    read = counts.read;
+    file = counts.file;
+    on_disk = counts.on_disk;
+    on_link = counts.on_link;
+    write = inl counts.write;
+  }
+
+module _ (source : SourceTold) (files : FilesTold) (disk : DiskTold) (link : LinkTold) (out : SinkTold)
+    (plan address spool : List ℕ) (polls : ℕ) (read : source.health_after.faults ≡ source.health.faults)
+    (file : files.health_after.faults ≡ files.health.faults)
+  where
+    abbrev CountsSo : Outcome → Type 0
+    CountsSo outcome = CountsFaults (Some (Equipment plan address spool polls)) source files disk link out outcome
+
+    -- a start that is refused
+    start_counts : (outcome : Outcome) → StartRefuses (with_file disk) outcome → IsIdle link out → CountsSo outcome
+    start_counts (NotSpool at) refuses idle = record {
+      read = read;
+      file = file;
+      on_disk = refuses.0;
+      on_link = link_stands link idle.uncalled;
+      write = inl (untouched out idle.written);
+    }
+    start_counts NumbersSpent refuses idle = record {
+      read = read;
+      file = file;
+      on_disk = refuses.0;
+      on_link = link_stands link idle.uncalled;
+      write = inl (untouched out idle.written);
+    }
+    start_counts DiskFailed refuses idle = record {
+      read = read;
+      file = file;
+      on_disk = rose_of refuses.0;
+      on_link = link_stands link idle.uncalled;
+      write = inl (untouched out idle.written);
+    }
+    start_counts NoMemory refuses idle = record {
+      read = read;
+      file = file;
+      on_disk = refuses.0;
+      on_link = link_stands link idle.uncalled;
+      write = inl (untouched out idle.written);
+    }
+    start_counts Done refuses idle = absurd refuses
+    start_counts Usage refuses idle = absurd refuses
+    start_counts (BadFrame named) refuses idle = absurd refuses
+    start_counts (BadText at) refuses idle = absurd refuses
+    start_counts (BadHex at) refuses idle = absurd refuses
+    start_counts (BadItem fault) refuses idle = absurd refuses
+    start_counts (BadLine number) refuses idle = absurd refuses
+    start_counts Longer refuses idle = absurd refuses
+    start_counts (FileLonger which) refuses idle = absurd refuses
+    start_counts (FileFailed which) refuses idle = absurd refuses
+    start_counts ReadFailed refuses idle = absurd refuses
+    start_counts WriteFailed refuses idle = absurd refuses
+    start_counts TurnsSpent refuses idle = absurd refuses
+    start_counts Slip refuses idle = absurd refuses
+    start_counts (BadPlan key what) refuses idle = absurd refuses
+    start_counts (LineNotBuilt number) refuses idle = absurd refuses
+    start_counts (BadScript number) refuses idle = absurd refuses
+    start_counts LinkFailed refuses idle = absurd refuses
+
+    -- no fault of link, output or disk
+    none_counts : (outcome : Outcome) → IsPlain outcome
+        → CountsNone (counted_before (with_file disk) link out) (counted_after (with_file disk) link out)
+        → CountsSo outcome
+    none_counts outcome plain (on_link, write, on_disk) = record {
+      read = subst (λ (b : Bool). IsCounted b source.health.faults source.health_after.faults) (sym plain.read) read;
+      file = subst (λ (b : Bool). IsCounted b files.health.faults files.health_after.faults) (sym plain.file) file;
+      on_disk = subst (λ (b : Bool). IsCounted b disk.faults disk.faults_after) (sym plain.on_disk)
+          (ap (λ (d : Device (Unit {0})). d.faults) on_disk);
+      on_link = subst (λ (b : Bool). IsCounted b link.health.faults link.health_after.faults) (sym plain.on_link)
+          on_link;
+      write = inl (subst (λ (b : Bool). IsCounted b out.health.faults out.health_after.faults) (sym plain.write) write);
+    }
+
+    -- the output may have failed as well
+    written_too : (out.health_after.faults ≡ out.health.faults) ⊎ Rose out.health.faults out.health_after.faults
+        → (out.health_after.faults ≡ out.health.faults)
+        ⊎ ((DiskFailed ≡ DiskFailed) × Rose out.health.faults out.health_after.faults)
+    written_too (inl same) = inl same
+    written_too (inr rose) = inr (refl, rose)
+
+    ending_counts :
+        (how : RunEnding)
+        → Counts (counted_before (with_file disk) link out) (counted_after (with_file disk) link out) (Some how)
+        → CountsSo (outcome_of_ending how)
+    ending_counts ending.Stopped counts =
+        none_counts Done (record { read = refl; file = refl; on_disk = refl; on_link = refl; write = refl }) counts
+    ending_counts ending.Closed counts =
+        none_counts Done (record { read = refl; file = refl; on_disk = refl; on_link = refl; write = refl }) counts
+    ending_counts ending.Turns counts =
+        none_counts TurnsSpent (record { read = refl; file = refl; on_disk = refl; on_link = refl; write = refl })
+        counts
+    ending_counts ending.NumbersSpent counts =
+        none_counts NumbersSpent (record { read = refl; file = refl; on_disk = refl; on_link = refl; write = refl })
+        counts
+    ending_counts ending.NoMemory counts =
+        none_counts NoMemory (record { read = refl; file = refl; on_disk = refl; on_link = refl; write = refl }) counts
+    ending_counts ending.DiskFailed counts = record {
+      read = read;
+      file = file;
+      on_disk = counts.2.rose;
+      on_link = counts.0;
+      write = written_too counts.1;
+    }
+    ending_counts ending.LinkFailed counts = record {
+      read = read;
+      file = file;
+      on_disk = ap (λ (d : Device (Unit {0})). d.faults) counts.2;
+      on_link = counts.0;
+      write = inl counts.1;
+    }
+    ending_counts ending.WriteFailed counts = record {
+      read = read;
+      file = file;
+      on_disk = ap (λ (d : Device (Unit {0})). d.faults) counts.2;
+      on_link = counts.0;
+      write = inl counts.1;
+    }
+
+    file_counts :
+        (equipment : EquipmentPlan) (lines : List ScriptLine) (outcome : Outcome)
+        → FileRuns equipment spool lines polls disk link out outcome → CountsSo outcome
+    file_counts equipment lines outcome (inl none) =
+        subst CountsSo (sym none.outcome_is) (record {
+          read = read;
+          file = file;
+          on_disk = rose_of none.rose;
+          on_link = link_stands link none.idle.uncalled;
+          write = inl (untouched out none.idle.written);
+        })
+    file_counts equipment lines outcome (inr (is, inl (refuses, idle))) = start_counts outcome refuses idle
+    file_counts equipment lines outcome (inr (is, inr was)) =
+        subst CountsSo (sym was.outcome_is) (ending_counts was.ended was.counts)
+
+module _ (source : SourceTold) (files : FilesTold) (disk : DiskTold) (link : LinkTold) (out : SinkTold)
+    (plan address spool : List ℕ) (polls : ℕ) (outcome : Outcome)
+  where
+    equipment_all : CountsAll source files disk link out outcome
+        → CountsFaults (Some (Equipment plan address spool polls)) source files disk link out outcome
+    equipment_all counts =
+        all_told (Some (Equipment plan address spool polls)) source files disk link out outcome counts
+
+    equipment_counts :
+        EquipmentComes plan spool polls source files disk link out outcome
+        → CountsFaults (Some (Equipment plan address spool polls)) source files disk link out outcome
+    equipment_counts (inl (inl refuses, unread, idle)) =
+        equipment_all (filed_only source files disk link out plan polls outcome idle.0 unread idle.1.uncalled
+        (file_refused role.Plan plan files out (untouched out idle.1.written) outcome refuses))
+    equipment_counts (inl (inr bad, unread, idle)) =
+        equipment_all (linked_only source files disk link out plan polls outcome idle.0 (source_stands source unread)
+        bad.read.cause.same
+        (idle_counts link out outcome (subst IsPlain (sym bad.refused) (plan_plain bad.fault)) idle.1))
+    equipment_counts (inr (plans, are, inl (refuses, idle))) =
+        equipment_all (unread_counts source files disk link out script_limit
+        (record {
+          file = are.read.cause.same;
+          on_disk = idle.0.faults;
+          on_link = link_stands link idle.1.uncalled;
+        })
+        (untouched out idle.1.written) outcome refuses)
+    equipment_counts (inr (plans, are, inr (text, read, runs))) = elim runs.because [
+      | inl (lines, is, was) ↦
+          file_counts source files disk link out plan address spool polls read.cause.same are.read.cause.same
+          plans.equipment lines outcome was
+      | inr (fault, refuses, is, idle) ↦
+          equipment_all (linked_only source files disk link out plan polls outcome idle.0 read.cause.same
+          are.read.cause.same (idle_counts link out outcome (subst IsPlain (sym is) (script_plain fault)) idle.1))
+    ]
+
 -- ---- all commands
 
 -- words that are refused touch nothing
 module _ (source : SourceTold) (files : FilesTold) (disk : DiskTold) (link : LinkTold) (out : SinkTold) (outcome : Outcome) where
-  stands : (refusal : Outcome) → IsRefused refusal source files disk link out outcome → CountsFaults source files disk link out refusal
-      → CountsFaults source files disk link out outcome
-  stands refusal refused counts = subst (CountsFaults source files disk link out) (sym refused.refused) counts
+  stands : (refusal : Outcome) → IsRefused refusal source files disk link out outcome
+      → CountsAll source files disk link out refusal → CountsAll source files disk link out outcome
+  stands refusal refused counts = subst (CountsAll source files disk link out) (sym refused.refused) counts
 
-  usage_counts : IsRefused Usage source files disk link out outcome → CountsFaults source files disk link out outcome
+  usage_counts : IsRefused Usage source files disk link out outcome → CountsAll source files disk link out outcome
   usage_counts refused = stands Usage refused (record {
     read = source_stands source refused.input;
     file = files_stand files refused.unread;
@@ -539,7 +738,7 @@ module _ (source : SourceTold) (files : FilesTold) (disk : DiskTold) (link : Lin
     write = untouched out refused.written;
   })
 
-  memory_counts : IsRefused NoMemory source files disk link out outcome → CountsFaults source files disk link out outcome
+  memory_counts : IsRefused NoMemory source files disk link out outcome → CountsAll source files disk link out outcome
   memory_counts refused = stands NoMemory refused (record {
     read = source_stands source refused.input;
     file = files_stand files refused.unread;
@@ -549,41 +748,56 @@ module _ (source : SourceTold) (files : FilesTold) (disk : DiskTold) (link : Lin
   })
 
 comes_counts : (asked : Option Asked) (source : SourceTold) (files : FilesTold) (disk : DiskTold) (link : LinkTold) (out : SinkTold) (outcome : Outcome) →
-    ComesFrom asked source files disk link out outcome → CountsFaults source files disk link out outcome
-comes_counts None source files disk link out outcome refused = usage_counts source files disk link out outcome refused
+    ComesFrom asked source files disk link out outcome → CountsFaults asked source files disk link out outcome
+comes_counts None source files disk link out outcome refused =
+    all_told None source files disk link out outcome (usage_counts source files disk link out outcome refused)
 comes_counts (Some Show) source files disk link out outcome (unread, unused, uncalled, comes) =
-    input_counts source files disk link out capture_limit WasShown outcome (others_stand files disk link unread unused uncalled)
-    (λ capture was. shown_counts capture out outcome was) comes
+    all_told (Some Show) source files disk link out outcome
+    (input_counts source files disk link out capture_limit WasShown outcome
+    (others_stand files disk link unread unused uncalled)
+    (λ capture was. shown_counts capture out outcome was) comes)
 comes_counts (Some Spell) source files disk link out outcome (unread, unused, uncalled, comes) =
-    input_counts source files disk link out item_limit WasSpelled outcome (others_stand files disk link unread unused uncalled)
-    (λ text was. spelled_counts text out outcome was) comes
+    all_told (Some Spell) source files disk link out outcome
+    (input_counts source files disk link out item_limit WasSpelled outcome
+    (others_stand files disk link unread unused uncalled)
+    (λ text was. spelled_counts text out outcome was) comes)
 comes_counts (Some SpellHex) source files disk link out outcome (unread, unused, uncalled, comes) =
-    input_counts source files disk link out item_limit WasPrinted outcome (others_stand files disk link unread unused uncalled)
-    (λ digits was. printed_counts digits out outcome was) comes
+    all_told (Some SpellHex) source files disk link out outcome
+    (input_counts source files disk link out item_limit WasPrinted outcome
+    (others_stand files disk link unread unused uncalled)
+    (λ digits was. printed_counts digits out outcome was) comes)
 comes_counts (Some (Replay plan schedule)) source files disk link out outcome (unread, unused, uncalled, comes) =
     let counts = replay_counts plan schedule files out outcome comes in
-    record {
+    all_told (Some (Replay plan schedule)) source files disk link out outcome
+    (record {
       read = subst (λ (b : Bool). IsCounted b source.health.faults source.health_after.faults) (sym counts.read) (source_stands source unread);
       file = counts.file;
       on_disk = subst (λ (b : Bool). IsCounted b disk.faults disk.faults_after) (sym counts.on_disk) unused.faults;
       on_link = subst (λ (b : Bool). IsCounted b link.health.faults link.health_after.faults) (sym counts.on_link)
           (link_stands link uncalled);
       write = counts.write;
-    }
+    })
+comes_counts (Some (Equipment plan address spool polls)) source files disk link out outcome comes =
+    equipment_counts source files disk link out plan address spool polls outcome comes
 comes_counts (Some (Host plan address polls)) source files disk link out outcome (unused, comes) =
-    host_counts source files disk link out plan polls outcome unused comes
+    all_told (Some (Host plan address polls)) source files disk link out outcome
+    (host_counts source files disk link out plan polls outcome unused comes)
 comes_counts (Some (Format name slots)) source files disk link out outcome (unread, files_unread, uncalled, was) =
-    spool_counts source files disk link out outcome (FormatsSpool name slots disk out) unread files_unread uncalled
-    (λ ended formats. by_making slots disk out ended formats.formatted) was
+    all_told (Some (Format name slots)) source files disk link out outcome
+    (spool_counts source files disk link out outcome (FormatsSpool name slots disk out) unread files_unread uncalled
+    (λ ended formats. by_making slots disk out ended formats.formatted) was)
 comes_counts (Some (Spool name)) source files disk link out outcome (unread, files_unread, uncalled, was) =
-    spool_counts source files disk link out outcome (ShowsSpool name disk out) unread files_unread uncalled
-    (λ ended shows. by_listing disk out ended shows.shown) was
+    all_told (Some (Spool name)) source files disk link out outcome
+    (spool_counts source files disk link out outcome (ShowsSpool name disk out) unread files_unread uncalled
+    (λ ended shows. by_listing disk out ended shows.shown) was)
 
 run_counts : (asked : Option Asked) (source : SourceTold) (files : FilesTold) (disk : DiskTold) (link : LinkTold) (out : SinkTold) (outcome : Outcome) →
-    RunComes asked source files disk link out outcome → CountsFaults source files disk link out outcome
-run_counts asked source files disk link out outcome (inl refused) = memory_counts source files disk link out outcome refused
+    RunComes asked source files disk link out outcome → CountsFaults asked source files disk link out outcome
+run_counts asked source files disk link out outcome (inl refused) =
+    all_told asked source files disk link out outcome (memory_counts source files disk link out outcome refused)
 run_counts asked source files disk link out outcome (inr comes) = comes_counts asked source files disk link out outcome comes
 
 pub faults_told : (words : List (List ℕ)) (source : SourceTold) (files : FilesTold) (disk : DiskTold) (link : LinkTold) (out err : SinkTold) (status : ℕ)
-    → (run : IsRun words source files disk link out err status) → CountsFaults source files disk link out run.outcome
+    → (run : IsRun words source files disk link out err status)
+    → CountsFaults (asked_of words) source files disk link out run.outcome
 faults_told words source files disk link out err status run = run_counts (asked_of words) source files disk link out run.outcome run.comes

@@ -1,5 +1,5 @@
 -- Which outcome of a command over the whole input is due.
-use Rattle.std.proofs.Common.{◌≡◌, ◌≤◌, ℕ, List, length, Option, Some, None, refl, sym, ap, subst, ◌∙◌, inl, inr, arith}
+use Rattle.std.proofs.Common.{◌≡◌, ℕ, List, Option, Some, sym, subst, inl, inr, arith}
 use Rattle.gl_base.specs.Input.{ReadsAll, ReadsAllOf}
 use Rattle.gl_base.specs.Told.{FilesTold, SinkTold, SourceTold}
 use Rattle.gl_base.specs.declared.input.Input.{Input}

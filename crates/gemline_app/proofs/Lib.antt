@@ -1,6 +1,10 @@
 mod Carrying
 mod Due
+mod EquipmentAnswered
+mod EquipmentDue
+mod Equipping
 mod FaultsTold
+mod Filing
 mod FirstExchange
 mod HexLaws
 mod HexMeaning
@@ -8,6 +12,8 @@ mod HostAnswered
 mod HostDue
 mod Hosting
 mod InputDue
+mod LinkedAnswered
+mod LinkedDue
 mod ReadBack
 mod ReplayDue
 mod Replaying

@@ -1,6 +1,6 @@
 -- What a run of the program is, by its words and what the outside tells (this profile).
 use Rattle.std.specs.Prelude.{◌≡◌, ◌⊎◌, ℕ, List, Option, Some, None, Result, Ok, Err}
-use Rattle.command_words.specs.Asked.{Asked, Format, Host, Replay, Show, Spell, SpellHex, Spool}
+use Rattle.command_words.specs.Asked.{Asked, Equipment, Format, Host, Replay, Show, Spell, SpellHex, Spool}
 use Rattle.command_words.specs.Words.{asked_of}
 use Rattle.gl_base.specs.Sending.{Sends, WroteShort, WroteText}
 use Rattle.gl_base.specs.Told.{FilesTold, SinkTold, SourceTold}
@@ -19,6 +19,7 @@ use Rattle.spool_show.specs.Formatting.{FormatsSpool}
 use Rattle.spool_show.specs.Showing.{ShowsSpool}
 use Rattle.spool_show.specs.Told.{DiskTold}
 use Rattle.gemline_app.specs.HexInput.{HexMeans, IsHexBreak}
+use Rattle.gemline_app.specs.Equipment.{EquipmentComes}
 use Rattle.gemline_app.specs.Host.{HostComes}
 use Rattle.gemline_app.specs.Inputs.{InputRefuses, IsUnread, WasRead}
 use Rattle.gemline_app.specs.LinkTold.{IsUncalled, LinkTold}
@@ -29,7 +30,7 @@ use Rattle.gemline_app.specs.Spool.{EndedAs, IsUnused}
 use Rattle.gemline_app.specs.Words.{capture_limit, item_limit}
 use Rattle.gemline_app.specs.Written.{AreUnread, IsUntouched}
 use Rattle.gemline_app.specs.declared.outcome.Outcome.{Outcome}
-use Rattle.gemline_app.specs.declared.outcome.Outcome.TheVariants.{Done, Usage, BadText, BadHex, BadItem, Longer, ReadFailed, NoMemory, WriteFailed}
+use Rattle.gemline_app.specs.declared.outcome.Outcome.TheVariants.{Done, Usage, BadText, BadHex, BadItem, NoMemory, WriteFailed}
 
 -- the capture was shown, and showing it came to this
 pub record WasShown (capture : List ℕ) (out : SinkTold) (outcome : Outcome) : Type 0 where
@@ -119,6 +120,8 @@ ComesFrom (Some SpellHex) source files disk link out outcome =
     AreUnread files × IsUnused disk × IsUncalled link × ComesOnInput item_limit WasPrinted source out outcome
 ComesFrom (Some (Replay plan schedule)) source files disk link out outcome =
     IsUnread source × IsUnused disk × IsUncalled link × ReplayComes plan schedule files out outcome
+ComesFrom (Some (Equipment plan address spool polls)) source files disk link out outcome =
+    EquipmentComes plan spool polls source files disk link out outcome
 ComesFrom (Some (Host plan address polls)) source files disk link out outcome =
     IsUnused disk × HostComes plan polls source files link out outcome
 ComesFrom (Some (Format spool slots)) source files disk link out outcome =

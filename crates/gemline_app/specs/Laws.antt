@@ -1,6 +1,6 @@
 -- What holds of all runs.
 use Rattle.std.specs.Prelude.{◌≡◌, ◌<◌, ◌≤◌, ◌⊎◌, ℕ, Bool, true, false, List, [], length, Option, Some, None, Ok}
-use Rattle.command_words.specs.Asked.{Asked, Format, Host, Replay, Show, Spell, SpellHex, Spool}
+use Rattle.command_words.specs.Asked.{Asked, Equipment, Format, Host, Replay, Show, Spell, SpellHex, Spool}
 use Rattle.command_words.specs.Words.{asked_of}
 use Rattle.equipment_tables.specs.declared.plan.Plans.{Plans}
 use Rattle.gem_config.specs.Plans.{Means}
@@ -11,11 +11,19 @@ use Rattle.gl_base.specs.Sink.{with_bytes}
 use Rattle.gl_base.specs.Told.{FilesTold, SinkTold, SourceTold}
 use Rattle.gl_base.specs.Files.{told_file}
 use Rattle.gl_base.specs.Link.{LinkContents}
+use Rattle.gl_base.specs.declared.link.LinkIn.{LinkIn}
+use Rattle.gl_base.specs.declared.side.Side.{Side}
 use Rattle.gl_base.specs.declared.side.Side.TheVariants as side
 use Rattle.line_schedule.specs.Schedule.{IsSchedule, LaterAt, OutsideAt}
 use Rattle.line_schedule.specs.Script.{IsScript, OutsideScriptAt}
 use Rattle.line_schedule.specs.declared.schedule.Schedule.{Schedule}
-use Rattle.line_end.specs.declared.plan.HostPlan.{HostPlan}
+use Rattle.trace_log.specs.Log.{Happening}
+use Rattle.message_end.specs.Core.{Step}
+use Rattle.message_end.specs.Core.Went.{Goes}
+use Rattle.equipment_tables.specs.declared.plan.EquipmentPlan.{EquipmentPlan}
+use Rattle.equipment_node.specs.Equipment.{EquipmentView, is_marked_out, starts}
+use Rattle.equipment_node.specs.Sound.{AllCanBeSent}
+use Rattle.end_run.specs.Pieces.{Piece as RunPiece}
 use Rattle.end_run.specs.Script.{ScriptLine}
 use Rattle.end_run.specs.declared.ending.Ending.{Ending as RunEnding}
 use Rattle.end_pair.specs.declared.answers.WorldStep.{WorldStep}
@@ -34,11 +42,13 @@ use Rattle.secs_text.specs.Grammar.{ReadsAs}
 use Rattle.secs_text.specs.declared.text_fault.TextFault.{TextFault}
 use Rattle.disk_base.specs.Story.{Story}
 use Rattle.spool_show.specs.Told.{DiskTold}
-use Rattle.spool_slots.specs.File.{spool_break}
+use Rattle.spool_slots.specs.File.{file_in, spool_break}
 use Rattle.gemline_app.specs.LinkTold.{LinkTold}
+use Rattle.gemline_app.specs.Linked.{outcome_of_ending}
 use Rattle.gemline_app.specs.Gemline.{IsRun}
 use Rattle.gemline_app.specs.HexInput.{HexMeans, IsHexBreak}
-use Rattle.gemline_app.specs.Host.{host_run, outcome_of_ending}
+use Rattle.gemline_app.specs.Equipment.{equipment_run}
+use Rattle.gemline_app.specs.Host.{host_run}
 use Rattle.gemline_app.specs.Outcome.{outcome_of_show}
 use Rattle.gemline_app.specs.Spelling.{HexSpells, spelled_line, text_line, text_place}
 use Rattle.gemline_app.specs.Words.{capture_limit, file_limit, item_limit, script_limit}
@@ -117,31 +127,61 @@ abbrev pub IsReplayDue : List ℕ → List ℕ → FilesTold → Outcome → Typ
 IsReplayDue plan schedule files due =
     (bytes : List ℕ) × (told_file plan files.before ≡ Some bytes) × IsPlanDue schedule files bytes due
 
--- what lines of a script ask for, by the plan of the host and the answers that a link tells to come: how its run ends
-abbrev pub LinesAsk : HostPlan → ℕ → LinkTold → List ScriptLine → Outcome → Type 0
-LinesAsk plan polls link lines due =
-    (contents : LinkContents) × (how : RunEnding) × (link.before ≡ Some contents)
-    × ((host_run plan lines polls contents.left).ended ≡ Some how) × (due ≡ outcome_of_ending how)
+-- ---- commands that run an end over a link
 
--- what the text of a script asks for: how its run ends, or its first line that is none
-abbrev pub ScriptAsks : HostPlan → ℕ → LinkTold → List ℕ → Outcome → Type 0
-ScriptAsks plan polls link text due =
-    ((lines : List ScriptLine) × IsScript side.Host text lines × LinesAsk plan polls link lines due)
-    ⊎ ((number : ℕ) × OutsideScriptAt side.Host text number × (due ≡ BadScript number))
+-- what the text of a script asks for: what its lines ask for, or its first line that is none
+abbrev pub ScriptAsks : Side → (List ScriptLine → Outcome → Type 0) → List ℕ → Outcome → Type 0
+ScriptAsks end LinesAsk text due =
+    ((lines : List ScriptLine) × IsScript end text lines × LinesAsk lines due)
+    ⊎ ((number : ℕ) × OutsideScriptAt end text number × (due ≡ BadScript number))
 
 -- what the text of a plan asks for: its refusal, or what the script asks for over the plans that it means
-abbrev pub HostAsks : ℕ → SourceTold → LinkTold → List ℕ → Outcome → Type 0
-HostAsks polls source link plan due =
+abbrev pub LinkedAsks :
+    Side → (Plans → List ScriptLine → Outcome → Type 0) → SourceTold → List ℕ → Outcome → Type 0
+LinkedAsks end LinesAsk source plan due =
     ((key : List ℕ) × (what : ConfigWhat) × Means plan (refused key what) × (due ≡ BadPlan key what))
     ⊎ ((plans : Plans) × Means plan (Ok plans)
-    × IsInputDue script_limit (ScriptAsks plans.host polls link) source due)
+    × IsInputDue script_limit (ScriptAsks end (LinesAsk plans)) source due)
 
--- the outcome that is due of a host's plan, where it is told, and of its script and its link
-abbrev pub IsHostDue : List ℕ → ℕ → SourceTold → FilesTold → LinkTold → Outcome → Type 0
-IsHostDue plan polls source files link due =
-    (bytes : List ℕ) × (told_file plan files.before ≡ Some bytes)
-    × (((file_limit role.Plan < length bytes) × (due ≡ FileLonger role.Plan))
-    ⊎ ((length bytes ≤ file_limit role.Plan) × HostAsks polls source link bytes due))
+-- the outcome that is due of a plan's text, by how long it is
+abbrev pub IsTextDue :
+    Side → (Plans → List ScriptLine → Outcome → Type 0) → SourceTold → List ℕ → Outcome → Type 0
+IsTextDue end LinesAsk source plan due =
+    ((file_limit role.Plan < length plan) × (due ≡ FileLonger role.Plan))
+    ⊎ ((length plan ≤ file_limit role.Plan) × LinkedAsks end LinesAsk source plan due)
+
+-- and of a plan, where it is told
+abbrev pub IsLinkedDue :
+    Side → (Plans → List ScriptLine → Outcome → Type 0) → List ℕ → SourceTold → FilesTold → Outcome → Type 0
+IsLinkedDue end LinesAsk plan source files due =
+    (bytes : List ℕ) × (told_file plan files.before ≡ Some bytes) × IsTextDue end LinesAsk source bytes due
+
+-- what a run asks for by the answers that a link tells to come: how it ends
+abbrev pub RunAsks : {S C : Type 0} → (List LinkIn → RunPiece S C) → LinkTold → Outcome → Type 0
+RunAsks run link due =
+    (contents : LinkContents) × (how : RunEnding) × (link.before ≡ Some contents)
+    × ((run contents.left).ended ≡ Some how) × (due ≡ outcome_of_ending how)
+
+-- what lines of a script ask of the host
+abbrev pub HostAsks : ℕ → LinkTold → Plans → List ScriptLine → Outcome → Type 0
+HostAsks polls link plans lines due = RunAsks (host_run plans.host lines polls) link due
+
+-- what they ask of the equipment over a file that a disk tells: the first place at which its bytes break; or they stand
+-- for a spool, and no system bytes are left, or each message there can be sent and it runs
+abbrev pub BytesAskRun : EquipmentPlan → ℕ → LinkTold → List ScriptLine → List ℕ → Outcome → Type 0
+BytesAskRun plan polls link lines bytes due =
+    ((at : ℕ) × (spool_break bytes ≡ Some at) × (due ≡ NotSpool at))
+    ⊎ (((spool_break bytes ≡ None) × (is_marked_out (file_in bytes).mark ≡ true) × (due ≡ NumbersSpent))
+    ⊎ ((spool_break bytes ≡ None) × AllCanBeSent (file_in bytes).list
+    × ((start : Step EquipmentView Happening)
+    × (starts plan (file_in bytes).slots (file_in bytes).list (file_in bytes).mark ≡ Goes start)
+    × RunAsks (equipment_run start lines polls) link due)))
+
+abbrev pub EquipmentAsks : ℕ → DiskTold → LinkTold → Plans → List ScriptLine → Outcome → Type 0
+EquipmentAsks polls disk link plans lines due =
+    (s : Story) × (disk.before ≡ Some s) × BytesAskRun plans.equipment polls link lines s.now.bytes due
+
+-- ---- commands over a spool file
 
 -- what the bytes of a spool file ask for: its list, or the first place at which they break
 abbrev pub outcome_of_break : Option ℕ → Outcome
@@ -160,7 +200,10 @@ IsDue (Some Show) source files disk link due = IsInputDue capture_limit CaptureA
 IsDue (Some Spell) source files disk link due = IsInputDue item_limit TextAsks source due
 IsDue (Some SpellHex) source files disk link due = IsInputDue item_limit HexAsks source due
 IsDue (Some (Replay plan schedule)) source files disk link due = IsReplayDue plan schedule files due
-IsDue (Some (Host plan address polls)) source files disk link due = IsHostDue plan polls source files link due
+IsDue (Some (Equipment plan address spool polls)) source files disk link due =
+    IsLinkedDue side.Equipment (EquipmentAsks polls disk link) plan source files due
+IsDue (Some (Host plan address polls)) source files disk link due =
+    IsLinkedDue side.Host (HostAsks polls link) plan source files due
 IsDue (Some (Format spool slots)) source files disk link due = due ≡ Done
 IsDue (Some (Spool spool)) source files disk link due = IsSpoolDue disk due
 
@@ -200,20 +243,28 @@ abbrev pub IsCounted : Bool → ℕ → ℕ → Type 0
 IsCounted true before now = Rose before now
 IsCounted false before now = now ≡ before
 
+-- the output may fail beside the disk of the equipment, with the lines of the step in which that has failed
+abbrev pub MayFailToo : Option Asked → Outcome → Type 0
+MayFailToo (Some (Equipment plan address spool polls)) outcome = outcome ≡ DiskFailed
+MayFailToo _ outcome = ⊥
+
 -- each fault of the input, the files, the disk, the link and the output is the outcome
-pub record CountsFaults (source : SourceTold) (files : FilesTold) (disk : DiskTold) (link : LinkTold) (out : SinkTold)
-    (outcome : Outcome) : Type 0 where
+pub record CountsFaults (asked : Option Asked) (source : SourceTold) (files : FilesTold) (disk : DiskTold)
+    (link : LinkTold) (out : SinkTold) (outcome : Outcome) : Type 0 where
   pub read : IsCounted (is_read_fault outcome) source.health.faults source.health_after.faults
   pub file : IsCounted (is_file_fault outcome) files.health.faults files.health_after.faults
   pub on_disk : IsCounted (is_disk_fault outcome) disk.faults disk.faults_after
   pub on_link : IsCounted (is_link_fault outcome) link.health.faults link.health_after.faults
-  pub write : IsCounted (is_write_fault outcome) out.health.faults out.health_after.faults
+  pub write :
+      IsCounted (is_write_fault outcome) out.health.faults out.health_after.faults
+      ⊎ (MayFailToo asked outcome × Rose out.health.faults out.health_after.faults)
 
 abbrev pub FaultsAreTold : Type 0
 FaultsAreTold =
     (words : List (List ℕ)) (source : SourceTold) (files : FilesTold) (disk : DiskTold) (link : LinkTold)
     (out err : SinkTold) (status : ℕ)
-    → (run : IsRun words source files disk link out err status) → CountsFaults source files disk link out run.outcome
+    → (run : IsRun words source files disk link out err status)
+    → CountsFaults (asked_of words) source files disk link out run.outcome
 
 -- the outcome that is due comes, unless one hinders it
 abbrev pub OutcomesAreDue : Type 0
@@ -223,8 +274,8 @@ OutcomesAreDue =
     → (run : IsRun words source files disk link out err status) → IsDue (asked_of words) source files disk link due
     → (run.outcome ≡ due) ⊎ Hinders source files disk link out run.outcome
 
--- a host's plan and script are told and within their limits, and mean these plans and lines
-pub record HostIsGiven (plan : List ℕ) (source : SourceTold) (files : FilesTold) : Type 0 where
+-- the plan and the script of an end are told and within their limits, and mean these plans and lines
+pub record IsGiven (end : Side) (plan : List ℕ) (source : SourceTold) (files : FilesTold) : Type 0 where
   pub bytes : List ℕ
   pub plan_told : told_file plan files.before ≡ Some bytes
   pub plan_within : length bytes ≤ file_limit role.Plan
@@ -234,11 +285,11 @@ pub record HostIsGiven (plan : List ℕ) (source : SourceTold) (files : FilesTol
   pub script_told : source.before ≡ Some text
   pub script_within : length text ≤ script_limit
   pub lines : List ScriptLine
-  pub is : IsScript side.Host text lines
+  pub is : IsScript end text lines
 
 -- its script or its peer has ended it, or its polls or its numbers are spent
-abbrev pub AnswersHost : Outcome → Type 0
-AnswersHost outcome = (outcome ≡ Done) ⊎ ((outcome ≡ TurnsSpent) ⊎ (outcome ≡ NumbersSpent))
+abbrev pub IsAnswered : Outcome → Type 0
+IsAnswered outcome = (outcome ≡ Done) ⊎ ((outcome ≡ TurnsSpent) ⊎ (outcome ≡ NumbersSpent))
 
 -- over any link such a host is answered so, unless memory runs out or a count of faults rises
 abbrev pub HostsAreAnswered : Type 0
@@ -246,8 +297,18 @@ HostsAreAnswered =
     (words : List (List ℕ)) (source : SourceTold) (files : FilesTold) (disk : DiskTold) (link : LinkTold)
     (out err : SinkTold) (status : ℕ) (plan address : List ℕ) (polls : ℕ)
     → (run : IsRun words source files disk link out err status) → asked_of words ≡ Some (Host plan address polls)
-    → HostIsGiven plan source files
-    → AnswersHost run.outcome ⊎ Hinders source files disk link out run.outcome
+    → IsGiven side.Host plan source files
+    → IsAnswered run.outcome ⊎ Hinders source files disk link out run.outcome
+
+-- so is such an equipment, over any link, where the disk tells bytes that stand for a spool
+abbrev pub EquipmentsAreAnswered : Type 0
+EquipmentsAreAnswered =
+    (words : List (List ℕ)) (source : SourceTold) (files : FilesTold) (disk : DiskTold) (link : LinkTold)
+    (out err : SinkTold) (status : ℕ) (plan address spool : List ℕ) (polls : ℕ)
+    → (run : IsRun words source files disk link out err status)
+    → asked_of words ≡ Some (Equipment plan address spool polls) → IsGiven side.Equipment plan source files
+    → (s : Story) → disk.before ≡ Some s → spool_break s.now.bytes ≡ None
+    → IsAnswered run.outcome ⊎ Hinders source files disk link out run.outcome
 
 -- over objects that do not fail, `show` of a capture without a break ends with status 0 and its lines, but for want of
 -- memory

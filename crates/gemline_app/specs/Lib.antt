@@ -1,3 +1,4 @@
+pub mod Equipment
 pub mod Files
 pub mod FirstExchange
 pub mod Gemline
@@ -7,6 +8,8 @@ pub mod Host
 pub mod Inputs
 pub mod Laws
 pub mod LinkTold
+pub mod Linked
+pub mod LinkedEquipment
 pub mod Outcome
 pub mod Replay
 pub mod Spelling

@@ -1,13 +1,14 @@
 -- The names of files in words, and how long an input may be (this profile).
 use Rattle.std.specs.Prelude.{ℕ, List, [], Option, Some}
-use Rattle.command_words.specs.Asked.{Asked, Host, Replay}
+use Rattle.command_words.specs.Asked.{Asked, Equipment, Host, Replay}
 use Rattle.gemline_app.specs.declared.outcome.FileRole.{FileRole}
 use Rattle.gemline_app.specs.declared.outcome.FileRole.TheVariants.{Plan, Schedule}
 
--- the name of a file of `replay` or of `host`; no other command names one
+-- the name of a file of `replay`, of `equipment` or of `host`; no other command names one
 abbrev pub name_in : Option Asked → FileRole → List ℕ
 name_in (Some (Replay plan schedule)) Plan = plan
 name_in (Some (Replay plan schedule)) Schedule = schedule
+name_in (Some (Equipment plan address spool polls)) Plan = plan
 name_in (Some (Host plan address polls)) Plan = plan
 name_in _ which = []
 

@@ -1,29 +1,106 @@
 //! The host's end of a line, run by a script.
 
-ghost use Rattle.std.specs.Prelude.{◌≡◌};
+ghost use Rattle.std.specs.Prelude.{◌≡◌, ◌<◌, ◌^◌, []};
 ghost use Rattle.line_end.specs.Plan.{HostPlanFits};
-ghost use Rattle.gemline_app.specs.Host.{HostComes, ScriptComes, ScriptRuns, outcome_of_ending, script_refusal};
+ghost use Rattle.trace_log.specs.Commands.{HostCommandFits};
+ghost use Rattle.message_end.specs.Ends.{IsEmpty, Leaves, MayTake, Uses, input_of, none_asked};
+ghost use Rattle.host_node.specs.Host.{host_machine};
+ghost use Rattle.end_run.specs.Counts.{StepCounts, no_device};
+ghost use Rattle.end_run.specs.Scenes.{Always, NothingLeft, Stays};
+ghost use Rattle.end_run.specs.Script.{AreTold};
+ghost use Rattle.end_run.specs.Sides.{told_host};
+ghost use Rattle.gemline_app.specs.Host.{HostComes, HostReads, HostRuns, WasRun};
 ghost use Rattle.gemline_app.specs.LinkTold.{link_told};
+ghost use Rattle.gemline_app.specs.Linked.{outcome_of_ending, script_refusal};
 ghost use Rattle.gl_base.specs.Told.{files_told, sink_told, source_told};
 
 use crate::inputs::{plans_in, whole_input};
 use crate::outcome::Outcome;
-use end_run::{Ending, Scripted, run_end};
-use gl_base::{Files, Link, Side, Sink, Source};
+use arrayvec::ArrayVec;
+use end_run::{Ending, LinkedEnd, run_started};
+use gl_base::{Files, Link, Row, Side, Sink, Source};
 use host_node::{Host, HostCommand, HostPlan};
-use line_schedule::{ScheduleFault, ScriptStep, read_script};
+use line_schedule::{ScheduleFault, Script, ScriptStep, read_script};
+use message_end::{End, Stop};
+use message_flow::{NodeInput, StepOut};
 use std::alloc::Global;
 
 /// How long a script may be, in bytes.
-const SCRIPT_LIMIT: usize = 1024 * 1024;
+pub(crate) const SCRIPT_LIMIT: usize = 1024 * 1024;
 
-/// The host with what a script tells it.
-struct ScriptedHost {}
+/// The host as it is run over a link.
+#[derive(Drop)]
+struct LinkedHost {
+    host: Host,
+}
 
-impl Scripted<Host> for ScriptedHost {
+impl LinkedEnd for LinkedHost {
+    type Command = HostCommand;
+
+    ghost use Rattle.message_end.specs.Ends.{none_asked};
+    ghost use Rattle.message_end.specs.Parts.{Node};
+    ghost use Rattle.trace_log.specs.Commands.{HostCommandFits};
+    ghost use Rattle.host_node.specs.Host.{HostOwn, Kind, host_machine};
+    ghost use Rattle.end_run.specs.Counts.{no_device};
+    ghost use Rattle.end_run.specs.Scenes.{Always, NothingLeft};
     ghost use Rattle.end_run.specs.Sides.{told_host};
+    ghost use Rattle.gemline_app.specs.Host.{host_due};
+
+    ghost State = { Node HostOwn Kind };
+
+    ghost means = { λ linked. linked.host };
+
+    ghost known = { Always };
+
+    ghost sound = { λ linked. Unit {0} };
+
+    ghost takes = { HostCommandFits };
+
+    ghost machine = { host_machine };
+
+    ghost left = { NothingLeft };
+
+    ghost due = { host_due };
+
+    ghost room = { λ linked. none_asked };
+
+    ghost Fixed = { Unit {0} };
+
+    ghost device = { λ linked. no_device };
 
     ghost told = { told_host };
+
+    fn step(
+        &mut self,
+        alloc: Global,
+        input: NodeInput<'_, HostCommand>,
+        now: u64,
+        out: &mut StepOut,
+    ) -> Result<(), Stop>
+        requires now { now < 2 ^ 62 }
+        requires input { MayTake HostCommandFits (input_of input) }
+        requires out { IsEmpty out.old }
+        ensures step { Leaves []
+            (host_machine.act self.old.host (input_of input.entry) now)
+            self.new.host
+            out.new
+            result }
+        ensures end { Stays Always NothingLeft
+            self.old.host
+            (input_of input.entry)
+            now
+            out.new
+            self.new
+            result }
+        ensures room { Uses none_asked none_asked none_asked result }
+        ensures device { StepCounts no_device no_device result }
+    {
+        End::step(&mut self.host, alloc, input, now, out)
+    }
+
+    fn deadline(&self) -> Option<u64> {
+        End::deadline(&self.host)
+    }
 
     fn told(step: &ScriptStep) -> Option<&HostCommand> {
         match step {
@@ -68,7 +145,7 @@ fn run_input<R: Source, L: Link, W: Sink>(
     out: &mut W,
 ) -> Outcome
     requires { HostPlanFits plan.now }
-    ensures { ScriptComes plan.now polls
+    ensures { HostReads plan.now polls
         (source_told R.Source input.old input.new)
         (link_told L.Link link.old link.new)
         (sink_told W.Sink out.old out.new)
@@ -91,29 +168,58 @@ fn run_script<L: Link, W: Sink>(
     out: &mut W,
 ) -> Outcome
     requires { HostPlanFits plan.now }
-    ensures { ScriptRuns plan.now text.now polls
+    ensures { HostRuns plan.now text.now polls
         (link_told L.Link link.old link.new)
         (sink_told W.Sink out.old out.new)
         result }
 {
     match read_script(alloc, text, Side::Host) {
-        Ok(script) => outcome_of_ending(run_end::<Host, ScriptedHost, L, W>(
-            alloc,
-            plan,
-            (),
-            &script,
-            Side::Host,
-            address,
-            polls,
-            link,
-            out,
-        )),
+        Ok(script) => run_host(alloc, plan, &script, address, polls, link, out),
         Err(fault) => script_refusal(fault),
     }
 }
 
+// Starts the host, and runs it by a script.
+fn run_host<L: Link, W: Sink>(
+    alloc: Global,
+    plan: &HostPlan,
+    script: &Script,
+    address: &str,
+    polls: u32,
+    link: &mut L,
+    out: &mut W,
+) -> Outcome
+    requires plan { HostPlanFits plan.now }
+    requires script { AreTold told_host HostCommandFits script.now.lines }
+    ensures { WasRun plan.now script.now.lines polls
+        (link_told L.Link link.old link.new)
+        (sink_told W.Sink out.old out.new)
+        result }
+{
+    let mut step = StepOut {
+        line: ArrayVec::new(),
+        notes: Row::new(alloc),
+    };
+    // (it has numbers to start with, and no disk)
+    let Ok(host) = Host::start(alloc, plan, (), &mut step) else {
+        return Outcome::NoMemory;
+    };
+    let mut linked = LinkedHost { host };
+    outcome_of_ending(run_started::<LinkedHost, L, W>(
+        alloc,
+        &mut linked,
+        step.notes.as_slice(),
+        script,
+        Side::Host,
+        address,
+        polls,
+        link,
+        out,
+    ))
+}
+
 // What the end of a run came to.
-fn outcome_of_ending(ended: Ending) -> Outcome
+pub(crate) fn outcome_of_ending(ended: Ending) -> Outcome
     ensures { result ≡ outcome_of_ending ended }
 {
     match ended {
@@ -128,7 +234,7 @@ fn outcome_of_ending(ended: Ending) -> Outcome
 }
 
 // The refusal of a script's text.
-fn script_refusal(fault: ScheduleFault) -> Outcome
+pub(crate) fn script_refusal(fault: ScheduleFault) -> Outcome
     ensures { result ≡ script_refusal fault }
 {
     match fault {

@@ -1,5 +1,6 @@
-ghost use Rattle.gemline_app.specs.Laws.{FaultsAreTold, HexMeansOne, HexSpellsOne, HostsAreAnswered, OutcomesAreDue};
-ghost use Rattle.gemline_app.specs.Laws.{ShowsWholeCaptures, SpelledIsHex, SpelledReadsBack};
+ghost use Rattle.gemline_app.specs.Laws.{EquipmentsAreAnswered, FaultsAreTold, HexMeansOne, HexSpellsOne};
+ghost use Rattle.gemline_app.specs.Laws.{HostsAreAnswered, OutcomesAreDue, ShowsWholeCaptures, SpelledIsHex};
+ghost use Rattle.gemline_app.specs.Laws.{SpelledReadsBack};
 
 /// The outcome that is due of the words and of what they have read comes exactly there, unless memory runs out or a
 /// count of faults rises: usage, an input or a file that is too long, its first fault, the end of its work.
@@ -8,7 +9,8 @@ pub fn outcomes_are_due()
 {}
 
 /// No fault is passed over, but one of the errors: the count of the input, of the files, of the disk, of the link and
-/// of the output rises where the outcome is its fault, by one, and stands otherwise.
+/// of the output rises where the outcome is its fault, by one, and stands otherwise. The output may fail as well where
+/// the disk of the equipment has failed.
 pub fn faults_are_told()
     ensures { FaultsAreTold }
 {}
@@ -17,6 +19,11 @@ pub fn faults_are_told()
 /// spent, over any link, unless memory runs out or a count of faults rises.
 pub fn hosts_are_answered()
     ensures { HostsAreAnswered }
+{}
+
+/// So does an equipment, over a disk that tells bytes which stand for a spool, and any link.
+pub fn equipments_are_answered()
+    ensures { EquipmentsAreAnswered }
 {}
 
 /// Over objects that do not fail, `show` of a capture without a break ends with status 0 and all its

@@ -1,6 +1,7 @@
 //! The program `gemline` over any input and output: its words, what they do, and with which status it ends.
 #![tactic(auto)]
 
+mod equipment;
 mod hex_input;
 mod host;
 mod inputs;
@@ -11,8 +12,8 @@ mod run;
 mod spelling;
 
 pub use laws::{
-    faults_are_told, hex_means_one_item, hosts_are_answered, outcomes_are_due,
-    shows_whole_captures, spelled_reads_back,
+    equipments_are_answered, faults_are_told, hex_means_one_item, hosts_are_answered,
+    outcomes_are_due, shows_whole_captures, spelled_reads_back,
 };
 pub use outcome::{FileRole, Outcome};
 pub use run::{gemline, report};

@@ -1,5 +1,5 @@
 ghost use Rattle.std.specs.Prelude.{◌≡◌, ◌++◌, ◌≤◌, ℕ, List, None, Some, map, option_map, string_bytes};
-ghost use Rattle.command_words.specs.Asked.{Host, IsInRange, Replay, asked_by};
+ghost use Rattle.command_words.specs.Asked.{Equipment, Host, IsInRange, Replay, asked_by};
 ghost use Rattle.gemline_app.specs.Gemline.{ComesFrom, ComesOnInput, IsRun, WasPrinted, WasShown};
 ghost use Rattle.gemline_app.specs.LinkTold.{link_told};
 ghost use Rattle.gemline_app.specs.Gemline.{WasSpelled, WereSent};
@@ -11,6 +11,7 @@ ghost use Rattle.spool_show.specs.Formatting.{FormatsSpool};
 ghost use Rattle.spool_show.specs.Showing.{ShowsSpool};
 ghost use Rattle.spool_show.specs.Told.{disk_told};
 
+use crate::equipment::equipment;
 use crate::host::host;
 use crate::inputs::whole_input;
 use crate::outcome::{FileRole, Outcome};
@@ -35,8 +36,8 @@ const ITEM_LIMIT: usize = 1024 * 1024;
 /// handshake, and tells what each block brings: its message, or why there is none. From an item's text on `input`,
 /// `spell` makes hex with as few length bytes as can be; `spell --hex` makes the text from hex on `input`. `replay`
 /// finds a plan and a schedule in `files`, lets both ends of a line run by them and tells what they do, as a trace.
-/// `host` runs the host's end of a line by a plan in `files` and by the script on `input`, over `link`, and tells what
-/// it does, each line before the characters of its step are sent.
+/// `equipment` and `host` run an end of a line by a plan in `files` and by the script on `input`, over `link`, and tell
+/// what it does, each line before the characters of its step are sent; the equipment has its spool on `disk`.
 /// `format` makes a spool file on `disk`, and `spool` writes the list of one. `err` gets one line where the status
 /// isn't 0.
 pub fn gemline<F: Files, R: Source, W: Sink, E: Sink, D: Disk, L: Link>(
@@ -141,7 +142,7 @@ fn name_of<'a>(command: Option<Command<'a>>, outcome: &'a Outcome) -> &'a [u8]
     }
 }
 
-// The name of a file of `replay` or of `host`.
+// The name of a file of `replay`, of `equipment` or of `host`.
 fn name_in<'a>(command: Option<Command<'a>>, which: FileRole) -> &'a [u8]
     ensures { result.now ≡ name_in (option_map asked_by command.entry) which }
 {
@@ -156,6 +157,7 @@ fn name_for<'a>(command: Command<'a>, which: FileRole) -> &'a [u8]
 {
     match command {
         Command::Replay { plan, schedule } => one_name(plan, schedule, which),
+        Command::Equipment { plan, .. } => plan_name(plan, which),
         Command::Host { plan, .. } => plan_name(plan, which),
         _ => b"",
     }
@@ -171,7 +173,9 @@ fn one_name<'a>(plan: &'a str, schedule: &'a str, which: FileRole) -> &'a [u8]
 }
 
 fn plan_name<'a>(plan: &'a str, which: FileRole) -> &'a [u8]
-    ensures { (address : List ℕ) (polls : ℕ) → result.now ≡ name_in (Some (Host plan.now address polls)) which }
+    ensures equipment { (address spool : List ℕ) (polls : ℕ)
+        → result.now ≡ name_in (Some (Equipment plan.now address spool polls)) which }
+    ensures host { (address : List ℕ) (polls : ℕ) → result.now ≡ name_in (Some (Host plan.now address polls)) which }
 {
     match which {
         FileRole::Plan => plan.as_bytes(),
@@ -203,6 +207,14 @@ fn run<F: Files, R: Source, W: Sink, D: Disk, L: Link>(
         Command::Spell => spell_input(alloc, input, out),
         Command::SpellHex => spell_hex_input(alloc, input, out),
         Command::Replay { plan, schedule } => replay(alloc, plan, schedule, files, out),
+        Command::Equipment {
+            plan,
+            address,
+            spool,
+            polls,
+        } => equipment(
+            alloc, plan, address, spool, polls, files, input, disk, link, out,
+        ),
         Command::Host {
             plan,
             address,

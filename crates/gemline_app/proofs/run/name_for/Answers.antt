@@ -6,5 +6,10 @@ use Rattle.gemline_app.proofs.run.name_for.Goals as goal
 
 pub returns-in-Host : goal.returns-in-Host
 returns-in-Host c =
-    c.plan_name.ensures c.in-Host.address.now c.in-Host.polls
+    c.plan_name-in-Host.ensures.host c.in-Host.address.now c.in-Host.polls
     ∙ sym (ap (λ (command : Command). name_in (Some (asked_by command)) c.args.which) c.in-Host.is)
+
+pub returns-in-Equipment : goal.returns-in-Equipment
+returns-in-Equipment c =
+    c.plan_name.ensures.equipment c.in-Equipment.address.now c.in-Equipment.spool.now c.in-Equipment.polls
+    ∙ sym (ap (λ (command : Command). name_in (Some (asked_by command)) c.args.which) c.in-Equipment.is)

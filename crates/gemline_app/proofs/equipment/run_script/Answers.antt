@@ -1,0 +1,37 @@
+use Rattle.std.proofs.Common.{refl}
+use Rattle.end_run.proofs.Sides.{are_told_tool}
+use Rattle.gemline_app.proofs.Hosting.{refuses_script, runs_script}
+use Rattle.gemline_app.proofs.equipment.run_script.Goals as goal
+
+pub run_file-requires-clause-script : goal.run_file-requires-clause-script
+run_file-requires-clause-script g c =
+    let reads = c.in-Ok.ensures in
+    are_told_tool _ _ _ reads.found.tell reads.fits.lines
+
+pub returns-in-Ok : goal.returns-in-Ok
+returns-in-Ok g c =
+    let reads = c.in-Ok.ensures in
+    runs_script _ _ _ _ _ c.in-Ok.script
+    (record {
+      only = reads.only;
+      line = reads.line;
+      not_built = reads.not_built;
+      outside = reads.outside;
+    }) reads.found c.run_file.ensures
+
+pub returns-in-Err : goal.returns-in-Err
+returns-in-Err g c =
+    let reads = c.in-Err.ensures in
+    refuses_script _ _ _ _ _ c.in-Err.fault
+    (record {
+      only = reads.only;
+      line = reads.line;
+      not_built = reads.not_built;
+      outside = reads.outside;
+    }) (
+      record { told = refl; faults = refl; file = refl },
+      record {
+        uncalled = record { told = refl; moment = refl; health = refl };
+        written = record { received = refl; health = refl };
+      },
+    ) c.script_refusal.ensures

@@ -1,0 +1,5 @@
+use Rattle.gemline_app.proofs.EquipmentAnswered.{equipments_answered}
+use Rattle.gemline_app.proofs.laws.equipments_are_answered.Goals as goal
+
+pub returns : goal.returns
+returns c = equipments_answered

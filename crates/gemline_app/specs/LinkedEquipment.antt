@@ -1,0 +1,91 @@
+-- The equipment as it is run over a link: it goes on, or a step has stopped it and its device is left.
+use Rattle.std.specs.Prelude.{ℕ, List, [], Option, Some, None}
+use Rattle.disk_base.specs.declared.disk.Disk as disk
+use Rattle.message_flow.specs.declared.step.StepOut.{StepOut}
+use Rattle.spool_slots.specs.declared.states.Spent.{Spent}
+use Rattle.trace_log.specs.declared.commands.ToolCommand.{ToolCommand}
+use Rattle.message_end.specs.declared.end.Stop.{Stop}
+use Rattle.message_end.specs.Ends.{Input}
+use Rattle.equipment_node.specs.declared.disk_step.Ended.{Ended}
+use Rattle.equipment_node.specs.declared.disk_step.Ended.TheVariants as ended
+use Rattle.equipment_node.specs.declared.equipment.Starting.{Starting}
+use Rattle.equipment_node.specs.declared.equipment.Starting.TheVariants as starting
+use Rattle.equipment_node.specs.Equipment.{EquipmentView, started_on}
+use Rattle.equipment_node.specs.Held.{Held, IsIn, view_in}
+use Rattle.equipment_node.specs.Stepping.{HasLeft}
+use Rattle.equipment_node.specs.WorkedSpool.{plan_with}
+use Rattle.end_run.specs.Counts.{Device}
+use Rattle.gemline_app.specs.declared.equipment.LinkedEquipment.{LinkedEquipment}
+use Rattle.gemline_app.specs.declared.outcome.Outcome.{Outcome}
+use Rattle.gemline_app.specs.declared.outcome.Outcome.TheVariants.{DiskFailed, NoMemory, NotSpool, NumbersSpent}
+
+-- of one that has stopped nothing is known: some state stands for it
+unfoldable pub nowhere : EquipmentView
+nowhere = (started_on (plan_with 0 0) 0 [] 0).next
+
+abbrev pub linked_view : {D : Type 0} → disk.Ghosts D → Option (Held D) → EquipmentView
+linked_view members None = nowhere
+linked_view members (Some h) = view_in members h
+
+-- one that goes on is known where its disk tells its bytes
+abbrev pub IsGoing : {D : Type 0} → disk.Ghosts D → Option (Held D) → Type 0
+IsGoing members None = ⊥
+IsGoing members (Some h) = IsIn members h
+
+-- it goes on, or its device is left
+abbrev pub HoldsOne : {D : Type 0} → Option (Held D) → Option (Spent D) → Type 0
+HoldsOne None None = ⊥
+HoldsOne None (Some spent) = Unit {0}
+HoldsOne (Some h) None = Unit {0}
+HoldsOne (Some h) (Some spent) = ⊥
+
+-- a step has stopped it, and the device holds what that may leave
+abbrev pub IsLeftSo :
+    {D : Type 0} → disk.Ghosts D → EquipmentView → Input ToolCommand → ℕ → StepOut → Stop → Option (Spent D) → Type 0
+IsLeftSo members s input now out why None = ⊥
+IsLeftSo members s input now out why (Some spent) = HasLeft members s input now out spent why
+
+-- the same of the value
+abbrev pub IsKnown : {D : Type 0} → disk.Ghosts D → LinkedEquipment D → Type 0
+IsKnown members linked = IsGoing members linked.going
+
+abbrev pub LeavesDevice :
+    {D : Type 0} → disk.Ghosts D → EquipmentView → Input ToolCommand → ℕ → StepOut → Stop → LinkedEquipment D → Type 0
+LeavesDevice members s input now out why linked = IsLeftSo members s input now out why linked.spent
+
+-- the device that it has, or that is left
+abbrev pub disk_in : {D : Type 0} → Option (Held D) → Option (Spent D) → Option D
+disk_in None None = None
+disk_in None (Some spent) = Some spent.disk
+disk_in (Some h) spent = Some h.spool.spool.disk
+
+-- which disk it is, and which file it has, no step changes
+abbrev pub Fixed : Type 0
+Fixed = Option (ℕ × Option (List ℕ))
+
+abbrev pub device_of : {D : Type 0} → disk.Ghosts D → D → Device Fixed
+device_of members d =
+    record { faults = (members.health d).faults; fixed = Some (members.name d, members.file_is d) }
+
+abbrev pub device_by : {D : Type 0} → disk.Ghosts D → Option D → Device Fixed
+device_by members None = record { faults = 0; fixed = None }
+device_by members (Some d) = device_of members d
+
+-- what a step leaves of one that it stops, and what a start leaves
+abbrev pub spent_by : {D : Type 0} → Ended D → Spent D
+spent_by (ended.NoMemory spent) = spent
+spent_by (ended.DiskFailed spent) = spent
+spent_by (ended.NumbersSpent spent) = spent
+
+abbrev pub unstarted_disk : {D : Type 0} → Starting D → D
+unstarted_disk (starting.NoMemory spent) = spent.disk
+unstarted_disk (starting.NotSpool raw place) = raw.disk
+unstarted_disk (starting.DiskFailed spent) = spent.disk
+unstarted_disk (starting.NumbersSpent spent) = spent.disk
+
+-- what a start that is refused comes to
+abbrev pub outcome_of_start : {D : Type 0} → Starting D → Outcome
+outcome_of_start (starting.NoMemory spent) = NoMemory
+outcome_of_start (starting.NotSpool raw place) = NotSpool place.at
+outcome_of_start (starting.DiskFailed spent) = DiskFailed
+outcome_of_start (starting.NumbersSpent spent) = NumbersSpent
