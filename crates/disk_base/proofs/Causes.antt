@@ -79,11 +79,15 @@ module _ (s : DiskState) (call : DiskCall) (Lacking : Type 0) (below : s.faults 
     rose = rose s.faults below;
     lacking = room_lacks s (length call.bytes) Lacking lacking (crowded_of s (length call.bytes) full);
     stays = stays s.plan;
+    calls_kept = omega arith;
+    room_kept = omega arith;
   }
   go false Done full answered = record {
     same = ap (λ answer. faults_after answer s.faults) answered;
     calls_left = omega (arith, length-append s.calls (call ∷ []));
     room_left = omega arith;
+    calls_kept = omega (arith, length-append s.calls (call ∷ []));
+    room_kept = omega arith;
     fail_left = refl;
     stop_left = refl;
     unplanned = unplanned s (done answered);
@@ -93,6 +97,8 @@ module _ (s : DiskState) (call : DiskCall) (Lacking : Type 0) (below : s.faults 
     rose = subst (λ answer. Rose s.faults (faults_after answer s.faults)) (sym answered) (rose s.faults below);
     lacking = λ sure. ⊎_elim (λ is. inl (planned s is)) (λ is. inr is) (failed answered);
     stays = stays s.plan;
+    calls_kept = omega (arith, length-append s.calls (call ∷ []));
+    room_kept = omega arith;
   }
 
   pub cause_of : HasCause (disk_health s) (disk_health (after_call call s)) 1 (length call.bytes) Lacking (answer_of call s)

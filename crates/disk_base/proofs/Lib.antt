@@ -10,3 +10,4 @@ mod Replays
 mod Steps
 mod Stopped
 pub mod Stretches
+pub mod Told

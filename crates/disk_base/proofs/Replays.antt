@@ -1,16 +1,39 @@
 -- What the log of a disk in memory gives for its settled bytes and its marks.
-use Rattle.std.proofs.Common.{◌≡◌, ℕ, ◌-◌, ◌≤◌, List, [], length, take, drop, fold, sym, ap, subst, ◌∙◌, arith}
-use Rattle.std.proofs.lemmas.List.{length-take, take-take}
+use Rattle.std.proofs.Common.{◌≡◌, ℕ, ◌-◌, ◌+◌, ◌≤◌, List, [], ◌∷◌, length, take, drop, fold, refl, sym, ap, subst, ◌∙◌, arith}
+use Rattle.std.proofs.lemmas.List.{length-take, length-take-le, take-take}
 use Rattle.std.proofs.lemmas.Slice.{between_is}
 use Rattle.disk_base.specs.Calls.{DiskCall}
-use Rattle.disk_base.specs.Cut.{marks_of, settled_bytes}
+use Rattle.disk_base.specs.Cut.{image_of, marks_of, settled_bytes}
+use Rattle.disk_base.specs.Images.{IsImage}
 use Rattle.disk_base.specs.Kept.{IsMemDisk, disk_state}
-use Rattle.disk_base.specs.Log.{AreSized, AreWithin, bytes_after, calls_of, loose_behind}
+use Rattle.disk_base.specs.Log.{AreSized, AreWithin, bytes_after, bytes_under, calls_of, loose_behind}
 use Rattle.disk_base.specs.MemDisk.{disk_size}
+use Rattle.disk_base.specs.declared.cut.CutChoice.{CutChoice}
+use Rattle.disk_base.specs.declared.disk.CallKind.{CallKind}
+use Rattle.disk_base.specs.declared.disk.CallKind.TheVariants.{Attach, Read, Write, Sync}
 use Rattle.disk_base.specs.declared.log.LoggedCall.{LoggedCall}
 use Rattle.disk_base.specs.declared.mem_disk.MemDisk.TheInside.{Inside}
 use Rattle.disk_base.proofs.Logs.{calls_take, loose_same, sized_drop, sized_of_within, sized_take, within_of_logged, within_take}
-use Rattle.disk_base.proofs.Marks.{AreIn, loose_in}
+use Rattle.disk_base.proofs.Marks.{AreIn, image_is, length-part, loose_in}
+
+-- no call changes how many bytes there are
+length-under : (kind : CallKind) (at : ℕ) (part bytes : List ℕ) → at + length part ≤ length bytes →
+    length (bytes_under kind at part bytes) ≡ length bytes
+length-under Write at part bytes within = length-part bytes part at within
+length-under Attach at part bytes within = refl
+length-under Read at part bytes within = refl
+length-under Sync at part bytes within = refl
+
+length-replayed : (size : ℕ) (entries : List LoggedCall) (written bytes : List ℕ) → length bytes ≡ size →
+    AreWithin size entries written → length (fold bytes_after bytes (calls_of entries written)) ≡ size
+length-replayed size [] written bytes long are = long
+length-replayed size (entry ∷ entries) written bytes long are =
+    let part = take entry.count written in
+    let next = bytes_under entry.kind entry.at part bytes in
+    let count : length part ≡ entry.count = length-take-le entry.count written are.0 in
+    let same : length next ≡ length bytes =
+    length-under entry.kind entry.at part bytes (omega (arith, long, count, are.1)) in
+    length-replayed size entries (drop entry.count written) next (same ∙ long) are.2
 
 module _ (d : Inside) (is : IsMemDisk d) where
   within : AreWithin (length d.bytes.items) d.entries.items d.written.items
@@ -50,6 +73,18 @@ module _ (d : Inside) (is : IsMemDisk d) where
       subst (λ n. AreIn n (disk_state d).story.now.loose) (sym size_is)
       (subst (λ loose. AreIn (length d.bytes.items) loose) loose_is
       (loose_in (length d.bytes.items) (take (d.live - d.synced) (drop d.synced d.entries.items)) [] loose_sized tt))
+
+  settled_long : length (settled_bytes (disk_state d).story) ≡ disk_size (disk_state d)
+  settled_long =
+      sym (ap length settled_is)
+      ∙ length-replayed (length d.base.items) (take d.synced d.entries.items) d.written.items d.base.items refl
+      front_within
+      ∙ is.long
+      ∙ sym size_is
+
+  -- whatever is chosen, a crash leaves one of the images
+  pub images_are : (choice : CutChoice) → IsImage (disk_state d).story.now (image_of choice (disk_state d).story)
+  images_are choice = image_is choice (disk_state d).story ranges_in settled_long
 
   -- the same of lists that are known to be these
   module _ (base : List ℕ) (entries : List LoggedCall) (written : List ℕ) (a : base ≡ d.base.items) (b : entries ≡ d.entries.items)

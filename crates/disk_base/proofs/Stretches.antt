@@ -13,6 +13,8 @@ used_none a = record {
   same = refl;
   calls_left = omega arith;
   room_left = omega arith;
+  calls_kept = omega arith;
+  room_kept = omega arith;
   fail_left = omega arith;
   stop_left = omega arith;
   unplanned = ⊎_elim (λ is. omega (arith, is.0, is.1)) (⊎_elim (λ is. omega (arith, is.0, is.1)) (λ is. omega (arith, is.1)));
@@ -50,6 +52,8 @@ module _ (a b : DiskHealth) (n x : ℕ) (first : IsUsed a b n x) where
     same = second.same ∙ first.same;
     calls_left = omega (arith, sum, first.calls_left, second.calls_left);
     room_left = omega (arith, bytes, first.room_left, second.room_left);
+    calls_kept = omega (arith, first.calls_kept, second.calls_kept);
+    room_kept = omega (arith, first.room_kept, second.room_kept);
     fail_left = omega (arith, sum, first.fail_left, second.fail_left);
     stop_left = omega (arith, sum, first.stop_left, second.stop_left);
     unplanned = λ is. second.unplanned (planned_behind k all sum is);
@@ -65,6 +69,8 @@ module _ (a b : DiskHealth) (n x : ℕ) (first : IsUsed a b n x) where
     lacking = λ sure. ⊎_elim (λ is. inl (planned_before k all sum is)) (λ is. inr (more is))
         (second.lacking (omega (arith, sure, sum, first.calls_left)));
     stays = λ is. second.stays (first.going ∙ is);
+    calls_kept = omega (arith, first.calls_kept, second.calls_kept);
+    room_kept = omega (arith, first.room_kept, second.room_kept);
   }
 
   -- where there was no room for the calls behind, there was none for all

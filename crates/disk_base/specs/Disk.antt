@@ -1,5 +1,5 @@
 -- What the calls of a disk answer and change (this profile).
-use Rattle.std.specs.Prelude.{◌≡◌, ◌⊎◌, ℕ, ◌≤◌, List, [], length, Option, Some}
+use Rattle.std.specs.Prelude.{◌≡◌, ◌⊎◌, ℕ, ◌<◌, ◌≤◌, List, [], length, Option, Some, All}
 use Rattle.std.specs.Option.{option_map}
 use Rattle.disk_base.specs.Story.{Story, bytes_at, with_write, with_sync, with_growth}
 use Rattle.disk_base.specs.declared.disk.DiskAnswer.{DiskAnswer}
@@ -11,6 +11,10 @@ pub record Attaches (grow : ℕ) (before after : Option Story) : Type 0 where
   pub more : List ℕ
   pub grown : after ≡ option_map (with_growth more) before
   pub enough : (s : Story) → before ≡ Some s → grow ≤ length s.now.bytes → more ≡ []
+
+-- what is told to be there are bytes
+abbrev pub TellsBytes : Option Story → Type 0
+TellsBytes told = (s : Story) → told ≡ Some s → All (λ byte. byte < 256) s.now.bytes
 
 -- a disk that was attached has the size that was asked for
 abbrev pub HasSize : ℕ → ℕ → DiskAnswer → Type 0

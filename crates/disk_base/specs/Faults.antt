@@ -37,18 +37,22 @@ abbrev pub IsCrowded : DiskHealth → ℕ → ℕ → Type 0
 IsCrowded health calls n = (health.calls < calls) ⊎ (health.room < n)
 
 -- one fault was counted, where one of this many calls was to fail, or where there was no sure room for them, or where
--- something else was lacking; a disk that had stopped is so still
+-- something else was lacking; a disk that had stopped is so still, and there is room for no more than before
 pub record DiskFault (before now : DiskHealth) (calls : ℕ) (Lacking : Type 0) : Type 0 where
   pub rose : Rose before.faults now.faults
   pub lacking : calls ≤ before.calls → IsPlanned before calls ⊎ Lacking
   pub stays : before.stopped ≡ true → now.stopped ≡ true
+  pub calls_kept : now.calls ≤ before.calls
+  pub room_kept : now.room ≤ before.room
 
--- the count of faults stands, this many calls that write n bytes use up no more than their room, and each of them was
--- made: none was to fail, and those that are to do so have come nearer by as many
+-- the count of faults stands, this many calls that write n bytes use up no more than their room and add none, and each
+-- of them was made: none was to fail, and those that are to do so have come nearer by as many
 pub record IsUsed (before now : DiskHealth) (calls n : ℕ) : Type 0 where
   pub same : now.faults ≡ before.faults
   pub calls_left : before.calls ≤ now.calls + calls
   pub room_left : before.room ≤ now.room + n
+  pub calls_kept : now.calls ≤ before.calls
+  pub room_kept : now.room ≤ before.room
   pub fail_left : now.fail_in ≡ before.fail_in - calls
   pub stop_left : now.stop_in ≡ before.stop_in - calls
   pub unplanned : IsPlanned before calls → ⊥

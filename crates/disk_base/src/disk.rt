@@ -1,6 +1,6 @@
 ghost use Rattle.std.specs.Prelude.{◌≡◌, ◌+◌, ◌<◌, ◌≤◌, ℕ, false, List, Option, Some, length};
 ghost use Rattle.disk_base.specs.Calls.{DiskCall, Logs, attach_call, read_call, sync_call, write_call};
-ghost use Rattle.disk_base.specs.Disk.{Attaches, HasSize, Reads, Syncs, Writes, file_behind};
+ghost use Rattle.disk_base.specs.Disk.{Attaches, HasSize, Reads, Syncs, TellsBytes, Writes, file_behind};
 ghost use Rattle.disk_base.specs.Faults.{DiskHealth, HasCause, IsCrowded};
 ghost use Rattle.disk_base.specs.Listed.{AsListed};
 ghost use Rattle.disk_base.specs.Story.{Story};
@@ -50,9 +50,10 @@ pub trait Disk {
 
     /// Takes the file of this name as the disk, which is to have at least `grow` bytes. The bytes and what a crash may
     /// leave of them stay. Bytes are added only where there are fewer than `grow`. Where it fails, the file is the one
-    /// that it was.
+    /// that it was. What the disk tells then are bytes.
     fn attach(&mut self, file: &str, grow: u64) -> DiskAnswer
         ensures told { Attaches grow (told self.old) (told self.new) }
+        ensures bytes { TellsBytes (told self.new) }
         ensures size { HasSize grow (size_is self.new) result }
         ensures calls { Logs (attach_call grow) (IsCrowded (health self.old) 1 0)
             (calls self.old) (calls self.new) result }

@@ -1,8 +1,8 @@
-ghost use Rattle.std.specs.Prelude.{◌≡◌, ◌+◌, ◌^◌, ◌<◌, ◌≤◌, ◌||◌, nat_le, nat_lt, false};
-ghost use Rattle.std.specs.Prelude.{Option, Some, [], length, replicate, refl, IfOk};
+ghost use Rattle.std.specs.Prelude.{◌≡◌, ◌+◌, ◌^◌, ◌<◌, ◌≤◌, ◌&&◌, ◌||◌, nat_le, nat_lt, false};
+ghost use Rattle.std.specs.Prelude.{Option, Some, [], length, replicate, refl, All, IfOk};
 ghost use Rattle.disk_base.specs.Calls.{Logs, attach_call, read_call, sync_call, write_call};
-ghost use Rattle.disk_base.specs.Cut.{marks_of, settled_bytes};
-ghost use Rattle.disk_base.specs.Disk.{Attaches, HasSize, Reads, Syncs, Writes};
+ghost use Rattle.disk_base.specs.Cut.{image_of, marks_of, settled_bytes};
+ghost use Rattle.disk_base.specs.Disk.{Attaches, HasSize, Reads, Syncs, TellsBytes, Writes};
 ghost use Rattle.disk_base.specs.Faults.{HasCause, IsCrowded};
 ghost use Rattle.disk_base.specs.Images.{IsImage};
 ghost use Rattle.disk_base.specs.Listed.{AsListed};
@@ -10,6 +10,7 @@ ghost use Rattle.disk_base.specs.MemDisk.{after_attaching, after_call, after_cut
 ghost use Rattle.disk_base.specs.MemDisk.{disk_health, disk_size, disk_with};
 ghost use Rattle.disk_base.specs.MemDisk.{next_attach, next_read, next_sync, next_write};
 ghost use Rattle.disk_base.specs.MemDisk.{faults_after as counted};
+ghost use Rattle.disk_base.specs.declared.cut.CutChoice.{CutChoice};
 ghost use Rattle.disk_base.specs.declared.disk.DiskAnswer.TheVariants.{Failed};
 ghost use Rattle.disk_base.specs.SizeLaws.{told_size};
 
@@ -104,23 +105,45 @@ impl MemDisk {
         self.plan.stop_in = call;
     }
 
-    /// Whether the call was made from which on all fail.
+    /// Whether the call was made from which on all fail. Stopped or not, a crash leaves one of the images, whatever is
+    /// chosen.
     pub fn stopped(&self) -> bool
-        ensures { result ≡ self.now.plan.stopped }
+        ensures stopped { result ≡ self.now.plan.stopped }
+        ensures images { (choice : CutChoice) → IsImage self.now.story.now (image_of choice self.now.story) }
     {
         self.plan.stopped
     }
 
-    /// The disk after a crash, with the same room for calls and written bytes. Its bytes are settled, no call is in
-    /// its list, none is to fail, and no fault was counted.
-    pub fn cut(&self, alloc: Global, choice: CutChoice) -> Result<MemDisk, NoMemory>
-        ensures state { IfOk result (λ disk. disk ≡ after_cut choice self.now) }
+    /// Whether its list has room for so many more calls, and for so many bytes that they write.
+    pub fn has_room(&self, calls: u32, bytes: u64) -> bool
+        ensures { result ≡ nat_le calls (disk_health self.now).calls && nat_le bytes (disk_health self.now).room }
+    {
+        let made = self.entries.len();
+        let used = self.written.len();
+        are_left(
+            calls as usize,
+            self.most - made,
+            bytes as usize,
+            self.room - used,
+        )
+    }
+
+    /// The disk after a crash. Its list has room for `calls` calls and `room` written bytes. Its bytes are settled, no
+    /// call is in its list, none is to fail, and no fault was counted.
+    pub fn cut(
+        &self,
+        alloc: Global,
+        choice: CutChoice,
+        calls: u32,
+        room: u64,
+    ) -> Result<MemDisk, NoMemory>
+        ensures state { IfOk result (λ disk. disk ≡ after_cut choice calls room self.now) }
         ensures image { IfOk result (λ disk. IsImage self.now.story.now disk.story.now.bytes) }
     {
         let settled = self.settled(alloc)?;
         let marks = self.marks(alloc)?;
         let image = left_bytes(alloc, choice, &marks, &settled, &self.bytes)?;
-        MemDisk::over(alloc, image, self.most, self.room)
+        MemDisk::over(alloc, image, calls as usize, room as usize)
     }
 
     // The settled bytes.
@@ -145,6 +168,13 @@ impl MemDisk {
         let mut marks = vec![in alloc; false; self.bytes.len()]?;
         mark_writes(marks.as_mut_slice(), &self.entries[self.synced..self.live]);
         Ok(marks)
+    }
+
+    // Tells that its bytes are bytes, which the numbers of its view aren't by themselves.
+    fn tells_bytes(&self)
+        ensures { All (λ byte. byte < 256) self.now.story.now.bytes }
+    {
+        are_bytes(&self.bytes);
     }
 
     // Makes a call that lies within the disk.
@@ -183,6 +213,13 @@ impl MemDisk {
     }
 }
 
+// Tells that the elements of a slice of bytes are bytes.
+fn are_bytes(bytes: &[u8])
+    ensures { All (λ byte. byte < 256) bytes.now }
+{
+    let _ = bytes;
+}
+
 // What a call answers for which the list has room, on a disk of so many bytes.
 fn judge(kind: CallKind, size: u64, held: u64, planned: DiskAnswer) -> DiskAnswer
     ensures { result ≡ answer_planned kind size held planned }
@@ -191,6 +228,13 @@ fn judge(kind: CallKind, size: u64, held: u64, planned: DiskAnswer) -> DiskAnswe
         CallKind::Attach if size > held => DiskAnswer::Failed,
         CallKind::Attach | CallKind::Read | CallKind::Write | CallKind::Sync => planned,
     }
+}
+
+// Whether a list has room for so many calls and bytes.
+fn are_left(calls: usize, calls_left: usize, n: usize, room: usize) -> bool
+    ensures { result ≡ nat_le calls calls_left && nat_le n room }
+{
+    calls <= calls_left && n <= room
 }
 
 // Whether a list has no room for one more call that writes n bytes.
@@ -230,6 +274,7 @@ impl Disk for MemDisk {
 
     fn attach(&mut self, file: &str, grow: u64) -> DiskAnswer
         ensures told { Attaches grow (Some self.old.story) (Some self.new.story) }
+        ensures bytes { TellsBytes (Some self.new.story) }
         ensures size { HasSize grow (disk_size self.new) result }
         ensures calls { Logs (attach_call grow) (IsCrowded (disk_health self.old) 1 0)
             (Some self.old.calls) (Some self.new.calls) result }
@@ -238,6 +283,7 @@ impl Disk for MemDisk {
         ensures state { self.new ≡ after_attaching file.now (next_attach grow self.old) self.old }
     {
         let answer = self.call(CallKind::Attach, 0, grow, &[]);
+        self.tells_bytes();
         match answer {
             DiskAnswer::Done => self.file = AttachedFile::of(file.as_bytes()),
             DiskAnswer::Failed => {}

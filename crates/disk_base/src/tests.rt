@@ -18,9 +18,9 @@ fn holds<D: Disk + Drop>(mut disk: D, wanted: [u8; 8]) -> bool {
     disk.size() == 8 && disk.read(0, &mut bytes) == DiskAnswer::Done && bytes == wanted
 }
 
-// Whether a crash leaves these bytes.
+// Whether a crash leaves these bytes, on a disk with room for the one read.
 fn leaves(alloc: Global, disk: &MemDisk, choice: CutChoice, wanted: [u8; 8]) -> bool {
-    match disk.cut(alloc, choice) {
+    match disk.cut(alloc, choice, 1, 0) {
         Ok(cut) => holds(cut, wanted),
         Err(NoMemory) => false,
     }
@@ -76,5 +76,25 @@ fn lists_what_failed(alloc: Global) -> bool {
 #[test]
 fn an_attaching_past_the_size_is_listed(rt: HostRuntime) -> Result<(), Fail> {
     assert!(rt; lists_what_failed(rt.alloc()));
+    Ok(())
+}
+
+// Whether a disk with room for three calls and four bytes, of which a sync and a write of three bytes were made, has
+// room for so much more.
+fn has_left(alloc: Global, calls: u32, bytes: u64) -> bool {
+    let Ok(mut disk) = MemDisk::new(alloc, 8, 3, 4) else {
+        return false;
+    };
+    let _ = settle(&mut disk, 0, &[1, 2, 3]);
+    disk.has_room(calls, bytes)
+}
+
+#[test]
+fn a_disk_tells_its_room(rt: HostRuntime) -> Result<(), Fail> {
+    let alloc = rt.alloc();
+    assert!(rt; has_left(alloc, 1, 1));
+    assert!(rt; !has_left(alloc, 2, 1));
+    assert!(rt; !has_left(alloc, 1, 2));
+    assert!(rt; has_left(alloc, 0, 0));
     Ok(())
 }

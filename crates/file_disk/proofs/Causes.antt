@@ -1,5 +1,5 @@
 -- The cause of a call's answer, by its count of faults.
-use Rattle.std.proofs.Common.{◌-◌, ℕ, refl, inl, inr, arith}
+use Rattle.std.proofs.Common.{ℕ, refl, inl, inr, arith}
 use Rattle.disk_base.specs.Faults.{HasCause, IsPlanned}
 use Rattle.disk_base.specs.declared.disk.DiskAnswer.{DiskAnswer}
 use Rattle.disk_base.specs.declared.disk.DiskAnswer.TheVariants.{Done, Failed}
@@ -17,10 +17,17 @@ counted before now n Lacking Done same = record {
   same = same;
   calls_left = omega arith;
   room_left = omega arith;
+  calls_kept = omega arith;
+  room_kept = omega arith;
   fail_left = refl;
   stop_left = refl;
   unplanned = unplanned before;
   going = refl;
 }
-counted before now n Lacking Failed rose =
-    record { rose = rose; lacking = λ one. absurd (omega (arith, one)); stays = λ stopped. absurd cc }
+counted before now n Lacking Failed rose = record {
+  rose = rose;
+  lacking = λ one. absurd (omega (arith, one));
+  stays = λ stopped. absurd cc;
+  calls_kept = omega arith;
+  room_kept = omega arith;
+}

@@ -1,10 +1,20 @@
-use Rattle.std.proofs.Common.{Some, [], ◌∙◌, refl, ap}
+use Rattle.std.proofs.Common.{◌<◌, ℕ, Some, [], ◌∙◌, refl, sym, ap, subst}
+use Rattle.std.specs.List.{All}
 use Rattle.disk_base.specs.MemDisk.{DiskState}
 use Rattle.disk_base.specs.Story.{Story}
 use Rattle.disk_base.proofs.Listings.{attaching_keeps}
+use Rattle.disk_base.proofs.Told.{told_bytes}
 use Rattle.disk_base.proofs.mem_disk.MemDiskDisk.attach.Goals as goal
 
 pub returns-in-Failed-clause-told : goal.returns-in-Failed-clause-told
 returns-in-Failed-clause-told c =
     let kept = ap (λ (t : DiskState). t.story) c.call-answer.ensures.state ∙ attaching_keeps c.args.self.now c.args.grow in
     record { more = []; grown = ap (λ (story : Story). Some story) kept; enough = λ s told less. refl }
+
+pub returns-in-Failed-clause-bytes : goal.returns-in-Failed-clause-bytes
+returns-in-Failed-clause-bytes c = told_bytes c.call-answer.new.self.story c.tells_bytes.ensures
+
+pub returns-in-Done-clause-bytes : goal.returns-in-Done-clause-bytes
+returns-in-Done-clause-bytes c =
+    told_bytes _
+    (subst (λ (s : DiskState). All (λ (byte : ℕ). byte < 256) s.story.now.bytes) (sym c.self.view_is) c.tells_bytes.ensures)
