@@ -2,23 +2,27 @@
 use Rattle.std.proofs.Common.{◌≡◌, ◌⊎◌, inl, inr, ℕ, zero, suc, ◌+◌, ◌%◌, ◌^◌, ◌<◌, ◌≤◌, ◌==◌, ◌&&◌, nat_le, nat_lt, Bool, false, if◌then◌else◌, List, [], ◌∷◌, ◌++◌, length, length-append, take, drop, replicate, get_or, slice_index, Option, Some, None, Result, Ok, refl, sym, ap, subst, ◌∙◌, arith}
 use Rattle.std.proofs.lemmas.Bool.{cases_eq}
 use Rattle.std.proofs.lemmas.Bool.Decides.{nat_tests}
-use Rattle.std.proofs.lemmas.List.{drop-append-le, drop-take, drop_all, get_or-drop, length-replicate, take-append-le, take-take, take_all}
+use Rattle.std.proofs.lemmas.List.{drop-append-le, drop-take, drop_all, get_or-drop, get_or-take, length-replicate, take-append-le, take-take, take_all}
 use Rattle.std.proofs.lemmas.Nat.{from_be_bytes-to_be_bytes_4}
 use Rattle.std.specs.Int.{w32, w64, from_be_bytes, to_be_bytes}
 use Rattle.std.specs.Option.{option_map}
 use Rattle.std.specs.Result.{OnOk}
 use Rattle.disk_base.specs.Story.{Story, bytes_at, with_part, with_sync, with_write}
 use Rattle.disk_base.specs.declared.disk.Disk as disk
+use Rattle.disk_base.specs.declared.disk.DiskAnswer.TheVariants.{Done}
 use Rattle.disk_base.proofs.Marks.{length-part}
+use Rattle.gate_cell.specs.Cell.{names_second}
 use Rattle.spool_slots.specs.Area.{area_break, end_of, messages_below, or_else, put_if}
 use Rattle.spool_slots.specs.Changes.{Ends}
 use Rattle.spool_slots.specs.File.{SpoolFile, StandsFor, slots_in}
-use Rattle.spool_slots.specs.Format.{ClosesTo, IsClosedTo, empty_file, first_page}
+use Rattle.spool_slots.specs.Format.{ClosesTo, CountsFirst, IsClosedTo, empty_file, first_page}
 use Rattle.spool_slots.specs.Front.{front_break, front_in, magic, magic_break, mark_break, mark_of, mark_place, slots_break, slots_of, unlike_at}
+use Rattle.spool_slots.specs.Losses.{marks_second}
 use Rattle.spool_slots.specs.Run.{IsRunFrom}
 use Rattle.spool_slots.specs.Spool.{IsSpool, in_hand}
 use Rattle.spool_slots.specs.Slot.{Message, Slot, head_break, is_open, message_of, slot_in, slot_place}
 use Rattle.spool_slots.proofs.Firsts.{of_sound}
+use Rattle.spool_slots.proofs.Gates.{gate_at}
 use Rattle.spool_slots.proofs.NewMarks.{unlike_front}
 use Rattle.spool_slots.proofs.Written.{bytes_inside, front_beside, gate_written, others_stay}
 
@@ -216,3 +220,26 @@ stands_empty o p q r slots size sized some most fits page closes synced t told =
       settled = refl;
       stands = empty_stands u.0.now.bytes slots (v.2.front ∙ front) some most (omega (arith, fits, length_v, v.2.long)) v.2.closed;
     })
+
+-- so the first copy of its mark counts
+first_gate : (slots : ℕ) (bytes : List ℕ) → front_in bytes ≡ take 29 (first_page slots) → marks_second bytes ≡ false
+first_gate slots bytes is =
+    ap names_second
+    (gate_at bytes
+    ∙ sym (get_or-take 29 bytes 28 0 (omega arith))
+    ∙ ap (λ (f : List ℕ). slice_index f 28) (is ∙ ap (λ (xs : List ℕ). take 29 xs) (page_is slots))
+    ∙ gate_zero slots)
+
+pub first_counts : (o p q r : Option Story) (slots size : ℕ) → ((s : Story) → o ≡ Some s → length s.now.bytes ≡ size) → 1 ≤ slots →
+    slot_place slots ≤ size → p ≡ option_map (with_write 0 (first_page slots)) o → ClosesTo p q slots → r ≡ option_map with_sync q →
+    CountsFirst r Done
+first_counts o p q r slots size sized some fits page closes synced t told =
+    let u = back q r with_sync t synced told in
+    let v = closes u.0 u.1 in
+    let s = back o p (with_write 0 (first_page slots)) v.0 page v.1 in
+    let long : length s.0.now.bytes ≡ size = sized s.0 s.1 in
+    let inside : 0 + length (first_page slots) ≤ length s.0.now.bytes = omega (arith, long, fits, some, page_long slots) in
+    let front : front_in v.0.now.bytes ≡ take 29 (first_page slots) =
+    ap (λ (w : Story). front_in w.now.bytes) s.2
+    ∙ bytes_inside s.0.now.bytes (first_page slots) 0 inside 0 29 (omega (arith, page_long slots)) in
+    ap (λ (w : Story). marks_second w.now.bytes) u.2 ∙ first_gate slots u.0.now.bytes (v.2.front ∙ front)

@@ -3,6 +3,7 @@ mod Changes
 mod Firsts
 mod Found
 mod Fresh
+pub mod Gates
 mod Lasting
 mod Lists
 mod Looking

@@ -9,6 +9,7 @@ use Rattle.disk_base.specs.Listed.{AsListed}
 use Rattle.disk_base.specs.Settle.{LogsBoth}
 use Rattle.disk_base.specs.Story.{Story, bytes_at, with_part, with_write}
 use Rattle.disk_base.specs.Through.{IsImageBut}
+use Rattle.disk_base.specs.declared.cut.CutChoice.{CutChoice}
 use Rattle.disk_base.specs.declared.disk.DiskAnswer.TheVariants.{Done, Failed}
 use Rattle.disk_base.proofs.Marks.{beside, length-part, not_either}
 use Rattle.disk_base.specs.declared.disk.Disk as disk
@@ -20,9 +21,10 @@ use Rattle.gate_cell.specs.Ready.{HasSpare, IsReady, Prepares}
 use Rattle.gate_cell.proofs.Values.{others_behind}
 use Rattle.spool_slots.specs.Changes.{HasLostReserve, reserved_in, with_mark}
 use Rattle.spool_slots.specs.File.{StandsFor, file_in}
-use Rattle.spool_slots.specs.Losses.{HasLostMark, IsSure, LeavesMark, file_left, gate_counts, mark_left, names_spare}
+use Rattle.spool_slots.specs.Losses.{HasLostMark, IsSure, LeavesGate, LeavesMark, file_left, gate_counts, mark_left, marks_second, names_spare}
 use Rattle.spool_slots.specs.Spool.{IsSpool, in_hand}
 use Rattle.spool_slots.specs.declared.recovery.Known.{Known}
+use Rattle.spool_slots.proofs.Gates.{by_turn, gate_there}
 use Rattle.spool_slots.proofs.Lost.{ChosenLaw, HasWrittenLaw, left_by, not_crowded}
 use Rattle.spool_slots.proofs.NewMarks.{copy_at, holds_mark, holds_old}
 use Rattle.spool_slots.proofs.Written.{at-taken, byte_beside, bytes_beside, part_at}
@@ -123,26 +125,39 @@ module _ (s t : Story) (mark : ℕ) (second : Bool) (prepared : Prepares s 12 ma
   new_gate : names_spare s.now.bytes (gate_byte second) ≡ true
   new_gate = ap (λ (b : Bool). names b (gate_byte second)) (sym second_is) ∙ names_new second
 
+  -- the byte that a crash leaves
+  abbrev left_byte : CutChoice → ℕ
+  left_byte choice = chosen_byte choice (slice_index t.now.bytes 28) (gate_byte second)
+
+  counts : (choice : CutChoice) → names_spare s.now.bytes (left_byte choice) ≡ gate_counts choice (names_spare s.now.bytes)
+  counts choice = left_by (names_spare s.now.bytes) choice (slice_index t.now.bytes 28) (gate_byte second) old_gate new_gate
+
+  image : ChosenLaw → (after : Option Story) → after ≡ Some (with_write 28 (gate_byte second ∷ []) t) → (u : Story) → after ≡ Some u → (choice : CutChoice) →
+      with_part t.now.bytes 28 (left_byte choice ∷ []) ≡ image_of choice u
+  image one_byte_left after written u told choice =
+      let same : with_write 28 (gate_byte second ∷ []) t ≡ u = ap (λ (o : Option Story). story_or u o) (sym written ∙ told) in
+      sym (one_byte_left choice t 28 (gate_byte second) settled (omega (arith, spare.within))) ∙ ap (λ (w : Story). image_of choice w) same
+
   pub lost_mark : ChosenLaw → (after : Option Story) → after ≡ Some (with_write 28 (gate_byte second ∷ []) t) → LeavesMark s mark after
   lost_mark one_byte_left after written u told choice =
-      let same : with_write 28 (gate_byte second ∷ []) t ≡ u = ap (λ (o : Option Story). story_or u o) (sym written ∙ told) in
-      let p = chosen_byte choice (slice_index t.now.bytes 28) (gate_byte second) in
-      let image : with_part t.now.bytes 28 (p ∷ []) ≡ image_of choice u =
-      sym (one_byte_left choice t 28 (gate_byte second) settled (omega (arith, spare.within)))
-      ∙ ap (λ (w : Story). image_of choice w) same in
-      let counts : names_spare s.now.bytes p ≡ gate_counts choice (names_spare s.now.bytes) =
-      left_by (names_spare s.now.bytes) choice (slice_index t.now.bytes 28) (gate_byte second) old_gate new_gate in
-      subst (λ (i : List ℕ). Holds s.now 12 (mark_left (gate_counts choice (names_spare s.now.bytes)) mark (value_in s.now.bytes 12)) i) image (record {
-        others = others p;
-        held = value_now p ∙ ap (λ (b : Bool). mark_left b mark (value_in s.now.bytes 12)) counts;
+      subst (λ (i : List ℕ). Holds s.now 12 (mark_left (gate_counts choice (names_spare s.now.bytes)) mark (value_in s.now.bytes 12)) i)
+      (image one_byte_left after written u told choice) (record {
+        others = others (left_byte choice);
+        held = value_now (left_byte choice) ∙ ap (λ (b : Bool). mark_left b mark (value_in s.now.bytes 12)) (counts choice);
       })
+
+  pub lost_gate : ChosenLaw → (after : Option Story) → after ≡ Some (with_write 28 (gate_byte second ∷ []) t) → LeavesGate s.now.bytes after
+  lost_gate one_byte_left after written u told choice =
+      ap marks_second (sym (image one_byte_left after written u told choice))
+      ∙ gate_there t.now.bytes (left_byte choice) (omega (arith, spare.within))
+      ∙ by_turn (marks_second s.now.bytes) (names_second (left_byte choice)) (gate_counts choice (names_spare s.now.bytes)) (counts choice)
 
 -- the same of the calls that came into the list
 pub lost_late : HasWrittenLaw → ChosenLaw → (s t : Story) (mark at : ℕ) (second : Bool) (h k : DiskHealth) (mid after : Option Story)
     (calls calls_after : Option (List DiskCall)) → IsSure h 5 9 → IsUsed h k 3 8 → mid ≡ Some t → Prepares s 12 mark mid Done → IsReady 12 mark mid →
     at ≡ 12 → HasSpare t at second → second ≡ spare_is_second (cell_in s.now.bytes 12) →
     ((all : List DiskCall) × (calls ≡ Some all)) → LogsBoth (at + 16) (gate_byte second ∷ []) (IsCrowded k 2 1) calls calls_after Failed →
-    (k.stopped ≡ false → AsListed mid calls after calls_after) → LeavesMark s mark after
+    (k.stopped ≡ false → AsListed mid calls after calls_after) → LeavesMark s mark after × LeavesGate s.now.bytes after
 lost_late has_written one_byte_left s t mark at second h k mid after calls calls_after sure used told prepared ready there spare second_is all logs listed =
     let sure_now : IsSure k 2 1 = record {
       going = used.going ∙ sure.going;
@@ -157,9 +172,13 @@ lost_late has_written one_byte_left s t mark at second h k mid after calls calls
     (subst (λ (o : Option Story). AsListed o calls after calls_after) told (listed sure_now.going)) in
     let written : after ≡ Some (with_write (at + 16) (gate_byte second ∷ []) t) =
     has_written t (at + 16) (gate_byte second ∷ []) all.0 after calls_after here as_listed in
-    lost_mark s t mark second (subst (λ (o : Option Story). Prepares s 12 mark o Done) told prepared)
-    (subst (λ (o : Option Story). IsReady 12 mark o) told ready) (subst (λ (n : ℕ). HasSpare t n second) there spare) second_is one_byte_left after
-    (subst (λ (n : ℕ). after ≡ Some (with_write (n + 16) (gate_byte second ∷ []) t)) there written)
+    let prepared_t = subst (λ (o : Option Story). Prepares s 12 mark o Done) told prepared in
+    let ready_t = subst (λ (o : Option Story). IsReady 12 mark o) told ready in
+    let spare_t = subst (λ (n : ℕ). HasSpare t n second) there spare in
+    let written_t = subst (λ (n : ℕ). after ≡ Some (with_write (n + 16) (gate_byte second ∷ []) t)) there written in (
+      lost_mark s t mark second prepared_t ready_t spare_t second_is one_byte_left after written_t,
+      lost_gate s t mark second prepared_t ready_t spare_t second_is one_byte_left after written_t,
+    )
 
 -- the mark of a spool
 pub reserve_lost : {D : Type 0} (members : disk.Ghosts D) (d d' : D) (k : Known) → IsSpool members (in_hand d k) → k.mark + 4096 ≤ 2 ^ 32 →
@@ -168,7 +187,9 @@ pub reserve_lost : {D : Type 0} (members : disk.Ghosts D) (d d' : D) (k : Known)
 reserve_lost members d d' k is low lost = record {
   early = λ planned s told. let goes = (lost s told).early planned in
       (goes.0, goes.1, through_more s goes.0 _ _ (holds_old s k.slots k.first k.len k.mark (is.rests s told) is.some is.mark_most) goes.2);
+  early_gate = λ planned s told. (lost s told).early_gate planned;
   late = λ none s t told told' choice. left_file s told (gate_counts choice (names_spare s.now.bytes)) (image_of choice t) ((lost s told).late none t told' choice);
+  late_gate = λ none s told. (lost s told).late_gate none;
 } where
   left_file : (s : Story) → members.told d ≡ Some s → (b : Bool) (image : List ℕ) →
       Holds s.now 12 (mark_left b (k.mark + 4096) (value_in s.now.bytes 12)) image →

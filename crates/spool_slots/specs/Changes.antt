@@ -21,7 +21,7 @@ use Rattle.gate_cell.specs.Cell.{cell_in, gate_byte, spare_is_second}
 use Rattle.gate_cell.specs.Holds.{Holds}
 use Rattle.spool_slots.specs.Area.{first_of}
 use Rattle.spool_slots.specs.File.{SpoolFile, StandsFor, file_in, spool_break}
-use Rattle.spool_slots.specs.Losses.{IsSure, LeavesByGate, file_left, gate_counts, names_spare}
+use Rattle.spool_slots.specs.Losses.{IsSure, KeepsGate, LeavesByGate, LeavesGate, TurnsGate, file_left, gate_counts, names_spare}
 use Rattle.spool_slots.specs.Reading.{IsBreak}
 use Rattle.spool_slots.specs.Reads.{HasRead}
 use Rattle.spool_slots.specs.Slot.{Message, message_of, slot_in, slot_place}
@@ -245,6 +245,7 @@ pub record HasReserved {D : Type 0} (members : disk.Ghosts D) (v : SpoolView D) 
     Type 0 where
   pub left : v.mark + 4096 ≤ 2 ^ 32
   pub images : HoldsThrough (members.told v.disk) (members.told after) (IsSameOr reserved_in)
+  pub turns : (s : Story) → members.told v.disk ≡ Some s → TurnsGate s.now.bytes (members.told after) answer
   pub size : members.size_is after ≡ members.size_is v.disk
   pub calls : (s : Story) → members.told v.disk ≡ Some s → LogsMark s (v.mark + 4096)
       (IsCrowded (members.health v.disk) 5 9) (members.calls v.disk) (members.calls after) answer
@@ -253,13 +254,17 @@ pub record HasReserved {D : Type 0} (members : disk.Ghosts D) (v : SpoolView D) 
   pub cause : HasCause (members.health v.disk) (members.health after) 5 9 ((members.health v.disk).room < 9) answer
   pub same_disk : IsSameDisk members v.disk after
 
--- where one of the three calls that prepare the mark was to fail, a crash leaves the file as it was; elsewhere the gate
--- of the cell decides
+-- where one of the three calls that prepare the mark was to fail, a crash leaves the file as it was, with the copy that
+-- counted; elsewhere the gate of the cell decides both
 pub record HasLostReserve {D : Type 0} (members : disk.Ghosts D) (v : SpoolView D) (after : D) : Type 0 where
   pub early : IsPlanned (members.health v.disk) 3 → HoldsThrough (members.told v.disk) (members.told after) IsSame
+  pub early_gate :
+      IsPlanned (members.health v.disk) 3 → HoldsThrough (members.told v.disk) (members.told after) KeepsGate
   pub late : (IsPlanned (members.health v.disk) 3 → ⊥) → (s t : Story) → members.told v.disk ≡ Some s →
       members.told after ≡ Some t → (choice : CutChoice) → StandsFor (image_of choice t)
       (file_left (gate_counts choice (names_spare s.now.bytes)) (reserved_in s.now.bytes) (file_in s.now.bytes))
+  pub late_gate : (IsPlanned (members.health v.disk) 3 → ⊥) → (s : Story) → members.told v.disk ≡ Some s →
+      LeavesGate s.now.bytes (members.told after)
 
 abbrev pub Reserves : {D : Type 0} → disk.Ghosts D → SpoolView D → Result (SpoolView D × ℕ) (Reserving D) → Type 0
 Reserves members v (Ok r) =

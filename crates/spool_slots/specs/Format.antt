@@ -10,6 +10,7 @@ use Rattle.disk_base.specs.declared.disk.DiskAnswer.TheVariants.{Done, Failed}
 use Rattle.spool_slots.specs.Changes.{Ends}
 use Rattle.spool_slots.specs.File.{SpoolFile}
 use Rattle.spool_slots.specs.Front.{front_in, magic}
+use Rattle.spool_slots.specs.Losses.{marks_second}
 use Rattle.spool_slots.specs.Slot.{is_open, slot_in, slot_place}
 use Rattle.spool_slots.specs.Spool.{SpoolView}
 use Rattle.spool_slots.specs.declared.states.Formatting.{Formatting}
@@ -42,6 +43,11 @@ abbrev pub StandsEmpty : Option Story → ℕ → DiskAnswer → Type 0
 StandsEmpty after slots Done = (t : Story) → after ≡ Some t → Ends t (empty_file slots)
 StandsEmpty after slots Failed = Unit {0}
 
+-- and the first copy of its mark is the one that counts
+abbrev pub CountsFirst : Option Story → DiskAnswer → Type 0
+CountsFirst after Done = (t : Story) → after ≡ Some t → marks_second t.now.bytes ≡ false
+CountsFirst after Failed = Unit {0}
+
 -- a page, a byte a slot and a sync, as far as that went
 pub record HasFormatted {D : Type 0} (members : disk.Ghosts D) (old new : D) (slots : ℕ) (answer : DiskAnswer) :
     Type 0 where
@@ -50,12 +56,13 @@ pub record HasFormatted {D : Type 0} (members : disk.Ghosts D) (old new : D) (sl
       ((members.health old).room < slots + 4096) answer
   pub same_disk : IsSameDisk members old new
 
--- the empty list stands, with mark 0, and is in hand
+-- the empty list stands, with mark 0 in the first copy, and is in hand
 abbrev pub Formats : {D : Type 0} → disk.Ghosts D → D → ℕ → Result (SpoolView D) (Formatting D) → Type 0
 Formats members old slots (Ok v) =
     HasFormatted members old v.disk slots Done
     × (v ≡ record { disk = v.disk; slots = slots; first = 0; len = 0; mark = 0 })
     × ((t : Story) → members.told v.disk ≡ Some t → Ends t (empty_file slots))
+    × CountsFirst (members.told v.disk) Done
 Formats members old slots (Err (formatting.Slots raw)) = (raw.disk ≡ old) × ((slots ≡ 0) ⊎ (65535 < slots))
 Formats members old slots (Err (formatting.Small raw size need)) =
     (raw.disk ≡ old) × (size ≡ members.size_is old) × (need ≡ slot_place slots)

@@ -6,7 +6,9 @@ use Rattle.disk_base.specs.Story.{Story}
 use Rattle.disk_base.specs.Through.{GoesThrough}
 use Rattle.disk_base.specs.declared.cut.CutChoice.{CutChoice}
 use Rattle.disk_base.specs.declared.cut.CutChoice.TheVariants.{Old, New, Fill, First}
-use Rattle.gate_cell.specs.Cell.{cell_in, names_second, spare_is_second, value_in}
+use Rattle.disk_base.specs.declared.disk.DiskAnswer.{DiskAnswer}
+use Rattle.disk_base.specs.declared.disk.DiskAnswer.TheVariants.{Done, Failed}
+use Rattle.gate_cell.specs.Cell.{cell_in, gate_of, names_second, spare_is_second, value_in}
 use Rattle.gate_cell.specs.Holds.{Holds}
 use Rattle.spool_slots.specs.File.{SpoolFile, StandsFor, file_in}
 
@@ -33,6 +35,24 @@ LeavesByGate before after means changed =
     (s t : Story) → before ≡ Some s → after ≡ Some t → (choice : CutChoice) →
     StandsFor (image_of choice t) (file_left (gate_counts choice means) (changed s.now.bytes) (file_in s.now.bytes))
 
+-- whether the second copy of the mark is the one that counts in these bytes
+abbrev pub marks_second : List ℕ → Bool
+marks_second bytes = names_second (gate_of (cell_in bytes 12))
+
+-- a crash leaves the copy that counts in these bytes
+abbrev pub KeepsGate : List ℕ → List ℕ → Type 0
+KeepsGate bytes image = marks_second image ≡ marks_second bytes
+
+-- where all was done the other copy counts
+abbrev pub TurnsGate : List ℕ → Option Story → DiskAnswer → Type 0
+TurnsGate bytes after Done = (t : Story) → after ≡ Some t → marks_second t.now.bytes ≡ not (marks_second bytes)
+TurnsGate bytes after Failed = Unit {0}
+
+-- which copy counts where the gate was turned, or not
+abbrev pub turned_if : Bool → Bool → Bool
+turned_if true second = not second
+turned_if false second = second
+
 -- whether a gate of the mark's cell names the copy that doesn't count in these bytes
 abbrev pub names_spare : List ℕ → ℕ → Bool
 names_spare bytes gate =
@@ -49,7 +69,16 @@ LeavesMark s mark after =
     Holds s.now 12 (mark_left (gate_counts choice (names_spare s.now.bytes)) mark (value_in s.now.bytes 12))
     (image_of choice t)
 
--- where one of the three calls that prepare it was to fail, the old mark is left; elsewhere the gate decides
+-- and the copy that counts then goes by the gate alike
+abbrev pub LeavesGate : List ℕ → Option Story → Type 0
+LeavesGate bytes after =
+    (t : Story) → after ≡ Some t → (choice : CutChoice) →
+    marks_second (image_of choice t) ≡ turned_if (gate_counts choice (names_spare bytes)) (marks_second bytes)
+
+-- where one of the three calls that prepare it was to fail, the old mark is left, in the copy that it is in; elsewhere
+-- the gate decides
 pub record HasLostMark (s : Story) (mark : ℕ) (before : DiskHealth) (after : Option Story) : Type 0 where
   pub early : IsPlanned before 3 → GoesThrough s after (Holds s.now 12 (value_in s.now.bytes 12))
+  pub early_gate : IsPlanned before 3 → GoesThrough s after (KeepsGate s.now.bytes)
   pub late : (IsPlanned before 3 → ⊥) → LeavesMark s mark after
+  pub late_gate : (IsPlanned before 3 → ⊥) → LeavesGate s.now.bytes after

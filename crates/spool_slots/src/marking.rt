@@ -8,7 +8,7 @@ ghost use Rattle.gate_cell.specs.Cell.{value_in};
 ghost use Rattle.gate_cell.specs.Holds.{HoldsEither};
 ghost use Rattle.gate_cell.specs.Ready.{IsCell, OnDisk};
 ghost use Rattle.spool_slots.specs.Changes.{HasMark, LogsMark};
-ghost use Rattle.spool_slots.specs.Losses.{HasLostMark, IsSure};
+ghost use Rattle.spool_slots.specs.Losses.{HasLostMark, IsSure, TurnsGate};
 
 use disk_base::{Disk, cut_leaves_the_chosen_byte, failed_settle_has_written};
 use gate_cell::prepare;
@@ -24,6 +24,8 @@ pub fn write_mark<D: Disk>(disk: D, mark: u64) -> Result<D, D>
     ensures images { (s : Story) → D.told disk ≡ Some s → OnDisk (λ d. d) result (λ after answer.
         GoesThrough s (D.told after) (HoldsEither s.now 12 (value_in s.now.bytes 12) mark)) }
     ensures value { (s : Story) → D.told disk ≡ Some s → IfOk result (λ after. HasMark s mark (D.told after)) }
+    ensures turns { (s : Story) → D.told disk ≡ Some s → OnDisk (λ d. d) result (λ after answer.
+        TurnsGate s.now.bytes (D.told after) answer) }
     ensures untold { D.told disk ≡ None → OnDisk (λ d. d) result (λ after answer. D.told after ≡ None) }
     ensures size { OnDisk (λ d. d) result (λ after answer. D.size_is after ≡ D.size_is disk) }
     ensures calls { (s : Story) → D.told disk ≡ Some s → OnDisk (λ d. d) result (λ after answer.

@@ -44,7 +44,7 @@ fn leaves(
     first: u64,
     mark: u64,
 ) -> bool {
-    let Ok(cut) = disk.cut(alloc, choice) else {
+    let Ok(cut) = disk.cut(alloc, choice, 100, 16384) else {
         return false;
     };
     match Raw::new(cut).recover() {

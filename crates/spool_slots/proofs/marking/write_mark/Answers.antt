@@ -1,7 +1,11 @@
-use Rattle.std.proofs.Common.{◌<◌, inl, inr, ⊎_elim, arith, ◌∙◌}
+use Rattle.std.proofs.Common.{ℕ, ◌<◌, inl, inr, ⊎_elim, subst, arith, ◌∙◌}
+use Rattle.disk_base.specs.Faults.{DiskHealth, HasCause, IsPlanned}
 use Rattle.disk_base.specs.declared.disk.DiskAnswer.TheVariants.{Done, Failed}
 use Rattle.disk_base.proofs.Listings.{listed_behind}
 use Rattle.disk_base.proofs.Stretches.{crowded_behind, crowded_wider, fault_behind, fault_wider, used_behind}
+use Rattle.gate_cell.specs.Ready.{Commits}
+use Rattle.spool_slots.specs.Losses.{IsSure}
+use Rattle.spool_slots.proofs.Gates.{commit_turns_gate, prepare_keeps_gate}
 use Rattle.spool_slots.proofs.LostMarks.{lost_late}
 use Rattle.spool_slots.proofs.NewMarks.{commit_images, either_of, gate_calls, has_mark, preparing_wider}
 use Rattle.spool_slots.proofs.marking.write_mark.Goals as goal
@@ -28,6 +32,15 @@ returns-in-Ok-commit-clause-value g c = λ s told.
     let p = c.in-Ok.ensures.told s told in
     has_mark s p.images.0 c.args.mark _ _ c.in-Ok.ensures.value.0 p.images.1 p c.in-Ok.ensures.value.1 _ _
     (c.in-Ok-commit.ensures.told p.images.0 p.images.1) (c.in-Ok-commit.ensures.value p.images.0 p.images.1)
+
+pub returns-in-Ok-commit-clause-turns : goal.returns-in-Ok-commit-clause-turns
+returns-in-Ok-commit-clause-turns g c = λ s told.
+    let p = c.in-Ok.ensures.told s told in
+    let w = c.in-Ok.prepared in
+    let commit = c.in-Ok-commit.ensures.told p.images.0 p.images.1 in
+    let spare = w.spare p.images.0 p.images.1 in
+    commit_turns_gate s p.images.0 w.second _ (c.in-Ok.ensures.second s told) (omega (arith, spare.within, c.in-Ok.ensures.value.0))
+    (subst (λ (n : ℕ). Commits p.images.0 n w.second (g.D.Disk.told c.in-Ok-commit.disk) Done) c.in-Ok.ensures.value.0 commit)
 
 pub returns-in-Ok-commit-clause-calls : goal.returns-in-Ok-commit-clause-calls
 returns-in-Ok-commit-clause-calls g c = λ s told. record {
@@ -67,11 +80,16 @@ returns-in-Err-commit-clause-cause g c =
     fault_behind _ _ 3 8 c.in-Ok.ensures.cause _ 2 5 _ ((g.D.Disk.health c.args.disk).room < 9) (omega arith)
     (λ less. omega (arith, less, c.in-Ok.ensures.cause.room_left)) c.in-Err-commit.ensures.cause
 
+planned_of : (h k : DiskHealth) → IsSure h 5 9 → HasCause h k 3 8 (h.room < 8) Failed → IsPlanned h 3
+planned_of h k sure cause =
+    ⊎_elim (λ planned. planned) (λ less. absurd (omega (arith, less, sure.bytes_fit))) (cause.lacking (omega (arith, sure.calls_fit)))
+
 pub returns-in-Err-clause-loss : goal.returns-in-Err-clause-loss
 returns-in-Err-clause-loss g c = λ s told sure. record {
   early = λ planned. (c.in-Err.ensures.told s told).images;
-  late = λ none. absurd (none (⊎_elim (λ planned. planned) (λ less. absurd (omega (arith, less, sure.bytes_fit)))
-      (c.in-Err.ensures.cause.lacking (omega (arith, sure.calls_fit)))));
+  early_gate = λ planned. prepare_keeps_gate s c.args.mark _ Failed (c.requires.settled s told) (c.in-Err.ensures.told s told);
+  late = λ none. absurd (none (planned_of _ _ sure c.in-Err.ensures.cause));
+  late_gate = λ none. absurd (none (planned_of _ _ sure c.in-Err.ensures.cause));
 }
 
 pub returns-in-Err-commit-clause-loss : goal.returns-in-Err-commit-clause-loss
@@ -79,11 +97,14 @@ returns-in-Err-commit-clause-loss g c = λ s told sure.
     let p = c.in-Ok.ensures.told s told in
     let w = c.in-Ok.prepared in
     let d = c.in-Err-commit.disk in
+    let lost = lost_late c.failed_settle_has_written.ensures c.cut_leaves_the_chosen_byte.ensures s p.images.0 c.args.mark w.at w.second
+    (g.D.Disk.health c.args.disk) (g.D.Disk.health w.disk) (g.D.Disk.told w.disk) (g.D.Disk.told d) (g.D.Disk.calls w.disk) (g.D.Disk.calls d)
+    sure c.in-Ok.ensures.cause p.images.1 p c.in-Ok.ensures.value.1 c.in-Ok.ensures.value.0 (w.spare p.images.0 p.images.1)
+    (c.in-Ok.ensures.second s told) (g.met.D.Disk.calls_told w.disk p.images.0 p.images.1) c.in-Err-commit.ensures.calls
+    c.in-Err-commit.ensures.listed in
     record {
       early = λ planned. absurd (c.in-Ok.ensures.cause.unplanned planned);
-      late = λ none. lost_late c.failed_settle_has_written.ensures c.cut_leaves_the_chosen_byte.ensures s p.images.0 c.args.mark w.at w.second
-          (g.D.Disk.health c.args.disk) (g.D.Disk.health w.disk) (g.D.Disk.told w.disk) (g.D.Disk.told d) (g.D.Disk.calls w.disk) (g.D.Disk.calls d)
-          sure c.in-Ok.ensures.cause p.images.1 p c.in-Ok.ensures.value.1 c.in-Ok.ensures.value.0 (w.spare p.images.0 p.images.1)
-          (c.in-Ok.ensures.second s told) (g.met.D.Disk.calls_told w.disk p.images.0 p.images.1) c.in-Err-commit.ensures.calls
-          c.in-Err-commit.ensures.listed;
+      early_gate = λ planned. absurd (c.in-Ok.ensures.cause.unplanned planned);
+      late = λ none. lost.0;
+      late_gate = λ none. lost.1;
     }

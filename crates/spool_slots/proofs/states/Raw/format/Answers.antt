@@ -23,4 +23,5 @@ returns-in-Done g c =
       record { size = c.in-Done.ensures.size; cause = c.in-Done.ensures.cause; same_disk = c.in-Done.ensures.same_disk },
       refl,
       c.in-Done.ensures.told,
+      c.in-Done.ensures.gate,
     )
