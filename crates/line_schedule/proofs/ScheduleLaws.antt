@@ -6,11 +6,11 @@ use Rattle.line_schedule.specs.declared.event.Event.{Event}
 use Rattle.line_schedule.specs.declared.schedule.Schedule.{Schedule}
 use Rattle.line_schedule.specs.declared.schedule.ScheduleFault.{ScheduleFault}
 use Rattle.line_schedule.specs.declared.schedule.ScheduleFault.TheVariants as fault
-use Rattle.line_schedule.specs.Events.{EventFits, event_in, is_carried_out}
+use Rattle.line_schedule.specs.Events.{EventFits, event_in}
 use Rattle.line_schedule.specs.Grammar.{IsEventLine}
 use Rattle.line_schedule.specs.Lines.{ReadsOnly, RefusesOnly, lines_of}
 use Rattle.line_schedule.specs.Reading.{Gives, event_answer, is_passed_over, read_lines, schedule_answer, schedule_reader}
-use Rattle.line_schedule.specs.Schedule.{AreCarriedOut, Fits, IsCarriedOut, IsSchedule, IsToldEvent, LaterAt, OutsideAt, TellsLater, TellsNoEvent, moment_of_event, most_lines}
+use Rattle.line_schedule.specs.Schedule.{Fits, IsSchedule, IsToldEvent, OutsideAt, TellsNoEvent, moment_of_event, most_lines}
 use Rattle.line_schedule.proofs.EventReaders.{an_event, no_event, passed_again, passed_there}
 use Rattle.line_schedule.proofs.Ranges.{event_fits}
 use Rattle.line_schedule.proofs.Telling as telling
@@ -19,23 +19,15 @@ use Rattle.line_schedule.proofs.Telling.{IsExact, Says, all_fit, none_some, not_
 abbrev Outside : ℕ → List ℕ → Type 0
 Outside least line = TellsNoEvent line
 
-abbrev Later : ℕ → List ℕ → Type 0
-Later least line = TellsLater line
-
-answer_says : (number least : ℕ) (line : List ℕ) → Says IsToldEvent Outside Later most_lines number least line (schedule_answer number line)
+answer_says : (number least : ℕ) (line : List ℕ) → Says IsToldEvent Outside most_lines number least line (schedule_answer number line)
 answer_says number least line = go (nat_lt most_lines number) (is_passed_over line) (event_in line) refl refl refl where
-  carried : (told : Event) → number ≤ most_lines → event_in line ≡ Some told → (t : Bool) → is_carried_out told ≡ t →
-      Says IsToldEvent Outside Later most_lines number least line (cond t (Ok (Some told)) (Err (fault.NotBuilt number)))
-  carried told within is true e = (within, (an_event.there told line is, e))
-  carried told within is false e = (refl, within, (told, an_event.there told line is, e))
-
   go : (past passed : Bool) (o : Option Event) → nat_lt most_lines number ≡ past → is_passed_over line ≡ passed → event_in line ≡ o →
-      Says IsToldEvent Outside Later most_lines number least line (cond past (Err (fault.Line number)) (cond passed (Ok None) (event_answer number o)))
+      Says IsToldEvent Outside most_lines number least line (cond past (Err (fault.Line number)) (cond passed (Ok None) (event_answer number o)))
   go true passed o a b c = (refl, inl (ltb-true most_lines number a))
   go false true o a b c = (ltb-false most_lines number a, passed_there line b)
   go false false None a b c =
       (refl, inr (λ passed. not_both (is_passed_over line) b (passed_again line passed), λ told is. none_some (event_in line) told c (an_event.again told line is)))
-  go false false (Some told) a b c = carried told (ltb-false most_lines number a) c (is_carried_out told) refl
+  go false false (Some told) a b c = (ltb-false most_lines number a, an_event.there told line c)
 
 tells_solid : (told : Event) (line : List ℕ) → IsEventLine told line → is_passed_over line ≡ false
 tells_solid told line is = go (is_passed_over line) refl where
@@ -54,13 +46,12 @@ outside_answer number least line (inr (solid, none)) = go (nat_lt most_lines num
   go false false None b c = refl
   go false false (Some told) b c = absurd (none told (an_event.there told line c))
 
-pub exact : IsExact schedule_reader IsToldEvent Outside Later most_lines
+pub exact : IsExact schedule_reader IsToldEvent Outside most_lines
 exact = record {
   says = answer_says;
   passed = λ number least line within passed. rw (le-ltb most_lines number within, passed_again line passed) refl;
-  told = λ number least told line within is. rw (le-ltb most_lines number within, tells_solid told line is.0, an_event.again told line is.0, is.1) refl;
+  told = λ number least told line within is. rw (le-ltb most_lines number within, tells_solid told line is, an_event.again told line is) refl;
   outside = outside_answer;
-  later = λ number least line within is. rw (le-ltb most_lines number within, tells_solid is.0 line is.1, an_event.again is.0 line is.1, is.2) refl;
 }
 
 abbrev pub AnswersText : List ℕ → Result Schedule ScheduleFault → Type 0
@@ -78,14 +69,8 @@ module _ (text : List ℕ) (r : Result Schedule ScheduleFault) (answers : Answer
   fits = go r found where
     go : (r : Result Schedule ScheduleFault) → IfOk r (λ schedule. IsSchedule text schedule.events) → IfOk r (λ schedule. Fits schedule)
     go (Ok schedule) is =
-        let all = all_fit IsToldEvent moment_of_event EventFits (λ least told line is. event_fits told line is.0) 0 (lines_of text) schedule.events is.tell in
+        let all = all_fit IsToldEvent moment_of_event EventFits (λ least told line is. event_fits told line is) 0 (lines_of text) schedule.events is.tell in
         record { events = all.0; number = omega (arith, all.1, is.within) }
-    go (Err e) is = tt
-
-  pub carried : IfOk r (λ schedule. AreCarriedOut schedule)
-  carried = go r found where
-    go : (r : Result Schedule ScheduleFault) → IfOk r (λ schedule. IsSchedule text schedule.events) → IfOk r (λ schedule. AreCarriedOut schedule)
-    go (Ok schedule) is = (all_fit IsToldEvent moment_of_event IsCarriedOut (λ least told line is. is.1) 0 (lines_of text) schedule.events is.tell).0
     go (Err e) is = tt
 
   pub only : (events : List Event) → IsSchedule text events → ReadsOnly (λ (s : Schedule). s.events) events r
@@ -94,11 +79,5 @@ module _ (text : List ℕ) (r : Result Schedule ScheduleFault) (answers : Answer
   pub line_named : (n : ℕ) → r ≡ Err (fault.Line n) → OutsideAt text n
   line_named = telling.line_named exact (λ (s : Schedule). s.events) text r answers
 
-  pub later_named : (n : ℕ) → r ≡ Err (fault.NotBuilt n) → LaterAt text n
-  later_named = telling.later_named exact (λ (s : Schedule). s.events) text r answers
-
   pub outside_refused : (n : ℕ) → OutsideAt text n → RefusesOnly (fault.Line n) r
   outside_refused = telling.outside_refused exact (λ (s : Schedule). s.events) text r answers
-
-  pub later_refused : (n : ℕ) → LaterAt text n → RefusesOnly (fault.NotBuilt n) r
-  later_refused = telling.later_refused exact (λ (s : Schedule). s.events) text r answers

@@ -19,12 +19,8 @@ use Rattle.line_schedule.proofs.Telling.{IsExact, Says, all_fit, none_some, not_
 abbrev Line : Type 0
 Line = ℕ × ScriptStep
 
--- no line of a script is good and not carried out yet
-abbrev Later : ℕ → List ℕ → Type 0
-Later least line = ⊥
-
 answer_says : (side : Side) (number least : ℕ) (line : List ℕ) →
-    Says (IsToldLine side) (TellsNoLine side) Later most_script_lines number least line (script_answer side number least line)
+    Says (IsToldLine side) (TellsNoLine side) most_script_lines number least line (script_answer side number least line)
 answer_says side number least line = go (nat_lt most_script_lines number) (is_passed_over line) (script_line_in side line) refl refl refl where
   none_behind : (told : Line) → script_line_in side line ≡ Some told → told.0 < least → (other : Line) → IsToldLine side least other line → ⊥
   none_behind told is falls other (means, least_is) =
@@ -35,14 +31,14 @@ answer_says side number least line = go (nat_lt most_script_lines number) (is_pa
 
   ordered : (told : Line) → number ≤ most_script_lines → is_passed_over line ≡ false → script_line_in side line ≡ Some told →
       (t : Bool) → nat_lt told.0 least ≡ t →
-      Says (IsToldLine side) (TellsNoLine side) Later most_script_lines number least line (cond t (Err (fault.Line number)) (Ok (Some told)))
+      Says (IsToldLine side) (TellsNoLine side) most_script_lines number least line (cond t (Err (fault.Line number)) (Ok (Some told)))
   ordered told within solid is true e =
       (refl, inr (λ passed. not_both (is_passed_over line) solid (passed_again line passed), none_behind told is (ltb-true told.0 least e)))
   ordered told within solid is false e = (within, ((a_script_line side).there told line is, ltb-false told.0 least e))
 
   go : (past passed : Bool) (o : Option Line) → nat_lt most_script_lines number ≡ past → is_passed_over line ≡ passed →
       script_line_in side line ≡ o →
-      Says (IsToldLine side) (TellsNoLine side) Later most_script_lines number least line (cond past (Err (fault.Line number)) (cond passed (Ok None) (moment_answer number least o)))
+      Says (IsToldLine side) (TellsNoLine side) most_script_lines number least line (cond past (Err (fault.Line number)) (cond passed (Ok None) (moment_answer number least o)))
   go true passed o a b c = (refl, inl (ltb-true most_script_lines number a))
   go false true o a b c = (ltb-false most_script_lines number a, passed_there line b)
   go false false None a b c =
@@ -73,13 +69,12 @@ outside_answer side number least line (inr (solid, none)) =
     go false false None b c = refl
     go false false (Some told) b c = ordered told c (nat_lt told.0 least) refl
 
-pub exact : (side : Side) → IsExact (script_reader side) (IsToldLine side) (TellsNoLine side) Later most_script_lines
+pub exact : (side : Side) → IsExact (script_reader side) (IsToldLine side) (TellsNoLine side) most_script_lines
 exact side = record {
   says = answer_says side;
   passed = λ number least line within passed. rw (le-ltb most_script_lines number within, passed_again line passed) refl;
   told = λ number least told line within is. rw (le-ltb most_script_lines number within, tells_solid side told line is.0, (a_script_line side).again told line is.0, le-ltb told.0 least is.1) refl;
   outside = outside_answer side;
-  later = λ number least line within is. absurd is;
 }
 
 -- moments that no line lets fall
@@ -121,9 +116,6 @@ module _ (side : Side) (text : List ℕ) (r : Result Script ScheduleFault) (answ
 
   pub line_named : (n : ℕ) → r ≡ Err (fault.Line n) → OutsideScriptAt side text n
   line_named = telling.line_named (exact side) (λ (s : Script). s.lines) text r answers
-
-  pub never_later : (n : ℕ) → r ≡ Err (fault.NotBuilt n) → ⊥
-  never_later n e = let s = telling.later_named (exact side) (λ (s : Script). s.lines) text r answers n e in s.is.1
 
   pub outside_refused : (n : ℕ) → OutsideScriptAt side text n → RefusesOnly (fault.Line n) r
   outside_refused = telling.outside_refused (exact side) (λ (s : Script). s.lines) text r answers

@@ -10,18 +10,17 @@ use Rattle.line_schedule.specs.Lines.{ReadsOnly, RefusesOnly, StopsAt, Tell, las
 use Rattle.line_schedule.specs.Reading.{Gives, LineReader, and_rest, read_lines, with_values}
 
 -- what the answer to a line says of it
-abbrev pub Says : {V : Type 0} → (ℕ → V → List ℕ → Type 0) → (Outside Later : ℕ → List ℕ → Type 0) → ℕ → ℕ → ℕ → List ℕ →
+abbrev pub Says : {V : Type 0} → (ℕ → V → List ℕ → Type 0) → (Outside : ℕ → List ℕ → Type 0) → ℕ → ℕ → ℕ → List ℕ →
     Result (Option V) ScheduleFault → Type 0
-Says Is Outside Later most number least line (Ok None) = (number ≤ most) × IsPassedOver line
-Says Is Outside Later most number least line (Ok (Some value)) = (number ≤ most) × Is least value line
-Says Is Outside Later most number least line (Err (fault.Line n)) = (n ≡ number) × ((most < n) ⊎ Outside least line)
-Says Is Outside Later most number least line (Err (fault.NotBuilt n)) = (n ≡ number) × (n ≤ most) × Later least line
-Says Is Outside Later most number least line (Err fault.NoMemory) = ⊥
+Says Is Outside most number least line (Ok None) = (number ≤ most) × IsPassedOver line
+Says Is Outside most number least line (Ok (Some value)) = (number ≤ most) × Is least value line
+Says Is Outside most number least line (Err (fault.Line n)) = (n ≡ number) × ((most < n) ⊎ Outside least line)
+Says Is Outside most number least line (Err fault.NoMemory) = ⊥
 
 -- the answers are those of the grammar
-pub record IsExact {V : Type 0} (reader : LineReader V) (Is : ℕ → V → List ℕ → Type 0) (Outside Later : ℕ → List ℕ → Type 0)
+pub record IsExact {V : Type 0} (reader : LineReader V) (Is : ℕ → V → List ℕ → Type 0) (Outside : ℕ → List ℕ → Type 0)
     (most : ℕ) : Type 0 where
-  pub says : (number least : ℕ) (line : List ℕ) → Says Is Outside Later most number least line (reader.answer number least line)
+  pub says : (number least : ℕ) (line : List ℕ) → Says Is Outside most number least line (reader.answer number least line)
   pub passed : (number least : ℕ) (line : List ℕ) → number ≤ most → IsPassedOver line → reader.answer number least line ≡ Ok None
   pub told :
       (number least : ℕ) (value : V) (line : List ℕ) → number ≤ most → Is least value line
@@ -29,9 +28,6 @@ pub record IsExact {V : Type 0} (reader : LineReader V) (Is : ℕ → V → List
   pub outside :
       (number least : ℕ) (line : List ℕ) → (most < number) ⊎ Outside least line
       → reader.answer number least line ≡ Err (fault.Line number)
-  pub later :
-      (number least : ℕ) (line : List ℕ) → number ≤ most → Later least line
-      → reader.answer number least line ≡ Err (fault.NotBuilt number)
 
 -- so many lines of the text are read, up to a moment, and the rest is left
 pub record IsAt {V : Type 0} (reader : LineReader V) (most : ℕ) (text : List ℕ) (values : List V) (number least : ℕ)
@@ -69,8 +65,8 @@ all_fit {V} Is moment_of Fits each least (line ∷ lines) values (inr (value, ot
     (All-cons Fits value others (each least value line is) rest.0, omega (arith, rest.1)) in
     subst (λ (s : List V). All Fits s × (length s ≤ length (line ∷ lines))) (sym same) all
 
-module _ {V : Type 0} {reader : LineReader V} {Is : ℕ → V → List ℕ → Type 0} {Outside Later : ℕ → List ℕ → Type 0} {most : ℕ}
-    (exact : IsExact reader Is Outside Later most) where
+module _ {V : Type 0} {reader : LineReader V} {Is : ℕ → V → List ℕ → Type 0} {Outside : ℕ → List ℕ → Type 0} {most : ℕ}
+    (exact : IsExact reader Is Outside most) where
   abbrev pub AllTell : ℕ → List (List ℕ) → List V → Type 0
   AllTell least lines values = Tell Is reader.moment_of least lines values
 
@@ -151,7 +147,7 @@ module _ {V : Type 0} {reader : LineReader V} {Is : ℕ → V → List ℕ → T
       ([], line, lines, [], refl, refl, omega (arith, within), ap (λ k. reader.answer k least line) place ∙ is)
 
   found_step : (n least : ℕ) (line : List ℕ) (lines : List (List ℕ)) → n ≤ most → (a : Result (Option V) ScheduleFault) →
-      reader.answer (n + 1) least line ≡ a → Says Is Outside Later most (n + 1) least line a →
+      reader.answer (n + 1) least line ≡ a → Says Is Outside most (n + 1) least line a →
       ((moment : ℕ) → n + 1 ≤ most → Found (n + 1) moment lines (read_lines reader (n + 1) moment lines)) →
       Found n least (line ∷ lines) (and_rest reader.moment_of least a (λ moment. read_lines reader (n + 1) moment lines))
   found_step n least line lines within (Ok None) e (more, passed) ih =
@@ -192,20 +188,18 @@ module _ {V : Type 0} {reader : LineReader V} {Is : ℕ → V → List ℕ → T
     only (Ok x) h values tell within = ok_is (values_of x) values (sym h ∙ read_again (lines_of text) values tell within)
     only (Err (fault.Line n)) h values tell within =
         absurd (ok_is_no_err values (fault.Line n) (sym (read_again (lines_of text) values tell within) ∙ h))
-    only (Err (fault.NotBuilt n)) h values tell within =
-        absurd (ok_is_no_err values (fault.NotBuilt n) (sym (read_again (lines_of text) values tell within) ∙ h))
     only (Err fault.NoMemory) h values tell within = refl
 
     -- where the reading stops, and why
     stopped : (f : ScheduleFault) (number : ℕ) (Why : ℕ → List ℕ → Type 0) → read_lines reader 0 0 (lines_of text) ≡ Err f →
-        ((k least : ℕ) (line : List ℕ) → Says Is Outside Later most k least line (Err f) → (number ≡ k) × Why least line) →
+        ((k least : ℕ) (line : List ℕ) → Says Is Outside most k least line (Err f) → (number ≡ k) × Why least line) →
         StopsAt Is reader.moment_of most text number Why
     stopped f number Why h made =
         let (before, line, behind, values, same, tell, within, is) =
         subst (λ (r : Result (List V) ScheduleFault). Found 0 0 (lines_of text) r) h (found_all 0 0 (lines_of text) (omega arith)) in
         let last = last_moment reader.moment_of 0 values in
         let number_is = 0 + length before + 1 in
-        let m = made number_is last line (subst (λ (a : Result (Option V) ScheduleFault). Says Is Outside Later most number_is last line a) is (exact.says number_is last line)) in
+        let m = made number_is last line (subst (λ (a : Result (Option V) ScheduleFault). Says Is Outside most number_is last line a) is (exact.says number_is last line)) in
         record {
           before = before;
           line = line;
@@ -225,17 +219,10 @@ module _ {V : Type 0} {reader : LineReader V} {Is : ℕ → V → List ℕ → T
         let a : Answers (Err (fault.Line n)) = subst (λ (r : Result R ScheduleFault). Answers r) e h in
         stopped (fault.Line n) n _ a (λ k least line says. (says.0, says.1))
 
-    pub later_named : (r : Result R ScheduleFault) → Answers r → (n : ℕ) → r ≡ Err (fault.NotBuilt n) →
-        StopsAt Is reader.moment_of most text n (λ least line. (n ≤ most) × Later least line)
-    later_named r h n e =
-        let a : Answers (Err (fault.NotBuilt n)) = subst (λ (r : Result R ScheduleFault). Answers r) e h in
-        stopped (fault.NotBuilt n) n _ a (λ k least line says. (says.0, (says.1, says.2)))
-
     refuses : (r : Result R ScheduleFault) (f : ScheduleFault) → Answers r → read_lines reader 0 0 (lines_of text) ≡ Err f →
         RefusesOnly f r
     refuses (Ok x) f h e = ok_is_no_err (values_of x) f (sym h ∙ e)
     refuses (Err (fault.Line n)) f h e = inl (err_is (fault.Line n) f (sym h ∙ e))
-    refuses (Err (fault.NotBuilt n)) f h e = inl (err_is (fault.NotBuilt n) f (sym h ∙ e))
     refuses (Err fault.NoMemory) f h e = inr refl
 
     stops_there : (number : ℕ) (Why : ℕ → List ℕ → Type 0) (f : ScheduleFault) (s : StopsAt Is reader.moment_of most text number Why) →
@@ -251,8 +238,3 @@ module _ {V : Type 0} {reader : LineReader V} {Is : ℕ → V → List ℕ → T
         StopsAt Is reader.moment_of most text n (λ least line. (most < n) ⊎ Outside least line) → RefusesOnly (fault.Line n) r
     outside_refused r h n s =
         refuses r (fault.Line n) h (stops_there n _ (fault.Line n) s (exact.outside n (last_moment reader.moment_of 0 s.values) s.line s.is))
-
-    pub later_refused : (r : Result R ScheduleFault) → Answers r → (n : ℕ) →
-        StopsAt Is reader.moment_of most text n (λ least line. (n ≤ most) × Later least line) → RefusesOnly (fault.NotBuilt n) r
-    later_refused r h n s =
-        refuses r (fault.NotBuilt n) h (stops_there n _ (fault.NotBuilt n) s (exact.later n (last_moment reader.moment_of 0 s.values) s.line s.is.0 s.is.1))

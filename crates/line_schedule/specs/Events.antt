@@ -1,5 +1,5 @@
--- The events that lines of a schedule tell, found by functions that compute; which are carried out (this profile).
-use Rattle.std.specs.Prelude.{ℕ, ◌-◌, ◌^◌, ◌<◌, ◌≤◌, Bool, true, false, List, codes, Option}
+-- The events that lines of a schedule tell, found by functions that compute; their ranges (this profile).
+use Rattle.std.specs.Prelude.{ℕ, ◌-◌, ◌^◌, ◌<◌, ◌≤◌, List, codes, Option}
 use Rattle.std.specs.Option.{option_map, option_or}
 use Rattle.disk_base.specs.declared.cut.CutChoice.{CutChoice}
 use Rattle.disk_base.specs.declared.cut.CutChoice.TheVariants as choice
@@ -67,13 +67,6 @@ host_in line = option_map (λ command. event.Host command) (read_after (codes "h
 -- the event that a line tells
 abbrev pub event_in : List ℕ → Option Event
 event_in line = option_or (line_event_in line) (option_or (tool_in line) (host_in line))
-
--- ---- what is carried out
-
--- whether the event is carried out by now: all but losses of power
-abbrev pub is_carried_out : Event → Bool
-is_carried_out (event.Cut call choice) = false
-is_carried_out _ = true
 
 -- ---- ranges
 

@@ -10,7 +10,7 @@ use Rattle.line_schedule.specs.declared.schedule.ScheduleFault.TheVariants as fa
 use Rattle.line_schedule.specs.declared.script.ScriptStep.{ScriptStep}
 use Rattle.line_schedule.specs.declared.script.ScriptStep.TheVariants as step
 use Rattle.line_schedule.specs.Commands.{host_command_in, tool_command_in}
-use Rattle.line_schedule.specs.Events.{event_in, is_carried_out}
+use Rattle.line_schedule.specs.Events.{event_in}
 use Rattle.line_schedule.specs.Words.{any_number_in, read_split, word_in}
 use Rattle.line_schedule.specs.Schedule.{moment_of_event, most_lines}
 use Rattle.line_schedule.specs.Script.{moment_of_line, most_script_lines}
@@ -47,7 +47,6 @@ read_lines reader before least (line ∷ lines) =
 abbrev pub Gives : {X Y : Type 0} → (X → Y) → Result X ScheduleFault → Result Y ScheduleFault → Type 0
 Gives view (Ok x) read = read ≡ Ok (view x)
 Gives view (Err (fault.Line n)) read = read ≡ Err (fault.Line n)
-Gives view (Err (fault.NotBuilt n)) read = read ≡ Err (fault.NotBuilt n)
 Gives view (Err fault.NoMemory) read = Unit {0}
 
 -- ---- lines of a schedule
@@ -57,10 +56,10 @@ abbrev pub is_passed_over : List ℕ → Bool
 is_passed_over [] = true
 is_passed_over (b ∷ rest) = b == 35
 
--- the event of the line of a number, where it is carried out
+-- the event of the line of a number
 abbrev pub event_answer : ℕ → Option Event → Result (Option Event) ScheduleFault
 event_answer number None = Err (fault.Line number)
-event_answer number (Some event) = if is_carried_out event then Ok (Some event) else Err (fault.NotBuilt number)
+event_answer number (Some event) = Ok (Some event)
 
 abbrev pub schedule_answer : ℕ → List ℕ → Result (Option Event) ScheduleFault
 schedule_answer number line =

@@ -1,8 +1,8 @@
 -- What the text of a schedule means, and why it means none (this profile).
-use Rattle.std.specs.Prelude.{◌≡◌, ◌⊎◌, ℕ, ◌<◌, ◌≤◌, true, false, List, length, All}
+use Rattle.std.specs.Prelude.{◌⊎◌, ℕ, ◌<◌, ◌≤◌, List, length, All}
 use Rattle.line_schedule.specs.declared.event.Event.{Event}
 use Rattle.line_schedule.specs.declared.schedule.Schedule.{Schedule}
-use Rattle.line_schedule.specs.Events.{EventFits, is_carried_out}
+use Rattle.line_schedule.specs.Events.{EventFits}
 use Rattle.line_schedule.specs.Grammar.{IsEventLine, IsPassedOver}
 use Rattle.line_schedule.specs.Lines.{StopsAt, Tell, lines_of}
 
@@ -10,18 +10,15 @@ use Rattle.line_schedule.specs.Lines.{StopsAt, Tell, lines_of}
 abbrev pub most_lines : ℕ
 most_lines = 131072
 
-abbrev pub IsCarriedOut : Event → Type 0
-IsCarriedOut event = is_carried_out event ≡ true
-
--- the line tells an event that is carried out, whatever stands before it
+-- the line tells an event, whatever stands before it
 abbrev pub IsToldEvent : ℕ → Event → List ℕ → Type 0
-IsToldEvent least event line = IsEventLine event line × IsCarriedOut event
+IsToldEvent least event line = IsEventLine event line
 
 -- events of a schedule have no moment of their own
 abbrev pub moment_of_event : Event → ℕ
 moment_of_event event = 0
 
--- the text is a schedule of these events, and each is carried out
+-- the text is a schedule of these events
 pub record IsSchedule (text : List ℕ) (events : List Event) : Type 0 where
   pub tell : Tell IsToldEvent moment_of_event 0 (lines_of text) events
   pub within : length (lines_of text) ≤ most_lines
@@ -34,24 +31,12 @@ ScheduleStopsAt text number Is = StopsAt IsToldEvent moment_of_event most_lines 
 abbrev pub TellsNoEvent : List ℕ → Type 0
 TellsNoEvent line = (IsPassedOver line → ⊥) × ((event : Event) → IsEventLine event line → ⊥)
 
--- the line tells an event that isn't carried out yet
-abbrev pub TellsLater : List ℕ → Type 0
-TellsLater line = (event : Event) × IsEventLine event line × (is_carried_out event ≡ false)
-
 -- that line is outside the grammar, or past the last that a schedule may have
 abbrev pub OutsideAt : List ℕ → ℕ → Type 0
 OutsideAt text number = ScheduleStopsAt text number (λ line. (most_lines < number) ⊎ TellsNoEvent line)
-
--- that line is of the grammar and not carried out yet
-abbrev pub LaterAt : List ℕ → ℕ → Type 0
-LaterAt text number = ScheduleStopsAt text number (λ line. (number ≤ most_lines) × TellsLater line)
 
 -- ---- ranges
 
 pub record Fits (schedule : Schedule) : Type 0 where
   pub events : All EventFits schedule.events
   pub number : length schedule.events ≤ most_lines
-
--- each event is carried out by now
-abbrev pub AreCarriedOut : Schedule → Type 0
-AreCarriedOut schedule = All IsCarriedOut schedule.events

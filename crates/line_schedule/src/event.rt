@@ -1,5 +1,5 @@
 ghost use Rattle.std.specs.Prelude.{◌≡◌, ◌↔◌, IsTrue};
-ghost use Rattle.line_schedule.specs.Events.{ChoiceFits, EventFits, is_carried_out};
+ghost use Rattle.line_schedule.specs.Events.{ChoiceFits, EventFits};
 
 use disk_base::CutChoice;
 use gl_base::Side;
@@ -26,7 +26,8 @@ pub enum Event {
     /// The host is told something by its user.
     Host(HostCommand),
     /// In the next event the equipment's disk call of this number, counted from 1, stops the disk, and the equipment
-    /// loses its power; what was written and not settled is left as the choice says.
+    /// loses its power; where fewer are made it loses it at the event's end. What was written and not settled is left
+    /// as the choice says.
     Cut(u32, CutChoice),
 }
 
@@ -48,13 +49,6 @@ impl Event {
             Event::Cut(call, choice) => 1 <= *call && choice_fits(*choice),
             _ => true,
         }
-    }
-
-    /// Whether the event is carried out by now: all but losses of power.
-    pub fn is_carried_out(&self) -> bool
-        ensures { result ≡ is_carried_out self.now }
-    {
-        !matches!(self, Event::Cut(_, _))
     }
 }
 

@@ -5,7 +5,7 @@ ghost use Rattle.line_schedule.specs.declared.schedule.ScheduleFault.TheVariants
 ghost use Rattle.line_schedule.specs.declared.event.Event.{Event};
 ghost use Rattle.line_schedule.specs.Lines.{lines_of, ReadsOnly, RefusesOnly};
 ghost use Rattle.line_schedule.specs.Reading.{Gives, read_lines, schedule_answer, schedule_reader};
-ghost use Rattle.line_schedule.specs.Schedule.{AreCarriedOut, Fits, IsSchedule, LaterAt, OutsideAt};
+ghost use Rattle.line_schedule.specs.Schedule.{Fits, IsSchedule, OutsideAt};
 
 use crate::event::Event;
 use crate::events::event_in;
@@ -37,8 +37,6 @@ impl Schedule {
 pub enum ScheduleFault {
     /// The line is outside the grammar, or past the last line that such a text may have.
     Line(u32),
-    /// The line is of the grammar and not carried out yet.
-    NotBuilt(u32),
     /// Memory ran out.
     NoMemory,
 }
@@ -51,32 +49,27 @@ impl From<NoMemory> for ScheduleFault {
     }
 }
 
-/// The schedule that a text means, which fits, and each of whose events is carried out. A line feed closes a line; at
-/// the end of the text it may be missing. A line tells an event where it is `to X n`, `lose X n`, `change X p b`,
-/// `add X b`, `settle`, `wait ms`, `tool C`, `host C` or `cut k choice`, and nothing where it is empty or has a `#` in
-/// front.
+/// The schedule that a text means, which fits. A line feed closes a line; at the end of the text it may be missing. A
+/// line tells an event where it is `to X n`, `lose X n`, `change X p b`, `add X b`, `settle`, `wait ms`, `tool C`,
+/// `host C` or `cut k choice`, and nothing where it is empty or has a `#` in front.
 ///
-/// Otherwise the first line that does neither, or tells an event that isn't carried out, decides, by its number from
-/// 1: `Line` where it is outside the grammar or is the 131,073rd, `NotBuilt` where it is of the grammar. It takes
-/// memory for the events, and for an item as long as it is read.
+/// Otherwise `Line` names the first line that does neither, counted from 1, or the 131,073rd, whichever comes first. It
+/// takes memory for the events, and for an item as long as it is read.
 pub fn read_schedule(alloc: Global, text: &[u8]) -> Result<Schedule, ScheduleFault>
     // What is returned is what the text means.
     ensures found { IfOk result (λ schedule. IsSchedule text.now schedule.events) }
     ensures fits { IfOk result (λ schedule. Fits schedule) }
-    ensures carried { IfOk result (λ schedule. AreCarriedOut schedule) }
     // What the text means is returned, unless memory runs out.
     ensures only { (events : List Event) → IsSchedule text.now events → ReadsOnly (λ s. s.events) events result }
-    // A line that is named is the first that can't be carried out, and of the kind that is named.
+    // A line that is named is the first that is outside the grammar.
     ensures line { (number : ℕ) → result ≡ Err (fault.Line number) → OutsideAt text.now number }
-    ensures not_built { (number : ℕ) → result ≡ Err (fault.NotBuilt number) → LaterAt text.now number }
     // Such a line is named, unless memory runs out.
     ensures outside { (number : ℕ) → OutsideAt text.now number → RefusesOnly (fault.Line number) result }
-    ensures later { (number : ℕ) → LaterAt text.now number → RefusesOnly (fault.NotBuilt number) result }
 {
     events_of(alloc, text)
 }
 
-/// The events of all lines up to the first that can't be carried out.
+/// The events of all lines up to the first that is outside the grammar.
 fn events_of(alloc: Global, text: &[u8]) -> Result<Schedule, ScheduleFault>
     ensures { Gives (λ s. s.events) result (read_lines schedule_reader 0 0 (lines_of text.now)) }
 {
@@ -108,8 +101,5 @@ fn event_of(alloc: Global, line: &[u8], number: u32) -> Result<Option<Event>, Sc
     let Some(event) = event_in(alloc, line)? else {
         return Err(ScheduleFault::Line(number));
     };
-    if !event.is_carried_out() {
-        return Err(ScheduleFault::NotBuilt(number));
-    }
     Ok(Some(event))
 }

@@ -1,6 +1,6 @@
 //! Scripts and their text.
 
-ghost use Rattle.std.specs.Prelude.{◌≡◌, ◌≢◌, ◌↔◌, ℕ, List, ◌≤◌, Err, IfOk, IsTrue, true};
+ghost use Rattle.std.specs.Prelude.{◌≡◌, ◌↔◌, ℕ, List, ◌≤◌, Err, IfOk, IsTrue, true};
 ghost use Rattle.line_schedule.specs.declared.schedule.ScheduleFault.TheVariants as fault;
 ghost use Rattle.line_schedule.specs.declared.script.ScriptStep.{ScriptStep};
 ghost use Rattle.line_schedule.specs.Lines.{lines_of, ReadsOnly, RefusesOnly};
@@ -97,7 +97,6 @@ pub fn read_script(alloc: Global, text: &[u8], side: Side) -> Result<Script, Sch
         ReadsOnly (λ s. s.lines) lines result }
     // A line that is named is the first that is outside the grammar.
     ensures line { (number : ℕ) → result ≡ Err (fault.Line number) → OutsideScriptAt side text.now number }
-    ensures not_built { (number : ℕ) → result ≢ Err (fault.NotBuilt number) }
     // Such a line is named, unless memory runs out.
     ensures outside { (number : ℕ) → OutsideScriptAt side text.now number → RefusesOnly (fault.Line number) result }
 {

@@ -24,7 +24,6 @@ fn refuses(alloc: Global, text: &[u8], fault: ScheduleFault) -> bool {
 #[derive(Clone, Copy, Debug, PartialEq, Eq)]
 enum Answer {
     Told,
-    NotBuilt,
     Outside,
 }
 
@@ -32,7 +31,6 @@ fn answer_of(alloc: Global, line: &[u8]) -> Option<Answer> {
     match read_schedule(alloc, line) {
         Ok(schedule) if schedule.events.len() == 1 => Some(Answer::Told),
         Ok(_) | Err(ScheduleFault::NoMemory) => None,
-        Err(ScheduleFault::NotBuilt(_)) => Some(Answer::NotBuilt),
         Err(ScheduleFault::Line(_)) => Some(Answer::Outside),
     }
 }
@@ -78,12 +76,12 @@ fn reads_events_in_order(rt: HostRuntime) -> Result<(), Fail> {
 fn names_the_first_line_that_stops(rt: HostRuntime) -> Result<(), Fail> {
     let alloc = rt.alloc();
     assert!(rt; refuses(alloc, b"settle\njump\ncut 1 old\n", ScheduleFault::Line(2)));
-    assert!(rt; refuses(alloc, b"#\n\ncut 1 old\njump", ScheduleFault::NotBuilt(3)));
+    assert!(rt; refuses(alloc, b"#\n\ncut 1 old\njump", ScheduleFault::Line(4)));
     Ok(())
 }
 
 #[test]
-fn lines_that_are_carried_out(rt: HostRuntime) -> Result<(), Fail> {
+fn lines_of_the_line_and_the_host(rt: HostRuntime) -> Result<(), Fail> {
     let lines = [
         b"lose E 0".as_slice(),
         b"change H 0 aF",
@@ -99,7 +97,7 @@ fn lines_that_are_carried_out(rt: HostRuntime) -> Result<(), Fail> {
 }
 
 #[test]
-fn lines_of_the_tool_that_are_carried_out(rt: HostRuntime) -> Result<(), Fail> {
+fn lines_of_the_tool(rt: HostRuntime) -> Result<(), Fail> {
     let lines = [
         b"tool set 1 <U4 5>".as_slice(),
         b"tool event 1",
@@ -112,19 +110,35 @@ fn lines_of_the_tool_that_are_carried_out(rt: HostRuntime) -> Result<(), Fail> {
 }
 
 #[test]
-fn lines_that_are_not_carried_out(rt: HostRuntime) -> Result<(), Fail> {
+fn losses_of_power(rt: HostRuntime) -> Result<(), Fail> {
     let lines = [
         b"cut 1 old".as_slice(),
         b"cut 01 new",
         b"cut 4294967295 fill A5",
         b"cut 1 first 0",
     ];
-    assert!(rt; first_other(rt.alloc(), &lines, Answer::NotBuilt).is_none());
+    assert!(rt; first_other(rt.alloc(), &lines, Answer::Told).is_none());
     Ok(())
 }
 
 #[test]
-fn lines_of_the_line_and_the_power_outside_the_grammar(rt: HostRuntime) -> Result<(), Fail> {
+fn losses_of_power_outside_the_grammar(rt: HostRuntime) -> Result<(), Fail> {
+    let lines = [
+        b"cut 0 old".as_slice(),
+        b"cut 4294967296 old",
+        b"cut 1",
+        b"cut 1 older",
+        b"cut 1 fill 5",
+        b"cut 1 first",
+        b"cut 1 first 4294967296",
+        b"cut  1 new",
+    ];
+    assert!(rt; first_other(rt.alloc(), &lines, Answer::Outside).is_none());
+    Ok(())
+}
+
+#[test]
+fn lines_of_the_line_outside_the_grammar(rt: HostRuntime) -> Result<(), Fail> {
     let lines = [
         b"to H".as_slice(),
         b"to  H 1",
@@ -139,10 +153,6 @@ fn lines_of_the_line_and_the_power_outside_the_grammar(rt: HostRuntime) -> Resul
         b"change H 0 a",
         b"change H 0 AG",
         b"add E 000",
-        b"cut 0 old",
-        b"cut 1 older",
-        b"cut 1 fill 5",
-        b"cut 1 first",
     ];
     assert!(rt; first_other(rt.alloc(), &lines, Answer::Outside).is_none());
     Ok(())

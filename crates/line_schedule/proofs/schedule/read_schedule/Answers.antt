@@ -1,4 +1,4 @@
-use Rattle.line_schedule.proofs.ScheduleLaws.{carried, fits, found, later_named, later_refused, line_named, only, outside_refused}
+use Rattle.line_schedule.proofs.ScheduleLaws.{fits, found, line_named, only, outside_refused}
 use Rattle.line_schedule.proofs.schedule.read_schedule.Goals as goal
 
 pub returns-clause-found : goal.returns-clause-found
@@ -7,20 +7,11 @@ returns-clause-found c = found c.args.text.now c.events_of.result c.events_of.en
 pub returns-clause-fits : goal.returns-clause-fits
 returns-clause-fits c = fits c.args.text.now c.events_of.result c.events_of.ensures
 
-pub returns-clause-carried : goal.returns-clause-carried
-returns-clause-carried c = carried c.args.text.now c.events_of.result c.events_of.ensures
-
 pub returns-clause-only : goal.returns-clause-only
 returns-clause-only c = only c.args.text.now c.events_of.result c.events_of.ensures
 
 pub returns-clause-line : goal.returns-clause-line
 returns-clause-line c = line_named c.args.text.now c.events_of.result c.events_of.ensures
 
-pub returns-clause-not_built : goal.returns-clause-not_built
-returns-clause-not_built c = later_named c.args.text.now c.events_of.result c.events_of.ensures
-
 pub returns-clause-outside : goal.returns-clause-outside
 returns-clause-outside c = outside_refused c.args.text.now c.events_of.result c.events_of.ensures
-
-pub returns-clause-later : goal.returns-clause-later
-returns-clause-later c = later_refused c.args.text.now c.events_of.result c.events_of.ensures

@@ -1,4 +1,4 @@
-use Rattle.line_schedule.proofs.ScriptLaws.{fits, found, line_named, never_later, only, outside_refused}
+use Rattle.line_schedule.proofs.ScriptLaws.{fits, found, line_named, only, outside_refused}
 use Rattle.line_schedule.proofs.script.read_script.Goals as goal
 
 pub returns-clause-found : goal.returns-clause-found
@@ -12,9 +12,6 @@ returns-clause-only c = only c.args.side c.args.text.now c.lines_of.result c.lin
 
 pub returns-clause-line : goal.returns-clause-line
 returns-clause-line c = line_named c.args.side c.args.text.now c.lines_of.result c.lines_of.ensures
-
-pub returns-clause-not_built : goal.returns-clause-not_built
-returns-clause-not_built c = never_later c.args.side c.args.text.now c.lines_of.result c.lines_of.ensures
 
 pub returns-clause-outside : goal.returns-clause-outside
 returns-clause-outside c = outside_refused c.args.side c.args.text.now c.lines_of.result c.lines_of.ensures
