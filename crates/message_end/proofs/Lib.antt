@@ -16,3 +16,4 @@ pub mod Parts
 pub mod Reading
 pub mod Steps
 pub mod Such
+pub mod Unarmed

@@ -1,5 +1,5 @@
 -- The numbers that are left end where they ended before, unless some are added.
-use Rattle.std.proofs.Common.{◌≡◌, refl, sym, ap, ◌∙◌, if◌then◌else◌, Bool, true, false, ℕ, ◌+◌, ◌==◌, List, [], ◌∷◌, length, nat_le, Option, Some, None}
+use Rattle.std.proofs.Common.{◌≡◌, refl, ◌∙◌, if◌then◌else◌, Bool, true, false, ℕ, ◌+◌, ◌==◌, List, [], ◌∷◌, length, nat_le, Option, Some, None}
 use Rattle.std.specs.List.{find}
 use Rattle.std.specs.Prelude.{is_some}
 use Rattle.block_codec.specs.Block.{BlockView}

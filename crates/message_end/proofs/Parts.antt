@@ -861,6 +861,7 @@ module _
     says = λ base doings s what did world.
         record { sound = did.sound; is = history-says plan base doings s.core what did.is world };
     restarts = λ base doings s now did. restarts-above again same base doings s now did;
+    loses = λ base doings s input now did may loss has. absurd has;
   }
     where
       all_left : IsNumbers (numbers_from 0 (2 ^ 32))

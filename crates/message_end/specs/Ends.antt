@@ -1,7 +1,8 @@
 -- What an end of the line is to those above: what it is given in a step, what it makes of that, and the law that it
 -- keeps.
-use Rattle.std.specs.Prelude.{◌≡◌, ◌≢◌, ◌⊎◌, ◌+◌, ◌<◌, ◌≤◌, ℕ, List, [], ◌∷◌, ◌++◌, None, Result, Ok, Err}
-use Rattle.std.specs.List.{filter_map}
+use Rattle.std.specs.Prelude.{◌≡◌, ◌≢◌, ◌⊎◌, ◌+◌, ◌-◌, ◌<◌, ◌≤◌, zero, suc, ℕ, Bool, true, false, List, [], ◌∷◌, ◌++◌, Option, Some, None, Result, Ok, Err}
+use Rattle.std.specs.List.{filter_map, slice_get}
+use Rattle.disk_base.specs.declared.cut.CutChoice.{CutChoice}
 use Rattle.line_end.specs.Plan.{LinePlanFits}
 use Rattle.line_end.specs.State.{LineState}
 use Rattle.line_end.specs.Step.{LineCall}
@@ -44,9 +45,15 @@ none_asked = record { calls = 0; bytes = 0 }
 abbrev pub asked_both : Asked → Asked → Asked
 asked_both one two = record { calls = one.calls + two.calls; bytes = one.bytes + two.bytes }
 
+-- a call of an end's disk at which its power may be lost: what is noted by then, and, by what becomes of the bytes that
+-- are written and not settled, what is left for a start anew
+pub record Loss (S : Type 0) : Type 0 where
+  pub front : List Happening
+  pub left : CutChoice → S
+
 -- what an end makes of its state in a step at a moment, and when it starts anew without power; and its line. Its disk
 -- may stop a step, or a start, with these notes: one list for each piece of work that it asks of the disk, in their
--- order; and all of them ask so much of it
+-- order; and all of them ask so much of it. In a step its power may be lost at each call of the disk, in their order
 pub record Machine (S C : Type 0) : Type 0 where
   pub act : S → Input C → ℕ → Went S Happening
   pub restart : S → ℕ → Went S Happening
@@ -55,6 +62,12 @@ pub record Machine (S C : Type 0) : Type 0 where
   pub start_stops : List (List Happening)
   pub asks : S → Input C → ℕ → Asked
   pub start_asks : Asked
+  pub losses : S → Input C → ℕ → List (Loss S)
+
+-- the one at a call, which are counted from 1; none at 0
+abbrev pub call_of : {X : Type 0} → ℕ → List X → Option X
+call_of zero calls = None
+call_of (suc before) calls = slice_get calls before
 
 -- ---- what the code is given, and what it gives
 
@@ -135,7 +148,7 @@ pub record IsLeft (room asked left : Asked) : Type 0 where
 abbrev pub IsShort : Asked → Asked → Type 0
 IsShort room asked = (room.calls < asked.calls) ⊎ (room.bytes < asked.bytes)
 
--- a step that asks for so much uses up no more, and its disk stops it only where there is no room for that
+-- a start that asks for so much uses up no more, and its disk stops it only where there is no room for that
 abbrev pub Uses : Asked → Asked → Asked → Result (Unit {0}) Stop → Type 0
 Uses room asked left (Ok done) = IsLeft room asked left
 Uses room asked left (Err stop.DiskFailed) = IsShort room asked
@@ -148,6 +161,45 @@ StartUses room asked room_of (Ok end) = IsLeft room asked (room_of end)
 StartUses room asked room_of (Err stop.DiskFailed) = IsShort room asked
 StartUses room asked room_of (Err stop.NumbersSpent) = Unit {0}
 StartUses room asked room_of (Err stop.NoMemory) = Unit {0}
+
+-- ---- where its power is lost
+
+-- the call that is to stop the disk, 0 for none, isn't among a step's, and comes nearer by as many as these
+pub record IsNearer {S : Type 0} (losses : List (Loss S)) (before calls after : ℕ) : Type 0 where
+  pub passes : call_of before losses ≡ None
+  pub left : after ≡ before - calls
+
+-- it was one of them: what was noted by then is noted, and a start anew comes to what the loss says
+pub record HasLost {S C : Type 0}
+    (machine : Machine S C) (losses : List (Loss S)) (call : ℕ) (anew : CutChoice → ℕ → Went S Happening)
+    (out : StepOut) : Type 0 where
+  pub loss : Loss S
+  pub is : call_of call losses ≡ Some loss
+  pub notes : out.notes ≡ printed loss.front
+  pub starts : (choice : CutChoice) (now : ℕ) → anew choice now ≡ machine.restart (loss.left choice) now
+
+-- no call of a step is to stop the disk, and there is no room for what these ask
+abbrev pub HasNoRoom : {S : Type 0} → List (Loss S) → ℕ → (room asked : Asked) → Type 0
+HasNoRoom losses call room asked = (call_of call losses ≡ None) × IsShort room asked
+
+-- a disk that fails was stopped so, or has no room
+abbrev pub FailsBy : Bool → Type 0 → Type 0 → Type 0
+FailsBy true Lost Short = Lost
+FailsBy false Lost Short = Short
+
+-- a step that asks for so much of its disk uses up no more, and isn't stopped; where its disk fails, that was stopped
+-- at its call, or, in a step that isn't to be stopped, there was no room for so much; and the numbers are spent only in
+-- a step that isn't stopped
+abbrev pub EndsBy :
+    {S C : Type 0} → Machine S C → List (Loss S) → (before after : ℕ) → Bool → (CutChoice → ℕ → Went S Happening)
+    → (room asked left : Asked) → StepOut → Result (Unit {0}) Stop → Type 0
+EndsBy machine losses before after stopped anew room asked left out (Ok done) =
+    IsLeft room asked left × IsNearer losses before asked.calls after × (stopped ≡ false)
+EndsBy machine losses before after stopped anew room asked left out (Err stop.DiskFailed) =
+    FailsBy stopped (HasLost machine losses before anew out) (HasNoRoom losses before room asked)
+EndsBy machine losses before after stopped anew room asked left out (Err stop.NumbersSpent) =
+    call_of before losses ≡ None
+EndsBy machine losses before after stopped anew room asked left out (Err stop.NoMemory) = Unit {0}
 
 -- there are numbers to start with
 abbrev pub Opens : {S : Type 0} → Went S Happening → Type 0
@@ -240,6 +292,29 @@ IsOfWorld (Wrote characters) = Unit {0}
 IsOfWorld Power = Unit {0}
 IsOfWorld _ = ⊥
 
+-- the first ones of the doings of a step keep the law, with exactly these notes and the first calls of its line, and
+-- the end could have gone on from there to some state
+pub record GoesSoFar {S C : Type 0}
+    (plan : EndPlan) (did : ℕ → List Doing → S → Type 0) (base : ℕ) (doings : List Doing) (input : Input C) (now : ℕ)
+    (front : List Happening) : Type 0 where
+  pub later : List Doing
+  pub done : List Doing
+  pub next : S
+  pub could : did base (later ++ (done ++ doings)) next
+  pub lawful : AreLawful plan base (done ++ doings)
+  pub notes : noted_in (done ++ doings) ≡ noted_in doings ++ front
+  pub calls : AreBegunOf input now (calls_in done)
+  pub drops : AreDroppedAt now done
+  -- no message that is whole is left to be received: so the world may note the loss behind it
+  pub received : whole_in (own_of plan (done ++ doings)) ≡ None
+
+-- and what starts anew behind them draws no number again that was drawn by then
+pub record LosesAt {S C : Type 0}
+    (plan : EndPlan) (did : ℕ → List Doing → S → Type 0) (base : ℕ) (doings : List Doing) (input : Input C) (now : ℕ)
+    (front : List Happening) (anew : Went S Happening) : Type 0 where
+  pub so_far : GoesSoFar plan did base doings input now front
+  pub starts : OnStart (HasRestarted plan did base (so_far.done ++ doings)) anew
+
 -- the law of an end, where `did base doings s` says that these doings since a start, which may draw numbers from the
 -- base on, have made the state s: whatever it is given, it keeps the law of histories (this profile)
 pub record KeepsLaw {S C : Type 0}
@@ -266,3 +341,9 @@ pub record KeepsLaw {S C : Type 0}
   pub restarts :
       (base : ℕ) (doings : List Doing) (s : S) (now : ℕ) → did base doings s
       → OnStart (HasRestarted plan did base doings) (machine.restart s now)
+  -- wherever its power is lost in a step, and whatever is left then, it has done what was noted by then, and no more,
+  -- and starts anew lawfully
+  pub loses :
+      (base : ℕ) (doings : List Doing) (s : S) (input : Input C) (now : ℕ) → did base doings s → MayTake takes input
+      → (loss : Loss S) → Has (machine.losses s input now) loss → (choice : CutChoice)
+      → LosesAt plan did base doings input now loss.front (machine.restart (loss.left choice) now)

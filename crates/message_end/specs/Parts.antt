@@ -106,6 +106,7 @@ machine_of design = record {
   start_stops = [];
   asks = λ s input now. none_asked;
   start_asks = none_asked;
+  losses = λ s input now. [];
 }
 
 -- these doings since a start have made the core what it is, and what is kept beside it is sound
