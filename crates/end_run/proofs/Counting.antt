@@ -1,11 +1,11 @@
 -- Counts of faults, one call behind the other.
-use Rattle.std.proofs.Common.{◌≡◌, ◌≢◌, ℕ, List, [], Option, Some, None, Result, Ok, Err, inl, inr, refl, subst}
+use Rattle.std.proofs.Common.{◌≡◌, ℕ, List, [], Option, Some, None, Result, Ok, Err, inl, inr, refl, subst, arith}
 use Rattle.gl_base.specs.Sending.{WroteText}
 use Rattle.gl_base.specs.Told.{SinkTold}
 use Rattle.message_end.specs.declared.end.Stop.{Stop}
 use Rattle.message_end.specs.declared.end.Stop.TheVariants as stop
 use Rattle.message_end.specs.Core.{Went}
-use Rattle.message_end.specs.Ends.{Leaves}
+use Rattle.message_end.specs.Ends.{Leaves, Uses, none_asked}
 use Rattle.message_flow.specs.declared.step.StepOut.{StepOut}
 use Rattle.trace_log.specs.Log.{Happening}
 use Rattle.end_run.specs.declared.ending.Ending.{Ending}
@@ -29,6 +29,14 @@ counts_no_disk went next out (Ok done) leaves = refl
 counts_no_disk went next out (Err stop.NumbersSpent) leaves = refl
 counts_no_disk went next out (Err stop.NoMemory) leaves = refl
 counts_no_disk went next out (Err stop.DiskFailed) halt = absurd halt.may
+
+pub uses_no_disk :
+    {S : Type 0} (went : Went S Happening) (next : S) (out : StepOut) (result : Result (Unit {0}) Stop)
+    → Leaves [] went next out result → Uses none_asked none_asked none_asked result
+uses_no_disk went next out (Ok done) leaves = record { calls = omega arith; bytes = omega arith }
+uses_no_disk went next out (Err stop.NumbersSpent) leaves = tt
+uses_no_disk went next out (Err stop.NoMemory) leaves = tt
+uses_no_disk went next out (Err stop.DiskFailed) halt = absurd halt.may
 
 -- nothing but the output was called
 abbrev pub before_call : {F : Type 0} → ℕ → Device F → SinkTold → Counted F

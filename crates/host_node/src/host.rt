@@ -1,10 +1,10 @@
-ghost use Rattle.std.specs.Prelude.{◌≡◌, ◌+◌, ◌^◌, ◌<◌, ◌≤◌, [], Some};
+ghost use Rattle.std.specs.Prelude.{◌≡◌, ◌+◌, ◌^◌, ◌<◌, ◌≤◌, false, [], Some};
 ghost use Rattle.arrayvec.specs.ArrayVec.{array_vec_len};
 ghost use Rattle.block_codec.specs.Protocol.{longest_text};
 ghost use Rattle.message_flow.specs.Assembly.{WholeFits};
 ghost use Rattle.trace_log.specs.Commands.{HostCommandFits, IsPrimaryName};
 ghost use Rattle.message_end.specs.Calls.{deadline_of_end};
-ghost use Rattle.message_end.specs.Ends.{IsEmpty, Leaves, MayTake, Uses, input_of, none_asked};
+ghost use Rattle.message_end.specs.Ends.{EndsBy, IsEmpty, Leaves, MayTake, input_of, none_asked};
 ghost use Rattle.message_end.specs.Parts.{Takes, TakesAll, fixed_turn};
 ghost use Rattle.host_node.specs.Host.{breaks, ends_late, enters, follows, given, heeds, heeds_primary, heeds_secondary, host_machine, is_acceptance, judges, obeys, offers, parts, sends, takes, ticks};
 
@@ -13,6 +13,7 @@ use crate::endings::end_all;
 use crate::late;
 use crate::replies::{is_acceptance, is_establishing, is_full, reply};
 use block_codec::Header;
+use disk_base::CutChoice;
 use gl_base::{NoMemory, Row, Side};
 use line_end::{HostPlan, Phase};
 use message_end::{End, MessageEnd, Stop, Took, Unsent};
@@ -52,7 +53,7 @@ impl End for Host {
 
     type Store = ();
 
-    ghost use Rattle.std.specs.Prelude.{◌^◌, []};
+    ghost use Rattle.std.specs.Prelude.{◌^◌, false, [], refl};
     ghost use Rattle.line_end.specs.Plan.{HostPlanFits};
     ghost use Rattle.message_end.specs.Calls.{deadline_of_end};
     ghost use Rattle.message_end.specs.Core.Went.{Goes};
@@ -89,6 +90,20 @@ impl End for Host {
 
     ghost store_room = { λ store. none_asked };
 
+    ghost fresh = { λ host. none_asked };
+
+    ghost store_fresh = { λ store. none_asked };
+
+    ghost loses = { ⊥ };
+
+    ghost armed = { λ host. 0 };
+
+    ghost stopped = { λ host. false };
+
+    ghost anew = { λ host choice now. host_machine.restart host now };
+
+    ghost settled = { λ host sound going choice now. refl };
+
     ghost lawful = { host_lawful };
 
     fn start(alloc: Global, plan: &HostPlan, _: (), out: &mut StepOut) -> Result<Host, Stop> {
@@ -101,7 +116,20 @@ impl End for Host {
         })
     }
 
-    fn restart(&mut self, alloc: Global, now: u64, out: &mut StepOut) -> Result<(), Stop> {
+    // It has no disk.
+    fn arm(&mut self, _call: u32) {}
+
+    fn is_stopped(&self) -> bool {
+        false
+    }
+
+    fn restart(
+        &mut self,
+        alloc: Global,
+        _choice: CutChoice,
+        now: u64,
+        out: &mut StepOut,
+    ) -> Result<(), Stop> {
         let plan = self.plan;
         self.core.restart(alloc, Side::Host, &plan.line);
         self.comms = HostComms::first(&plan);
@@ -120,7 +148,8 @@ impl End for Host {
         requires input { MayTake HostCommandFits (input_of input) }
         requires out { IsEmpty out.old }
         ensures step { Leaves [] (host_machine.act self.old (input_of input.entry) now) self.new out.new result }
-        ensures room { Uses none_asked none_asked none_asked result }
+        ensures ends { EndsBy host_machine [] 0 0 false (λ choice now. host_machine.restart self.new now)
+            none_asked none_asked none_asked out.new result }
     {
         self.step_on(alloc, input, now, out)
     }
