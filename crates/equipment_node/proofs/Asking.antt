@@ -61,7 +61,7 @@ spared-used a b calls bytes used = record {
     none : (n : ℕ) → 0 - n ≡ 0
     none n = omega arith
 
-not-planned : (a : DiskHealth) (calls : ℕ) → IsSureDisk a → IsPlanned a calls → ⊥
+pub not-planned : (a : DiskHealth) (calls : ℕ) → IsSureDisk a → IsPlanned a calls → ⊥
 not-planned a calls is (inl among) =
     let none = is.fails_not in let some = among.0 in omega (arith, none, some)
 not-planned a calls is (inr (inl among)) =
@@ -180,7 +180,7 @@ pub changes-stand :
 changes-stand st [] = refl
 changes-stand st (one ∷ works) = changes-stand (standing_after st one) works
 
-calls-change :
+pub calls-change :
     (st : Standing) (works : List Work) → spool.all_calls (count_in st) works ≡ all_calls st (map Change works)
 calls-change st [] = refl
 calls-change st (one ∷ works) =

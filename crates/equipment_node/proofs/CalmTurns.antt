@@ -15,7 +15,8 @@ use Rattle.equipment_node.specs.Own.{ToolCommands, ToolDuty}
 use Rattle.equipment_node.specs.Reported.{past_in}
 use Rattle.equipment_node.proofs.CalmCommands.{AreCalm, AreCalmDuties, AreDrawn, AsksOfPrimary, CalmStep, IsCalm, IsCalmChange, IsCalmly, IsUncounted, calmly-both, carry-calm, itself}
 use Rattle.equipment_node.proofs.QuietNotes.{one-behind}
-use Rattle.equipment_node.proofs.Shelved.{IsShelved, LeavesStanding, noted-shelved}
+use Rattle.equipment_node.proofs.Shelved.{IsShelved, noted-shelved}
+use Rattle.equipment_node.proofs.WorkLines.{LeavesStanding}
 use Rattle.equipment_node.proofs.SilentCommands.{CoreStep, OnEither, either-less, either-then}
 
 -- ---- notes
@@ -23,7 +24,8 @@ use Rattle.equipment_node.proofs.SilentCommands.{CoreStep, OnEither, either-less
 -- what the notes tell of the spool, and what they keep, are as before
 pub record IsCalmBehind (hears : Bool) (old new : List Happening) : Type 0 where
   pub shelved :
-      (policy : Policy) (v : LedgerView) (list : List Put) → IsShelved policy v list old → IsShelved policy v list new
+      (policy : Policy) (v : LedgerView) (list : List Put) (base : List Happening) → IsShelved policy v list base old
+      → IsShelved policy v list base new
   pub told : (shelf_of new).told ≡ (shelf_of old).told
   pub tried : (shelf_of new).tried ≡ (shelf_of old).tried
   pub past : past_in new ≡ past_in old
@@ -32,7 +34,7 @@ pub record IsCalmBehind (hears : Bool) (old new : List Happening) : Type 0 where
 
 pub as-it-was : (hears : Bool) (notes : List Happening) → IsCalmBehind hears notes notes
 as-it-was hears notes = record {
-  shelved = λ policy v list is. is;
+  shelved = λ policy v list base is. is;
   told = refl;
   tried = refl;
   past = refl;
@@ -44,7 +46,7 @@ pub calm-both :
     (hears : Bool) (one two three : List Happening) → IsCalmBehind hears one two → IsCalmBehind hears two three
     → IsCalmBehind hears one three
 calm-both hears one two three first second = record {
-  shelved = λ policy v list is. second.shelved policy v list (first.shelved policy v list is);
+  shelved = λ policy v list base is. second.shelved policy v list base (first.shelved policy v list base is);
   told = second.told ∙ first.told;
   tried = second.tried ∙ first.tried;
   past = second.past ∙ first.past;
@@ -57,8 +59,9 @@ pub one-calm :
     → IsUncounted what → IsCalmBehind hears old (what ∷ old)
 one-calm hears what old calm uncounted =
     record {
-      shelved = λ policy v list is.
-          noted-shelved policy v list old what (leaves (change_of what) calm) (may policy (change_of what) calm) is;
+      shelved = λ policy v list base is.
+          noted-shelved policy v list base old what (leaves (change_of what) calm) (may policy (change_of what) calm)
+          is;
       told = (same (change_of what) calm).0;
       tried = (same (change_of what) calm).1;
       past = uncounted old;

@@ -141,7 +141,7 @@ change-front (one ∷ works) rest before notes (suc at) work is =
     ∙ ap (λ (all : List Happening). Some all)
     (append_assoc before (up_to_change notes) (noted_to at (behind_change notes)))
 
-split-change : (notes : List Happening) → up_to_change notes ++ behind_change notes ≡ notes
+pub split-change : (notes : List Happening) → up_to_change notes ++ behind_change notes ≡ notes
 split-change [] = refl
 split-change (what ∷ rest) = go (is_before_change what) (split-change rest)
   where

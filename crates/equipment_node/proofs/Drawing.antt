@@ -31,7 +31,7 @@ use Rattle.equipment_node.specs.declared.kind.Kind.{Kind}
 use Rattle.equipment_node.specs.Own.{ToolCommands, ToolDuty}
 use Rattle.equipment_node.specs.Putting.{where_goes}
 use Rattle.equipment_node.specs.SpentSteps.{ends_spent}
-use Rattle.equipment_node.proofs.SilentCommands.{CoreStep}
+use Rattle.equipment_node.proofs.SilentCommands.{CoreStep, OnEither, either-then}
 
 -- ---- what is drawn
 
@@ -431,3 +431,53 @@ free-both (duty ∷ one) two first second = (first.0, free-both one two first.1 
 pub both-free : (one two : ToolCommands) → AreFree one → AreFree two → AreFree (one ++ two)
 both-free [] two first second = second
 both-free (command ∷ one) two first second = (first.0, both-free one two first.1 second)
+
+-- ---- what draws none goes on
+
+abbrev pub Any : {S N : Type 0} → Step S N → Type 0
+Any step = Unit {0}
+
+abbrev pub Never : {S N : Type 0} → Step S N → Type 0
+Never step = ⊥
+
+one-goes : (command : Command Kind) (step : CoreStep) → IsFree command → OnEither Any Never (carry Some command step)
+one-goes (Command.Note what) step free = tt
+one-goes (Command.Primary unsent) step free = absurd free
+one-goes Command.Draw step free = absurd free
+one-goes (Command.DrawnPrimary unsent) step free = tt
+one-goes (Command.More count) step free = absurd free
+one-goes (Command.Reply body) step free = tt
+one-goes Command.Abort step free = tt
+one-goes (Command.Tick now) step free = tt
+one-goes (Command.Take byte now) step free = tt
+one-goes (Command.Offer now) step free = tt
+one-goes (Command.DropDue now) step free = tt
+one-goes (Command.Expire now) step free = tt
+one-goes (Command.Answer header) step free = tt
+one-goes (Command.GiveUp header) step free = tt
+one-goes (Command.End system) step free = tt
+one-goes (Command.Recall header) step free = tt
+one-goes (Command.Remove primary system) step free = tt
+one-goes Command.DropFront step free = tt
+one-goes Command.Halt step free = absurd free
+
+pub free-goes : (commands : ToolCommands) (step : CoreStep) → AreFree commands
+    → OnEither Any Never (carried Some commands step)
+free-goes [] step free = tt
+free-goes (command ∷ commands) step free =
+    either-then Any Never Any (carry Some command step) (carried Some commands) (one-goes command step free.0)
+    (λ next any. free-goes commands next free.1)
+
+pub duties-go : (duties : List ToolDuty) (step : CoreStep) → AreFreeDuties duties
+    → OnEither Any Never (all_done Some duties step)
+duties-go [] step free = tt
+duties-go (duty ∷ duties) step free =
+    either-then Any Never Any (carried Some (duty step.next) step) (all_done Some duties)
+    (free-goes (duty step.next) step (free.0 step.next)) (λ next any. duties-go duties next free.1)
+
+-- so of where the numbers are spent anything may be said
+pub goes-either :
+    {S N : Type 0} (P Q R : Step S N → Type 0) (went : Went S N) → OnEither Any Never went → OnEither P Q went
+    → OnEither P R went
+goes-either P Q R (Goes step) goes is = is
+goes-either P Q R (Spent step) goes is = absurd goes

@@ -86,14 +86,14 @@ one-needs h duties is = needs-as 0 1 h h duties (omega arith) refl is
 free-one : (duties : List ToolDuty) → AreFreeDuties duties → Needs 1 false duties
 free-one duties free = one-needs false duties (free-need duties free)
 
-noted-free : (lines : List Happening) → AreFree (lines_commands lines)
+pub noted-free : (lines : List Happening) → AreFree (lines_commands lines)
 noted-free [] = tt
 noted-free (what ∷ lines) = (tt, noted-free lines)
 
 booked-free : (booked : Booked) (own : OwnView) → AreFreeDuties (booked_turn booked own).duties
 booked-free booked own = ((λ e. noted-free booked.lines), tt)
 
-comms-lines-free : (old new : CommsState) → AreFree (states.comms_lines old new)
+pub comms-lines-free : (old new : CommsState) → AreFree (states.comms_lines old new)
 comms-lines-free old new = go (states.is_same_comms old new)
   where
     go : (same : Bool) → AreFree (if same then [] else Note (Happening.Comms (states.comms_named new)) ∷ [])
@@ -338,7 +338,7 @@ failed-free : (was_open : Bool) (header : Header) (e : EndView Kind) → AreFree
 failed-free true header e = tt
 failed-free false header e = (tt, (tt, tt))
 
-open-free : (spools : Bool) (own : OwnView) (e : EndView Kind) (failed : Option Header)
+pub open-free : (spools : Bool) (own : OwnView) (e : EndView Kind) (failed : Option Header)
     → AreFreeDuties (ends_open (states.ends_report spools own) e failed)
 open-free spools own e None =
     ((λ f. begun-free spools own f.transactions.begun), ((λ f. fronts-free f.outgoing.waiting), tt))

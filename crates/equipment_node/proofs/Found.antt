@@ -28,15 +28,15 @@ put-good m (x ∷ list) good all = go (nat_lt m.number x.number) (put-good m lis
     go true more = (good, all)
     go false more = (all.0, more)
 
-first-none : (a b : Option ℕ) → or_else a b ≡ None → a ≡ None
+pub first-none : (a b : Option ℕ) → or_else a b ≡ None → a ≡ None
 first-none None b none = refl
 first-none (Some x) b none = absurd (cc)
 
-second-none : (a b : Option ℕ) → or_else a b ≡ None → b ≡ None
+pub second-none : (a b : Option ℕ) → or_else a b ≡ None → b ≡ None
 second-none None b none = none
 second-none (Some x) b none = absurd (cc)
 
-no-place : (k : ℕ) (place : Option ℕ) → in_slot k place ≡ None → place ≡ None
+pub no-place : (k : ℕ) (place : Option ℕ) → in_slot k place ≡ None → place ≡ None
 no-place k None none = refl
 no-place k (Some x) none = absurd (cc)
 
@@ -62,7 +62,7 @@ is-kept stream function primary body kept less same short is =
     ∙ ap (λ (n : ℕ). made stream n kept) same
     ∙ ap (λ (bytes : List ℕ). made stream function bytes) (is ∙ take_all 4081 body short)
 
-slot-good :
+pub slot-good :
     (bytes : List ℕ) (slots k : ℕ) → head_break slots k (slot_in bytes k).head ≡ None
     → IsGood (message_of (slot_in bytes k))
 slot-good bytes slots k none =

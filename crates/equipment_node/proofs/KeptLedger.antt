@@ -35,14 +35,14 @@ all_left v = record {
 abbrev pub IsPutWell : Spooled → Type 0
 IsPutWell message = (message.function % 2 ≡ 1) × (message.stream < 128)
 
-module _ (plan : EquipmentPlan) (slots : ℕ) (list : List Put) where
+module _ (plan : EquipmentPlan) (slots : ℕ) (list : List Put) (base : List Happening) where
   -- the ledger then, and these lines behind the notes
   pub record IsKeptBy
       (v : LedgerView) (notes : List Happening) (next : LedgerView) (lines : List Happening)
       : Type 0 where
     pub is : IsLedger next
     pub all : next.slots ≡ v.slots
-    pub shelved : IsShelved (policy_of plan slots) next list (noted_behind lines notes)
+    pub shelved : IsShelved (policy_of plan slots) next list base (noted_behind lines notes)
     pub told : (shelf_of (noted_behind lines notes)).told ≡ (shelf_of notes).told
     pub tables : tables_in plan (noted_behind lines notes) ≡ tables_in plan notes
     pub moves : Moves v.first next.first (shelf_of notes) (shelf_of (noted_behind lines notes))
@@ -84,13 +84,13 @@ module _ (plan : EquipmentPlan) (slots : ℕ) (list : List Put) where
   one-call one v is may = (calls_come v (one ∷ []) is (All-cons MayCall one [] may (All-nil MayCall))).is
 
   pub nothing-kept : (v : LedgerView) (notes : List Happening) → IsLedger v
-      → IsShelved (policy_of plan slots) v list notes
+      → IsShelved (policy_of plan slots) v list base notes
       → IsKeptBy v notes v []
   nothing-kept v notes is shelved =
       record { is = is; all = refl; shelved = shelved; told = refl; tables = refl; moves = inl (refl, refl) }
 
   module _ (v : LedgerView) (notes : List Happening) (tables : TablesState) (is : IsLedger v) (all : v.slots ≡ slots)
-      (shelved : IsShelved (policy_of plan slots) v list notes) (at : tables_in plan notes ≡ tables)
+      (shelved : IsShelved (policy_of plan slots) v list base notes) (at : tables_in plan notes ≡ tables)
     where
       may-overwrite : overwrites tables ≡ true → (length (shelf_of notes).stands == v.slots) ≡ true
           → ((length (shelf_of notes).stands == slots) && overwrites (tables_in plan notes)) ≡ true
@@ -110,7 +110,7 @@ module _ (plan : EquipmentPlan) (slots : ℕ) (list : List Put) where
                 (one-call (Call.Store message (overwrites tables)) v is may);
             all = so.0;
             shelved =
-                stored-shelved (policy_of plan slots) v list notes message is shelved (overwrites tables) booked
+                stored-shelved (policy_of plan slots) v list base notes message is shelved (overwrites tables) booked
                 may-overwrite same;
             told = so.1;
             tables = so.2;
@@ -123,7 +123,7 @@ module _ (plan : EquipmentPlan) (slots : ℕ) (list : List Put) where
       all-kept may = record {
         is = one-call Call.Purge v is tt;
         all = still.0;
-        shelved = all-shelved (policy_of plan slots) v list notes is shelved may;
+        shelved = all-shelved (policy_of plan slots) v list base notes is shelved may;
         told = still.1;
         tables = still.2;
         moves = still.3;

@@ -2,6 +2,12 @@ mod Alarms
 mod Anew
 mod Asking
 mod Beginning
+mod Broken
+mod BrokenList
+mod BrokenPasses
+mod BrokenPurge
+mod BrokenSteps
+mod BrokenWorks
 mod CalmCommands
 mod CalmParts
 mod CalmTurns
@@ -14,6 +20,8 @@ mod DrawnTurns
 mod FirstParts
 mod Following
 mod Found
+mod FoundBytes
+mod FromDisk
 mod HandingBack
 mod Heeding
 mod HeldReports
@@ -24,11 +32,13 @@ mod KeptSpool
 mod KeptUnload
 mod LastParts
 mod LeavingReports
+mod Interrupted
 mod Longer
 mod Lost
 mod Making
 mod Opened
 mod OverDisk
+mod Parity
 mod Parting
 mod PlainTurns
 mod QuietNotes
@@ -39,6 +49,7 @@ mod Seated
 mod Shelved
 mod ShelvedTurns
 mod SilentCommands
+mod Slots
 mod SpentCauses
 mod SpentMoves
 mod SpentRuns
@@ -47,8 +58,13 @@ mod SpoolRuns
 mod SpoolTurns
 mod SpoolUnloads
 mod StartCalled
+mod StartMarked
 mod Staying
+mod RoomKept
+mod StepBreaks
 mod StepCalls
+mod StepEnds
+mod StepMarks
 mod Storing
 mod TakenTurns
 mod TakenUp
@@ -59,3 +75,4 @@ mod ToolReports
 mod Trying
 mod Turned
 mod UnloadOpen
+mod WorkLines

@@ -8,7 +8,7 @@ use Rattle.message_end.specs.Core.Went.{Goes}
 use Rattle.message_end.specs.Ends.{DoesStep, Input, MayTake}
 use Rattle.equipment_node.specs.Equipment.{EquipmentView, act}
 use Rattle.equipment_node.specs.Laws.{DidOf}
-use Rattle.equipment_node.specs.Lawful.{equipment_lawful}
+use Rattle.equipment_node.specs.LawfulLosses.{equipment_lawful}
 use Rattle.equipment_node.specs.Step.{end_plan}
 use Rattle.equipment_node.specs.Stepping.{IsMade}
 

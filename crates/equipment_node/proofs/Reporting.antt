@@ -6,8 +6,9 @@ use Rattle.spool_ledger.specs.Ledger.{LedgerView, carried_out, new_ledger}
 use Rattle.spool_slots.specs.Slot.{Message as Kept}
 use Rattle.equipment_node.specs.Grants.{GrantView}
 use Rattle.equipment_node.specs.Live.{ReportView}
-use Rattle.std.proofs.Common.{◌≡◌, refl, sym, ap, subst, ◌∙◌, ◌%◌, ◌==◌, length, arith, Bool, true, false, not, ℕ, zero, suc, ◌&&◌, ◌||◌, List, [], ◌∷◌, ◌++◌, replicate, Option, Some, None, if◌then◌else◌}
+use Rattle.std.proofs.Common.{◌≡◌, ◌⊎◌, inl, inr, append_assoc, refl, sym, ap, subst, ◌∙◌, ◌%◌, ◌==◌, length, arith, Bool, true, false, not, ℕ, zero, suc, ◌&&◌, ◌||◌, List, [], ◌∷◌, ◌++◌, replicate, Option, Some, None, if◌then◌else◌}
 use Rattle.block_codec.specs.declared.header.Header.{Header}
+use Rattle.disk_base.specs.declared.cut.CutChoice.{CutChoice}
 use Rattle.gem_states.specs.declared.comms.CommsIn.TheVariants as comms_in
 use Rattle.line_end.specs.declared.event.LineEvent.{LineEvent}
 use Rattle.line_end.specs.declared.event.LineEvent.TheVariants as event
@@ -18,17 +19,18 @@ use Rattle.message_flow.specs.declared.message.Message.{Message}
 use Rattle.message_flow.specs.Assembly.{flow_to, with_block}
 use Rattle.message_flow.specs.Message.{is_primary}
 use Rattle.trace_log.specs.declared.commands.ToolCommand.{ToolCommand}
-use Rattle.trace_log.specs.Log.{Happening}
+use Rattle.trace_log.specs.Log.{Happening, Past}
 use Rattle.trace_log.specs.Names.{Spooled, title_of}
 use Rattle.message_end.specs.Calls.{dropped_now, due_now, failed_as, failed_at, took_by}
 use Rattle.message_end.specs.Core.{EndView, IsText, Step, Went, and_then, asked_by, at_first, calls, carried, held_header, judges, step_in, takes_back, tells, with_assembly, with_end}
 use Rattle.message_end.specs.Core.Command.{DropDue, Expire, Halt, Offer, Take, Tick}
 use Rattle.message_end.specs.Core.Went.{Goes, Spent}
-use Rattle.message_end.specs.Course.{Course, Meeting, course_of, noted_behind, went_on, with_meeting}
+use Rattle.message_end.specs.Course.{Course, Meeting, broken_at, course_of, noted_behind, went_on, with_meeting}
 use Rattle.message_end.specs.Course.Course.{Reached, Stopped}
-use Rattle.message_end.specs.Course.Meeting.{Acts, LosesPower, Restarts, Writes}
+use Rattle.message_end.specs.Course.Meeting.{Acts, Breaks, LosesPower, Restarts, Writes}
 use Rattle.message_end.specs.Duties.{all_done}
-use Rattle.message_end.specs.Ends.{Input}
+use Rattle.message_end.specs.Ends.{Input, IsFront, Loss, call_of}
+use Rattle.message_end.specs.Own.{Has}
 use Rattle.message_end.specs.Ends.Input.{Char, Command as Told, Time}
 use Rattle.message_end.specs.Parts.{Node, after_parts, after_turn, core_after, core_step, fixed_turn, went_with}
 use Rattle.equipment_tables.specs.declared.plan.EquipmentPlan.{EquipmentPlan}
@@ -37,12 +39,18 @@ use Rattle.equipment_tables.specs.Plan.{EquipmentPlanFits}
 use Rattle.equipment_node.specs.declared.kind.Kind.{Kind}
 use Rattle.equipment_node.specs.Own.{OwnView, ToolPart, ToolTurn, is_communicating, quiet_turn, turn_of}
 use Rattle.equipment_node.specs.Replies.{block_timer, given_up_by_t4, given_up_turn, reply_timer, timeout_turn}
-use Rattle.equipment_node.specs.Histories.{ReportsHold, commands_met, with_command}
+use Rattle.equipment_node.specs.Disk.{DiskWork, behind_change, fronts_of, is_before_change, standing_in, stops, up_to_change, works_of}
+use Rattle.equipment_node.specs.Disk.DiskWork.{Change, ReadOldest, Reserve}
+use Rattle.equipment_node.specs.Histories.{ReportsHold, commands_behind, commands_broken, commands_met, with_command}
 use Rattle.equipment_node.specs.Sent as sent
 use Rattle.equipment_node.specs.States as states
 use Rattle.equipment_node.specs.End.{machine}
-use Rattle.equipment_node.specs.Equipment.{EquipmentView, act, begun_step, ended_step, first_in, found_in, is_marked_out, needs_numbers, new_own, node_step, oldest_of, parts_done, reserved, settled, settled_own, settled_step, settled_went, started_on, starts, went_with_file}
-use Rattle.equipment_node.specs.Lawful.{IsGoodView, act-good, begun-good, oldest-good, settled-view-good}
+use Rattle.equipment_node.specs.Equipment.{EquipmentView, act, begun_step, ended_step, first_in, found_in, is_marked_out, needs_numbers, new_own, node_step, oldest_of, parts_done, reserved, restarts, settled, settled_own, settled_step, settled_went, started_on, starts, went_with_file}
+use Rattle.equipment_node.specs.Lawful.{IsGoodView, act-good, begun-good, fronts-are, oldest-good, settled-view-good, split-change}
+use Rattle.equipment_node.specs.LawfulLosses.{LeavesWell, all-well}
+use Rattle.equipment_node.specs.LossCalls.{IsAtCall, at-call, has-call, losses-counted}
+use Rattle.equipment_node.specs.Losses.{losses}
+use Rattle.equipment_node.specs.Reported.{Reported, due_behind}
 use Rattle.equipment_node.specs.Sound.{AllCanBeSent, CanBeSent}
 use Rattle.equipment_node.specs.SpoolSound.{new-good}
 use Rattle.equipment_node.specs.Spooling.{end_of_spooling, unload_part}
@@ -55,6 +63,7 @@ use Rattle.equipment_node.proofs.LeavingReports.{by-t4-keeps, given-up-keeps, le
 use Rattle.equipment_node.proofs.PlainTurns.{IsPlain, booked-plain, booked-stays, comms-plain, error-plain, errors-silent, fixed-plain, itself, led-plain, nothing-plain, rested-quiet}
 use Rattle.equipment_node.proofs.QuietNotes.{AreSettled, adds-quiet, one-behind, quiet-note, settled-more}
 use Rattle.equipment_node.proofs.SilentCommands.{CoreStep, OnEither, either-then, told-drawn, told-quiet}
+use Rattle.equipment_node.proofs.WorkLines.{behind-both}
 
 asks-newest : (message : Message) → AsksOf message (asked_by message)
 asks-newest message = go (is_primary message) message.wait refl
@@ -67,6 +76,108 @@ asks-newest message = go (is_primary message) message.wait refl
 
 abbrev pub NodeStep : Type 0
 NodeStep = Step (Node OwnView Kind) Happening
+
+-- ---- where a step breaks off
+
+-- the notes before agree as well
+reported-before : (plan : EquipmentPlan) (rest before : List Happening) → Reported plan (noted_behind rest before)
+    → Reported plan before
+reported-before plan [] before is = is
+reported-before plan (what ∷ rest) before is = (reported-before plan rest (what ∷ before) is).2
+
+-- what is noted before a change brings nothing
+change-due : (plan : EquipmentPlan) (what : Happening) (before : List Happening) → is_before_change what ≡ true
+    → due_behind plan (what ∷ before) ≡ None
+change-due plan (Happening.Storing number message) before is = refl
+change-due plan (Happening.Leaving number why) before is = refl
+change-due plan (Happening.EquipmentStarted found base) before is = refl
+change-due plan Happening.HostStarted before is = refl
+change-due plan Happening.Power before is = refl
+change-due plan Happening.Closed before is = refl
+change-due plan (Happening.Sent message) before is = refl
+change-due plan (Happening.Received message) before is = refl
+change-due plan (Happening.Wrote characters) before is = refl
+change-due plan (Happening.Comms state) before is = refl
+change-due plan (Happening.Control state) before is = refl
+change-due plan (Happening.Spool active) before is = refl
+change-due plan (Happening.Set vid) before is = refl
+change-due plan (Happening.Event ceid dataid) before is = refl
+change-due plan (Happening.Alarm alid set) before is = refl
+change-due plan (Happening.Carried rcmd) before is = refl
+change-due plan (Happening.Display tid text) before is = refl
+change-due plan Happening.Refused before is = refl
+change-due plan (Happening.Stored number) before is = refl
+change-due plan (Happening.Gone number) before is = refl
+change-due plan (Happening.Try number system) before is = refl
+change-due plan (Happening.Duplicate header) before is = refl
+change-due plan (Happening.Unexpected header) before is = refl
+change-due plan (Happening.Foreign header) before is = refl
+change-due plan (Happening.TooLongBlock header) before is = refl
+change-due plan (Happening.Crowded header) before is = refl
+change-due plan (Happening.DroppedByT4 header) before is = refl
+change-due plan (Happening.Failed title) before is = refl
+change-due plan (Happening.TimedOut title) before is = refl
+change-due plan (Happening.Stranger title) before is = refl
+change-due plan (Happening.Dropped name) before is = refl
+change-due plan (Happening.Denied name) before is = refl
+change-due plan (Happening.Discarded name) before is = refl
+change-due plan (Happening.TooLong name) before is = refl
+change-due plan (Happening.Full name) before is = refl
+change-due plan (Happening.Recorded (Past.Asked request)) before is = refl
+change-due plan (Happening.Recorded (Past.Commanded command)) before is = absurd (cc)
+
+-- nor does all that is noted up to it, or all, if there is no change
+up-due : (plan : EquipmentPlan) (lines past : List Happening) → due_behind plan (noted_behind lines past) ≡ None
+    → due_behind plan (noted_behind (up_to_change lines) past) ≡ None
+up-due plan [] past none = none
+up-due plan (what ∷ lines) past none =
+    go (is_before_change what) refl (λ later. up-due plan lines (what ∷ past) later)
+  where
+    go : (is : Bool) → is_before_change what ≡ is
+        → (due_behind plan (noted_behind lines (what ∷ past)) ≡ None
+        → due_behind plan (noted_behind (up_to_change lines) (what ∷ past)) ≡ None)
+        → due_behind plan (noted_behind (if is then [] else up_to_change lines) (what ∷ past)) ≡ None
+    go true is more = change-due plan what past is
+    go false is more = more none
+
+-- so of whatever is noted at a work
+front-due :
+    (plan : EquipmentPlan) (base : List Happening) (works : List DiskWork) (before notes front : List Happening)
+    → due_behind plan (noted_behind before base) ≡ None → due_behind plan (noted_behind (before ++ notes) base) ≡ None
+    → Has (fronts_of before works notes) front → due_behind plan (noted_behind front base) ≡ None
+front-due plan base [] before notes front none all has = absurd has
+front-due plan base (Reserve ∷ works) before notes front none all (inl same) =
+    ap (λ (ns : List Happening). due_behind plan (noted_behind ns base)) same ∙ none
+front-due plan base (Reserve ∷ works) before notes front none all (inr has) =
+    front-due plan base works before notes front none all has
+front-due plan base (Change one ∷ works) before notes front none all has =
+    go has
+    (λ later.
+    front-due plan base works (before ++ up_to_change notes) (behind_change notes) front here
+    (ap (λ (ns : List Happening). due_behind plan (noted_behind ns base)) (sym whole) ∙ all) later)
+  where
+    whole : before ++ notes ≡ (before ++ up_to_change notes) ++ behind_change notes
+    whole =
+        ap (λ (ns : List Happening). before ++ ns) (split-change notes)
+        ∙ sym (append_assoc before (up_to_change notes) (behind_change notes))
+
+    here : due_behind plan (noted_behind (before ++ up_to_change notes) base) ≡ None
+    here =
+        ap (due_behind plan) (behind-both before (up_to_change notes) base)
+        ∙ up-due plan notes (noted_behind before base)
+        (ap (due_behind plan) (sym (behind-both before notes base)) ∙ all)
+
+    go : (front ≡ before ++ up_to_change notes)
+        ⊎ Has (fronts_of (before ++ up_to_change notes) works (behind_change notes)) front
+        → (Has (fronts_of (before ++ up_to_change notes) works (behind_change notes)) front
+        → due_behind plan (noted_behind front base) ≡ None)
+        → due_behind plan (noted_behind front base) ≡ None
+    go (inl same) more = ap (λ (ns : List Happening). due_behind plan (noted_behind ns base)) same ∙ here
+    go (inr has) more = more has
+front-due plan base (ReadOldest ∷ works) before notes front none all (inl same) =
+    ap (λ (ns : List Happening). due_behind plan (noted_behind ns base)) same ∙ all
+front-due plan base (ReadOldest ∷ works) before notes front none all (inr has) =
+    front-due plan base works before notes front none all has
 
 module _ (plan : EquipmentPlan) (fits : EquipmentPlanFits plan) (looked : TablesAreLookedBackFor) where
   module _ (said : List ToolCommand) (before : List Happening) where
@@ -397,13 +508,12 @@ module _ (plan : EquipmentPlan) (fits : EquipmentPlanFits plan) (looked : Tables
   odd-of None can = tt
   odd-of (Some message) can = can.odd
 
-  step-keeps :
+  -- all that is noted up to the works of the disk
+  begun-keeps :
       (said : List ToolCommand) (before : List Happening) (input : Input ToolCommand) (now : ℕ) (s : EquipmentView)
-      → Holds plan said s.node.own s.node.core.drawn before → IsGoodView plan fits s
-      → FileEnds (with_command input said) before (act s input now)
-  step-keeps said before input now s holds good =
-      ends (begun_step s input now) (begun (needs_numbers s) (is_marked_out s.mark))
-      (begun-good plan fits s input now good)
+      → Holds plan said s.node.own s.node.core.drawn before
+      → FileEnds (with_command input said) before (begun_step s input now)
+  begun-keeps said before input now s holds = begun (needs_numbers s) (is_marked_out s.mark)
     where
       to : List ToolCommand
       to = with_command input said
@@ -421,6 +531,16 @@ module _ (plan : EquipmentPlan) (fits : EquipmentPlanFits plan) (looked : Tables
           with-file to before s (after_parts Some (first_parts input now) (at_first s.node))
           (first-keeps said before input now (at_first s.node) holds)
 
+  step-keeps :
+      (said : List ToolCommand) (before : List Happening) (input : Input ToolCommand) (now : ℕ) (s : EquipmentView)
+      → Holds plan said s.node.own s.node.core.drawn before → IsGoodView plan fits s
+      → FileEnds (with_command input said) before (act s input now)
+  step-keeps said before input now s holds good =
+      ends (begun_step s input now) (begun-keeps said before input now s holds) (begun-good plan fits s input now good)
+    where
+      to : List ToolCommand
+      to = with_command input said
+
       ends : (went : Went EquipmentView Happening) → FileEnds to before went → IsGoodView plan fits (step_in went).next
           → FileEnds to before (and_then (settled_went went) (ended_step now))
       ends (Spent step) at so = at
@@ -431,6 +551,39 @@ module _ (plan : EquipmentPlan) (fits : EquipmentPlanFits plan) (looked : Tables
           (odd-of (oldest_of (settled step.next))
           (oldest-good plan fits (settled step.next).list (settled-view-good plan fits step.next so).list)) now
           (node_step (settled_step step)) (settled-so to before (Goes step) at))
+
+  -- ---- up to a call of the disk
+
+  settled-of : (said : List ToolCommand) (before : List Happening) (went : Went EquipmentView Happening)
+      → FileEnds said before went → AreSettled plan (noted_behind (step_in went).notes before)
+  settled-of said before (Goes step) at = at.settled
+  settled-of said before (Spent step) at = at
+
+  -- what is noted at a loss is settled
+  front-so :
+      (said : List ToolCommand) (before : List Happening) (input : Input ToolCommand) (now : ℕ) (s : EquipmentView)
+      (front : List Happening) → Holds plan said s.node.own s.node.core.drawn before → Has (stops s input now) front
+      → AreSettled plan (noted_behind front before)
+  front-so said before input now s front holds has = record {
+    reported =
+        reported-before plan first.rest (noted_behind front before)
+        (subst (Reported plan)
+        (ap (λ (ns : List Happening). noted_behind ns before) first.whole ∙ behind-both front first.rest before)
+        all.reported);
+    none_due =
+        front-due plan before (works_of s input now) [] notes front holds.settled.none_due all.none_due has;
+  }
+    where
+      notes : List Happening
+      notes = (step_in (begun_step s input now)).notes
+
+      all : AreSettled plan (noted_behind notes before)
+      all =
+          settled-of (with_command input said) before (begun_step s input now)
+          (begun-keeps said before input now s holds)
+
+      first : IsFront front notes
+      first = fronts-are (works_of s input now) [] notes front has
 
   -- ---- over all starts
 
@@ -493,33 +646,60 @@ module _ (plan : EquipmentPlan) (fits : EquipmentPlanFits plan) (looked : Tables
         };
       }
 
+  -- power is lost at a call of the disk
+  broken-keeps :
+      (input : Input ToolCommand) (now call : ℕ) (choice : CutChoice) (said : List ToolCommand) (s : EquipmentView)
+      (notes : List Happening) (found : Option (Loss EquipmentView)) → call_of call (losses s input now) ≡ found
+      → IsReachedSo said s notes
+      → IsCourseSo (commands_broken found said) (broken_at machine now choice s notes found)
+  broken-keeps input now call choice said s notes None is so = so
+  broken-keeps input now call choice said s notes (Some loss) is so =
+      subst
+      (λ (left : EquipmentView).
+      IsCourseSo [] (went_on (restarts left now) (Happening.Power ∷ noted_behind loss.front notes)))
+      (ap (λ (one : Loss EquipmentView). one.left choice) (sym at.is))
+      (started-so s.node.own.plan s.node.own.ledger.slots (at.left choice).list (at.left choice).mark
+      (Happening.Power ∷ noted_behind loss.front notes) so.holds.plan_is (at.at choice).can
+      (settled-more plan Happening.Power (noted_behind loss.front notes) refl tt refl
+      (front-so said notes input now s loss.front so.holds ((losses-counted s input now).1 loss has))))
+    where
+      has : Has (losses s input now) loss
+      has = has-call call (losses s input now) loss is
+
+      at : IsAtCall (LeavesWell s.mark (step_in (act s input now)).next.mark) s loss
+      at =
+          at-call (LeavesWell s.mark (step_in (act s input now)).next.mark) s (works_of s input now) (standing_in s) []
+          (step_in (begun_step s input now)).notes loss (all-well plan fits s input now so.good) has
+
   meeting-keeps :
-      (meeting : Meeting ToolCommand) (meetings : List (Meeting ToolCommand)) (course : Course EquipmentView)
-      → IsCourseSo (commands_met meetings) course
-      → IsCourseSo (commands_met (meeting ∷ meetings)) (with_meeting machine meeting course)
-  meeting-keeps meeting meetings (Stopped notes) so = so
-  meeting-keeps (Acts input now) meetings (Reached s notes) so =
-      went-so (with_command input (commands_met meetings)) notes (act s input now)
-      (step-keeps (commands_met meetings) notes input now s so.holds so.good) (act-good plan fits s input now so.good)
-  meeting-keeps (Restarts now) meetings (Reached s notes) so =
+      (meeting : Meeting ToolCommand) (said : List ToolCommand) (course : Course EquipmentView)
+      → IsCourseSo said course
+      → IsCourseSo (commands_behind meeting course said) (with_meeting machine meeting course)
+  meeting-keeps meeting said (Stopped notes) so = so
+  meeting-keeps (Acts input now) said (Reached s notes) so =
+      went-so (with_command input said) notes (act s input now) (step-keeps said notes input now s so.holds so.good)
+      (act-good plan fits s input now so.good)
+  meeting-keeps (Restarts now) said (Reached s notes) so =
       started-so s.node.own.plan s.node.own.ledger.slots s.list s.mark notes so.holds.plan_is so.good.list
       so.holds.settled
-  meeting-keeps (Writes characters) meetings (Reached s notes) so = record {
+  meeting-keeps (Writes characters) said (Reached s notes) so = record {
     holds =
-        holds-as plan (commands_met meetings) s.node.own notes (Happening.Wrote characters ∷ notes) so.holds
+        holds-as plan said s.node.own notes (Happening.Wrote characters ∷ notes) so.holds
         (quiet-note (Happening.Wrote characters) tt notes);
     good = so.good;
   }
-  meeting-keeps LosesPower meetings (Reached s notes) so = record {
+  meeting-keeps LosesPower said (Reached s notes) so = record {
     holds =
-        holds-as plan (commands_met meetings) s.node.own notes (Happening.Power ∷ notes) so.holds
-        (quiet-note Happening.Power tt notes);
+        holds-as plan said s.node.own notes (Happening.Power ∷ notes) so.holds (quiet-note Happening.Power tt notes);
     good = so.good;
   }
+  meeting-keeps (Breaks input now call choice) said (Reached s notes) so =
+      broken-keeps input now call choice said s notes (call_of call (losses s input now)) refl so
 
   pub course-so :
       (slots : ℕ) (list : List Kept) (mark : ℕ) → AllCanBeSent list → (meetings : List (Meeting ToolCommand))
-      → IsCourseSo (commands_met meetings) (course_of (started_on plan slots list mark) machine meetings)
+      → IsCourseSo (commands_met (started_on plan slots list mark) meetings)
+      (course_of (started_on plan slots list mark) machine meetings)
   course-so slots list mark can [] = record {
     holds =
         starts-so plan (new_ledger slots (first_in list) (length list)) (found_in list) mark [] refl
@@ -535,17 +715,20 @@ module _ (plan : EquipmentPlan) (fits : EquipmentPlanFits plan) (looked : Tables
     };
   }
   course-so slots list mark can (meeting ∷ meetings) =
-      meeting-keeps meeting meetings (course_of (started_on plan slots list mark) machine meetings)
-      (course-so slots list mark can meetings)
+      meeting-keeps meeting (commands_met (started_on plan slots list mark) meetings)
+      (course_of (started_on plan slots list mark) machine meetings) (course-so slots list mark can meetings)
 
   pub reports-so :
       (slots : ℕ) (list : List Kept) (mark : ℕ) → AllCanBeSent list → (meetings : List (Meeting ToolCommand))
-      → ReportsHold plan (course_of (started_on plan slots list mark) machine meetings) (commands_met meetings)
+      → ReportsHold plan (course_of (started_on plan slots list mark) machine meetings)
+      (commands_met (started_on plan slots list mark) meetings)
   reports-so slots list mark can meetings =
       go (course_of (started_on plan slots list mark) machine meetings) (course-so slots list mark can meetings)
     where
-      go : (course : Course EquipmentView) → IsCourseSo (commands_met meetings) course
-          → ReportsHold plan course (commands_met meetings)
+      said : List ToolCommand
+      said = commands_met (started_on plan slots list mark) meetings
+
+      go : (course : Course EquipmentView) → IsCourseSo said course → ReportsHold plan course said
       go (Reached s notes) so = record {
         reported = so.holds.settled.reported;
         counted = so.holds.commanded;

@@ -26,7 +26,7 @@ use Rattle.equipment_node.specs.Asked.{HasAsked, HasSpared, IsSureDisk, room_by}
 use Rattle.equipment_node.specs.Disk.{asks, reserve_asks, stops}
 use Rattle.equipment_node.specs.Equipment.{EquipmentView, act, started_on, starts}
 use Rattle.equipment_node.specs.Laws.{DidOf}
-use Rattle.equipment_node.specs.Lawful.{equipment_lawful}
+use Rattle.equipment_node.specs.LawfulLosses.{equipment_lawful}
 use Rattle.equipment_node.specs.Node.{node_of}
 use Rattle.equipment_node.specs.Own.{OwnView}
 use Rattle.equipment_node.specs.Sound.{AllCanBeSent}
@@ -124,7 +124,7 @@ any-node members s input now node other out (ended.NoMemory spent) steps = steps
 any-node members s input now node other out (ended.DiskFailed spent) steps = steps
 any-node members s input now node other out (ended.NumbersSpent spent) steps = steps
 
-stops-by :
+pub stops-by :
     {D : Type 0} (members : disk.Ghosts D) (s : EquipmentView) (input : Input ToolCommand) (now : ℕ)
     (node : Node OwnView Kind) (next : EquipmentView) (out : StepOut) (end : Ended D)
     → Steps members s input now node out (Err end)

@@ -22,6 +22,9 @@ use Rattle.trace_log.specs.Names.{Spooled, spooled_name}
 use Rattle.trace_log.specs.declared.names.Cause.{Cause}
 use Rattle.trace_log.specs.declared.names.Cause.TheVariants as cause
 use Rattle.equipment_node.specs.Equipment.{found_in, settled_list, spooled_of}
+use Rattle.equipment_node.specs.Losses.{MayLeaveAt}
+use Rattle.equipment_node.specs.Disk.{DiskWork}
+use Rattle.equipment_node.proofs.WorkLines.{AreLines, LeavesStanding, lines-more, lines-none, lines-work, quiet-change}
 
 -- ---- lists
 
@@ -42,13 +45,13 @@ drop-all : {X : Type 0} (xs : List X) → drop (length xs) xs ≡ []
 drop-all [] = refl
 drop-all (x ∷ xs) = drop-all xs
 
-run-last :
+pub run-last :
     (n : ℕ) (list : List Message) (m : Message) → IsRunFrom n list → m.number ≡ n + length list
     → IsRunFrom n (list ++ m ∷ [])
 run-last n [] m run is = (omega (arith, is), tt)
 run-last n (x ∷ list) m run is = (run.0, run-last (n + 1) list m run.1 (omega (arith, is)))
 
-run-rest : (n : ℕ) (list : List Message) → IsRunFrom n list → IsRunFrom (n + 1) (drop 1 list)
+pub run-rest : (n : ℕ) (list : List Message) → IsRunFrom n list → IsRunFrom (n + 1) (drop 1 list)
 run-rest n [] run = tt
 run-rest n (m ∷ list) run = run.1
 
@@ -83,21 +86,15 @@ settled-more v list one is =
 -- ---- what holds between two changes
 
 -- the notes keep the law so far, and nothing is amid a change; what they tell is the list that the works come to, and
--- its numbers are those of the ledger
-pub record IsShelved (policy : Policy) (v : LedgerView) (list : List Message) (notes : List Happening) : Type 0 where
+-- its numbers are those of the ledger. Behind what was noted before, these works go with their lines
+pub record IsShelved
+    (policy : Policy) (v : LedgerView) (list : List Message) (base notes : List Happening) : Type 0 where
   pub kept : KeepsSpool policy notes
   pub rest : IsAtRest (shelf_of notes)
   pub stands : (shelf_of notes).stands ≡ found_in (settled_list v list)
   pub run : IsRunFrom v.first (settled_list v list)
   pub long : length (settled_list v list) ≡ v.len
-
--- what leaves the messages that stand as they are
-abbrev pub LeavesStanding : Change → Type 0
-LeavesStanding (Change.Tries number system) = Unit {0}
-LeavesStanding (Change.Sends message) = Unit {0}
-LeavesStanding (Change.Receives message) = Unit {0}
-LeavesStanding Change.Other = Unit {0}
-LeavesStanding _ = ⊥
+  pub lines : AreLines v list base notes
 
 some-inj : {X : Type 0} (x y : X) → Some x ≡ Some y → x ≡ y
 some-inj x y same = cc
@@ -106,12 +103,19 @@ module _ (policy : Policy) where
   -- ---- a note of something else
 
   pub noted-shelved :
-      (v : LedgerView) (list : List Message) (notes : List Happening) (what : Happening)
-      → LeavesStanding (change_of what) → MayChange policy notes (change_of what) → IsShelved policy v list notes
-      → IsShelved policy v list (what ∷ notes)
-  noted-shelved v list notes what leaves may is =
+      (v : LedgerView) (list : List Message) (base notes : List Happening) (what : Happening)
+      → LeavesStanding (change_of what) → MayChange policy notes (change_of what) → IsShelved policy v list base notes
+      → IsShelved policy v list base (what ∷ notes)
+  noted-shelved v list base notes what leaves may is =
       let all = same (change_of what) leaves in
-      record { kept = (may, is.kept); rest = all.0; stands = all.1 ∙ is.stands; run = is.run; long = is.long }
+      record {
+        kept = (may, is.kept);
+        rest = all.0;
+        stands = all.1 ∙ is.stands;
+        run = is.run;
+        long = is.long;
+        lines = lines-more v list base notes what (quiet-change what leaves) is.lines;
+      }
     where
       same : (change : Change) → LeavesStanding change
           → IsAtRest (shelf_changed change (shelf_of notes))
@@ -130,15 +134,22 @@ module _ (policy : Policy) where
   -- ---- the works are done
 
   pub settled-shelved :
-      (v : LedgerView) (list : List Message) (notes : List Happening) → IsShelved policy v list notes
-      → IsShelved policy (carried_out v) (settled_list v list) notes
-  settled-shelved v list notes is =
-      record { kept = is.kept; rest = is.rest; stands = is.stands; run = is.run; long = is.long }
+      (v : LedgerView) (list : List Message) (base notes : List Happening) → IsShelved policy v list base notes
+      → IsShelved policy (carried_out v) (settled_list v list) notes notes
+  settled-shelved v list base notes is =
+      record {
+        kept = is.kept;
+        rest = is.rest;
+        stands = is.stands;
+        run = is.run;
+        long = is.long;
+        lines = lines-none (carried_out v) (settled_list v list) notes refl;
+      }
 
   -- ---- a message is put
 
-  module _ (v : LedgerView) (list : List Message) (notes : List Happening) (message : Spooled)
-      (is : IsLedger v) (shelved : IsShelved policy v list notes)
+  module _ (v : LedgerView) (list : List Message) (base notes : List Happening) (message : Spooled)
+      (is : IsLedger v) (shelved : IsShelved policy v list base notes)
     where
       abbrev numbered : Message
       numbered = record {
@@ -151,7 +162,7 @@ module _ (policy : Policy) where
       put-list : settled_list (put message v).next list ≡ settled_list v list ++ numbered ∷ []
       put-list = settled-more v list (work.Put message.stream message.function message.body) is
 
-      pub put-shelved : IsShelved policy (put message v).next list (noted_behind (put message v).lines notes)
+      pub put-shelved : IsShelved policy (put message v).next list base (noted_behind (put message v).lines notes)
       put-shelved = record {
         kept = (
           record { message = message; is = refl },
@@ -178,12 +189,17 @@ module _ (policy : Policy) where
         long =
             ap length put-list ∙ length-append (settled_list v list) (numbered ∷ [])
             ∙ ap (λ (n : ℕ). n + 1) shelved.long;
+        lines =
+            lines-work v (put message v).next list base notes
+            (work.Put message.stream message.function message.body) (Happening.Storing (next_of v) message)
+            (Happening.Stored (next_of v)) is refl refl refl refl
+            (record { stands = shelved.stands; storing = refl; leaving = tt }) shelved.lines;
       }
 
   -- ---- the oldest one leaves
 
-  module _ (v : LedgerView) (list : List Message) (notes : List Happening) (why : Cause)
-      (is : IsLedger v) (shelved : IsShelved policy v list notes) (some : 0 < v.len)
+  module _ (v : LedgerView) (list : List Message) (base notes : List Happening) (why : Cause)
+      (is : IsLedger v) (shelved : IsShelved policy v list base notes) (some : 0 < v.len)
     where
       out-list : settled_list (oldest_out why v).next list ≡ drop 1 (settled_list v list)
       out-list = settled-more v list work.DropOldest is
@@ -204,7 +220,7 @@ module _ (policy : Policy) where
 
       pub out-shelved :
           why ≢ cause.Purged → MayLeaveFor policy notes why
-          → IsShelved policy (oldest_out why v).next list (noted_behind (oldest_out why v).lines notes)
+          → IsShelved policy (oldest_out why v).next list base (noted_behind (oldest_out why v).lines notes)
       out-shelved one may = record {
         kept = (
           record { cause = why; is = refl; first = first-is },
@@ -217,12 +233,22 @@ module _ (policy : Policy) where
         run =
             subst (IsRunFrom (v.first + 1)) (sym out-list) (run-rest v.first (settled_list v list) shelved.run);
         long = ap length out-list ∙ less (settled_list v list) v.len shelved.long;
+        lines =
+            lines-work v (oldest_out why v).next list base notes work.DropOldest (Leaving v.first why) (Gone v.first) is
+            refl refl refl refl
+            (record { stands = shelved.stands; storing = shelved.rest.none_stored; leaving = by why one })
+            shelved.lines;
       }
+        where
+          by : (why : Cause) → why ≢ cause.Purged → MayLeaveAt (DiskWork.Change work.DropOldest) (Some why)
+          by cause.Confirmed not = inl refl
+          by cause.Purged not = absurd (not refl)
+          by cause.Overwritten not = inr refl
 
   -- ---- all leave
 
-  module _ (v : LedgerView) (list : List Message) (notes : List Happening)
-      (is : IsLedger v) (shelved : IsShelved policy v list notes)
+  module _ (v : LedgerView) (list : List Message) (base notes : List Happening)
+      (is : IsLedger v) (shelved : IsShelved policy v list base notes)
     where
       abbrev emptied : LedgerView
       emptied = record v { first = v.first + v.len; len = 0; works = owed v work.Purge }
@@ -232,14 +258,14 @@ module _ (policy : Policy) where
 
       pub all-shelved :
           (0 < v.len → MayLeaveFor policy notes cause.Purged)
-          → IsShelved policy (all_out v).next list (noted_behind (all_out v).lines notes)
+          → IsShelved policy (all_out v).next list base (noted_behind (all_out v).lines notes)
       all-shelved may = go (v.len == 0) refl
         where
           go : (none : Bool) → (v.len == 0) ≡ none
               → IsShelved policy
               (if none then quiet v
               else record { next = emptied; lines = Leaving v.first cause.Purged ∷ Gone v.first ∷ [] }).next
-              list
+              list base
               (noted_behind
               (if none then quiet v
               else record { next = emptied; lines = Leaving v.first cause.Purged ∷ Gone v.first ∷ [] }).lines notes)
@@ -249,12 +275,12 @@ module _ (policy : Policy) where
               record {
                 cause = cause.Purged;
                 is = refl;
-                first = first-is v list notes cause.Purged is shelved (some-left v.len e);
+                first = first-is v list base notes cause.Purged is shelved (some-left v.len e);
               },
               (
                 record {
                   rest = shelved.rest;
-                  first = first-is v list notes cause.Purged is shelved (some-left v.len e);
+                  first = first-is v list base notes cause.Purged is shelved (some-left v.len e);
                   cause = may (some-left v.len e);
                 },
                 shelved.kept,
@@ -264,12 +290,16 @@ module _ (policy : Policy) where
             stands = drop-all (shelf_of notes).stands ∙ ap found_in (sym (settled-more v list work.Purge is));
             run = subst (IsRunFrom (v.first + v.len)) (sym (settled-more v list work.Purge is)) tt;
             long = ap length (settled-more v list work.Purge is);
+            lines =
+                lines-work v emptied list base notes work.Purge (Leaving v.first cause.Purged) (Gone v.first) is refl
+                refl refl refl
+                (record { stands = shelved.stands; storing = shelved.rest.none_stored; leaving = refl }) shelved.lines;
           }
 
   -- ---- one comes, in place of the oldest in a full spool
 
-  module _ (v : LedgerView) (list : List Message) (notes : List Happening) (message : Spooled)
-      (is : IsLedger v) (shelved : IsShelved policy v list notes)
+  module _ (v : LedgerView) (list : List Message) (base notes : List Happening) (message : Spooled)
+      (is : IsLedger v) (shelved : IsShelved policy v list base notes)
     where
       all-used : (long spent full : Bool) →
           (if long then room.TooLong else
@@ -288,31 +318,31 @@ module _ (policy : Policy) where
 
       pub stored-shelved :
           (overwriting : Bool) (booked : Booked) → Overwrites overwriting → stored overwriting message v ≡ Some booked
-          → IsShelved policy booked.next list (noted_behind booked.lines notes)
+          → IsShelved policy booked.next list base (noted_behind booked.lines notes)
       stored-shelved overwriting booked may same = go (room_for v (length message.body)) overwriting refl may same
         where
           go : (r : Room) (overwriting : Bool) → room_for v (length message.body) ≡ r → Overwrites overwriting
               → stored_by r overwriting message v ≡ Some booked
-              → IsShelved policy booked.next list (noted_behind booked.lines notes)
+              → IsShelved policy booked.next list base (noted_behind booked.lines notes)
           go room.Fits overwriting e may same =
-              subst (λ (b : Booked). IsShelved policy b.next list (noted_behind b.lines notes)) (some-inj _ _ same)
-              (put-shelved v list notes message is shelved)
+              subst (λ (b : Booked). IsShelved policy b.next list base (noted_behind b.lines notes)) (some-inj _ _ same)
+              (put-shelved v list base notes message is shelved)
           go room.Full true e may same =
               let full =
               all-used (nat_lt 4081 (length message.body)) (nat_le (2 ^ 63) (next_of v)) (v.len == v.slots) e in
               let long = ap length shelved.stands ∙ found-long (settled_list v list) ∙ shelved.long in
               let some = full_has_some v (length message.body) is e in
               let out =
-              out-shelved v list notes cause.Overwritten is shelved some (λ e2. absurd (grind (arith, e2)))
+              out-shelved v list base notes cause.Overwritten is shelved some (λ e2. absurd (grind (arith, e2)))
               (may refl (ap (λ (n : ℕ). n == v.slots) long ∙ full)) in
-              subst (λ (b : Booked). IsShelved policy b.next list (noted_behind b.lines notes)) (some-inj _ _ same)
-              (put-shelved (oldest_out cause.Overwritten v).next list
+              subst (λ (b : Booked). IsShelved policy b.next list base (noted_behind b.lines notes)) (some-inj _ _ same)
+              (put-shelved (oldest_out cause.Overwritten v).next list base
               (noted_behind (oldest_out cause.Overwritten v).lines notes) message
               (oldest_out_keeps v (owed v work.DropOldest) is some refl) out)
           go room.Full false e may same =
-              subst (λ (b : Booked). IsShelved policy b.next list (noted_behind b.lines notes)) (some-inj _ _ same)
-              (noted-shelved v list notes (Discarded (spooled_name message)) tt tt shelved)
+              subst (λ (b : Booked). IsShelved policy b.next list base (noted_behind b.lines notes)) (some-inj _ _ same)
+              (noted-shelved v list base notes (Discarded (spooled_name message)) tt tt shelved)
           go room.TooLong overwriting e may same =
-              subst (λ (b : Booked). IsShelved policy b.next list (noted_behind b.lines notes)) (some-inj _ _ same)
-              (noted-shelved v list notes (TooLong (spooled_name message)) tt tt shelved)
+              subst (λ (b : Booked). IsShelved policy b.next list base (noted_behind b.lines notes)) (some-inj _ _ same)
+              (noted-shelved v list base notes (TooLong (spooled_name message)) tt tt shelved)
           go room.NumbersSpent overwriting e may same = absurd (grind (arith, same))

@@ -1,7 +1,10 @@
 -- What turns keep of the spool as it is noted.
-use Rattle.std.proofs.Common.{◌≡◌, refl, sym, ap, subst, ◌∙◌, inl, Bool, true, ℕ, List, [], ◌∷◌, ◌++◌, All, append-nil, append_assoc, Option, Some, None}
+use Rattle.std.proofs.Common.{◌≡◌, ◌+◌, refl, sym, ap, subst, ◌∙◌, inl, Bool, true, ℕ, List, [], ◌∷◌, ◌++◌, All, append-nil, append_assoc, Option, Some, None}
 use Rattle.std.proofs.lemmas.List.Elements.{All-head, All-tail}
 use Rattle.std.specs.Option.{option_map_or}
+use Rattle.gem_spool.specs.Works.{AreDue}
+use Rattle.gem_spool.specs.declared.count.Count.{Count}
+use Rattle.gem_spool.specs.declared.works.Work.{Work}
 use Rattle.message_end.specs.Core.{EndView, Went, and_then, carried, noted}
 use Rattle.message_end.specs.Core.Command.{Halt}
 use Rattle.message_end.specs.Core.Went.{Goes, Spent}
@@ -13,6 +16,7 @@ use Rattle.spool_law.specs.Shelf.{IsPurge, KeepsSpool, Told, received_since, she
 use Rattle.spool_ledger.specs.Ledger.{Booked, IsLedger, LedgerView}
 use Rattle.spool_ledger.specs.Storing.{all_out, stored}
 use Rattle.spool_ledger.specs.Unloading.{tried_in}
+use Rattle.spool_ledger.specs.declared.ledger.Stand.{Stand}
 use Rattle.spool_ledger.specs.declared.unload.Unload.{Unload}
 use Rattle.spool_slots.specs.Slot.{Message as Put}
 use Rattle.trace_log.specs.Log.{Happening}
@@ -30,6 +34,7 @@ use Rattle.equipment_node.proofs.CalmTurns.{IsCalmBehind, IsCalmRun, done-run, r
 use Rattle.equipment_node.proofs.KeptLedger.{IsKeptBy, IsPutWell, all-kept, all-out-unload, nothing-kept, stored-kept, stored-unload}
 use Rattle.equipment_node.proofs.Shelved.{IsShelved}
 use Rattle.equipment_node.proofs.SilentCommands.{CoreStep, OnEither, either-less}
+use Rattle.equipment_node.proofs.WorkLines.{AreLines, lines-as}
 use Rattle.equipment_node.proofs.UnloadOpen.{IsOpen, Moves, moves-both, open-less, open-moved, unloads_in}
 
 -- ---- lines of the ledger
@@ -60,7 +65,7 @@ pub record IsLikeIt (own new : OwnView) : Type 0 where
   pub ledger : new.ledger ≡ own.ledger
   pub reports : ArePutWell own.reports → ArePutWell new.reports
 
-module _ (plan : EquipmentPlan) (slots : ℕ) (list : List Put) (before : List Happening) where
+module _ (plan : EquipmentPlan) (slots : ℕ) (list : List Put) (base before : List Happening) where
   abbrev told_to : CoreStep → List Happening
   told_to step = noted_behind step.notes before
 
@@ -74,17 +79,48 @@ module _ (plan : EquipmentPlan) (slots : ℕ) (list : List Put) (before : List H
   pub record Shelves (own : OwnView) (core : EndView Kind) (notes : List Happening) : Type 0 where
     pub is : IsLedger own.ledger
     pub all : own.ledger.slots ≡ slots
-    pub shelved : IsShelved (policy_of plan slots) own.ledger list notes
+    pub shelved : IsShelved (policy_of plan slots) own.ledger list base notes
     pub drawn : AreDrawn (shelf_of notes).told core.numbers.next
     pub asks : AsksOfPrimary core.asked
     pub under_way : IsUnder own.ledger core notes
     pub reports : ArePutWell own.reports
 
-  -- where the numbers are spent the notes keep the law all the same
+  -- what the disk has
+  abbrev pub count_at : Stand → Count
+  count_at at = record { slots = slots; next = at.first + at.len; len = at.len }
+
+  -- where the numbers are spent the notes keep the law all the same, and go with what is owed, and each work finds
+  -- room, or its message
+  pub record IsSpentAt (v : LedgerView) (notes : List Happening) : Type 0 where
+    pub kept : KeepsSpool (policy_of plan slots) notes
+    pub lines : AreLines v list base notes
+    pub due : AreDue (count_at v.stood) v.works
+
+  pub spent-at :
+      (v : LedgerView) (notes : List Happening) → IsLedger v → v.slots ≡ slots
+      → IsShelved (policy_of plan slots) v list base notes → IsSpentAt v notes
+  spent-at v notes is all shelved = record {
+    kept = shelved.kept;
+    lines = shelved.lines;
+    due =
+        subst (λ (n : ℕ). AreDue (record { slots = n; next = v.stood.first + v.stood.len; len = v.stood.len }) v.works)
+        all is.due;
+  }
+
+  -- a ledger that owes the same
+  pub spent-as : (v w : LedgerView) (notes : List Happening) → w.stood ≡ v.stood → w.works ≡ v.works → IsSpentAt v notes
+      → IsSpentAt w notes
+  spent-as v w notes stood works is = record {
+    kept = is.kept;
+    lines = lines-as v w list base notes stood works is.lines;
+    due =
+        subst (λ (at : Stand). AreDue (count_at at) w.works) (sym stood)
+        (subst (λ (ws : List Work). AreDue (count_at v.stood) ws) (sym works) is.due);
+  }
+
   abbrev pub Ends : OwnView → Went (EndView Kind) Happening → Type 0
   Ends own went =
-      OnEither (λ next. Shelves own next.next (told_to next)) (λ next. KeepsSpool (policy_of plan slots) (told_to next))
-      went
+      OnEither (λ next. Shelves own next.next (told_to next)) (λ next. IsSpentAt own.ledger (told_to next)) went
 
   -- ---- turns without the spool
 
@@ -95,7 +131,7 @@ module _ (plan : EquipmentPlan) (slots : ℕ) (list : List Put) (before : List H
     is = subst IsLedger (sym like.ledger) holds.is;
     all = ap (λ (v : LedgerView). v.slots) like.ledger ∙ holds.all;
     shelved =
-        subst (λ (v : LedgerView). IsShelved (policy_of plan slots) v list notes) (sym like.ledger) holds.shelved;
+        subst (λ (v : LedgerView). IsShelved (policy_of plan slots) v list base notes) (sym like.ledger) holds.shelved;
     drawn = holds.drawn;
     asks = holds.asks;
     under_way = subst (λ (v : LedgerView). IsUnder v core notes) (sym like.ledger) holds.under_way;
@@ -123,7 +159,7 @@ module _ (plan : EquipmentPlan) (slots : ℕ) (list : List Put) (before : List H
       record {
         is = holds.is;
         all = holds.all;
-        shelved = run.notes.shelved (policy_of plan slots) own.ledger list holds.shelved;
+        shelved = run.notes.shelved (policy_of plan slots) own.ledger list base holds.shelved;
         drawn = now.drawn;
         asks = now.asks;
         under_way =
@@ -145,16 +181,19 @@ module _ (plan : EquipmentPlan) (slots : ℕ) (list : List Put) (before : List H
       → AreCalmDuties hears duties → Shelves own step.next (told_to step) → Ends new (all_done Some duties step)
   calm-keeps hears own new duties step like calm holds =
       either-less (IsCalmRun hears before step) (IsCalmRun hears before step)
-      (λ next. Shelves new next.next (told_to next)) (λ next. KeepsSpool (policy_of plan slots) (told_to next))
+      (λ next. Shelves new next.next (told_to next)) (λ next. IsSpentAt new.ledger (told_to next))
       (all_done Some duties step) (calm-runs hears own duties step calm holds)
       (λ next run. like-it own new next.next (told_to next) like (run-keeps hears own step next run holds))
-      (λ next run. (run.notes.shelved (policy_of plan slots) own.ledger list holds.shelved).kept)
+      (λ next run.
+      subst (λ (v : LedgerView). IsSpentAt v (told_to next)) (sym like.ledger)
+      (spent-at own.ledger (told_to next) holds.is holds.all
+      (run.notes.shelved (policy_of plan slots) own.ledger list base holds.shelved)))
 
   -- ---- calls of the ledger
 
   pub booked-keeps :
       (own : OwnView) (next : LedgerView) (lines : List Happening) (step : CoreStep)
-      → IsKeptBy plan slots list own.ledger (told_to step) next lines
+      → IsKeptBy plan slots list base own.ledger (told_to step) next lines
       → IsOpen (tried_in next.unload) own.ledger.first (shelf_of (told_to step)) step.next.drawn
       (unloads_in step.next.transactions.begun) → Shelves own step.next (told_to step)
       → Ends (with_ledger next own) (carried Some (lines_commands lines) step)
@@ -191,20 +230,21 @@ module _ (plan : EquipmentPlan) (slots : ℕ) (list : List Put) (before : List H
   pub stores-kept :
       (messages : List Spooled) (v : LedgerView) (notes : List Happening) (tables : TablesState)
       → All IsPutWell messages
-      → IsLedger v → v.slots ≡ slots → IsShelved (policy_of plan slots) v list notes → tables_in plan notes ≡ tables
-      → IsKeptBy plan slots list v notes (stores_all (overwrites tables) messages v).next
+      → IsLedger v → v.slots ≡ slots → IsShelved (policy_of plan slots) v list base notes → tables_in plan notes
+      ≡ tables
+      → IsKeptBy plan slots list base v notes (stores_all (overwrites tables) messages v).next
       (stores_all (overwrites tables) messages v).lines
-  stores-kept [] v notes tables may is all shelved at = nothing-kept plan slots list v notes is shelved
+  stores-kept [] v notes tables may is all shelved at = nothing-kept plan slots list base v notes is shelved
   stores-kept (message ∷ messages) v notes tables may is all shelved at =
       go (stored (overwrites tables) message v) refl
       (λ w ns is2 all2 shelved2 at2.
       stores-kept messages w ns tables (All-tail IsPutWell message messages may) is2 all2 shelved2 at2)
     where
-      both : (booked : Booked) → IsKeptBy plan slots list v notes booked.next booked.lines
-          → IsKeptBy plan slots list booked.next (noted_behind booked.lines notes)
+      both : (booked : Booked) → IsKeptBy plan slots list base v notes booked.next booked.lines
+          → IsKeptBy plan slots list base booked.next (noted_behind booked.lines notes)
           (stores_all (overwrites tables) messages booked.next).next
           (stores_all (overwrites tables) messages booked.next).lines
-          → IsKeptBy plan slots list v notes (stores_all (overwrites tables) messages booked.next).next
+          → IsKeptBy plan slots list base v notes (stores_all (overwrites tables) messages booked.next).next
           (booked.lines ++ (stores_all (overwrites tables) messages booked.next).lines)
       both booked first second =
           let same = lines-behind booked.lines (stores_all (overwrites tables) messages booked.next).lines notes in
@@ -213,7 +253,7 @@ module _ (plan : EquipmentPlan) (slots : ℕ) (list : List Put) (before : List H
             all = second.all ∙ first.all;
             shelved = subst
                 (λ (ns : List Happening). IsShelved (policy_of plan slots)
-                (stores_all (overwrites tables) messages booked.next).next list ns)
+                (stores_all (overwrites tables) messages booked.next).next list base ns)
                 (sym same) second.shelved;
             told = ap (λ (ns : List Happening). (shelf_of ns).told) same ∙ second.told ∙ first.told;
             tables = ap (tables_in plan) same ∙ second.tables ∙ first.tables;
@@ -232,17 +272,17 @@ module _ (plan : EquipmentPlan) (slots : ℕ) (list : List Put) (before : List H
 
       go : (found : Option Booked) → stored (overwrites tables) message v ≡ found
           → ((w : LedgerView) (ns : List Happening) → IsLedger w → w.slots ≡ slots
-          → IsShelved (policy_of plan slots) w list ns → tables_in plan ns ≡ tables
-          → IsKeptBy plan slots list w ns (stores_all (overwrites tables) messages w).next
+          → IsShelved (policy_of plan slots) w list base ns → tables_in plan ns ≡ tables
+          → IsKeptBy plan slots list base w ns (stores_all (overwrites tables) messages w).next
           (stores_all (overwrites tables) messages w).lines)
-          → IsKeptBy plan slots list v notes
+          → IsKeptBy plan slots list base v notes
           (option_map_or (λ (b : Booked). stores_behind b.lines (stores_all (overwrites tables) messages b.next)) found
           (stores_none true v)).next
           (option_map_or (λ (b : Booked). stores_behind b.lines (stores_all (overwrites tables) messages b.next)) found
           (stores_none true v)).lines
-      go None e rest = nothing-kept plan slots list v notes is shelved
+      go None e rest = nothing-kept plan slots list base v notes is shelved
       go (Some booked) e rest =
-          let first = stored-kept plan slots list v notes tables is all shelved at message booked
+          let first = stored-kept plan slots list base v notes tables is all shelved at message booked
           (All-head IsPutWell message messages may) e in
           both booked first
           (rest booked.next (noted_behind booked.lines notes) first.is (first.all ∙ all) first.shelved
@@ -261,7 +301,7 @@ module _ (plan : EquipmentPlan) (slots : ℕ) (list : List Put) (before : List H
           (stores_none true v)).next.unload
           ≡ v.unload
       go None e rest = refl
-      go (Some booked) e rest = rest booked.next ∙ stored-unload plan slots list v overwriting message booked e
+      go (Some booked) e rest = rest booked.next ∙ stored-unload plan slots list base v overwriting message booked e
 
   -- a turn of one duty
   pub once : (own : OwnView) (commands : ToolCommands) (step : CoreStep) → Ends own (carried Some commands step)
@@ -274,7 +314,7 @@ module _ (plan : EquipmentPlan) (slots : ℕ) (list : List Put) (before : List H
 
   pub turn-keeps :
       (own : OwnView) (booked : Booked) (step : CoreStep)
-      → IsKeptBy plan slots list own.ledger (told_to step) booked.next booked.lines
+      → IsKeptBy plan slots list base own.ledger (told_to step) booked.next booked.lines
       → IsOpen (tried_in booked.next.unload) own.ledger.first (shelf_of (told_to step)) step.next.drawn
       (unloads_in step.next.transactions.begun) → Shelves own step.next (told_to step)
       → Ends (booked_turn booked own).own (all_done Some (booked_turn booked own).duties step)
@@ -294,14 +334,15 @@ module _ (plan : EquipmentPlan) (slots : ℕ) (list : List Put) (before : List H
           → Ends (option_map_or (λ booked. booked_turn booked own) found (fixed_turn own (Halt ∷ []))).own
           (all_done Some (option_map_or (λ booked. booked_turn booked own) found (fixed_turn own (Halt ∷ []))).duties
           step)
-      go None e = holds.shelved.kept
+      go None e = spent-at own.ledger (told_to step) holds.is holds.all holds.shelved
       go (Some booked) e =
           turn-keeps own booked step
-          (stored-kept plan slots list own.ledger (told_to step) own.tables holds.is holds.all holds.shelved at message
+          (stored-kept plan slots list base own.ledger (told_to step) own.tables holds.is holds.all holds.shelved at
+          message
           booked
           may e)
           (same-under own booked.next step.next (told_to step)
-          (stored-unload plan slots list own.ledger (overwrites own.tables) message booked e) holds) holds
+          (stored-unload plan slots list base own.ledger (overwrites own.tables) message booked e) holds) holds
 
   -- S6F23 of RSDC 1 was received last, and all leave
   pub purge-keeps :
@@ -311,7 +352,7 @@ module _ (plan : EquipmentPlan) (slots : ℕ) (list : List Put) (before : List H
       (all_done Some (booked_turn (all_out own.ledger) own).duties step)
   purge-keeps own step asked holds =
       turn-keeps own (all_out own.ledger) step
-      (all-kept plan slots list own.ledger (told_to step) (tables_in plan (told_to step)) holds.is holds.all
+      (all-kept plan slots list base own.ledger (told_to step) (tables_in plan (told_to step)) holds.is holds.all
       holds.shelved
       refl (λ some. asked))
       (same-under own (all_out own.ledger).next step.next (told_to step) (all-out-unload own.ledger) holds) holds

@@ -24,7 +24,7 @@ use Rattle.message_end.specs.Course.{noted_behind}
 use Rattle.message_end.specs.Duties.{all_done}
 use Rattle.message_end.specs.Endings.{ends_begun, ends_failed, ends_one, ends_open, ends_waiting, is_of_open, notes_failed}
 use Rattle.message_end.proofs.Carrying.{carried_append, done_append}
-use Rattle.spool_law.specs.Shelf.{KeepsSpool, shelf_of}
+use Rattle.spool_law.specs.Shelf.{shelf_of}
 use Rattle.spool_ledger.specs.Activity.{activated}
 use Rattle.spool_ledger.specs.Ledger.{Booked, LedgerView}
 use Rattle.spool_ledger.specs.Unloading.{tried_in, with_unload}
@@ -52,7 +52,9 @@ use Rattle.equipment_node.proofs.CalmTurns.{IsCalmRun, IsReady, carried-run, don
 use Rattle.equipment_node.proofs.HeldReports.{has-found}
 use Rattle.equipment_node.proofs.KeptLedger.{IsKeptBy, IsPutWell}
 use Rattle.equipment_node.proofs.KeptUnload.{activated-kept, activated-unload}
-use Rattle.equipment_node.proofs.ShelvedTurns.{ArePutWell, Ends, Shelves, booked-keeps, calm-keeps, like-it, lines-behind, lines-carried, once, put-keeps, run-keeps, same-under, stores-kept, stores-unload}
+use Rattle.equipment_node.proofs.Drawing.{Any, both-free, duties-go, free-goes, goes-either}
+use Rattle.equipment_node.proofs.DrawnTurns.{comms-lines-free, noted-free, open-free}
+use Rattle.equipment_node.proofs.ShelvedTurns.{ArePutWell, Ends, IsSpentAt, Shelves, booked-keeps, calm-keeps, like-it, lines-behind, lines-carried, once, put-keeps, run-keeps, same-under, spent-at, stores-kept, stores-unload}
 use Rattle.equipment_node.proofs.SilentCommands.{CoreStep, OnEither, either-less, either-then}
 use Rattle.equipment_node.proofs.TakenTurns.{end-keeps}
 use Rattle.equipment_node.proofs.UnloadOpen.{IsLess, asks_leave, found-fewer, none-behind, unloads_in}
@@ -216,60 +218,62 @@ ended-fewer test t found flag is of =
 
 -- ---- turns
 
-module _ (plan : EquipmentPlan) (slots : ℕ) (list : List Put) (before : List Happening) where
+module _ (plan : EquipmentPlan) (slots : ℕ) (list : List Put) (base before : List Happening) where
   abbrev pub so_far : CoreStep → List Happening
   so_far step = noted_behind step.notes before
 
   abbrev pub ShelvesAt : OwnView → CoreStep → Type 0
-  ShelvesAt own step = Shelves plan slots list before own step.next (so_far step)
+  ShelvesAt own step = Shelves plan slots list base before own step.next (so_far step)
 
   -- with the tables as they are looked back for
   pub record HoldsAt (own : OwnView) (step : CoreStep) : Type 0 where
-    pub shelves : Shelves plan slots list before own step.next (noted_behind step.notes before)
+    pub shelves : Shelves plan slots list base before own step.next (noted_behind step.notes before)
     pub at : tables_in plan (noted_behind step.notes before) ≡ own.tables
 
-  abbrev pub IsRight : CoreStep → Type 0
-  IsRight step = KeepsSpool (policy_of plan slots) (so_far step)
+  abbrev pub IsRight : OwnView → CoreStep → Type 0
+  IsRight own step = IsSpentAt plan slots list base before own.ledger (so_far step)
 
   abbrev EndsAt : OwnView → Went (EndView Kind) Happening → Type 0
-  EndsAt own went = OnEither (HoldsAt own) IsRight went
+  EndsAt own went = OnEither (HoldsAt own) (IsRight own) went
 
   abbrev pub TurnEnds : ToolTurn → CoreStep → Type 0
-  TurnEnds turn step = Ends plan slots list before turn.own (all_done Some turn.duties step)
+  TurnEnds turn step = Ends plan slots list base before turn.own (all_done Some turn.duties step)
 
   -- ---- calm ones
 
   pub calm-turn : (own : OwnView) (turn : ToolTurn) (step : CoreStep) → IsCalmTurn own turn → ShelvesAt own step
       → TurnEnds turn step
   calm-turn own turn step calm holds =
-      calm-keeps plan slots list before false own turn.own turn.duties step calm.like calm.duties holds
+      calm-keeps plan slots list base before false own turn.own turn.duties step calm.like calm.duties holds
 
   pub calm-at : (own : OwnView) (commands : ToolCommands) (step : CoreStep) → AreCalm false commands → HoldsAt own step
       → EndsAt own (carried Some commands step)
   calm-at own commands step calm holds =
-      either-less (IsCalmRun false before step) (IsCalmRun false before step) (HoldsAt own) IsRight
+      either-less (IsCalmRun false before step) (IsCalmRun false before step) (HoldsAt own) (IsRight own)
       (carried Some commands step)
       (carried-run false before commands step calm
       (record { drawn = holds.shelves.drawn; asks = holds.shelves.asks }))
       (λ next run. record {
-        shelves = run-keeps plan slots list before false own step next run holds.shelves;
+        shelves = run-keeps plan slots list base before false own step next run holds.shelves;
         at = ap (λ (past : List Past). tables_at plan past) run.notes.past ∙ holds.at;
       })
-      (λ next run. (run.notes.shelved (policy_of plan slots) own.ledger list holds.shelves.shelved).kept)
+      (λ next run.
+      spent-at plan slots list base before own.ledger (so_far next) holds.shelves.is holds.shelves.all
+      (run.notes.shelved (policy_of plan slots) own.ledger list base holds.shelves.shelved))
 
   -- ---- calls of the ledger
 
   lines-at :
       (own : OwnView) (next : LedgerView) (lines : List Happening) (step : CoreStep)
-      → IsKeptBy plan slots list own.ledger (so_far step) next lines → next.unload ≡ own.ledger.unload
+      → IsKeptBy plan slots list base own.ledger (so_far step) next lines → next.unload ≡ own.ledger.unload
       → HoldsAt own step → EndsAt (with_ledger next own) (carried Some (lines_commands lines) step)
   lines-at own next lines step kept same holds =
       subst (EndsAt (with_ledger next own)) (sym (lines-carried lines step))
       (record {
         shelves =
-            subst (Ends plan slots list before (with_ledger next own)) (lines-carried lines step)
-            (booked-keeps plan slots list before own next lines step kept
-            (same-under plan slots list before own next step.next (so_far step) same holds.shelves) holds.shelves);
+            subst (Ends plan slots list base before (with_ledger next own)) (lines-carried lines step)
+            (booked-keeps plan slots list base before own next lines step kept
+            (same-under plan slots list base before own next step.next (so_far step) same holds.shelves) holds.shelves);
         at = ap (tables_in plan) (lines-behind step.notes lines before) ∙ kept.tables ∙ holds.at;
       })
 
@@ -281,12 +285,12 @@ module _ (plan : EquipmentPlan) (slots : ℕ) (list : List Put) (before : List H
   stores-at own messages more step well calm holds =
       subst (EndsAt put)
       (sym (carried_append Some (lines_commands stores.lines) (if stores.is_spent then Halt ∷ [] else more) step))
-      (either-then (HoldsAt put) IsRight (HoldsAt put) (carried Some (lines_commands stores.lines) step)
+      (either-then (HoldsAt put) (IsRight put) (HoldsAt put) (carried Some (lines_commands stores.lines) step)
       (carried Some (if stores.is_spent then Halt ∷ [] else more))
       (lines-at own stores.next stores.lines step
-      (stores-kept plan slots list before messages own.ledger (so_far step) own.tables well holds.shelves.is
+      (stores-kept plan slots list base before messages own.ledger (so_far step) own.tables well holds.shelves.is
       holds.shelves.all holds.shelves.shelved holds.at)
-      (stores-unload plan slots list before (overwrites own.tables) messages own.ledger) holds)
+      (stores-unload plan slots list base before (overwrites own.tables) messages own.ledger) holds)
       (λ next at. go stores.is_spent next at))
     where
       stores : Stores
@@ -297,7 +301,8 @@ module _ (plan : EquipmentPlan) (slots : ℕ) (list : List Put) (before : List H
 
       go : (spent : Bool) (next : CoreStep) → HoldsAt put next
           → EndsAt put (carried Some (if spent then Halt ∷ [] else more) next)
-      go true next at = at.shelves.shelved.kept
+      go true next at =
+          spent-at plan slots list base before put.ledger (so_far next) at.shelves.is at.shelves.all at.shelves.shelved
       go false next at = calm-at put more next calm at
 
   -- ---- the communication is left
@@ -350,22 +355,25 @@ module _ (plan : EquipmentPlan) (slots : ℕ) (list : List Put) (before : List H
       (step : CoreStep) → HoldsAt own step
       → TurnEnds (states.parted_turn outcome spools (activated enabled (with_unload None own.ledger)) failed own e) step
   parted-keeps outcome spools enabled failed own e step holds =
-      subst (Ends plan slots list before last_own)
+      subst (Ends plan slots list base before last_own)
       (sym (done_append Some opens ((λ later. states.left_commands outcome activity stores own) ∷ []) step))
-      (either-then (HoldsAt (unloaded_own own)) IsRight (ShelvesAt last_own) (all_done Some opens step)
+      (either-then (HoldsAt (unloaded_own own)) (IsRight last_own) (ShelvesAt last_own) (all_done Some opens step)
       (all_done Some ((λ later. states.left_commands outcome activity stores own) ∷ []))
-      (either-less (IsEnded step) (IsCalmRun false before step) (HoldsAt (unloaded_own own)) IsRight
+      (goes-either (HoldsAt (unloaded_own own)) Any (IsRight last_own) (all_done Some opens step)
+      (duties-go opens step (open-free spools left e failed))
+      (either-less (IsEnded step) (IsCalmRun false before step) (HoldsAt (unloaded_own own)) Any
       (all_done Some opens step)
       (open-ended spools left e failed step (record { drawn = holds.shelves.drawn; asks = holds.shelves.asks }))
       (λ next so. record {
         shelves =
-            end-keeps plan slots list before own next.next (so_far next) so.1
-            (run-keeps plan slots list before false own step next so.0 holds.shelves);
+            end-keeps plan slots list base before own next.next (so_far next) so.1
+            (run-keeps plan slots list base before false own step next so.0 holds.shelves);
         at = ap (λ (past : List Past). tables_at plan past) so.0.notes.past ∙ holds.at;
       })
-      (λ next run. (run.notes.shelved (policy_of plan slots) own.ledger list holds.shelves.shelved).kept))
+      (λ next run. tt)))
       (λ next at.
-      once plan slots list before last_own (states.left_commands outcome activity stores own) next (behind next at)))
+      once plan slots list base before last_own (states.left_commands outcome activity stores own) next
+      (behind next at)))
     where
       activity : Booked
       activity = activated enabled (with_unload None own.ledger)
@@ -400,35 +408,46 @@ module _ (plan : EquipmentPlan) (slots : ℕ) (list : List Put) (before : List H
           (sym
           (carried_append Some (states.comms_lines own.comms.state outcome.next.state) (lines_commands activity.lines)
           next))
-          (either-then (HoldsAt (unloaded_own own)) IsRight (HoldsAt on)
+          (either-then (HoldsAt (unloaded_own own)) (IsRight on) (HoldsAt on)
           (carried Some (states.comms_lines own.comms.state outcome.next.state) next)
           (carried Some (lines_commands activity.lines))
+          (goes-either (HoldsAt (unloaded_own own)) (IsRight (unloaded_own own)) (IsRight on)
+          (carried Some (states.comms_lines own.comms.state outcome.next.state) next)
+          (free-goes (states.comms_lines own.comms.state outcome.next.state) next
+          (comms-lines-free own.comms.state outcome.next.state))
           (calm-at (unloaded_own own) (states.comms_lines own.comms.state outcome.next.state) next
-          (comms-lines-calm own.comms.state outcome.next.state) at)
+          (comms-lines-calm own.comms.state outcome.next.state) at))
           (λ mid kept.
           lines-at (unloaded_own own) activity.next activity.lines mid
-          (activated-kept plan slots list (with_unload None own.ledger) (so_far mid) kept.shelves.is
+          (activated-kept plan slots list base (with_unload None own.ledger) (so_far mid) kept.shelves.is
           kept.shelves.shelved
           enabled) (activated-unload enabled (with_unload None own.ledger)) kept))
 
-      rest-at : (next : CoreStep) → HoldsAt on next → Ends plan slots list before last_own (carried Some rest next)
+      rest-at : (next : CoreStep) → HoldsAt on next → Ends plan slots list base before last_own (carried Some rest next)
       rest-at next at =
-          either-less (HoldsAt (with_ledger stores.next on)) IsRight (ShelvesAt last_own) IsRight
+          either-less (HoldsAt (with_ledger stores.next on)) (IsRight (with_ledger stores.next on)) (ShelvesAt last_own)
+          (IsRight last_own)
           (carried Some rest next)
           (stores-at on messages (states.request_commands outcome.output own) next
           (all-well left spools e.transactions.begun holds.shelves.reports) (request-calm outcome.output own) at)
           (λ last kept.
-          like-it plan slots list before (with_ledger stores.next on) last_own last.next (so_far last)
+          like-it plan slots list base before (with_ledger stores.next on) last_own last.next (so_far last)
           (record { ledger = refl; reports = λ are one has. absurd has }) kept.shelves)
           (λ last kept. kept)
 
       behind : (next : CoreStep) → HoldsAt (unloaded_own own) next
-          → Ends plan slots list before last_own
+          → Ends plan slots list base before last_own
           (carried Some (states.left_commands outcome activity stores own) next)
       behind next at =
-          subst (Ends plan slots list before last_own) (sym (carried_append Some first rest next))
-          (either-then (HoldsAt on) IsRight (ShelvesAt last_own) (carried Some first next) (carried Some rest)
-          (first-at next at) (λ mid kept. rest-at mid kept))
+          subst (Ends plan slots list base before last_own) (sym (carried_append Some first rest next))
+          (either-then (HoldsAt on) (IsRight last_own) (ShelvesAt last_own) (carried Some first next)
+          (carried Some rest)
+          (goes-either (HoldsAt on) (IsRight on) (IsRight last_own) (carried Some first next)
+          (free-goes first next
+          (both-free (states.comms_lines own.comms.state outcome.next.state) (lines_commands activity.lines)
+          (comms-lines-free own.comms.state outcome.next.state) (noted-free activity.lines)))
+          (first-at next at))
+          (λ mid kept. rest-at mid kept))
 
   pub leaving-keeps :
       (input : CommsIn) (failed : Option Header) (now : ℕ) (own : OwnView) (e : EndView Kind) (step : CoreStep)
@@ -465,24 +484,24 @@ module _ (plan : EquipmentPlan) (slots : ℕ) (list : List Put) (before : List H
       calm-turn own (loss_turn now kind.Grant system own e) step
       (denied-calm own (without_grant system own) (like-as own (without_grant system own) refl refl)) holds.shelves
   loss-keeps now kind.Report system own e step none holds =
-      like-it plan slots list before own (without_report system own) step.next (so_far step)
+      like-it plan slots list base before own (without_report system own) step.next (so_far step)
       (unreported-like own system) holds.shelves
   loss-keeps now kind.Unload system own e step none holds =
-      end-keeps plan slots list before own step.next (so_far step) (none false refl) holds.shelves
+      end-keeps plan slots list base before own step.next (so_far step) (none false refl) holds.shelves
   loss-keeps now kind.UnloadGrant system own e step none holds =
       calm-turn (unloaded_own own) (loss_turn now kind.UnloadGrant system own e) step
       (denied-calm (unloaded_own own) (unloaded_own own) (likes (unloaded_own own)))
-      (end-keeps plan slots list before own step.next (so_far step) (none true refl) holds.shelves)
+      (end-keeps plan slots list base before own step.next (so_far step) (none true refl) holds.shelves)
 
   pub before-keeps :
       (turn : ToolTurn) (duties : List ToolDuty) (step : CoreStep) → AreCalmDuties false duties → TurnEnds turn step
       → TurnEnds (turn_before duties turn) step
   before-keeps turn duties step calm ends =
-      subst (Ends plan slots list before turn.own) (sym (done_append Some turn.duties duties step))
-      (either-then (ShelvesAt turn.own) IsRight (ShelvesAt turn.own) (all_done Some turn.duties step)
+      subst (Ends plan slots list base before turn.own) (sym (done_append Some turn.duties duties step))
+      (either-then (ShelvesAt turn.own) (IsRight turn.own) (ShelvesAt turn.own) (all_done Some turn.duties step)
       (all_done Some duties) ends
       (λ next holds.
-      calm-keeps plan slots list before false turn.own turn.own duties next (likes turn.own) calm holds))
+      calm-keeps plan slots list base before false turn.own turn.own duties next (likes turn.own) calm holds))
 
   -- ---- no reply
 
@@ -523,7 +542,7 @@ module _ (plan : EquipmentPlan) (slots : ℕ) (list : List Put) (before : List H
           else if communicating then going (report body)
           else unreported_turn (spooled_name (report body)) own) step
       made body true communicating =
-          put-keeps plan slots list before own (report body) step (well body) holds.at holds.shelves
+          put-keeps plan slots list base before own (report body) step (well body) holds.at holds.shelves
       made body false true = calm-turn own (going (report body)) step (calm body) holds.shelves
       made body false false =
           calm-turn own (unreported_turn (spooled_name (report body)) own) step

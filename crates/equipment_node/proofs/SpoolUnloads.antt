@@ -31,7 +31,7 @@ use Rattle.equipment_node.specs.Spooling.{dataid_in, leave_given_turn, leave_tur
 use Rattle.equipment_node.proofs.CalmParts.{like-as, likes}
 use Rattle.equipment_node.proofs.KeptLedger.{one-call}
 use Rattle.equipment_node.proofs.QuietNotes.{one-behind}
-use Rattle.equipment_node.proofs.ShelvedTurns.{Ends, calm-keeps, like-it}
+use Rattle.equipment_node.proofs.ShelvedTurns.{Ends, calm-keeps, like-it, spent-at}
 use Rattle.equipment_node.proofs.SilentCommands.{CoreStep}
 use Rattle.equipment_node.proofs.SpoolTurns.{ShelvesAt, TurnEnds, so_far}
 use Rattle.equipment_node.proofs.KeptUnload.{taken-told}
@@ -137,55 +137,58 @@ crowded-same e = go (next_number e.numbers)
     go None = refl
     go (Some number) = refl
 
-module _ (plan : EquipmentPlan) (slots : ℕ) (list : List Put) (before : List Happening) where
+module _ (plan : EquipmentPlan) (slots : ℕ) (list : List Put) (base before : List Happening) where
   -- ---- it goes
 
   -- what holds behind a try
   pub record IsTried (own : OwnView) (message : Spooled) (system : ℕ) (step : CoreStep) : Type 0 where
-    pub shelves : ShelvesAt plan slots list before own step
+    pub shelves : ShelvesAt plan slots list base before own step
     pub none : unloads_in step.next.transactions.begun ≡ []
     pub drawn : step.next.drawn ≡ Some system
-    pub told : told_with system (shelf_of (so_far plan slots list before step)).told ≡ Some message
+    pub told : told_with system (shelf_of (so_far plan slots list base before step)).told ≡ Some message
     pub under : (waits : waiting_text message ≡ None) (d : Option ℕ) (opened : Open) → IsGone system opened
-        → IsOpen (tried_in own.ledger.unload) own.ledger.first (shelf_of (so_far plan slots list before step)) d opened
+        → IsOpen (tried_in own.ledger.unload) own.ledger.first (shelf_of (so_far plan slots list base before step)) d
+        opened
     pub asked : (body : List ℕ) → waiting_text message ≡ Some body → (opened : Open) → IsAsked opened
-        → IsOpen (tried_in own.ledger.unload) own.ledger.first (shelf_of (so_far plan slots list before step))
+        → IsOpen (tried_in own.ledger.unload) own.ledger.first (shelf_of (so_far plan slots list base before step))
         step.next.drawn opened
 
   sent-keeps :
       (own : OwnView) (message : Spooled) (system : ℕ) (e : EndView Kind) (step : CoreStep)
       → is_crowded_out true e ≡ is_crowded_out true step.next → IsTried own message system step
-      → TurnEnds plan slots list before (sent_turn message own e) step
+      → TurnEnds plan slots list base before (sent_turn message own e) step
   sent-keeps own message system e step room is = go (needs_leave message) refl
     where
       text : Text
       text = sent.text_of own (sent.grant_item (dataid_in message.body) (length message.body))
 
       leaves : (needs : needs_leave message ≡ true) (text : Text)
-          → TurnEnds plan slots list before (leave_turn text own e) step
+          → TurnEnds plan slots list base before (leave_turn text own e) step
       leaves needs (answer.Body asked) =
-          asked-keeps plan slots list before own asked (is_crowded_out true e) step (sym room) is.none
+          asked-keeps plan slots list base before own asked (is_crowded_out true e) step (sym room) is.none
           (is.asked message.body (ap (λ (b : Bool). if b then Some message.body else None) needs)) is.shelves
       leaves needs answer.TooLong =
-          end-keeps plan slots list before own step.next (so_far plan slots list before step) is.none is.shelves
+          end-keeps plan slots list base before own step.next (so_far plan slots list base before step) is.none
+          is.shelves
       leaves needs answer.Abort =
-          end-keeps plan slots list before own step.next (so_far plan slots list before step) is.none is.shelves
+          end-keeps plan slots list base before own step.next (so_far plan slots list base before step) is.none
+          is.shelves
 
       go : (needs : Bool) → needs_leave message ≡ needs
-          → TurnEnds plan slots list before
+          → TurnEnds plan slots list base before
           (if needs then leave_turn text own e else unloading_turn message own e) step
       go true needs = leaves needs text
       go false needs =
-          drawn-keeps plan slots list before own message system (is_crowded_out true e) step (sym room) is.drawn
-          (carries-told message system (shelf_of (so_far plan slots list before step)).told is.told) is.none
+          drawn-keeps plan slots list base before own message system (is_crowded_out true e) step (sym room) is.drawn
+          (carries-told message system (shelf_of (so_far plan slots list base before step)).told is.told) is.none
           (is.under (ap (λ (b : Bool). if b then Some message.body else None) needs)) is.shelves
 
   -- ---- a message is taken up
 
   drawn-so :
       (own : OwnView) (step : CoreStep) (system : ℕ) → (step.next.numbers.next == step.next.numbers.end) ≡ false
-      → tried_in own.ledger.unload ≡ None → ShelvesAt plan slots list before own step
-      → ShelvesAt plan slots list before own
+      → tried_in own.ledger.unload ≡ None → ShelvesAt plan slots list base before own step
+      → ShelvesAt plan slots list base before own
       (keeps_drawn system (with_end (record step.next { numbers = after_draw step.next.numbers }) step))
   drawn-so own step system more none holds = record {
     is = holds.is;
@@ -202,11 +205,11 @@ module _ (plan : EquipmentPlan) (slots : ℕ) (list : List Put) (before : List H
     under_way =
         subst
         (λ (under : Option UnderWay).
-        IsOpen under own.ledger.first (shelf_of (so_far plan slots list before step)) (Some system)
+        IsOpen under own.ledger.first (shelf_of (so_far plan slots list base before step)) (Some system)
         (unloads_in step.next.transactions.begun)) (sym none)
         (subst
         (λ (under : Option UnderWay).
-        IsOpen under own.ledger.first (shelf_of (so_far plan slots list before step)) step.next.drawn
+        IsOpen under own.ledger.first (shelf_of (so_far plan slots list base before step)) step.next.drawn
         (unloads_in step.next.transactions.begun)) none holds.under_way);
     reports = holds.reports;
   }
@@ -222,17 +225,17 @@ module _ (plan : EquipmentPlan) (slots : ℕ) (list : List Put) (before : List H
       (step : CoreStep)
       → own.ledger.unload ≡ Some unload → 0 < own.ledger.len → settled_list own.ledger list ≡ oldest ∷ rest
       → spooled_of oldest ≡ message → system < step.next.numbers.next → unloads_in step.next.transactions.begun ≡ []
-      → step.next.drawn ≡ Some system → ShelvesAt plan slots list before own step
+      → step.next.drawn ≡ Some system → ShelvesAt plan slots list base before own step
       → IsTried (taken_own system message own) message system (noted Some (Try own.ledger.first system) step)
   tried-so own unload message system oldest rest step is some same of below none drawn holds = record {
-    shelves = noted-so plan slots list before next (Try own.ledger.first system) step step.next
-        (like-it plan slots list before
+    shelves = noted-so plan slots list base before next (Try own.ledger.first system) step step.next
+        (like-it plan slots list base before
         (with_ledger (taken_up own.ledger.first system (waiting_text message) own.ledger).next own) next step.next
         tried_notes
         (like-as (with_ledger (taken_up own.ledger.first system (waiting_text message) own.ledger).next own) next refl
         refl)
-        (try-keeps plan slots list before own system (waiting_text message) oldest rest step.next
-        (so_far plan slots list before step) some same below none (goes (needs_leave message) refl) holds));
+        (try-keeps plan slots list base before own system (waiting_text message) oldest rest step.next
+        (so_far plan slots list base before step) some same below none (goes (needs_leave message) refl) holds));
     none = none;
     drawn = drawn;
     told = at-notes (λ notes. told_with system (shelf_of notes).told ≡ Some message) told_is;
@@ -262,10 +265,10 @@ module _ (plan : EquipmentPlan) (slots : ℕ) (list : List Put) (before : List H
       next = taken_own system message own
 
       tried_notes : List Happening
-      tried_notes = Try own.ledger.first system ∷ so_far plan slots list before step
+      tried_notes = Try own.ledger.first system ∷ so_far plan slots list base before step
 
       at-notes : (P : List Happening → Type 0) → P tried_notes
-          → P (so_far plan slots list before (noted Some (Try own.ledger.first system) step))
+          → P (so_far plan slots list base before (noted Some (Try own.ledger.first system) step))
       at-notes P is = subst P (sym (one-behind step.notes (Try own.ledger.first system) before)) is
 
       by : (P : Option Unload → Type 0)
@@ -282,10 +285,12 @@ module _ (plan : EquipmentPlan) (slots : ℕ) (list : List Put) (before : List H
       told_is : told_with system (shelf_of tried_notes).told ≡ Some message
       told_is =
           ap (λ (t : List Told). told_with system t)
-          (taken-told plan slots list own.ledger (so_far plan slots list before step) holds.is holds.shelved system
+          (taken-told plan slots list base own.ledger (so_far plan slots list base before step) holds.is holds.shelved
+          system
           oldest
           rest same)
-          ∙ told-newest system (spooled_of oldest) (shelf_of (so_far plan slots list before step)).told ∙ ap Some of
+          ∙ told-newest system (spooled_of oldest) (shelf_of (so_far plan slots list base before step)).told
+          ∙ ap Some of
 
       inj : (x y : List ℕ) → Some x ≡ Some y → x ≡ y
       inj x y e = cc
@@ -308,15 +313,17 @@ module _ (plan : EquipmentPlan) (slots : ℕ) (list : List Put) (before : List H
       (own : OwnView) (unload : Unload) (message : Spooled) (oldest : Put) (rest : List Put) (e : EndView Kind)
       (step : CoreStep) → own.ledger.unload ≡ Some unload → unload.tried ≡ None → 0 < own.ledger.len
       → settled_list own.ledger list ≡ oldest ∷ rest → spooled_of oldest ≡ message
-      → is_crowded_out true e ≡ is_crowded_out true step.next → ShelvesAt plan slots list before own step
+      → is_crowded_out true e ≡ is_crowded_out true step.next → ShelvesAt plan slots list base before own step
       → (spent : Bool) → (step.next.numbers.next == step.next.numbers.end) ≡ spent
-      → Ends plan slots list before
+      → Ends plan slots list base before
       (tried_turn (if spent then None else Some step.next.numbers.next) own.ledger.first message own e).own
       (and_then
       (and_then (draws (if spent then None else Some step.next.numbers.next) keeps_drawn step) (carried Some []))
       (all_done Some
       (tried_turn (if spent then None else Some step.next.numbers.next) own.ledger.first message own e).duties))
-  taken-keeps own unload message oldest rest e step is tried some same of room holds true spent = holds.shelved.kept
+  taken-keeps own unload message oldest rest e step is tried some same of room holds true spent =
+      spent-at plan slots list base before own.ledger (so_far plan slots list base before step) holds.is holds.all
+      holds.shelved
   taken-keeps own unload message oldest rest e step is tried some same of room holds false more =
       sent-keeps (taken_own system message own) message system e
       (noted Some (Try own.ledger.first system) next) room
@@ -344,14 +351,14 @@ module _ (plan : EquipmentPlan) (slots : ℕ) (list : List Put) (before : List H
       none =
           subst
           (λ (under : Option UnderWay).
-          IsOpen under own.ledger.first (shelf_of (so_far plan slots list before step)) step.next.drawn
+          IsOpen under own.ledger.first (shelf_of (so_far plan slots list base before step)) step.next.drawn
           (unloads_in step.next.transactions.begun)) none_tried holds.under_way
 
   pub part-keeps :
       (oldest : Option Spooled) (own : OwnView) (step : CoreStep)
       → oldest ≡ option_map spooled_of (slice_get (settled_list own.ledger list) 0)
-      → ShelvesAt plan slots list before own step
-      → TurnEnds plan slots list before (unload_part oldest own step.next) step
+      → ShelvesAt plan slots list base before own step
+      → TurnEnds plan slots list base before (unload_part oldest own step.next) step
   part-keeps oldest own step of holds = go (next_unloaded most own.ledger) refl oldest of
     where
       most : ℕ
@@ -360,14 +367,14 @@ module _ (plan : EquipmentPlan) (slots : ℕ) (list : List Put) (before : List H
       on : OwnView
       on = with_ledger (after_next most own.ledger) own
 
-      held : ShelvesAt plan slots list before on step
+      held : ShelvesAt plan slots list base before on step
       held =
-          unload-keeps plan slots list before own (after_next most own.ledger) step.next
-          (so_far plan slots list before step)
-          (one-call plan slots list (Call.NextUnload most) own.ledger holds.is tt) refl refl refl refl
+          unload-keeps plan slots list base before own (after_next most own.ledger) step.next
+          (so_far plan slots list base before step)
+          (one-call plan slots list base (Call.NextUnload most) own.ledger holds.is tt) refl refl refl (refl, refl)
           (subst
           (λ (under : Option UnderWay).
-          IsOpen under own.ledger.first (shelf_of (so_far plan slots list before step)) step.next.drawn
+          IsOpen under own.ledger.first (shelf_of (so_far plan slots list base before step)) step.next.drawn
           (unloads_in step.next.transactions.begun)) (sym (next-tried most own.ledger own.ledger.unload))
           holds.under_way) holds
 
@@ -381,16 +388,16 @@ module _ (plan : EquipmentPlan) (slots : ℕ) (list : List Put) (before : List H
       takes : (number : ℕ) → IsNext most own.ledger number → (message : Spooled) (found : List Put)
           → settled_list own.ledger list ≡ found → length found ≡ own.ledger.len
           → Some message ≡ option_map spooled_of (slice_get found 0)
-          → TurnEnds plan slots list before (taking_turn (Some number) (Some message) on step.next) step
+          → TurnEnds plan slots list base before (taking_turn (Some number) (Some message) on step.next) step
       takes number next message [] same long of = let some = next.some in absurd (omega (arith, long, some))
       takes number next message (first ∷ rest) same long of =
           subst
           (λ (n : ℕ).
-          TurnEnds plan slots list before (taking_turn (Some n) (Some message) on step.next) step) (sym next.first)
+          TurnEnds plan slots list base before (taking_turn (Some n) (Some message) on step.next) step) (sym next.first)
           (stop on.tried)
         where
-          at : (middle : CoreStep) → ShelvesAt plan slots list before on middle
-              → TurnEnds plan slots list before
+          at : (middle : CoreStep) → ShelvesAt plan slots list base before on middle
+              → TurnEnds plan slots list base before
               (leads Draw (tried_turn (next_number middle.next.numbers) own.ledger.first message on) middle.next) middle
           at middle held =
               taken-keeps on next.unload message first rest (core_after Draw middle.next) middle next.kept next.tried
@@ -398,7 +405,7 @@ module _ (plan : EquipmentPlan) (slots : ℕ) (list : List Put) (before : List H
               (middle.next.numbers.next == middle.next.numbers.end) refl
 
           stop : (tried : Option ℕ)
-              → TurnEnds plan slots list before
+              → TurnEnds plan slots list base before
               (stopped_turn tried
               (λ later. leads Draw (tried_turn (next_number later.numbers) own.ledger.first message on) later)
               step.next)
@@ -406,12 +413,12 @@ module _ (plan : EquipmentPlan) (slots : ℕ) (list : List Put) (before : List H
           stop None = at step held
           stop (Some system) =
               at (stopped system)
-              (calm-keeps plan slots list before false on on ((λ e. Remove true system ∷ []) ∷ []) step (likes on)
+              (calm-keeps plan slots list base before false on on ((λ e. Remove true system ∷ []) ∷ []) step (likes on)
               ((λ e. (tt, tt)), tt) held)
 
       go : (number : Option ℕ) → next_unloaded most own.ledger ≡ number → (oldest : Option Spooled)
           → oldest ≡ option_map spooled_of (slice_get (settled_list own.ledger list) 0)
-          → TurnEnds plan slots list before (taking_turn number oldest on step.next) step
+          → TurnEnds plan slots list base before (taking_turn number oldest on step.next) step
       go None is oldest of = held
       go (Some number) is None of = held
       go (Some number) is (Some message) of =
@@ -422,12 +429,12 @@ module _ (plan : EquipmentPlan) (slots : ℕ) (list : List Put) (before : List H
 
   pub leave-given-keeps :
       (own : OwnView) (e : EndView Kind) (step : CoreStep) → is_crowded_out true e ≡ is_crowded_out true step.next
-      → unloads_in step.next.transactions.begun ≡ [] → ShelvesAt plan slots list before own step
-      → TurnEnds plan slots list before (leave_given_turn own e) step
+      → unloads_in step.next.transactions.begun ≡ [] → ShelvesAt plan slots list base before own step
+      → TurnEnds plan slots list base before (leave_given_turn own e) step
   leave-given-keeps own e step room none holds = go own.ledger.unload refl holds.under_way
     where
       notes : List Happening
-      notes = so_far plan slots list before step
+      notes = so_far plan slots list base before step
 
       gone : OwnView
       gone = with_ledger (with_each let_go own.ledger) own
@@ -437,16 +444,16 @@ module _ (plan : EquipmentPlan) (slots : ℕ) (list : List Put) (before : List H
           → unload.tried ≡ Some (record { number = number; waiting = waiting })
           → IsUnderWay (record { number = number; waiting = waiting }) own.ledger.first (shelf_of notes) step.next.drawn
           (unloads_in step.next.transactions.begun)
-          → TurnEnds plan slots list before (let_go_turn waiting own e) step
+          → TurnEnds plan slots list base before (let_go_turn waiting own e) step
       by-under unload number None is tried under = holds
       by-under unload number (Some body) is tried under =
-          drawn-keeps plan slots list before gone (event_report body) under.system (is_crowded_out true e) step
+          drawn-keeps plan slots list base before gone (event_report body) under.system (is_crowded_out true e) step
           (sym room)
           under.goes.0
           (carries-told (event_report body) under.system (shelf_of notes).told under.goes.1) none
           (λ d opened may. open-so d opened may)
-          (unload-keeps plan slots list before own (with_each let_go own.ledger) step.next notes
-          (one-call plan slots list Call.Granted own.ledger holds.is tt) refl refl refl refl
+          (unload-keeps plan slots list base before own (with_each let_go own.ledger) step.next notes
+          (one-call plan slots list base Call.Granted own.ledger holds.is tt) refl refl refl (refl, refl)
           (subst
           (λ (o : Open). IsOpen (tried_in gone.ledger.unload) own.ledger.first (shelf_of notes) step.next.drawn o)
           (sym none)
@@ -466,7 +473,8 @@ module _ (plan : EquipmentPlan) (slots : ℕ) (list : List Put) (before : List H
       by-tried :
           (unload : Unload) (tried : Option UnderWay) → own.ledger.unload ≡ Some unload → unload.tried ≡ tried
           → IsOpen tried own.ledger.first (shelf_of notes) step.next.drawn (unloads_in step.next.transactions.begun)
-          → TurnEnds plan slots list before (let_go_turn (waiting_in (Some (record unload { tried = tried }))) own e)
+          → TurnEnds plan slots list base before (let_go_turn (waiting_in (Some (record unload { tried = tried }))) own
+          e)
           step
       by-tried unload None is tried under = holds
       by-tried unload (Some t) is tried under = by-under unload t.number t.waiting is tried under
@@ -474,6 +482,6 @@ module _ (plan : EquipmentPlan) (slots : ℕ) (list : List Put) (before : List H
       go : (unload : Option Unload) → own.ledger.unload ≡ unload
           → IsOpen (tried_in unload) own.ledger.first (shelf_of notes) step.next.drawn
           (unloads_in step.next.transactions.begun)
-          → TurnEnds plan slots list before (let_go_turn (waiting_in unload) own e) step
+          → TurnEnds plan slots list base before (let_go_turn (waiting_in unload) own e) step
       go None is under = holds
       go (Some unload) is under = by-tried unload unload.tried is refl under

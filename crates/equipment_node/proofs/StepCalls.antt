@@ -101,7 +101,7 @@ module _ {D : Type 0} (members : disk.Ghosts D) where
   -- ---- system bytes
 
   module _ (s : EquipmentView) where
-    none-needed : needs_numbers s ≡ false → [] ≡ reserve_works s
+    pub none-needed : needs_numbers s ≡ false → [] ≡ reserve_works s
     none-needed enough =
         sym (ap (λ (b : Bool). if b && not (is_marked_out s.mark) then Reserve ∷ [] else []) enough)
 
@@ -141,7 +141,7 @@ module _ {D : Type 0} (members : disk.Ghosts D) where
         is-out : (h : GemSpool D) → ReservesFrom members g h None → is_marked_out s.mark ≡ true
         is-out h done = let none = done.1 in let mark = clear.stands.mark in grind (arith, nat_tests, none, mark)
 
-        none-left : (h : GemSpool D) → ReservesFrom members g h None → [] ≡ reserve_works s
+        pub none-left : (h : GemSpool D) → ReservesFrom members g h None → [] ≡ reserve_works s
         none-left h done =
             sym (ap (λ (b : Bool). if b && not (is_marked_out s.mark) then Reserve ∷ [] else []) needs
             ∙ ap (λ (b : Bool). if true && not b then Reserve ∷ [] else []) (is-out h done))
@@ -173,7 +173,7 @@ module _ {D : Type 0} (members : disk.Ghosts D) where
         (sym (opened-behind s went)) later)
 
     -- nothing is owed where no system bytes are left
-    none-owed : opening s ≡ Spent (at_first s) → carried_out s.node.own.ledger ≡ s.node.own.ledger
+    pub none-owed : opening s ≡ Spent (at_first s) → carried_out s.node.own.ledger ≡ s.node.own.ledger
         → works_behind (begun_step s input now) ≡ []
     none-owed spent owes =
         ap (λ (w : Went EquipmentView Happening). works_behind (and_then w (parts_done (first_parts input now)))) spent

@@ -33,10 +33,11 @@ use Rattle.equipment_node.specs.Spooling.{confirmed_turn, end_of_spooling, unloa
 use Rattle.equipment_node.specs.SpoolKept.{policy_of}
 use Rattle.equipment_node.proofs.CalmCommands.{AreDrawn, none-told}
 use Rattle.equipment_node.proofs.KeptLedger.{one-call}
-use Rattle.equipment_node.proofs.KeptUnload.{confirmed-kept, confirmed-tried, moved-shelved, rested-kept, rested-unload, taken-shelved, taken-told}
+use Rattle.equipment_node.proofs.KeptUnload.{OwesAs, confirmed-kept, confirmed-tried, moved-shelved, rested-kept, rested-unload, taken-shelved, taken-told}
 use Rattle.equipment_node.proofs.QuietNotes.{one-behind}
-use Rattle.equipment_node.proofs.Shelved.{LeavesStanding, noted-shelved}
-use Rattle.equipment_node.proofs.ShelvedTurns.{Ends, Shelves, once, same-under, turn-keeps}
+use Rattle.equipment_node.proofs.Shelved.{noted-shelved}
+use Rattle.equipment_node.proofs.WorkLines.{LeavesStanding}
+use Rattle.equipment_node.proofs.ShelvedTurns.{Ends, Shelves, once, same-under, spent-at, turn-keeps}
 use Rattle.equipment_node.proofs.SilentCommands.{CoreStep}
 use Rattle.equipment_node.proofs.UnloadOpen.{IsOpen, MayGo, Open, asks_leave, last-open, unloads_in, with_open}
 
@@ -65,17 +66,18 @@ begins-one one asks header t is none = go (refusal_of t header)
         ∙ ap (λ (o : Option Bool). with_open o header.system []) is
         )
 
-module _ (plan : EquipmentPlan) (slots : ℕ) (list : List Put) (before : List Happening) where
+module _ (plan : EquipmentPlan) (slots : ℕ) (list : List Put) (base before : List Happening) where
   -- an unload ends
   pub end-keeps :
       (own : OwnView) (core : EndView Kind) (notes : List Happening)
-      → unloads_in core.transactions.begun ≡ [] → Shelves plan slots list before own core notes
-      → Shelves plan slots list before (unloaded_own own) core notes
+      → unloads_in core.transactions.begun ≡ [] → Shelves plan slots list base before own core notes
+      → Shelves plan slots list base before (unloaded_own own) core notes
   end-keeps own core notes none holds = record {
-    is = one-call plan slots list Call.EndUnload own.ledger holds.is tt;
+    is = one-call plan slots list base Call.EndUnload own.ledger holds.is tt;
     all = holds.all;
     shelved =
-        moved-shelved plan slots list own.ledger (with_unload None own.ledger) notes refl refl refl holds.shelved;
+        moved-shelved plan slots list base own.ledger (with_unload None own.ledger) notes refl refl (refl, refl)
+        holds.shelved;
     drawn = holds.drawn;
     asks = holds.asks;
     under_way = none;
@@ -86,13 +88,14 @@ module _ (plan : EquipmentPlan) (slots : ℕ) (list : List Put) (before : List H
   pub unload-keeps :
       (own : OwnView) (w : LedgerView) (core : EndView Kind) (notes : List Happening) → IsLedger w
       → w.slots ≡ own.ledger.slots → w.first ≡ own.ledger.first → w.len ≡ own.ledger.len
-      → settled_list w list ≡ settled_list own.ledger list
+      → OwesAs plan slots list base own.ledger w
       → IsOpen (tried_in w.unload) w.first (shelf_of notes) core.drawn (unloads_in core.transactions.begun)
-      → Shelves plan slots list before own core notes → Shelves plan slots list before (with_ledger w own) core notes
+      → Shelves plan slots list base before own core notes → Shelves plan slots list base before (with_ledger w own)
+      core notes
   unload-keeps own w core notes is all first len same under holds = record {
     is = is;
     all = all ∙ holds.all;
-    shelved = moved-shelved plan slots list own.ledger w notes first len same holds.shelved;
+    shelved = moved-shelved plan slots list base own.ledger w notes first len same holds.shelved;
     drawn = holds.drawn;
     asks = holds.asks;
     under_way = under;
@@ -117,17 +120,18 @@ module _ (plan : EquipmentPlan) (slots : ℕ) (list : List Put) (before : List H
       (notes : List Happening) → 0 < own.ledger.len → settled_list own.ledger list ≡ oldest ∷ rest
       → system < core.numbers.next → unloads_in core.transactions.begun ≡ []
       → MayGo waiting system (shelf_of (Try own.ledger.first system ∷ notes)).told core.drawn []
-      → Shelves plan slots list before own core notes
-      → Shelves plan slots list before (with_ledger (taken_up own.ledger.first system waiting own.ledger).next own) core
+      → Shelves plan slots list base before own core notes
+      → Shelves plan slots list base before (with_ledger (taken_up own.ledger.first system waiting own.ledger).next
+      own) core
       (Try own.ledger.first system ∷ notes)
   try-keeps own system waiting oldest rest core notes some same below none goes holds = record {
-    is = one-call plan slots list (Call.TakeUp own.ledger.first system waiting) own.ledger holds.is tt;
+    is = one-call plan slots list base (Call.TakeUp own.ledger.first system waiting) own.ledger holds.is tt;
     all = holds.all;
-    shelved = taken-shelved plan slots list own.ledger notes holds.is holds.shelved system waiting some;
+    shelved = taken-shelved plan slots list base own.ledger notes holds.is holds.shelved system waiting some;
     drawn = λ one has.
         go one
         (subst (λ (told : List Told). Has told one)
-        (taken-told plan slots list own.ledger notes holds.is holds.shelved system oldest rest same) has);
+        (taken-told plan slots list base own.ledger notes holds.is holds.shelved system oldest rest same) has);
     asks = holds.asks;
     under_way =
         subst
@@ -145,22 +149,22 @@ module _ (plan : EquipmentPlan) (slots : ℕ) (list : List Put) (before : List H
       go one (inr has) = holds.drawn one has
 
   pub noted-so : (own : OwnView) (what : Happening) (step : CoreStep) (core : EndView Kind)
-      → Shelves plan slots list before own core (what ∷ noted_behind step.notes before)
-      → Shelves plan slots list before own core (noted_behind (noted Some what step).notes before)
+      → Shelves plan slots list base before own core (what ∷ noted_behind step.notes before)
+      → Shelves plan slots list base before own core (noted_behind (noted Some what step).notes before)
   noted-so own what step core holds =
-      subst (λ (notes : List Happening). Shelves plan slots list before own core notes)
+      subst (λ (notes : List Happening). Shelves plan slots list base before own core notes)
       (sym (one-behind step.notes what before)) holds
 
   pub full-so : (own : OwnView) (what : Happening) (step : CoreStep) → change_of what ≡ Other
-      → Shelves plan slots list before own step.next (noted_behind step.notes before)
-      → Shelves plan slots list before own step.next (noted_behind (noted Some what step).notes before)
+      → Shelves plan slots list base before own step.next (noted_behind step.notes before)
+      → Shelves plan slots list base before own step.next (noted_behind (noted Some what step).notes before)
   full-so own what step other holds =
       noted-so own what step step.next
       (record {
         is = holds.is;
         all = holds.all;
         shelved =
-            noted-shelved (policy_of plan slots) own.ledger list (noted_behind step.notes before) what
+            noted-shelved (policy_of plan slots) own.ledger list base (noted_behind step.notes before) what
             (subst LeavesStanding (sym other) tt)
             (subst (MayChange (policy_of plan slots) (noted_behind step.notes before)) (sym other) tt) holds.shelved;
         drawn =
@@ -185,19 +189,19 @@ module _ (plan : EquipmentPlan) (slots : ℕ) (list : List Put) (before : List H
       → unloads_in step.next.transactions.begun ≡ []
       → ((drawn : Option ℕ) (opened : Open) → IsGone system opened
       → IsOpen (tried_in own.ledger.unload) own.ledger.first (shelf_of (noted_behind step.notes before)) drawn opened)
-      → Shelves plan slots list before own step.next (noted_behind step.notes before)
-      → Ends plan slots list before (if crowded then unloaded_own own else own)
+      → Shelves plan slots list base before own step.next (noted_behind step.notes before)
+      → Ends plan slots list base before (if crowded then unloaded_own own else own)
       (all_done Some ((λ e. DrawnPrimary (unloaded message) ∷ []) ∷ []) step)
   drawn-keeps own message system crowded step room drawn may none under holds =
       subst
       (λ (d : Option ℕ).
-      Shelves plan slots list before (if crowded then unloaded_own own else own)
+      Shelves plan slots list base before (if crowded then unloaded_own own else own)
       (drawn_primary Some (unloaded message) d step).next
       (noted_behind (drawn_primary Some (unloaded message) d step).notes before))
       (sym drawn)
       (subst
       (λ (b : Bool).
-      Shelves plan slots list before (if crowded then unloaded_own own else own)
+      Shelves plan slots list base before (if crowded then unloaded_own own else own)
       (if b then noted Some (Full (unsent_name (unloaded message))) step
       else sends Some (unloaded message) system (with_end (record step.next { drawn = None }) step)).next
       (noted_behind
@@ -206,7 +210,7 @@ module _ (plan : EquipmentPlan) (slots : ℕ) (list : List Put) (before : List H
       (sym room) (go crowded))
     where
       go : (crowded : Bool)
-          → Shelves plan slots list before (if crowded then unloaded_own own else own)
+          → Shelves plan slots list base before (if crowded then unloaded_own own else own)
           (if crowded then noted Some (Full (unsent_name (unloaded message))) step
           else sends Some (unloaded message) system (with_end (record step.next { drawn = None }) step)).next
           (noted_behind
@@ -221,7 +225,7 @@ module _ (plan : EquipmentPlan) (slots : ℕ) (list : List Put) (before : List H
             is = holds.is;
             all = holds.all;
             shelved =
-                noted-shelved (policy_of plan slots) own.ledger list (noted_behind step.notes before)
+                noted-shelved (policy_of plan slots) own.ledger list base (noted_behind step.notes before)
                 (Sent (primary_of (unloaded message) system)) tt may holds.shelved;
             drawn = holds.drawn;
             asks = holds.asks;
@@ -240,35 +244,39 @@ module _ (plan : EquipmentPlan) (slots : ℕ) (list : List Put) (before : List H
       → ((opened : Open) → IsAsked opened
       → IsOpen (tried_in own.ledger.unload) own.ledger.first (shelf_of (noted_behind step.notes before))
       step.next.drawn opened)
-      → Shelves plan slots list before own step.next (noted_behind step.notes before)
-      → Ends plan slots list before (if crowded then unloaded_own own else own)
+      → Shelves plan slots list base before own step.next (noted_behind step.notes before)
+      → Ends plan slots list base before (if crowded then unloaded_own own else own)
       (all_done Some ((λ e. Primary (unload_request text) ∷ []) ∷ []) step)
   asked-keeps own text crowded step room none under holds =
-      once plan slots list before (if crowded then unloaded_own own else own) (Primary (unload_request text) ∷ []) step
+      once plan slots list base before (if crowded then unloaded_own own else own) (Primary (unload_request text) ∷ [])
+      step
       (ended (carry Some (Primary (unload_request text)) step)
       (subst
       (λ (b : Bool).
-      Ends plan slots list before (if crowded then unloaded_own own else own)
+      Ends plan slots list base before (if crowded then unloaded_own own else own)
       (if b then Goes (noted Some (Full (unsent_name (unload_request text))) step)
       else draws (next_number step.next.numbers) (sends Some (unload_request text)) step)) (sym room) (go crowded)))
     where
       ended : (went : Went (EndView Kind) Happening)
-          → Ends plan slots list before (if crowded then unloaded_own own else own) went
-          → Ends plan slots list before (if crowded then unloaded_own own else own) (and_then went (carried Some []))
+          → Ends plan slots list base before (if crowded then unloaded_own own else own) went
+          → Ends plan slots list base before (if crowded then unloaded_own own else own)
+          (and_then went (carried Some []))
       ended (Goes next) is = is
       ended (Spent next) is = is
 
       numbered : (same : Bool) → (step.next.numbers.next == step.next.numbers.end) ≡ same
-          → Ends plan slots list before own
+          → Ends plan slots list base before own
           (draws (if same then None else Some step.next.numbers.next) (sends Some (unload_request text)) step)
-      numbered true e = holds.shelved.kept
+      numbered true e =
+          spent-at plan slots list base before own.ledger (noted_behind step.notes before) holds.is holds.all
+          holds.shelved
       numbered false e =
           noted-so own (Sent (primary_of (unload_request text) step.next.numbers.next)) step _
           (record {
             is = holds.is;
             all = holds.all;
             shelved =
-                noted-shelved (policy_of plan slots) own.ledger list (noted_behind step.notes before)
+                noted-shelved (policy_of plan slots) own.ledger list base (noted_behind step.notes before)
                 (Sent (primary_of (unload_request text) step.next.numbers.next)) tt
                 (λ primary message told_so.
                 absurd
@@ -301,7 +309,7 @@ module _ (plan : EquipmentPlan) (slots : ℕ) (list : List Put) (before : List H
           asked {opened} {system} (inr same) = inr (system, same)
 
       go : (crowded : Bool)
-          → Ends plan slots list before (if crowded then unloaded_own own else own)
+          → Ends plan slots list base before (if crowded then unloaded_own own else own)
           (if crowded then Goes (noted Some (Full (unsent_name (unload_request text))) step)
           else draws (next_number step.next.numbers) (sends Some (unload_request text)) step)
       go true = end-keeps own step.next _ none (full-so own (Full (unsent_name (unload_request text))) step refl holds)
@@ -313,11 +321,11 @@ module _ (plan : EquipmentPlan) (slots : ℕ) (list : List Put) (before : List H
       → (is_oldest_tried own.ledger ≡ true
       → IsConfirmed (shelf_of (noted_behind step.notes before)) (received_since (noted_behind step.notes before)))
       → unloads_in step.next.transactions.begun ≡ []
-      → Shelves plan slots list before own step.next (noted_behind step.notes before)
-      → Ends plan slots list before (confirmed_turn own).own (all_done Some (confirmed_turn own).duties step)
+      → Shelves plan slots list base before own step.next (noted_behind step.notes before)
+      → Ends plan slots list base before (confirmed_turn own).own (all_done Some (confirmed_turn own).duties step)
   confirm-keeps own step may none holds =
-      turn-keeps plan slots list before own (confirmed own.ledger) step
-      (confirmed-kept plan slots list own.ledger (noted_behind step.notes before) holds.is holds.shelved may)
+      turn-keeps plan slots list base before own (confirmed own.ledger) step
+      (confirmed-kept plan slots list base own.ledger (noted_behind step.notes before) holds.is holds.shelved may)
       (subst
       (λ (under : Option UnderWay).
       IsOpen under own.ledger.first (shelf_of (noted_behind step.notes before)) step.next.drawn
@@ -326,11 +334,11 @@ module _ (plan : EquipmentPlan) (slots : ℕ) (list : List Put) (before : List H
   -- spooling ends
   pub rest-keeps :
       (own : OwnView) (e : EndView Kind) (step : CoreStep)
-      → Shelves plan slots list before own step.next (noted_behind step.notes before)
-      → Ends plan slots list before (end_of_spooling own e).own (all_done Some (end_of_spooling own e).duties step)
+      → Shelves plan slots list base before own step.next (noted_behind step.notes before)
+      → Ends plan slots list base before (end_of_spooling own e).own (all_done Some (end_of_spooling own e).duties step)
   rest-keeps own e step holds =
-      turn-keeps plan slots list before own (rested (is_communicating own) own.ledger) step
-      (rested-kept plan slots list own.ledger (noted_behind step.notes before) holds.is holds.shelved
+      turn-keeps plan slots list base before own (rested (is_communicating own) own.ledger) step
+      (rested-kept plan slots list base own.ledger (noted_behind step.notes before) holds.is holds.shelved
       (is_communicating own))
-      (same-under plan slots list before own (rested (is_communicating own) own.ledger).next step.next
+      (same-under plan slots list base before own (rested (is_communicating own) own.ledger).next step.next
       (noted_behind step.notes before) (rested-unload (is_communicating own) own.ledger) holds) holds

@@ -27,6 +27,7 @@ use Rattle.equipment_node.specs.Equipment.{first_in, is_marked_out, starts}
 use Rattle.equipment_node.specs.Held.{Begins, FindsFile, HasMark, Held, starting_by, view_in}
 use Rattle.equipment_node.specs.Sound.{AllCanBeSent}
 use Rattle.equipment_node.specs.StartOver.{BeginsOver, IsFresh}
+use Rattle.equipment_node.proofs.FoundBytes.{found-sent}
 use Rattle.equipment_node.proofs.Seated.{start-gone, start-on}
 
 same-story : (a b : Story) → Some a ≡ Some b → a ≡ b
@@ -134,10 +135,10 @@ module _ {D : Type 0} (members : disk.Ghosts D) (old : D) (s : Story) (told : me
           subst
           (λ (f : SpoolFile). HasGone (starts plan f.slots f.list f.mark) (view_in members h) out)
           file-is (start-gone members plan fits g h.spool h.tool out has);
-      in_state = λ can. record {
+      in_state = λ are. record {
         on =
             start-on members plan fits g h.spool h.tool out has
-            (subst (λ (f : SpoolFile). AllCanBeSent f.list) (sym file-is) can);
+            (subst (λ (f : SpoolFile). AllCanBeSent f.list) (sym file-is) (found-sent s.now.bytes are rests.sound));
         told = has.told;
       };
     }

@@ -4,6 +4,7 @@ use Rattle.trace_log.specs.declared.commands.ToolCommand.{ToolCommand}
 use Rattle.message_end.specs.Ends.{Machine}
 use Rattle.equipment_node.specs.Disk.{asks, reserve_asks, stops}
 use Rattle.equipment_node.specs.Equipment.{EquipmentView, act, restarts}
+use Rattle.equipment_node.specs.Losses.{losses}
 
 -- at a start the disk is asked before anything is noted
 abbrev pub machine : Machine EquipmentView ToolCommand
@@ -15,4 +16,5 @@ machine = record {
   start_stops = [] ∷ [];
   asks = asks;
   start_asks = reserve_asks;
+  losses = losses;
 }

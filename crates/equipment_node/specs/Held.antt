@@ -1,5 +1,5 @@
 -- The equipment over its disk as a value of the program, and what the code says of it as a whole.
-use Rattle.std.specs.Prelude.{◌≡◌, ◌⊎◌, refl, ℕ, ◌+◌, Bool, true, List, [], Some, None, Result, Ok, Err}
+use Rattle.std.specs.Prelude.{◌≡◌, ◌⊎◌, refl, ℕ, ◌+◌, ◌<◌, Bool, true, All, List, [], Some, None, Result, Ok, Err}
 use Rattle.std.specs.Coded.{Coded, code_by, coded×, coded_bool}
 use Rattle.disk_base.specs.Story.{Story, with_sync}
 use Rattle.disk_base.specs.Through.{EachImage}
@@ -21,7 +21,6 @@ use Rattle.equipment_node.specs.declared.equipment.Starting.TheVariants as start
 use Rattle.equipment_node.specs.declared.own.Tool.{Tool}
 use Rattle.equipment_node.specs.Equipment.{EquipmentView, act, is_marked_out, starts}
 use Rattle.equipment_node.specs.Node.{node_of}
-use Rattle.equipment_node.specs.Sound.{AllCanBeSent}
 use Rattle.equipment_node.specs.Stepping.{IsOn, IsTold, Steps, view_of}
 
 -- the tool, and the spool in hand
@@ -59,13 +58,14 @@ Moves members h input now out (Err end) = Steps members (view_in members h) inpu
 
 -- ---- a start from what the device tells
 
--- it is as the file says, and its numbers are those behind the mark; where each message of the file can be sent, it can
--- make steps
+-- it is as the file says, and its numbers are those behind the mark; where the file's numbers are bytes, it can make
+-- steps
 pub record HasBegunOn
-    {D : Type 0} (members : disk.Ghosts D) (plan : EquipmentPlan) (file : SpoolFile) (out : StepOut) (h : Held D)
+    {D : Type 0} (members : disk.Ghosts D) (plan : EquipmentPlan) (bytes : List ℕ) (out : StepOut) (h : Held D)
     : Type 0 where
-  pub gone : HasGone (starts plan file.slots file.list file.mark) (view_in members h) out
-  pub in_state : AllCanBeSent file.list → IsIn members h
+  pub gone :
+      HasGone (starts plan (file_in bytes).slots (file_in bytes).list (file_in bytes).mark) (view_in members h) out
+  pub in_state : All (λ byte. byte < 256) bytes → IsIn members h
 
 -- the file with the old mark, or with the new one
 abbrev pub HasMark : SpoolFile → List ℕ → Type 0
@@ -78,7 +78,7 @@ IsUntouched s t = (t ≡ s) ⊎ (t ≡ with_sync s)
 -- where it doesn't start nothing is noted
 abbrev pub Begins :
     {D : Type 0} → disk.Ghosts D → EquipmentPlan → Story → StepOut → Result (Held D) (Starting D) → Type 0
-Begins members plan s out (Ok h) = HasBegunOn members plan (file_in s.now.bytes) out h
+Begins members plan s out (Ok h) = HasBegunOn members plan s.now.bytes out h
 Begins members plan s out (Err (starting.NotSpool raw break)) =
     IsEmpty out × IsBreak s.now.bytes (spool_break s.now.bytes) break
     × ((t : Story) → members.told raw.disk ≡ Some t → IsUntouched s t)

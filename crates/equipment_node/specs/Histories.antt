@@ -1,14 +1,18 @@
 -- What the equipment's notes over all its starts have to do with what it has met.
-use Rattle.std.specs.Prelude.{◌≡◌, List, [], ◌∷◌, None}
+use Rattle.std.specs.Prelude.{◌≡◌, ℕ, List, [], ◌∷◌, Option, Some, None}
 use Rattle.trace_log.specs.declared.commands.ToolCommand.{ToolCommand}
-use Rattle.message_end.specs.Course.{Course, Meeting, notes_of}
+use Rattle.message_end.specs.Core.{Step}
+use Rattle.message_end.specs.Course.{Course, Meeting, course_of, notes_of}
 use Rattle.message_end.specs.Course.Course.{Reached, Stopped}
-use Rattle.message_end.specs.Course.Meeting.{Acts, LosesPower, Restarts, Writes}
-use Rattle.message_end.specs.Ends.{Input}
+use Rattle.message_end.specs.Course.Meeting.{Acts, Breaks, LosesPower, Restarts, Writes}
+use Rattle.message_end.specs.Ends.{Input, Loss, call_of}
 use Rattle.message_end.specs.Ends.Input.{Char, Command, Time}
+use Rattle.trace_log.specs.Log.{Happening}
 use Rattle.equipment_tables.specs.declared.plan.EquipmentPlan.{EquipmentPlan}
 use Rattle.equipment_node.specs.Reported.{Reported, commands_in, due_behind, past_in}
+use Rattle.equipment_node.specs.End.{machine}
 use Rattle.equipment_node.specs.Equipment.{EquipmentView}
+use Rattle.equipment_node.specs.Losses.{losses}
 
 -- the commands of the tool since the newest start, the newest first
 abbrev pub with_command : Input ToolCommand → List ToolCommand → List ToolCommand
@@ -16,12 +20,27 @@ with_command (Char byte) commands = commands
 with_command Time commands = commands
 with_command (Command command) commands = command ∷ commands
 
-abbrev pub commands_met : List (Meeting ToolCommand) → List ToolCommand
-commands_met [] = []
-commands_met (Acts input now ∷ before) = with_command input (commands_met before)
-commands_met (Restarts now ∷ before) = []
-commands_met (Writes characters ∷ before) = commands_met before
-commands_met (LosesPower ∷ before) = commands_met before
+-- none, where power was lost at a call that a step makes, since a start follows
+abbrev pub commands_broken : Option (Loss EquipmentView) → List ToolCommand → List ToolCommand
+commands_broken None commands = commands
+commands_broken (Some loss) commands = []
+
+abbrev pub commands_at : Course EquipmentView → Input ToolCommand → (now call : ℕ) → List ToolCommand → List ToolCommand
+commands_at (Reached s notes) input now call commands = commands_broken (call_of call (losses s input now)) commands
+commands_at (Stopped notes) input now call commands = commands
+
+-- behind a meeting, at what the equipment was by then
+abbrev pub commands_behind : Meeting ToolCommand → Course EquipmentView → List ToolCommand → List ToolCommand
+commands_behind (Acts input now) course commands = with_command input commands
+commands_behind (Restarts now) course commands = []
+commands_behind (Writes characters) course commands = commands
+commands_behind LosesPower course commands = commands
+commands_behind (Breaks input now call choice) course commands = commands_at course input now call commands
+
+abbrev pub commands_met : Step EquipmentView Happening → List (Meeting ToolCommand) → List ToolCommand
+commands_met start [] = []
+commands_met start (meeting ∷ before) =
+    commands_behind meeting (course_of start machine before) (commands_met start before)
 
 -- as long as the equipment goes on, exactly these commands of the tool count when it looks back
 abbrev pub CountsThese : Course EquipmentView → List ToolCommand → Type 0

@@ -6,6 +6,7 @@ use Rattle.std.proofs.Math.Nat.{le_trans}
 use Rattle.std.specs.Prelude.{IfSome, flat_map, is_some, min, slice_get}
 use Rattle.std.proofs.lemmas.Bool.Decides.{nat_tests}
 use Rattle.std.proofs.lemmas.List.Elements.{All-nil, All-cons, All-head}
+use Rattle.disk_base.specs.declared.cut.CutChoice.{CutChoice}
 use Rattle.block_codec.specs.Protocol.{longest_text}
 use Rattle.block_codec.specs.declared.header.Header.{Header}
 use Rattle.gem_alarms.specs.declared.alarms.AlarmStep.{AlarmStep}
@@ -62,7 +63,7 @@ use Rattle.message_end.specs.Core.Command.{Abort, Answer, Draw, DrawnPrimary, Dr
 use Rattle.message_end.specs.Doings.{Doing, own_of}
 use Rattle.message_end.specs.Duties.{all_done}
 use Rattle.message_end.specs.Endings.{ends_failed, ends_front, ends_one, ends_open, is_of_open, notes_failed}
-use Rattle.message_end.specs.Ends.{AreBegunOf, AreOfStep, DoesMore, DoesStep, HasRestarted, HasStarted, Input, IsFront, KeepsLaw, MayTake, OnStart}
+use Rattle.message_end.specs.Ends.{AreBegunOf, AreOfStep, DoesMore, DoesStep, HasRestarted, HasStarted, Input, IsFront, KeepsLaw, Loss, LosesAt, MayTake, OnStart}
 use Rattle.message_end.specs.Ends.Input.{Char, Command as Told, Time}
 use Rattle.message_end.specs.Parts.{Node, after_parts, after_turn, core_after, core_step, fixed_turn, leads, led_turn, went_with, with_own}
 use Rattle.message_end.proofs.Lower.{lower}
@@ -95,6 +96,7 @@ use Rattle.equipment_node.specs.SpoolSound.{AllPlain, All-snoc, IsGoodBooked, Is
 use Rattle.equipment_node.specs.States as states
 use Rattle.equipment_node.specs.Disk.{DiskWork, behind_change, fronts_of, is_before_change, stops, up_to_change, works_of}
 use Rattle.equipment_node.specs.End.{machine}
+use Rattle.equipment_node.specs.Losses.{losses}
 use Rattle.equipment_node.specs.Equipment.{EquipmentView, act, begun_step, ended_step, first_in, found_in, is_marked_out, needs_numbers, new_own, node_step, oldest_of, parts_done, reserved, restarts, settled, settled_step, settled_went, spooled_of, started_on, starts, went_with_file}
 use Rattle.equipment_node.specs.Laws.{DidOf}
 use Rattle.equipment_node.specs.Step.{begun, beginning, delay_timer, end_plan, failed_turn, first_parts, flow_turn, input_part, is_spent, last_parts, late_parts, line_timer, long_turn, offer, took_turn}
@@ -1867,7 +1869,7 @@ module _ (plan : EquipmentPlan) (base : ℕ) (fits : EquipmentPlanFits plan) whe
           (subst AreNoTries (sym (done-notes more.done doings [] more.course.notes)) tt)
           (subst GiveNone (sym more.called) tt) did.tried
 
-  goes-on :
+  pub goes-on :
       (doings : List Doing) (s : EquipmentView) (input : Input ToolCommand) (now : ℕ) → DidOf plan base doings s
       → MayTake ToolCommandFits input → DoesStep (end_plan plan) (DidOf plan) base doings input now (act s input now)
   goes-on doings s input now did may = go (needs_numbers s) (is_marked_out s.mark) refl
@@ -2016,7 +2018,8 @@ module _ (plan : EquipmentPlan) (fits : EquipmentPlanFits plan) (slots : ℕ) (s
   pub ended-sound : KeepsSound end_of_spooling
   ended-sound own e sound = any-sound _ (ended-quiet plan IsAny fits slots stood own e (any-held own sound)).sound
 
-  last-sound : (oldest : Option Spooled) → IfSome oldest CanBeSent → (now : ℕ) → AllKeepSound (last_parts oldest now)
+  pub last-sound : (oldest : Option Spooled) → IfSome oldest CanBeSent → (now : ℕ) → AllKeepSound (last_parts oldest
+      now)
   last-sound oldest can now = (
     (λ own e sound. any-sound _
         (unload-held plan IsAny fits slots stood (λ system. tt) oldest can own e (any-held own sound))),
@@ -2075,6 +2078,39 @@ module _ (plan : EquipmentPlan) (fits : EquipmentPlanFits plan) where
           parts-good (first_parts input now) (at_first s)
           (first-sound plan fits s.node.own.ledger.slots s.node.own.ledger.stood input now) good
 
+  -- up to the works the list is that of the file, and the disk has what it had
+  pub begun-stood : (s : EquipmentView) (input : Input ToolCommand) (now : ℕ) → IsGoodView s
+      → ((step_in (begun_step s input now)).next.list ≡ s.list)
+      × ((step_in (begun_step s input now)).next.node.own.ledger.stood ≡ s.node.own.ledger.stood)
+  begun-stood s input now good = go (needs_numbers s) (is_marked_out s.mark)
+    where
+      Stays : Step EquipmentView Happening → Type 0
+      Stays step = (step.next.list ≡ s.list) × (step.next.node.own.ledger.stood ≡ s.node.own.ledger.stood)
+
+      by : (file : EquipmentView) (went : Went (Node OwnView Kind) Happening) → file.list ≡ s.list
+          → IsSound plan s.node.own.ledger.slots s.node.own.ledger.stood (step_in went).next.own
+          → Stays (step_in (went_with_file file went))
+      by file (Goes step) same sound = (same, sound.ledger.stood_is)
+      by file (Spent step) same sound = (same, sound.ledger.stood_is)
+
+      sounds : AllKeepSound plan fits s.node.own.ledger.slots s.node.own.ledger.stood (first_parts input now)
+      sounds = first-sound plan fits s.node.own.ledger.slots s.node.own.ledger.stood input now
+
+      go : (needs spent : Bool)
+          → Stays
+          (step_in (and_then
+          (if needs then if spent then Spent (at_first s) else Goes (at_first (reserved s)) else Goes (at_first s))
+          (parts_done (first_parts input now))))
+      go true true = (refl, refl)
+      go true false =
+          by (reserved s) (after_parts Some (first_parts input now) (at_first (reserved s).node)) refl
+          (parts-sound plan fits s.node.own.ledger.slots s.node.own.ledger.stood Some (first_parts input now)
+          (at_first (reserved s).node) sounds good.own)
+      go false spent =
+          by s (after_parts Some (first_parts input now) (at_first s.node)) refl
+          (parts-sound plan fits s.node.own.ledger.slots s.node.own.ledger.stood Some (first_parts input now)
+          (at_first s.node) sounds good.own)
+
   pub oldest-good : (list : List Kept) → AllCanBeSent list
       → IfSome (option_map spooled_of (slice_get list 0)) CanBeSent
   oldest-good [] all = tt
@@ -2098,7 +2134,7 @@ module _ (plan : EquipmentPlan) (fits : EquipmentPlanFits plan) where
 
 -- ---- where the disk stops a step
 
-split-change : (notes : List Happening) → notes ≡ up_to_change notes ++ behind_change notes
+pub split-change : (notes : List Happening) → notes ≡ up_to_change notes ++ behind_change notes
 split-change [] = refl
 split-change (what ∷ rest) = go (is_before_change what) (split-change rest)
   where
@@ -2108,7 +2144,7 @@ split-change (what ∷ rest) = go (is_before_change what) (split-change rest)
     go true same = refl
     go false same = ap (λ (ns : List Happening). what ∷ ns) same
 
-fronts-are :
+pub fronts-are :
     (works : List DiskWork) (before notes front : List Happening) → Has (fronts_of before works notes) front
     → IsFront front (before ++ notes)
 fronts-are [] before notes front has = absurd has
@@ -2138,7 +2174,7 @@ fronts-are (DiskWork.ReadOldest ∷ works) before notes front (inl same) =
 fronts-are (DiskWork.ReadOldest ∷ works) before notes front (inr has) = fronts-are works before notes front has
 
 -- what was noted up to the works stands in front
-act-grows : (went : Went EquipmentView Happening) (now : ℕ)
+pub act-grows : (went : Went EquipmentView Happening) (now : ℕ)
     → IsFront (step_in went).notes (step_in (and_then (settled_went went) (ended_step now))).notes
 act-grows (Spent step) now = front-same step.notes
 act-grows (Goes step) now =
@@ -2152,7 +2188,7 @@ act-grows (Goes step) now =
     go (Goes next) grows = grows
     go (Spent next) grows = grows
 
-stops-are :
+pub stops-are :
     (s : EquipmentView) (input : Input ToolCommand) (now : ℕ) (front : List Happening) → Has (stops s input now) front
     → IsFront front (step_in (act s input now)).notes
 stops-are s input now front has =
@@ -2192,7 +2228,7 @@ module _ (plan : EquipmentPlan) (fits : EquipmentPlanFits plan) where
         ledger = new-good slots (first_in list) (length list);
       }
 
-  starts-at : (slots : ℕ) (list : List Kept) (mark least : ℕ) → AllCanBeSent list → least ≤ mark
+  pub starts-at : (slots : ℕ) (list : List Kept) (mark least : ℕ) → AllCanBeSent list → least ≤ mark
       → OnStart (HasStarted (end_plan plan) (DidOf plan) least) (starts plan slots list mark)
   starts-at slots list mark least can above = go (is_marked_out mark) refl
     where
@@ -2322,10 +2358,18 @@ module _ (plan : EquipmentPlan) (slots : ℕ) (list : List Kept) (mark : ℕ) wh
 
 -- ---- the law
 
-pub equipment_lawful :
+-- wherever its power is lost it starts anew lawfully
+abbrev pub Loses : EquipmentPlan → Type 0
+Loses plan =
+    (base : ℕ) (doings : List Doing) (s : EquipmentView) (input : Input ToolCommand) (now : ℕ)
+    → DidOf plan base doings s → MayTake ToolCommandFits input → (loss : Loss EquipmentView)
+    → Has (losses s input now) loss → (choice : CutChoice)
+    → LosesAt (end_plan plan) (DidOf plan) base doings input now loss.front (restarts (loss.left choice) now)
+
+pub lawful-so :
     (plan : EquipmentPlan) (slots : ℕ) (list : List Kept) (mark : ℕ) → EquipmentPlanFits plan → AllCanBeSent list
-    → KeepsLaw (end_plan plan) (DidOf plan) ToolCommandFits (starts plan slots list mark) machine
-equipment_lawful plan slots list mark fits can = record {
+    → Loses plan → KeepsLaw (end_plan plan) (DidOf plan) ToolCommandFits (starts plan slots list mark) machine
+lawful-so plan slots list mark fits can loses = record {
   fits = fits.line;
   starts = starts-at plan fits slots list mark 0 can (omega arith);
   begins = λ first step is. begins first step is;
@@ -2346,6 +2390,7 @@ equipment_lawful plan slots list mark fits can = record {
     last = did.last ∙ ap newest_of (sym (same-tries (change_of what) (tries_in doings) (world-free what world)));
   };
   restarts = λ base doings s now did. restarts-at plan fits base doings s now did;
+  loses = λ base doings s input now did may loss has choice. loses base doings s input now did may loss has choice;
 }
   where
     begins :

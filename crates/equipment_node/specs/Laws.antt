@@ -40,4 +40,5 @@ abbrev pub ReportsAreOfTheirEvents : Type 0
 ReportsAreOfTheirEvents =
     (plan : EquipmentPlan) (slots : ℕ) (list : List Message) (mark : ℕ) → EquipmentPlanFits plan → AllCanBeSent list
     → (meetings : List (Meeting ToolCommand))
-    → ReportsHold plan (course_of (started_on plan slots list mark) machine meetings) (commands_met meetings)
+    → ReportsHold plan (course_of (started_on plan slots list mark) machine meetings)
+    (commands_met (started_on plan slots list mark) meetings)

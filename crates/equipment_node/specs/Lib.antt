@@ -1,5 +1,6 @@
 pub mod Amid
 pub mod Asked
+pub mod Breaking
 pub mod Calls
 pub mod Carried
 pub mod Codes
@@ -16,9 +17,13 @@ pub mod Histories
 pub mod InMemory
 pub mod Judged
 pub mod Lawful
+pub mod LawfulLosses
 pub mod Laws
 pub mod Left
+pub mod LeftAnew
 pub mod Live
+pub mod LossCalls
+pub mod Losses
 pub mod Messages
 pub mod Node
 pub mod Own
@@ -30,6 +35,7 @@ pub mod Sent
 pub mod Sound
 pub mod SpentSteps
 pub mod SpoolKept
+pub mod SpoolLosses
 pub mod SpoolSound
 pub mod Spooling
 pub mod StartCalls
@@ -44,6 +50,7 @@ pub mod TriedDoings
 pub mod TriedParts
 pub mod TriedSteps
 pub mod WorkedCalls
+pub mod WorkedLosses
 pub mod WorkedReports
 pub mod WorkedSpent
 pub mod WorkedSpool

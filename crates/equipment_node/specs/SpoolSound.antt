@@ -283,11 +283,11 @@ carried-good v is =
 abbrev Sendable : Message → Type 0
 Sendable message = CanBeSent (spooled_of message)
 
-all-tail : (list : List Message) → AllCanBeSent list → AllCanBeSent (list_after 0 list work.DropOldest)
+pub all-tail : (list : List Message) → AllCanBeSent list → AllCanBeSent (list_after 0 list work.DropOldest)
 all-tail [] all = all
 all-tail (first ∷ list) all = All-tail Sendable first list all
 
-list-good : (next : ℕ) (list : List Message) (one : Work) → AllCanBeSent list → PutsGood one
+pub list-good : (next : ℕ) (list : List Message) (one : Work) → AllCanBeSent list → PutsGood one
     → AllCanBeSent (list_after next list one)
 list-good next list (work.Put stream function body) all is = All-snoc Sendable list _ all is
 list-good next list work.DropOldest all is = all-tail list all

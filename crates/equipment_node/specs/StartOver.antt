@@ -69,6 +69,13 @@ StartsOver members plan g out (Err (ended.DiskFailed spent)) =
 StartsOver members plan g out (Err (ended.NoMemory spent)) =
     (out.line.items ≡ []) × IsLeftMarked members g spent
 
+-- so much was asked of its disk
+abbrev pub StartAsks : {D : Type 0} → disk.Ghosts D → D → Result (Seat D) (Ended D) → Type 0
+StartAsks members old (Ok e) = HasSpared (members.health old) (members.health e.spool.spool.disk) reserve_asks
+StartAsks members old (Err (ended.DiskFailed spent)) = HasFallen (members.health old) reserve_asks
+StartAsks members old (Err (ended.NumbersSpent spent)) = Unit {0}
+StartAsks members old (Err (ended.NoMemory spent)) = Unit {0}
+
 -- a start anew of an end, and one that stopped
 pub record HasRestarted
     {D : Type 0} (members : disk.Ghosts D) (plan : EquipmentPlan) (g : GemSpool D) (tool : Tool)
@@ -85,13 +92,7 @@ pub record HasNotRestarted
   pub ended : Ended D
   pub end_is : end ≡ stop_by ended
   pub started : IsFresh members g → StartsOver members plan g out (Err ended)
-
--- and so much was asked of its disk
-abbrev pub StartAsks : {D : Type 0} → disk.Ghosts D → D → Result (Seat D) (Ended D) → Type 0
-StartAsks members old (Ok e) = HasSpared (members.health old) (members.health e.spool.spool.disk) reserve_asks
-StartAsks members old (Err (ended.DiskFailed spent)) = HasFallen (members.health old) reserve_asks
-StartAsks members old (Err (ended.NumbersSpent spent)) = Unit {0}
-StartAsks members old (Err (ended.NoMemory spent)) = Unit {0}
+  pub asks : StartAsks members g.spool.disk (Err ended)
 
 -- an end that starts anew has the spool in hand, or none where it stops
 abbrev pub Restarts :

@@ -4,25 +4,27 @@
 ghost use Rattle.std.specs.Prelude.{All, ◌≡◌, ◌≢◌, ◌∷◌, [], ◌<◌, ◌≤◌, ◌%◌, ◌^◌, ◌-◌, nat_le, length, List, ℕ, true, Err, IfOk, Some};
 ghost use Rattle.arrayvec.specs.ArrayVec.{array_vec_len};
 ghost use Rattle.disk_base.specs.Story.{Story};
-ghost use Rattle.gem_spool.specs.Standing.{Standing, count_in, count_of};
+ghost use Rattle.gem_spool.specs.Standing.{Standing, Stands, count_in, count_of};
 ghost use Rattle.gem_spool.specs.Works.{AreDue, counts_after};
 ghost use Rattle.trace_log.specs.Log.{Happening};
 ghost use Rattle.trace_log.specs.declared.commands.ToolCommand.{ToolCommand};
 ghost use Rattle.trace_log.specs.Commands.{ToolCommandFits};
 ghost use Rattle.message_end.specs.declared.end.Stop.TheVariants.{DiskFailed, NumbersSpent};
-ghost use Rattle.message_end.specs.Core.{Step};
+ghost use Rattle.message_end.specs.Core.{Step, step_in};
 ghost use Rattle.message_end.specs.Core.Went.{Goes};
-ghost use Rattle.message_end.specs.Ends.{Input, IsEmpty, MayTake, input_of};
+ghost use Rattle.message_end.specs.Ends.{Input, IsEmpty, MayTake, input_of, printed};
 ghost use Rattle.spool_ledger.specs.Ledger.{carried_out, stood_count};
 ghost use Rattle.spool_ledger.specs.Unloading.{next_number as unload_number};
 ghost use Rattle.equipment_tables.specs.Tables.{most_transmitted};
 ghost use Rattle.equipment_node.specs.Amid.{Acts, Carries, DoesLast, EndsSo, HasOpened, IsAt, IsBegun, IsReady, IsSendable, Opens, StopsAt, asked_node, opened, settled_node};
+ghost use Rattle.equipment_node.specs.Breaking.{BreaksBy, mark_behind};
 ghost use Rattle.equipment_node.specs.Asked.{HasAsked, asked_for, read_asks};
 ghost use Rattle.equipment_node.specs.Disk.{asks, read_works, reserve_works, standing_in, works_behind};
 ghost use Rattle.equipment_node.specs.Disk.DiskWork.{ReadOldest};
 ghost use Rattle.equipment_node.specs.DiskCalls.{CallsInStep, HasCalled, disk_in};
 ghost use Rattle.equipment_node.specs.Equipment.{EquipmentView, begun_step, needs_numbers};
 ghost use Rattle.equipment_node.specs.HandedBack.{HandsBack};
+ghost use Rattle.equipment_node.specs.Losses.{losses, losses_of};
 ghost use Rattle.equipment_node.specs.Node.{node_of, own_of};
 ghost use Rattle.equipment_node.specs.Sound.{CanBeSent};
 ghost use Rattle.equipment_node.specs.Spooling.{end_of_spooling};
@@ -83,6 +85,10 @@ impl Tool {
             → HasAsked D.Disk spool.spool.disk (asks s (input_of input.entry) now) result }
         ensures calls { (s : EquipmentView) → node_of self.old ≡ s.node → IsOn D.Disk spool.spool s
             → CallsInStep D.Disk disk_in spool.spool.disk s (input_of input.entry) now result }
+        ensures breaks { (s : EquipmentView) → node_of self.old ≡ s.node → IsOn D.Disk spool.spool s
+            → IsTold (D.told spool.spool.disk)
+            → BreaksBy D.Disk disk_in spool.spool.disk s.mark (losses s (input_of input.entry) now) (mark_behind s)
+            out.new.notes result }
         ensures disk { HandsBack D.Disk spool.spool.disk result }
     {
         match self.act(alloc, spool, input, now, out) {
@@ -116,6 +122,10 @@ impl Tool {
             → HasAsked D.Disk spool.spool.disk (asks s (input_of input.entry) now) result }
         ensures calls { (s : EquipmentView) → node_of self.old ≡ s.node → IsOn D.Disk spool.spool s
             → CallsInStep D.Disk disk_in spool.spool.disk s (input_of input.entry) now result }
+        ensures breaks { (s : EquipmentView) → node_of self.old ≡ s.node → IsOn D.Disk spool.spool s
+            → IsTold (D.told spool.spool.disk)
+            → BreaksBy D.Disk disk_in spool.spool.disk s.mark (losses s (input_of input.entry) now) (mark_behind s)
+            out.new.notes result }
         ensures disk { HandsBack D.Disk spool.spool.disk result }
     {
         match self.reserve(spool, out) {
@@ -139,6 +149,10 @@ impl Tool {
         ensures calls { (s : EquipmentView) → node_of self.old ≡ s.node → IsOn D.Disk spool.spool s
             → (t : Story) → D.told spool.spool.disk ≡ Some t
             → HasCalled D.Disk disk_in spool.spool.disk t.now.bytes (standing_in s) (reserve_works s) result }
+        ensures breaks { (s : EquipmentView) → node_of self.old ≡ s.node → IsOn D.Disk spool.spool s
+            → IsTold (D.told spool.spool.disk) → out.old.notes ≡ []
+            → BreaksBy D.Disk disk_in spool.spool.disk s.mark
+            (losses_of s (standing_in s) [] (reserve_works s) []) (mark_behind s) out.new.notes result }
         ensures ready { IfOk result (λ g. IsReady g.spool (node_of self.new)) }
         ensures notes { out.new.notes ≡ out.old.notes }
         ensures line { out.new.line.items ≡ out.old.line.items }
@@ -173,6 +187,10 @@ impl Tool {
         ensures calls { (s : EquipmentView) → node_of self.old ≡ s.node → needs_numbers s ≡ true
             → IsOn D.Disk spool.spool s → (t : Story) → D.told spool.spool.disk ≡ Some t
             → HasCalled D.Disk disk_in spool.spool.disk t.now.bytes (standing_in s) (reserve_works s) result }
+        ensures breaks { (s : EquipmentView) → node_of self.old ≡ s.node → needs_numbers s ≡ true
+            → IsOn D.Disk spool.spool s → IsTold (D.told spool.spool.disk) → out.old.notes ≡ []
+            → BreaksBy D.Disk disk_in spool.spool.disk s.mark
+            (losses_of s (standing_in s) [] (reserve_works s) []) (mark_behind s) out.new.notes result }
         ensures ready { IfOk result (λ g. IsReady g.spool (node_of self.new)) }
         ensures notes { out.new.notes ≡ out.old.notes }
         ensures line { out.new.line.items ≡ out.old.line.items }
@@ -212,6 +230,11 @@ impl Tool {
             → HasCalled D.Disk disk_in spool.spool.disk bytes (standing_in (opened s))
             (works_behind (begun_step s (input_of input.entry) now))
             result }
+        ensures breaks { (s : EquipmentView) → HasOpened D.Disk s (node_of self.old) spool
+            → BreaksBy D.Disk disk_in spool.spool.disk (opened s).mark
+            (losses_of s (standing_in (opened s)) [] (works_behind (begun_step s (input_of input.entry) now))
+            (step_in (begun_step s (input_of input.entry) now)).notes)
+            (opened s).mark out.new.notes result }
         ensures disk { HandsBack D.Disk spool.spool.disk result }
     {
         match self.do_first(alloc, input, now, out) {
@@ -246,6 +269,12 @@ impl Tool {
             → HasCalled D.Disk disk_in spool.spool.disk bytes (standing_in (opened s))
             (works_behind (begun_step s input now))
             result }
+        ensures breaks { (s : EquipmentView) → (input : Input ToolCommand)
+            → IsBegun s input now (node_of self.old) out.old → HasOpened D.Disk s (opened s).node spool
+            → BreaksBy D.Disk disk_in spool.spool.disk (opened s).mark
+            (losses_of s (standing_in (opened s)) [] (works_behind (begun_step s input now))
+            (step_in (begun_step s input now)).notes)
+            (opened s).mark out.new.notes result }
         ensures disk { HandsBack D.Disk spool.spool.disk result }
     {
         match self.carry_out(alloc, spool, out) {
@@ -277,6 +306,12 @@ impl Tool {
             → HasCalled D.Disk disk_in spool.spool.disk bytes (standing_in (opened s))
             (works_behind (begun_step s input now))
             (Err result) }
+        ensures breaks { (s : EquipmentView) → (input : Input ToolCommand) → (now : ℕ)
+            → StopsAt s input now (node_of self.old) out.old stop → HasOpened D.Disk s (opened s).node spool
+            → BreaksBy D.Disk disk_in spool.spool.disk (opened s).mark
+            (losses_of s (standing_in (opened s)) [] (works_behind (begun_step s input now))
+            (step_in (begun_step s input now)).notes)
+            (opened s).mark out.new.notes (Err result) }
         ensures disk { stop ≢ DiskFailed → HandsBack D.Disk spool.spool.disk (Err result) }
     {
         match stop {
@@ -312,6 +347,12 @@ impl Tool {
             → HasCalled D.Disk disk_in spool.spool.disk bytes (standing_in (opened s))
             (works_behind (begun_step s input now))
             (Err result) }
+        ensures breaks { (s : EquipmentView) → (input : Input ToolCommand) → (now : ℕ)
+            → StopsAt s input now (node_of self.old) out.old NumbersSpent → HasOpened D.Disk s (opened s).node spool
+            → BreaksBy D.Disk disk_in spool.spool.disk (opened s).mark
+            (losses_of s (standing_in (opened s)) [] (works_behind (begun_step s input now))
+            (step_in (begun_step s input now)).notes)
+            (opened s).mark out.new.notes (Err result) }
         ensures disk { HandsBack D.Disk spool.spool.disk (Err result) }
     {
         match self.carry_out(alloc, spool, out) {
@@ -356,6 +397,10 @@ impl Tool {
         ensures calls { (t : Step EquipmentView Happening) → IsAt D.Disk t (node_of self.old) out.old spool
             → (bytes : List ℕ)
             → HasCalled D.Disk disk_in spool.spool.disk bytes (standing_in t.next) (read_works (Goes t)) result }
+        ensures breaks { (t : Step EquipmentView Happening) → IsAt D.Disk t (node_of self.old) out.old spool
+            → (s : EquipmentView) → (standing_in t.next).slots ≡ s.node.own.ledger.slots
+            → BreaksBy D.Disk disk_in spool.spool.disk t.next.mark
+            (losses_of s (standing_in t.next) [] (read_works (Goes t)) t.notes) t.next.mark out.new.notes result }
         ensures disk { HandsBack D.Disk spool.spool.disk result }
     {
         match self.next_unload() {
@@ -384,6 +429,11 @@ impl Tool {
         ensures asks { HasAsked D.Disk spool.spool.disk (record { calls = 1; bytes = 0 }) result }
         ensures calls { (st : Standing) → count_of spool.spool ≡ count_in st → 0 < length st.list
             → (bytes : List ℕ) → HasCalled D.Disk disk_in spool.spool.disk bytes st (ReadOldest ∷ []) result }
+        ensures breaks { (s : EquipmentView) → (st : Standing) → Stands D.Disk spool.spool st → 0 < length st.list
+            → st.slots ≡ s.node.own.ledger.slots → IsTold (D.told spool.spool.disk) → (front : List Happening)
+            → out.old.notes ≡ printed front
+            → BreaksBy D.Disk disk_in spool.spool.disk st.mark (losses_of s st [] (ReadOldest ∷ []) front) st.mark
+            out.new.notes result }
         ensures disk { HandsBack D.Disk spool.spool.disk result }
     {
         let mut spool = spool;

@@ -7,6 +7,7 @@ ghost use Rattle.trace_log.specs.Commands.{ToolCommandFits};
 ghost use Rattle.message_end.specs.Ends.{IsEmpty, MayTake, input_of};
 ghost use Rattle.equipment_tables.specs.Plan.{EquipmentPlanFits};
 ghost use Rattle.equipment_node.specs.Amid.{IsReady};
+ghost use Rattle.equipment_node.specs.Breaking.{KeepsMarked};
 ghost use Rattle.equipment_node.specs.DiskCalls.{CallsInStep, disk_held};
 ghost use Rattle.equipment_node.specs.HandedBack.{SeatHandsBack, StartHandsBack, StepHandsBack};
 ghost use Rattle.equipment_node.specs.Held.{Begins, FindsFile, IsIn, Moves, starting_by, view_in};
@@ -223,6 +224,11 @@ pub(crate) fn start_over<D: Disk>(
     ensures calls { (t : Story) → D.told spool.spool.disk ≡ Some t
         → MovesMark D.Disk spool.spool.disk t.now.bytes spool.spool.mark result }
     ensures disk { SeatHandsBack D.Disk spool.spool.disk result }
+    ensures marked { IfOk result (λ e. KeepsMarked
+        (D.told spool.spool.disk)
+        spool.spool.mark
+        (D.told e.spool.spool.disk)
+        e.spool.spool.mark) }
 {
     // (that it stands as it says is told by the call that counts its messages)
     let _ = spool.len();

@@ -3,6 +3,8 @@ ghost use Rattle.equipment_node.specs.Laws.{EquipmentKeepsItsLaw, ReportsAreOfTh
 ghost use Rattle.equipment_node.specs.SpentSteps.{DrawsFew, SpentByCause};
 ghost use Rattle.equipment_node.specs.SpoolKept.{SpoolIsKept, TriesAreInTurn};
 ghost use Rattle.equipment_node.specs.WorkedCalls.{CallsOfWorks};
+ghost use Rattle.equipment_node.specs.Losses.{LossesAreCounted, LossesAreFound};
+ghost use Rattle.equipment_node.specs.WorkedLosses.{LosesAtCalls};
 ghost use Rattle.equipment_node.specs.WorkedReports.{LaterSettingsAreNotReported};
 ghost use Rattle.equipment_node.specs.WorkedSpent.{NumbersEnd};
 ghost use Rattle.equipment_node.specs.WorkedSpool.{FullSpools, LosesInOrder, PutsTheLast, SpoolingBegins, UnloadsInOrder};
@@ -73,4 +75,21 @@ pub fn steps_are_spent_by_cause()
 /// Examples of steps whose numbers are spent, and of one that has as many as it may need.
 pub fn worked_spent_steps()
     ensures { NumbersEnd }
+{}
+
+/// Power may be lost in a step once at each call that it asks of its disk, with what is noted where the disk fails at
+/// the work of that call.
+pub fn losses_are_counted()
+    ensures { LossesAreCounted }
+{}
+
+/// At whichever call of a work power is lost, and whatever becomes of the disk, what is left is what stood, less what
+/// was leaving, or with what was being stored at the end.
+pub fn losses_are_found()
+    ensures { LossesAreFound }
+{}
+
+/// An example of what a loss of power leaves: the line fails, and a report is put.
+pub fn worked_losses()
+    ensures { LosesAtCalls }
 {}

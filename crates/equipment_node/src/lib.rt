@@ -39,7 +39,7 @@ mod unloading;
 pub use disk_step::Ended;
 pub use equipment::{Equipment, Starting};
 pub use equipment_tables::{EquipmentPlan, HostPlan, Plans};
-pub use in_memory::EquipmentEnd;
+pub use in_memory::{EquipmentEnd, MOST_CALLS, MOST_WRITTEN};
 pub use laws::{
     calls_are_counted, equipment_keeps_the_law, later_settings_are_not_reported,
     reports_are_of_their_events, spool_is_kept, steps_are_spent_by_cause, worked_spent_steps,

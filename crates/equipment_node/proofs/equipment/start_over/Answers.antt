@@ -5,6 +5,7 @@ use Rattle.gem_spool.specs.Works.{standing_after_reserve}
 use Rattle.equipment_node.proofs.Beginning.{none-left, start-asked, start-failed, start-fallen, start-ready, started}
 use Rattle.equipment_node.proofs.HandingBack.{kept-at, kept-then, reserved-back, seat-then, seated-back, unreserved-back}
 use Rattle.equipment_node.proofs.StartCalled.{mark-moved, mark-stays, move-stops}
+use Rattle.equipment_node.proofs.StartMarked.{start-marked}
 use Rattle.equipment_node.proofs.equipment.start_over.Goals as goal
 
 pub start_with-requires : goal.start_with-requires
@@ -96,3 +97,11 @@ returns-in-None-clause-disk g c =
 
 pub returns-in-Err-clause-disk : goal.returns-in-Err-clause-disk
 returns-in-Err-clause-disk g c = unreserved-back g.D.Disk c.args.spool c.in-Err.spent c.in-Err.ensures.reserve
+
+pub returns-in-Some-clause-marked : goal.returns-in-Some-clause-marked
+returns-in-Some-clause-marked g c =
+    start-marked g.D.Disk c.args.spool c.in-Ok.spool c.in-Some.base
+    (subst (λ (b : Option ℕ). ReservesFrom g.D.Disk c.args.spool c.in-Ok.spool b) c.in-Some.is
+    c.in-Ok.ensures.reserve)
+    c.args.plan.now c.in-Some.base c.args.out.now c.start_with.new.out c.start_with.result
+    c.start_with.ensures.starts

@@ -1,27 +1,27 @@
-use Rattle.std.proofs.Common.{ap, refl, subst, ◌∙◌}
+use Rattle.std.proofs.Common.{refl, subst}
 use Rattle.disk_base.specs.contracts.mem_disk.MemDiskDisk.TheImpl.{ghosts}
 use Rattle.equipment_tables.specs.declared.plan.EquipmentPlan.{EquipmentPlan}
-use Rattle.equipment_node.specs.declared.own.Tool.{Tool}
 use Rattle.equipment_node.specs.StartOver.{HasStartedOver}
 use Rattle.equipment_node.proofs.in_memory.EquipmentEnd.start_anew.Goals as goal
 
-pub returns-in-Ok : goal.returns-in-Ok
-returns-in-Ok c = record {
+pub returns-in-Ok-clause-restarts : goal.returns-in-Ok-clause-restarts
+returns-in-Ok-clause-restarts c = record {
   seated = c.in-Ok.field-0.spool;
   spool_is = refl;
   started = λ fresh.
       subst
       (λ (plan : EquipmentPlan).
       HasStartedOver ghosts plan c.args.spool c.in-Ok.field-0.tool.value c.in-Ok.field-0.spool c.start_over.new.out)
-      (c.get.ensures.value ∙ ap (λ (tool : Tool). tool.own.plan) c.deref.ensures)
+      c.get.ensures.value
       (c.in-Ok.ensures.starts fresh);
   asks = c.in-Ok.ensures.asks;
 }
 
-pub returns-in-Err : goal.returns-in-Err
-returns-in-Err c = record {
+pub returns-in-Err-clause-restarts : goal.returns-in-Err-clause-restarts
+returns-in-Err-clause-restarts c = record {
   spool_is = c.requires.gone;
   ended = c.in-Err.ended;
   end_is = c.stop_of.ensures;
   started = λ fresh. c.in-Err.ensures.starts fresh;
+  asks = c.in-Err.ensures.asks;
 }

@@ -5,6 +5,7 @@ use Rattle.equipment_node.proofs.Asking.{reserve-fallen, step-asked}
 use Rattle.equipment_node.proofs.HandingBack.{handed-then}
 use Rattle.equipment_node.proofs.OverDisk.{not-opened}
 use Rattle.equipment_node.proofs.StepCalls.{not-called, step-called}
+use Rattle.equipment_node.proofs.StepBreaks.{step-breaks, unopened-breaks}
 use Rattle.equipment_node.proofs.own.Tool.act.Goals as goal
 
 pub act_on-requires : goal.act_on-requires
@@ -59,3 +60,17 @@ returns-in-Ok-clause-disk g c =
 
 pub returns-in-Err-clause-disk : goal.returns-in-Err-clause-disk
 returns-in-Err-clause-disk g c = c.in-Err.ensures.disk
+
+pub returns-in-Ok-clause-breaks : goal.returns-in-Ok-clause-breaks
+returns-in-Ok-clause-breaks g c s node_is on told =
+    let begin = c.in-Ok.ensures.opens s node_is on told in
+    step-breaks g.D.Disk s (input_of c.args.input) c.args.now c.args.spool.spool.disk c.in-Ok.spool.spool.disk
+    c.act_on.new.out.notes c.act_on.result begin.went begin.told
+    (c.in-Ok.ensures.breaks s node_is on told c.requires.out.notes) (c.act_on.ensures.breaks s begin)
+
+pub returns-in-Err-clause-breaks : goal.returns-in-Err-clause-breaks
+returns-in-Err-clause-breaks g c s node_is on told =
+    unopened-breaks g.D.Disk s (input_of c.args.input) c.args.now c.args.spool.spool.disk c.reserve.new.out.notes
+    (node_of c.reserve.new.self) c.in-Err.ended on.clear.owes (c.in-Err.ensures.opens s node_is on told)
+    (c.in-Err.ensures.notes ∙ c.requires.out.notes)
+    (c.in-Err.ensures.breaks s node_is on told c.requires.out.notes)

@@ -8,6 +8,7 @@ use Rattle.equipment_node.proofs.HandingBack.{handed-then, works-back}
 use Rattle.equipment_node.proofs.OverDisk.{at-settled, carry-failed, ends-acts}
 use Rattle.equipment_node.proofs.Readying.{settled-ready}
 use Rattle.equipment_node.proofs.StepCalls.{behind-called, behind-stops}
+use Rattle.equipment_node.proofs.StepBreaks.{behind-breaks, behind-broken}
 use Rattle.equipment_node.proofs.own.Tool.act_behind.Goals as goal
 
 pub carry_out-requires : goal.carry_out-requires
@@ -76,3 +77,21 @@ returns-in-Ok-clause-disk g c =
 pub returns-in-Err-clause-disk : goal.returns-in-Err-clause-disk
 returns-in-Err-clause-disk g c =
     works-back g.D.Disk c.args.spool _ c.args.out.now c.carry_out.new.out (Err c.in-Err.ended) c.in-Err.ensures.works
+
+pub returns-in-Ok-clause-breaks : goal.returns-in-Ok-clause-breaks
+returns-in-Ok-clause-breaks g c s input begun begin =
+    let at =
+    at-settled g.D.Disk s input c.args.now begin.went c.args.spool c.in-Ok.spool (node_of c.args.self.now)
+    (node_of c.carry_out.new.self) c.args.out.now c.carry_out.new.out begun begin.clear begin.told
+    c.requires.ready.count c.in-Ok.ensures.come_to c.in-Ok.ensures.works.0 c.in-Ok.ensures.node c.in-Ok.ensures.works.1
+    in
+    behind-breaks g.D.Disk s input c.args.now (λ d u told. g.met.D.Disk.sized d u told) c.args.spool begin.clear
+    begin.went c.in-Ok.spool (node_of c.args.self.now) c.args.out.now begun c.act_last.new.out.notes c.act_last.result
+    c.requires.ready.count c.in-Ok.ensures.come_to c.in-Ok.ensures.works.0 at.told
+    (λ same. c.act_last.ensures.breaks (settled_step begun.step) at s same)
+
+pub returns-in-Err-clause-breaks : goal.returns-in-Err-clause-breaks
+returns-in-Err-clause-breaks g c s input begun begin =
+    behind-broken g.D.Disk s input c.args.now (λ d u told. g.met.D.Disk.sized d u told) c.args.spool begin.clear
+    begin.went (node_of c.args.self.now) c.args.out.now c.carry_out.new.out begun c.in-Err.ended
+    c.in-Err.ensures.works

@@ -10,6 +10,7 @@ use Rattle.equipment_node.proofs.HandingBack.{last-back}
 use Rattle.equipment_node.proofs.LastParts.{asked-is, last-done, none-asked, number-is, with-node}
 use Rattle.equipment_node.proofs.Readying.{asked-ready}
 use Rattle.equipment_node.proofs.StepCalls.{last-called, reads-by, some-asked}
+use Rattle.equipment_node.proofs.StepBreaks.{last-breaks, reads-breaks}
 use Rattle.equipment_node.proofs.own.Tool.act_last.Goals as goal
 
 pub act_reading-requires : goal.act_reading-requires
@@ -83,3 +84,19 @@ returns-in-None-clause-disk g c =
     last-back g.D.Disk c.args.spool (taking None ∷ end_of_spooling ∷ offer c.args.now ∷ [])
     (node_of c.next_unload.new.self) (node_of c.end_with.new.self) c.args.out.now c.end_with.new.out c.end_with.result
     c.end_with.ensures.ends
+
+pub returns-in-Some-clause-breaks : goal.returns-in-Some-clause-breaks
+returns-in-Some-clause-breaks g c t at s same =
+    let some = number-is (node_of c.args.self.now) t at.node_is (Some c.in-Some.number) c.in-Some.ensures.number in
+    reads-breaks g.D.Disk s t c.args.spool.spool.disk c.act_reading.new.out.notes c.act_reading.result
+    (Some c.in-Some.number) some
+    (c.act_reading.ensures.breaks s (standing_in t.next) at.clear.stands
+    (some-asked g.D.Disk c.args.spool.spool t c.in-Some.number at.clear some) same at.told t.notes at.notes)
+
+pub returns-in-None-clause-breaks : goal.returns-in-None-clause-breaks
+returns-in-None-clause-breaks g c t at s same =
+    reads-breaks g.D.Disk s t c.args.spool.spool.disk c.end_with.new.out.notes c.end_with.result None
+    (number-is (node_of c.args.self.now) t at.node_is None c.in-None.ensures.number)
+    (last-breaks g.D.Disk c.args.spool (taking None ∷ end_of_spooling ∷ offer c.args.now ∷ [])
+    (node_of c.next_unload.new.self) (node_of c.end_with.new.self) c.args.out.now c.end_with.new.out t.next.mark
+    c.end_with.new.out.notes c.end_with.result c.end_with.ensures.ends)

@@ -78,3 +78,19 @@ pub returns-in-Err-clause-disk : goal.returns-in-Err-clause-disk
 returns-in-Err-clause-disk g c =
     c.stop.ensures.disk
     (reached-not-failed _ (node_of c.do_first.new.self) c.do_first.new.out c.in-Err.stop c.in-Err.ensures.does)
+
+pub returns-in-Ok-clause-breaks : goal.returns-in-Ok-clause-breaks
+returns-in-Ok-clause-breaks g c s begin =
+    c.act_behind.ensures.breaks s (input_of c.args.input)
+    (begun-of (input_of c.args.input) c.args.now (node_of c.args.self.now) (node_of c.do_first.new.self)
+    c.args.out.now c.do_first.new.out c.requires.out c.requires.ready.sound g.D.Disk s c.args.spool begin
+    c.in-Ok.ensures.does)
+    (record { went = begin.went; node_is = refl; clear = begin.clear; told = begin.told })
+
+pub returns-in-Err-clause-breaks : goal.returns-in-Err-clause-breaks
+returns-in-Err-clause-breaks g c s begin =
+    c.stop.ensures.breaks s (input_of c.args.input) c.args.now
+    (stops-of (input_of c.args.input) c.args.now (node_of c.args.self.now) (node_of c.do_first.new.self)
+    c.args.out.now c.do_first.new.out c.requires.out c.requires.ready.sound g.D.Disk s c.args.spool begin
+    c.in-Err.stop c.in-Err.ensures.does)
+    (record { went = begin.went; node_is = refl; clear = begin.clear; told = begin.told })

@@ -14,6 +14,7 @@ use Rattle.equipment_node.proofs.HandingBack.{handed-then, kept-at, kept-then, l
 use Rattle.equipment_node.proofs.LastParts.{last-done, no-list, none-there, read-at, read-there}
 use Rattle.equipment_node.proofs.OverDisk.{kept-of}
 use Rattle.equipment_node.proofs.StepCalls.{look-called, looked-called, some-there, unread-called}
+use Rattle.equipment_node.proofs.StepBreaks.{look-breaks, looked-breaks}
 use Rattle.equipment_node.proofs.own.Tool.act_reading.Goals as goal
 
 pub returns-in-Ok-clause-ends : goal.returns-in-Ok-clause-ends
@@ -158,3 +159,29 @@ returns-in-Err-NoMemory-clause-disk g c =
     (looked-back g.D.Disk c.args.spool.spool c.oldest_message.new.self.spool (first_slot c.args.spool.spool) reads.0)
     (kept-at g.D.Disk c.oldest_message.new.self.spool.disk c.retire-in-Err-NoMemory.result.disk
     c.retire-in-Err-NoMemory.ensures.disk)
+
+pub returns-in-Ok-clause-breaks : goal.returns-in-Ok-clause-breaks
+returns-in-Ok-clause-breaks g c s st stands some same told front noted =
+    looked-breaks g.D.Disk (λ d u told. g.met.D.Disk.sized d u told) s c.args.spool.spool c.oldest_message.new.self
+    (first_slot c.args.spool.spool) st front
+    (taking (Some (c.args.number, c.report_of-report.result)) ∷ end_of_spooling ∷ offer c.args.now ∷ [])
+    (node_of c.args.self.now) (node_of c.end_with.new.self) c.args.out.now c.end_with.new.out c.end_with.new.out.notes
+    c.end_with.result told c.in-Ok.ensures.reads.0 c.end_with.ensures.ends
+
+pub returns-in-Err-Empty-clause-breaks : goal.returns-in-Err-Empty-clause-breaks
+returns-in-Err-Empty-clause-breaks g c s st stands some same told front noted =
+    let reads =
+    subst
+    (λ (why : Unread). ReadsOldest g.D.Disk c.args.spool.spool c.oldest_message.new.self.spool (Err why))
+    c.in-Err-Empty.field-0-is c.in-Err-Empty.ensures.reads in
+    absurd (some-there g.D.Disk [] st c.args.spool.spool stands.count reads.1 some)
+
+pub returns-in-Err-Failed-clause-breaks : goal.returns-in-Err-Failed-clause-breaks
+returns-in-Err-Failed-clause-breaks g c s st stands some same told front noted goes =
+    let reads =
+    subst
+    (λ (why : Unread). ReadsOldest g.D.Disk c.args.spool.spool c.oldest_message.new.self.spool (Err why))
+    c.in-Err-Failed.field-0-is c.in-Err-Failed.ensures.reads in
+    look-breaks g.D.Disk (λ d u told. g.met.D.Disk.sized d u told) s c.args.spool.spool
+    c.oldest_message.new.self.spool (first_slot c.args.spool.spool) c.retire.result st front c.args.out.now.notes stands
+    same noted reads.0 c.retire.ensures.disk goes

@@ -4,6 +4,7 @@ use Rattle.equipment_node.proofs.Asking.{spared-none}
 use Rattle.equipment_node.proofs.HandingBack.{kept-still}
 use Rattle.equipment_node.proofs.Opened.{made-ordered, need, no-need, opened-plain}
 use Rattle.equipment_node.proofs.StepCalls.{not-reserved}
+use Rattle.equipment_node.proofs.StepBreaks.{unreserved-breaks}
 use Rattle.equipment_node.proofs.own.Tool.reserve.Goals as goal
 
 pub returns-then-has_enough-clause-opens : goal.returns-then-has_enough-clause-opens
@@ -41,3 +42,13 @@ returns-then-has_enough-clause-disk g c = kept-still g.D.Disk c.args.spool.spool
 
 pub returns-clause-disk : goal.returns-clause-disk
 returns-clause-disk g c = c.reserve_more.ensures.disk
+
+pub returns-then-has_enough-clause-breaks : goal.returns-then-has_enough-clause-breaks
+returns-then-has_enough-clause-breaks g c s node_is on told noted =
+    unreserved-breaks g.D.Disk s c.args.spool.spool.disk
+    (no-need s (node_of c.args.self.now) node_is (sym c.if-has_enough.ensures))
+
+pub returns-clause-breaks : goal.returns-clause-breaks
+returns-clause-breaks g c s node_is on told noted =
+    c.reserve_more.ensures.breaks s node_is
+    (need s (node_of c.args.self.now) node_is (sym c.if-has_enough.ensures) (made-ordered s on.made)) on told noted

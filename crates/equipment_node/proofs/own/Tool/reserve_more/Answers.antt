@@ -14,6 +14,7 @@ use Rattle.equipment_node.proofs.HandingBack.{kept-at, kept-then, reserved-back,
 use Rattle.equipment_node.proofs.Opened.{at-last, mark-failed, marked-out, more-core, opened-more}
 use Rattle.equipment_node.proofs.Readying.{same-ready}
 use Rattle.equipment_node.proofs.StepCalls.{reserve-made, reserve-spent, reserve-stops}
+use Rattle.equipment_node.proofs.StepBreaks.{marked-out-breaks, reserve-breaks, reserved-breaks}
 use Rattle.equipment_node.proofs.own.Tool.reserve_more.Goals as goal
 
 pub returns-in-Ok-default-Some-clause-opens : goal.returns-in-Ok-default-Some-clause-opens
@@ -103,3 +104,25 @@ returns-in-Ok-default-None-clause-disk g c =
 
 pub returns-in-Err-clause-disk : goal.returns-in-Err-clause-disk
 returns-in-Err-clause-disk g c = unreserved-back g.D.Disk c.args.spool c.in-Err.spent c.in-Err.ensures.reserve
+
+pub returns-in-Ok-default-Some-clause-breaks : goal.returns-in-Ok-default-Some-clause-breaks
+returns-in-Ok-default-Some-clause-breaks g c s node_is needs on told noted =
+    let made =
+    subst
+    (λ (b : Option ℕ). ReservesFrom g.D.Disk c.args.spool c.in-Ok-default-Some.spool b)
+    c.in-Ok-default-Some.field-0-1-is c.in-Ok-default-Some.ensures.reserve in
+    reserved-breaks g.D.Disk s c.args.spool needs on.clear c.in-Ok-default-Some.spool _ made
+
+pub returns-in-Ok-default-None-clause-breaks : goal.returns-in-Ok-default-None-clause-breaks
+returns-in-Ok-default-None-clause-breaks g c s node_is needs on told noted =
+    let made =
+    subst
+    (λ (b : Option ℕ). ReservesFrom g.D.Disk c.args.spool c.in-Ok-default-None.spool b)
+    c.in-Ok-default-None.field-0-1-is c.in-Ok-default-None.ensures.reserve in
+    marked-out-breaks g.D.Disk s c.args.spool needs on.clear c.in-Ok-default-None.spool c.retire.result told.0 told.1
+    made c.retire.ensures.disk
+
+pub returns-in-Err-clause-breaks : goal.returns-in-Err-clause-breaks
+returns-in-Err-clause-breaks g c s node_is needs on told noted goes =
+    reserve-breaks g.D.Disk (λ d u told. g.met.D.Disk.sized d u told) s c.args.spool c.in-Err.spent
+    c.args.out.now.notes needs on.clear c.in-Err.ensures.reserve noted goes

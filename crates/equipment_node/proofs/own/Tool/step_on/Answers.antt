@@ -41,3 +41,9 @@ returns-in-Ok-clause-disk g c = c.in-Ok.ensures.disk
 
 pub returns-in-Err-clause-disk : goal.returns-in-Err-clause-disk
 returns-in-Err-clause-disk g c = c.in-Err.ensures.disk
+
+pub returns-in-Ok-clause-breaks : goal.returns-in-Ok-clause-breaks
+returns-in-Ok-clause-breaks g c s node_is on told = c.in-Ok.ensures.breaks s node_is on told
+
+pub returns-in-Err-clause-breaks : goal.returns-in-Err-clause-breaks
+returns-in-Err-clause-breaks g c s node_is on told = c.in-Err.ensures.breaks s node_is on told

@@ -64,3 +64,15 @@ returns-in-NoMemory-clause-disk g c going =
 
 pub returns-in-DiskFailed-clause-disk : goal.returns-in-DiskFailed-clause-disk
 returns-in-DiskFailed-clause-disk g c going = absurd (going c.in-DiskFailed.is)
+
+pub returns-in-NumbersSpent-clause-breaks : goal.returns-in-NumbersSpent-clause-breaks
+returns-in-NumbersSpent-clause-breaks g c s input now stops begin =
+    c.stop_spent.ensures.breaks s input now
+    (subst (λ (end : Stop). StopsAt s input now (node_of c.args.self.now) c.args.out.now end) c.in-NumbersSpent.is
+    stops)
+    begin
+
+pub returns-in-DiskFailed-clause-breaks : goal.returns-in-DiskFailed-clause-breaks
+returns-in-DiskFailed-clause-breaks g c s input now stops begin =
+    absurd
+    (subst (λ (end : Stop). StopsAt s input now (node_of c.args.self.now) c.args.out.now end) c.in-DiskFailed.is stops)

@@ -1,11 +1,14 @@
 use Rattle.std.proofs.Common.{ap}
 use Rattle.std.specs.Prelude.{Ok, Err}
 use Rattle.message_flow.specs.declared.step.StepOut.{StepOut}
+use Rattle.equipment_node.specs.Amid.{opened}
+use Rattle.equipment_node.specs.Disk.{standing_in}
 use Rattle.equipment_node.specs.Node.{node_of}
 use Rattle.equipment_node.proofs.Asking.{spent-fallen}
 use Rattle.equipment_node.proofs.HandingBack.{kept-at, kept-then, works-back}
 use Rattle.equipment_node.proofs.OverDisk.{carry-spent-failed, spent-before}
 use Rattle.equipment_node.proofs.StepCalls.{spent-called, spent-stops}
+use Rattle.equipment_node.proofs.StepBreaks.{carried-told, spent-breaks, spent-broken}
 use Rattle.equipment_node.proofs.own.Tool.stop_spent.Goals as goal
 
 pub returns-in-Ok-clause-acts : goal.returns-in-Ok-clause-acts
@@ -45,3 +48,17 @@ returns-in-Ok-clause-disk g c =
 pub returns-in-Err-clause-disk : goal.returns-in-Err-clause-disk
 returns-in-Err-clause-disk g c =
     works-back g.D.Disk c.args.spool _ c.args.out.now c.carry_out.new.out (Err c.in-Err.ended) c.in-Err.ensures.works
+
+pub returns-in-Ok-clause-breaks : goal.returns-in-Ok-clause-breaks
+returns-in-Ok-clause-breaks g c s input now stops begin =
+    spent-breaks g.D.Disk s input now (λ d u told. g.met.D.Disk.sized d u told) c.args.spool begin.clear begin.went
+    c.in-Ok.spool (node_of c.args.self.now) c.args.out.now stops c.carry_out.new.out.notes c.retire.result
+    c.in-Ok.ensures.works.0
+    (carried-told g.D.Disk (λ d u told. g.met.D.Disk.sized d u told) c.args.spool c.in-Ok.spool _ (standing_in
+    (opened s))
+    begin.clear.stands begin.told c.in-Ok.ensures.works.0) c.retire.ensures.disk
+
+pub returns-in-Err-clause-breaks : goal.returns-in-Err-clause-breaks
+returns-in-Err-clause-breaks g c s input now stops begin =
+    spent-broken g.D.Disk s input now (λ d u told. g.met.D.Disk.sized d u told) c.args.spool begin.clear begin.went
+    (node_of c.args.self.now) c.args.out.now c.carry_out.new.out stops c.in-Err.ended c.in-Err.ensures.works

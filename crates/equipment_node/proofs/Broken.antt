@@ -1,0 +1,120 @@
+-- That some works behind others break where they break together.
+use Rattle.std.proofs.Common.{◌≡◌, refl, sym, subst, arith, nat_le, ◌+◌, ◌-◌, ◌<◌, zero, suc, Bool, true, false, ℕ, List, [], ◌∷◌, ◌++◌, length, length-append, Some}
+use Rattle.std.proofs.lemmas.Bool.Decides.{nat_tests}
+use Rattle.std.specs.Prelude.{slice_get}
+use Rattle.disk_base.specs.Faults.{DiskHealth, IsAmong}
+use Rattle.disk_base.specs.Story.{Story}
+use Rattle.disk_base.specs.declared.disk.Disk as disk
+use Rattle.message_end.specs.Ends.{Loss, call_of}
+use Rattle.message_flow.specs.declared.step.Note.{Note}
+use Rattle.equipment_node.specs.Breaking.{BreaksAt, HasBrokenAt, HasPassed, IsGoingDisk, Passes}
+use Rattle.equipment_node.specs.Equipment.{EquipmentView}
+
+-- ---- the call of a place
+
+get-before : {X : Type 0} (one two : List X) (n : ℕ) (x : X) → slice_get one n ≡ Some x
+    → slice_get (one ++ two) n ≡ Some x
+get-before [] two n x is = absurd (cc)
+get-before (y ∷ one) two zero x is = is
+get-before (y ∷ one) two (suc n) x is = get-before one two n x is
+
+get-behind : {X : Type 0} (one two : List X) (n : ℕ) (x : X) → slice_get two n ≡ Some x
+    → slice_get (one ++ two) (length one + n) ≡ Some x
+get-behind [] two n x is =
+    let same : n ≡ 0 + n = omega arith in subst (λ (k : ℕ). slice_get two k ≡ Some x) same is
+get-behind (y ∷ one) two n x is =
+    let same : suc (length one + n) ≡ suc (length one) + n = omega arith in
+    subst (λ (k : ℕ). slice_get (y ∷ (one ++ two)) k ≡ Some x) same (get-behind one two n x is)
+
+pub call-before : {X : Type 0} (one two : List X) (n : ℕ) (x : X) → call_of n one ≡ Some x
+    → call_of n (one ++ two) ≡ Some x
+call-before one two zero x is = absurd (cc)
+call-before one two (suc n) x is = get-before one two n x is
+
+pub call-behind : {X : Type 0} (one two : List X) (n : ℕ) (x : X) → call_of n two ≡ Some x
+    → call_of (length one + n) (one ++ two) ≡ Some x
+call-behind one two zero x is = absurd (cc)
+call-behind one two (suc n) x is =
+    let same : suc (length one + n) ≡ length one + suc n = omega arith in
+    subst (λ (k : ℕ). call_of k (one ++ two) ≡ Some x) same (get-behind one two n x is)
+
+-- ---- what has passed
+
+-- the planned call isn't among so many, so it comes behind them, or none is planned
+past-all : (at calls : ℕ) → (IsAmong at calls → ⊥) → 0 < at → calls < at
+past-all at calls none some = go (nat_le at calls) refl
+  where
+    go : (within : Bool) → nat_le at calls ≡ within → calls < at
+    go true e = absurd (none (some, grind (arith, nat_tests, e)))
+    go false e = grind (arith, nat_tests, e)
+
+pub passed-both : (a b c : DiskHealth) (one two : ℕ) → HasPassed a b one → HasPassed b c two → HasPassed a c (one + two)
+passed-both a b c one two first second = record {
+  passes = λ among.
+      let near = first.nearer in
+      let past = past-all a.stop_in one first.passes among.0 in
+      let most = among.1 in
+      second.passes (omega (arith, near, past), omega (arith, near, most));
+  nearer = let near = first.nearer in let more = second.nearer in omega (arith, near, more);
+  on = second.on;
+}
+
+-- ---- losses behind others
+
+pub broken-before : (one two : List (Loss EquipmentView)) (call : ℕ) (after : Story) (notes : List Note)
+    → HasBrokenAt one call after notes → HasBrokenAt (one ++ two) call after notes
+broken-before one two call after notes is =
+    record { loss = is.loss; is = call-before one two call is.loss is.is; left = is.left; noted = is.noted }
+
+pub broken-behind :
+    (one two : List (Loss EquipmentView)) (before now : DiskHealth) (after : Story) (notes : List Note)
+    → HasPassed before now (length one) → HasBrokenAt two now.stop_in after notes
+    → HasBrokenAt (one ++ two) before.stop_in after notes
+broken-behind one two before now after notes passed is = record {
+  loss = is.loss;
+  is =
+      subst (λ (k : ℕ). call_of k (one ++ two) ≡ Some is.loss) (place passed.nearer)
+      (call-behind one two now.stop_in is.loss is.is);
+  left = is.left;
+  noted = is.noted;
+}
+  where
+    some : (n : ℕ) → call_of n two ≡ Some is.loss → 0 < n
+    some zero none = absurd (cc)
+    some (suc n) one = omega arith
+
+    place : now.stop_in ≡ before.stop_in - length one → length one + now.stop_in ≡ before.stop_in
+    place near = let more = some now.stop_in is.is in omega (arith, near, more)
+
+module _ {D : Type 0} (members : disk.Ghosts D) where
+  pub passes-both :
+      (a b c : D) (was mid now : ℕ) (one two : List (Loss EquipmentView))
+      → ((s : Story) → members.told a ≡ Some s → (t : Story) × (members.told b ≡ Some t))
+      → Passes members a was one b mid → Passes members b mid two c now → Passes members a was (one ++ two) c now
+  passes-both a b c was mid now one two tells first second = record {
+    passed = λ on.
+        let middle = first.passed on in
+        subst (λ (n : ℕ). HasPassed (members.health a) (members.health c) n) (sym (length-append one two))
+        (passed-both (members.health a) (members.health b) (members.health c) (length one) (length two) middle
+        (second.passed middle.on));
+    marked = λ on s t old new is.
+        let middle = tells s old in
+        second.marked (first.passed on).on middle.0 t middle.1 new (first.marked on s middle.0 old middle.1 is);
+  }
+
+  -- the planned call is among the later ones
+  pub breaks-behind :
+      (a b c : D) (was mid : ℕ) (one two : List (Loss EquipmentView)) (notes : List Note)
+      → ((s : Story) → members.told a ≡ Some s → (t : Story) × (members.told b ≡ Some t))
+      → IsGoingDisk (members.health a) → Passes members a was one b mid → BreaksAt members b mid two c notes
+      → BreaksAt members a was (one ++ two) c notes
+  breaks-behind a b c was mid one two notes tells on first breaks s t old new is images stopped room =
+      let middle = tells s old in
+      broken-behind one two (members.health a) (members.health b) t notes (first.passed on)
+      (breaks middle.0 t middle.1 new (first.marked on s middle.0 old middle.1 is) images stopped room)
+
+  pub breaks-before :
+      (a c : D) (was : ℕ) (one two : List (Loss EquipmentView)) (notes : List Note) → BreaksAt members a was one c notes
+      → BreaksAt members a was (one ++ two) c notes
+  breaks-before a c was one two notes breaks s t old new is images stopped room =
+      broken-before one two (members.health a).stop_in t notes (breaks s t old new is images stopped room)

@@ -1,0 +1,331 @@
+-- How a step over a disk in memory ends: what room is left, and where a planned call has stopped the disk.
+use Rattle.std.proofs.Common.{◌≡◌, refl, sym, ap, subst, ◌∙◌, arith, zero, suc, ◌-◌, ◌≤◌, ◌&&◌, nat_le, nat_lt, Bool, true, false, ℕ, List, [], ◌∷◌, length, Option, Some, None, is_some}
+use Rattle.std.proofs.lemmas.Bool.Decides.{nat_tests}
+use Rattle.std.specs.Prelude.{IfSome, slice_get, Err}
+use Rattle.disk_base.specs.Cut.{image_of}
+use Rattle.disk_base.specs.Faults.{IsAmong}
+use Rattle.disk_base.specs.MemDisk.{DiskState, disk_health}
+use Rattle.disk_base.specs.contracts.mem_disk.MemDiskDisk.TheImpl.{ghosts}
+use Rattle.disk_base.specs.declared.cut.CutChoice.{CutChoice}
+use Rattle.gem_spool.specs.declared.spool.GemSpool.{GemSpool}
+use Rattle.gem_spool.specs.Standing.{Standing, file_of}
+use Rattle.message_flow.specs.declared.step.StepOut.{StepOut}
+use Rattle.spool_slots.specs.File.{SpoolFile, StandsFor}
+use Rattle.spool_slots.specs.declared.states.Spent.{Spent as Device}
+use Rattle.trace_log.specs.declared.commands.ToolCommand.{ToolCommand}
+use Rattle.trace_log.specs.Log.{Happening}
+use Rattle.message_end.specs.declared.end.Stop.{Stop}
+use Rattle.message_end.specs.declared.end.Stop.TheVariants as stop
+use Rattle.message_end.specs.Core.{Went, step_in}
+use Rattle.message_end.specs.Ends.{Asked, EndsBy, HasLost, HasNoRoom, Input, IsLeft, IsNearer, Leaves, Loss, call_of}
+use Rattle.message_end.specs.Parts.{Node}
+use Rattle.equipment_tables.specs.declared.plan.EquipmentPlan.{EquipmentPlan}
+use Rattle.equipment_node.specs.declared.disk_step.Ended.{Ended}
+use Rattle.equipment_node.specs.declared.disk_step.Ended.TheVariants as ended
+use Rattle.equipment_node.specs.declared.kind.Kind.{Kind}
+use Rattle.equipment_node.specs.Asked.{HasAsked, HasSpared}
+use Rattle.equipment_node.specs.Breaking.{BreaksAt, BreaksBy, HasBrokenAt, HasRoomLeft, IsGoingDisk, LeavesImages, Passes, mark_behind}
+use Rattle.equipment_node.specs.Disk.{asks, standing_in, works_of}
+use Rattle.equipment_node.specs.DiskCalls.{disk_in}
+use Rattle.equipment_node.specs.End.{machine}
+use Rattle.equipment_node.specs.Equipment.{EquipmentView, act, begun_step, restarts, starts}
+use Rattle.equipment_node.specs.InMemory.{HasPower, IsLost, IsMarkedBy, IsWhole, anew_over, armed_in, file_cut, lost_by, lost_if, room_with, stop_told}
+use Rattle.equipment_node.specs.Lawful.{IsGoodView}
+use Rattle.equipment_node.specs.LawfulLosses.{LeavesWell, all-well}
+use Rattle.equipment_node.specs.LossCalls.{IsAtCall, at-call, has-call, losses-counted}
+use Rattle.equipment_node.specs.Losses.{losses}
+use Rattle.equipment_node.specs.Own.{OwnView}
+use Rattle.equipment_node.specs.Sound.{AllCanBeSent}
+use Rattle.equipment_node.specs.Stepping.{HasStepped, stop_by, view_of}
+use Rattle.equipment_node.proofs.Seated.{step-on}
+use Rattle.equipment_node.proofs.Slots.{act-plan, act-slots}
+use Rattle.equipment_node.proofs.StepMarks.{act-mark}
+
+-- ---- a call that isn't among these
+
+get-none : {X : Type 0} (xs : List X) (n : ℕ) → length xs ≤ n → slice_get xs n ≡ None
+get-none [] n is = refl
+get-none (x ∷ xs) zero is = absurd (omega (arith, is))
+get-none (x ∷ xs) (suc n) is = get-none xs n (omega (arith, is))
+
+pub none-at : {X : Type 0} (call : ℕ) (xs : List X) → (IsAmong call (length xs) → ⊥) → call_of call xs ≡ None
+none-at zero xs not = refl
+none-at (suc n) xs not = get-none xs n (go (nat_le (suc n) (length xs)) refl)
+  where
+    go : (within : Bool) → nat_le (suc n) (length xs) ≡ within → length xs ≤ n
+    go true e = absurd (not (omega arith, grind (arith, nat_tests, e)))
+    go false e = grind (arith, nat_tests, e)
+
+three : (a b c : Bool) → (a && (b && c)) ≡ true → (a ≡ true) × (b ≡ true) × (c ≡ true)
+three true true true is = (refl, refl, refl)
+three true true false is = absurd (cc)
+three true false c is = absurd (cc)
+three false b c is = absurd (cc)
+
+-- one without a spool in hand makes no call
+pub gone-idle : (spool : Option (GemSpool DiskState)) → spool ≡ None → armed_in spool 0 ≡ 0
+gone-idle spool gone = ap (λ (o : Option (GemSpool DiskState)). armed_in o 0) gone
+
+module _ (plan : EquipmentPlan) (slots planned : ℕ) (node : Node OwnView Kind) (g : GemSpool DiskState)
+    (power : HasPower ghosts plan slots planned node g) (input : Input ToolCommand) (now : ℕ) (out : StepOut)
+  where
+    abbrev s : EquipmentView
+    s = view_of ghosts node (Some g)
+
+    abbrev some : List (Loss EquipmentView)
+    some = losses s input now
+
+    abbrev call : ℕ
+    call = g.spool.disk.plan.stop_in
+
+    good : IsGoodView power.on.made.plan power.on.made.fits s
+    good = record { own = power.on.made.did.sound.own; list = power.on.made.did.sound.list }
+
+    goes : IsGoingDisk (disk_health g.spool.disk)
+    goes = record { fails_not = power.fails_not; going = power.going }
+
+    counted : length some ≡ (asks s input now).calls
+    counted = (losses-counted s input now).0
+
+    -- ---- it goes on
+
+    module _ (mid : Node OwnView Kind) (h : GemSpool DiskState) (has : HasStepped ghosts s input now mid out h)
+        (spared : HasSpared (disk_health g.spool.disk) (disk_health h.spool.disk) (asks s input now))
+        (passes : Passes ghosts g.spool.disk s.mark some h.spool.disk (mark_behind s))
+      where
+        nearer : h.spool.disk.plan.stop_in ≡ call - (asks s input now).calls
+        nearer = (passes.passed goes).nearer ∙ ap (λ (n : ℕ). call - n) counted
+
+        pub ok-calm : call ≡ 0 → h.spool.disk.plan.stop_in ≡ 0
+        ok-calm none = let same = nearer in omega (arith, none, same)
+
+        pub ok-ends :
+            (lost : Option DiskState) → lost ≡ None
+            → IsLeft (room_with (Some g)) (asks s input now) (room_with (Some h))
+            × IsNearer some call (asks s input now).calls h.spool.disk.plan.stop_in × (is_some lost ≡ false)
+        ok-ends lost none = (
+          spared.left,
+          record { passes = none-at call some (passes.passed goes).passes; left = nearer },
+          ap (λ (o : Option DiskState). is_some o) none,
+        )
+
+        mark-is : h.spool.mark ≡ mark_behind s
+        mark-is =
+            has.on.clear.stands.mark
+            ∙ sym (ap (λ (went : Went EquipmentView Happening). (step_in went).next.mark) has.is)
+            ∙ act-mark s input now
+
+        plan-is : mid.own.plan ≡ plan
+        plan-is =
+            ap (λ (n : Node OwnView Kind). n.own.plan) (sym has.node_is)
+            ∙ sym (ap (λ (went : Went EquipmentView Happening). (step_in went).next.node.own.plan) has.is)
+            ∙ act-plan power.on.made.plan power.on.made.fits s input now good ∙ power.plan_is
+
+        slots-are : mid.own.ledger.slots ≡ slots
+        slots-are =
+            ap (λ (n : Node OwnView Kind). n.own.ledger.slots) (sym has.node_is)
+            ∙ sym (ap (λ (went : Went EquipmentView Happening). (step_in went).next.node.own.ledger.slots) has.is)
+            ∙ act-slots power.on.made.plan power.on.made.fits s input now good ∙ power.slots_are
+
+        ok-power : HasPower ghosts plan slots planned mid h
+        ok-power = record {
+          on = step-on ghosts s input now mid out h has;
+          fails_not = (passes.passed goes).on.fails_not;
+          going = (passes.passed goes).on.going;
+          marked =
+              subst (λ (m : ℕ). IsMarkedBy h.spool.disk.story.now.bytes m) (sym mark-is)
+              (passes.marked goes g.spool.disk.story h.spool.disk.story refl refl power.marked);
+          plan_is = plan-is;
+          slots_are = slots-are;
+          calm = λ none. ok-calm (power.calm none);
+        }
+
+        pub ok-whole : (lost : Option DiskState) → lost ≡ None → IsWhole ghosts plan slots planned mid (Some h) lost
+        ok-whole lost none =
+            subst (λ (o : Option DiskState). IsWhole ghosts plan slots planned mid (Some h) o) (sym none) ok-power
+
+    -- ---- a planned call has stopped its disk
+
+    module _ (lost : DiskState) (at : HasBrokenAt some call lost.story out.notes) where
+      abbrev Well : List Happening → (CutChoice → Standing) → Type 0
+      Well = LeavesWell s.mark (step_in (act s input now)).next.mark
+
+      at-left : IsAtCall Well s at.loss
+      at-left =
+          at-call Well s (works_of s input now) (standing_in s) [] (step_in (begun_step s input now)).notes at.loss
+          (all-well power.on.made.plan power.on.made.fits s input now good) (has-call call some at.loss at.is)
+
+      node-is : (choice : CutChoice) → (at.loss.left choice).node ≡ node
+      node-is choice = ap (λ (one : Loss EquipmentView). (one.left choice).node) at-left.is
+
+      file-is : (choice : CutChoice) → file_cut lost choice ≡ file_of (standing_in (at.loss.left choice))
+      file-is choice = sym (at.left choice).stands.is
+
+      can-left : (choice : CutChoice) → AllCanBeSent (at.loss.left choice).list
+      can-left choice =
+          subst (λ (one : Loss EquipmentView). AllCanBeSent (one.left choice).list) (sym at-left.is)
+          (at-left.at choice).can
+
+      is-lost : IsLost slots lost
+      is-lost = record {
+        stands = λ choice.
+            subst (StandsFor (image_of choice lost.story)) (at.left choice).stands.is (at.left choice).stands;
+        can = λ choice.
+            subst (λ (file : SpoolFile). AllCanBeSent file.list) (sym (file-is choice)) (can-left choice);
+        marked = λ choice.
+            subst (λ (file : SpoolFile). IsMarkedBy (image_of choice lost.story) file.mark) (sym (file-is choice))
+            (at.left choice).marked;
+        slots_are = λ choice.
+            ap (λ (file : SpoolFile). file.slots) (file-is choice)
+            ∙ ap (λ (n : Node OwnView Kind). n.own.ledger.slots) (node-is choice) ∙ power.slots_are;
+      }
+
+      starts-so : (mid : Node OwnView Kind) (choice : CutChoice) (later : ℕ)
+          → anew_over ghosts plan mid None (Some lost) choice later ≡ restarts (at.loss.left choice) later
+      starts-so mid choice later =
+          ap (λ (file : SpoolFile). starts plan file.slots file.list file.mark) (file-is choice)
+          ∙ ap
+          (λ (p : EquipmentPlan).
+          starts p (at.loss.left choice).node.own.ledger.slots (at.loss.left choice).list (at.loss.left choice).mark)
+          (sym (ap (λ (n : Node OwnView Kind). n.own.plan) (node-is choice) ∙ power.plan_is))
+
+      has-lost : (mid : Node OwnView Kind)
+          → HasLost machine some call (λ choice later. anew_over ghosts plan mid None (Some lost) choice later) out
+      has-lost mid = record {
+        loss = at.loss;
+        is = at.is;
+        notes = at.noted;
+        starts = λ choice later. starts-so mid choice later;
+      }
+
+    -- ---- it ends
+
+    abbrev Ends : Node OwnView Kind → Option (GemSpool DiskState) → Option DiskState → ℕ → Asked → Stop → Type 0
+    Ends mid spool lost after left why =
+        EndsBy machine some call after (is_some lost)
+        (λ choice later. anew_over ghosts plan mid spool lost choice later)
+        (room_with (Some g)) (asks s input now) left out (Err why)
+
+    module _ (spent : Device DiskState)
+        (breaks : IsGoingDisk (disk_health g.spool.disk)
+        → BreaksAt ghosts g.spool.disk s.mark some spent.disk out.notes)
+        (fallen : HasAsked ghosts g.spool.disk (asks s input now) (Err (ended.DiskFailed spent)))
+      where
+        abbrev is_stopped : Bool
+        is_stopped =
+            spent.disk.plan.stopped
+            && (nat_le 5 (disk_health spent.disk).calls && nat_le 4096 (disk_health spent.disk).room)
+
+        broken : is_stopped ≡ true → LeavesImages spent.disk.story
+            → HasBrokenAt some call spent.disk.story out.notes
+        broken so images =
+            let is =
+            three spent.disk.plan.stopped (nat_le 5 (disk_health spent.disk).calls)
+            (nat_le 4096 (disk_health spent.disk).room) so in
+            breaks goes g.spool.disk.story spent.disk.story refl refl power.marked images is.0
+            (room-left is.1 is.2)
+          where
+            room-left :
+                nat_le 5 (disk_health spent.disk).calls ≡ true → nat_le 4096 (disk_health spent.disk).room ≡ true
+                → HasRoomLeft (disk_health spent.disk)
+            room-left enough wide =
+                record { calls = grind (arith, nat_tests, enough); bytes = grind (arith, nat_tests, wide) }
+
+        -- no call was planned, and there was no room
+        short : planned ≡ 0 → HasNoRoom some call (room_with (Some g)) (asks s input now)
+        short none = (
+          ap (λ (n : ℕ). call_of n some) (power.calm none),
+          fallen (record { fails_not = power.fails_not; stops_not = power.calm none; going = power.going }),
+        )
+
+        failed-ends :
+            (mid : Node OwnView Kind) (after : ℕ) (left : Asked) (is : Bool) → is_stopped ≡ is
+            → IfSome (lost_if is spent.disk) (λ (d : DiskState). LeavesImages d.story) → (is_planned : Bool)
+            → nat_lt 0 planned ≡ is_planned
+            → Ends mid None (lost_if is spent.disk) after left
+            (stop_told is_planned (is_some (lost_if is spent.disk)) stop.DiskFailed)
+        failed-ends mid after left true so images true e = has-lost spent.disk (broken so images) mid
+        failed-ends mid after left true so images false e = has-lost spent.disk (broken so images) mid
+        failed-ends mid after left false so images true e = tt
+        failed-ends mid after left false so images false e =
+            short (grind (arith, nat_tests, e))
+
+        failed-whole :
+            (mid : Node OwnView Kind) (later : ℕ) (is : Bool) → is_stopped ≡ is
+            → IfSome (lost_if is spent.disk) (λ (d : DiskState). LeavesImages d.story)
+            → IsWhole ghosts plan slots later mid None (lost_if is spent.disk)
+        failed-whole mid later true so images = is-lost spent.disk (broken so images)
+        failed-whole mid later false so images = tt
+
+    ends-at :
+        (mid : Node OwnView Kind) (end : Ended DiskState) (after : ℕ) (left : Asked)
+        → IfSome (lost_by end) (λ (d : DiskState). LeavesImages d.story)
+        → HasAsked ghosts g.spool.disk (asks s input now) (Err end)
+        → BreaksBy ghosts disk_in g.spool.disk s.mark some (mark_behind s) out.notes (Err end)
+        → Ends mid None (lost_by end) after left (stop_told (nat_lt 0 planned) (is_some (lost_by end)) (stop_by end))
+    ends-at mid (ended.NoMemory spent) after left images asked breaks = tt
+    ends-at mid (ended.NumbersSpent spent) after left images asked breaks =
+        none-at call some (breaks.passed goes).passes
+    ends-at mid (ended.DiskFailed spent) after left images asked breaks =
+        failed-ends spent breaks asked mid after left (is_stopped spent breaks asked) refl images (nat_lt 0 planned)
+        refl
+
+    whole-at :
+        (mid : Node OwnView Kind) (later : ℕ) (end : Ended DiskState)
+        → IfSome (lost_by end) (λ (d : DiskState). LeavesImages d.story)
+        → HasAsked ghosts g.spool.disk (asks s input now) (Err end)
+        → BreaksBy ghosts disk_in g.spool.disk s.mark some (mark_behind s) out.notes (Err end)
+        → IsWhole ghosts plan slots later mid None (lost_by end)
+    whole-at mid later (ended.NoMemory spent) images asked breaks = tt
+    whole-at mid later (ended.NumbersSpent spent) images asked breaks = tt
+    whole-at mid later (ended.DiskFailed spent) images asked breaks =
+        failed-whole spent breaks asked mid later (is_stopped spent breaks asked) refl images
+
+    module _ (mid : Node OwnView Kind) (end : Ended DiskState) (lost : Option DiskState) (lost-is : lost ≡ lost_by end)
+        (images : IfSome lost (λ (d : DiskState). LeavesImages d.story)) (spool : Option (GemSpool DiskState))
+        (gone : spool ≡ None) (asked : HasAsked ghosts g.spool.disk (asks s input now) (Err end))
+        (breaks : BreaksBy ghosts disk_in g.spool.disk s.mark some (mark_behind s) out.notes (Err end))
+      where
+        images-by : IfSome (lost_by end) (λ (d : DiskState). LeavesImages d.story)
+        images-by = subst (λ (o : Option DiskState). IfSome o (λ (d : DiskState). LeavesImages d.story)) lost-is images
+
+        pub err-ends : (after : ℕ) (left : Asked) (told why : Stop)
+            → told ≡ stop_told (nat_lt 0 planned) (is_some lost) why → why ≡ stop_by end
+            → Ends mid spool lost after left told
+        err-ends after left told why told_is why_is =
+            subst (λ (e : Stop). Ends mid spool lost after left e) (sym told_is)
+            (subst
+            (λ (e : Stop). Ends mid spool lost after left (stop_told (nat_lt 0 planned) (is_some lost) e))
+            (sym why_is)
+            (subst
+            (λ (o : Option (GemSpool DiskState)).
+            Ends mid o lost after left (stop_told (nat_lt 0 planned) (is_some lost) (stop_by end))) (sym gone)
+            (subst
+            (λ (o : Option DiskState).
+            Ends mid None o after left (stop_told (nat_lt 0 planned) (is_some o) (stop_by end))) (sym lost-is)
+            (ends-at mid end after left images-by asked breaks))))
+
+        pub err-whole : (later : ℕ) → IsWhole ghosts plan slots later mid spool lost
+        err-whole later =
+            subst (λ (o : Option (GemSpool DiskState)). IsWhole ghosts plan slots later mid o lost) (sym gone)
+            (subst (λ (o : Option DiskState). IsWhole ghosts plan slots later mid None o) (sym lost-is)
+            (whole-at mid later end images-by asked breaks))
+
+-- where it is told so it sends nothing, either
+quiet :
+    (fronts : List (List Happening)) (went : Went EquipmentView Happening) (next : EquipmentView) (out : StepOut)
+    (why : Stop) → Leaves fronts went next out (Err why) → out.line.items ≡ []
+quiet fronts went next out stop.NoMemory leaves = leaves
+quiet fronts went next out stop.NumbersSpent leaves = leaves.quiet
+quiet fronts went next out stop.DiskFailed leaves = leaves.quiet
+
+pub told-leaves :
+    (fronts : List (List Happening)) (went : Went EquipmentView Happening) (next : EquipmentView) (out : StepOut)
+    (is_planned is_lost : Bool) (why : Stop) → Leaves fronts went next out (Err why)
+    → Leaves fronts went next out (Err (stop_told is_planned is_lost why))
+told-leaves fronts went next out is_planned is_lost stop.NoMemory leaves = leaves
+told-leaves fronts went next out is_planned is_lost stop.NumbersSpent leaves = leaves
+told-leaves fronts went next out false is_lost stop.DiskFailed leaves = leaves
+told-leaves fronts went next out true true stop.DiskFailed leaves = leaves
+told-leaves fronts went next out true false stop.DiskFailed leaves =
+    quiet fronts went next out stop.DiskFailed leaves
