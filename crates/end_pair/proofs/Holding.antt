@@ -1,6 +1,7 @@
 -- What both ends have done, as moves, at each event and in the whole run.
-use Rattle.std.specs.List.{All}
-use Rattle.std.proofs.Common.{◌≡◌, ◌<◌, ◌≤◌, zero, suc, ℕ, ◌+◌, ◌==◌, Bool, true, false, List, [], ◌∷◌, ◌++◌, length, map, if◌then◌else◌, refl, sym, ap, subst, ◌∙◌, append_assoc, append-nil, arith}
+use Rattle.std.specs.List.{All, slice_get}
+use Rattle.std.proofs.Common.{◌≡◌, ◌<◌, ◌≤◌, zero, suc, ℕ, ◌==◌, Bool, true, false, List, [], ◌∷◌, ◌++◌, length, inl, inr, Option, Some, None, if◌then◌else◌, refl, sym, ap, subst, ◌∙◌, append_assoc, append-nil, arith}
+use Rattle.disk_base.specs.declared.cut.CutChoice.{CutChoice}
 use Rattle.gl_base.specs.declared.side.Side.{Side}
 use Rattle.gl_base.specs.declared.side.Side.TheVariants.{Equipment, Host}
 use Rattle.line_order.specs.Acts.{HasNoSlip}
@@ -10,36 +11,45 @@ use Rattle.line_schedule.specs.declared.event.Event.{Event}
 use Rattle.line_schedule.specs.declared.event.Event.TheVariants as event
 use Rattle.line_way.specs.declared.character.Character.{Character}
 use Rattle.line_way.specs.Kept.{direction_to, with_change, with_noise}
-use Rattle.line_way.proofs.Deeds.{change-stands}
-use Rattle.line_way.specs.Ways.{StandsFor, Ways, characters_of, is_under_way, next_byte}
-use Rattle.message_end.specs.Core.{Step}
-use Rattle.message_end.specs.Core.Went.{Goes}
-use Rattle.message_end.specs.Doings.{Doing}
-use Rattle.message_end.specs.Ends.{Input, KeepsLaw, Machine, MayTake}
+use Rattle.line_way.specs.Ways.{Ways, characters_of, is_under_way, next_byte}
+use Rattle.line_end.specs.State.{LineState, new_state}
+use Rattle.line_end.specs.declared.plan.Times.{Times}
+use Rattle.message_flow.specs.declared.message.Message.{Message}
+use Rattle.trace_log.specs.Names.{Spooled}
+use Rattle.message_end.specs.Core.{Step, Went}
+use Rattle.message_end.specs.Core.Went.{Goes, Spent}
+use Rattle.message_end.specs.Doings.{Doing, IsInTurn, line_of, own_of}
+use Rattle.message_end.specs.Doings.Doing.{Says}
+use Rattle.message_end.specs.Ends.{HasRestarted, Input, KeepsLaw, Loss, Machine, MayTake, OnStart, call_of}
 use Rattle.message_end.specs.Ends.Input.{Char, Command, Time}
 use Rattle.message_end.specs.Log.{log_of, start_of}
-use Rattle.message_end.specs.Moves.{AreTimely, IsNextByte, KeepLaws, Kind, LinePlans, Move, deeds_of, line_of_moves, plan_at, seen_at}
+use Rattle.message_end.specs.Moves.{AreTimely, IsNextByte, KeepLaws, Kind, LinePlans, Move, Run, deeds_of, line_of_moves, plan_at, run_at, seen_at}
 use Rattle.message_end.specs.Moves.Kind.{Added, Changed, Did, Lost, Started}
+use Rattle.message_end.specs.Own.{Has, drawn_in}
 use Rattle.trace_log.specs.Laws.{log_with}
 use Rattle.trace_log.specs.Log.{Entry, Happening}
+use Rattle.trace_log.specs.Log.Happening.{Power}
 use Rattle.trace_log.specs.declared.commands.HostCommand.{HostCommand}
 use Rattle.trace_log.specs.declared.commands.ToolCommand.{ToolCommand}
 use Rattle.end_pair.specs.declared.answers.WorldStep.{WorldStep}
 use Rattle.end_pair.specs.declared.answers.WorldStep.TheVariants as answer
 use Rattle.end_pair.specs.Kept.{MayHappen}
 use Rattle.end_pair.specs.Laws.{AreAtStates, AreNoNotes, AreSteps, HasBytes, HasNoStart, IsNoStart, IsOfMoves}
-use Rattle.end_pair.specs.Laws.AreSteps.{ends_start, no_moves, one_step}
+use Rattle.end_pair.specs.Laws.AreSteps.{cut_short, ends_start, no_moves, one_step, world_says}
 use Rattle.end_pair.specs.Run.{piece_of}
-use Rattle.end_pair.specs.Steps.{Stepped, entries_of, stepped}
-use Rattle.end_pair.specs.World.{Piece, World, added_to, after_event, after_events, and_more, and_on, asked_of, at_start, begun, both_stepped, changed_at, equipment_stepped, given, given_next, given_times, halt_at, host_stepped, later, lost, lost_from, most_steps, settled, settled_times, still, turned_out, way_to}
+use Rattle.end_pair.specs.Steps.{Stepped, entries_of, lost_at, made, made_by, slipped, slips}
+use Rattle.end_pair.specs.World.{AskedOf, Halt, Piece, World, added_to, after_event, after_events, again, and_more, and_on, armed, at_start, begun, both_stepped, changed_at, darkened, ended_by, equipment_stepped, given, given_next, given_times, happened, host_stepped, later, lost, lost_from, met, most_steps, settled, settled_times, started_anew, still, turned_out, way_to, with_equipment, with_host, without}
 use Rattle.end_pair.proofs.ByteWays.{AreByteCharacters, AreByteWays, bytes-to, bytes-with, dropped, with-byte}
 use Rattle.end_pair.proofs.Doing.{IsNext}
-use Rattle.end_pair.proofs.LineDeeds.{add-stands, lose-stands, lost-more, lost-none, new-stands}
-use Rattle.end_pair.proofs.Moved.{HasStepped, IsAt, has-stepped, moves-split, moves_with, other-is}
+use Rattle.end_pair.proofs.LineDeeds.{lost-more, lost-none, new-stands}
+use Rattle.end_pair.proofs.Fallen.{dark-now, has-fallen}
+use Rattle.end_pair.proofs.LineKept.{side-kept, times-kept}
+use Rattle.end_pair.proofs.Moved.{HasFallen, HasLostAll, HasStepped, IsAt, has-made, has-slipped, moves-split, moves_with, other-is}
+use Rattle.end_pair.proofs.Renamed.{IsLike, like-change, like-lost, like-noise, renamed_all}
 
 module _ {S T : Type 0}
     (did_e : ℕ → List Doing → S → Type 0) (did_h : ℕ → List Doing → T → Type 0)
-    (tool : ToolCommand → Type 0) (user : HostCommand → Type 0)
+    (tool : ToolCommand → Type 0) (user : HostCommand → Type 0) (loses : Type 0)
     (first_e : Step S Happening) (first_h : Step T Happening)
     (e : Machine S ToolCommand) (h : Machine T HostCommand) (plans : LinePlans)
     (law_e : KeepsLaw (plan_at Equipment plans) did_e tool (Goes first_e) e)
@@ -56,13 +66,23 @@ module _ {S T : Type 0}
   -- the world is what these moves have made of it
   pub record Holds (world : World S T) (moves : List Move) : Type 0 where
     pub made : AreMade moves world.equipment world.host
-    pub stands : StandsFor world.ways (line_of_moves plans moves)
+    pub stands : IsLike world.ways (line_of_moves plans moves)
     pub bytes : AreByteWays world.ways
+
+  -- the equipment has lost its power behind these moves
+  pub record Fallen (world : World S T) (moves : List Move) : Type 0 where
+    pub keep : KeepLaws plans moves
+    pub timely : AreTimely moves
+    pub clean : HasNoSlip (new_line plans.equipment.times plans.host.times) (deeds_of moves)
+    pub host : IsAt did_h Host plans moves world.host
+    pub steps : AreSteps did_e did_h plans moves
+    pub lost : HasLostAll did_e plans (e.restart world.equipment world.moment) world.ways moves
 
   -- the entries of a piece, behind those before, are the log of some moves, and at most an entry that is no note
   pub record Good (piece : Piece S T) (before : List Entry) : Type 0 where
     pub of : IsOfMoves did_e did_h plans (piece.entries ++ before)
     pub on : piece.went ≡ answer.Went → (of.last ≡ []) × Holds piece.world of.moves
+    pub fallen : piece.went ≡ answer.PowerLost → (of.last ≡ []) × Fallen piece.world of.moves
 
   abbrev pub Keeps : (World S T → Piece S T) → Type 0
   Keeps more = (world : World S T) (moves : List Move) → Holds world moves → Good (more world) (log_of moves)
@@ -127,6 +147,7 @@ module _ {S T : Type 0}
   goes-still world moves holds = record {
     of = with_last moves world.equipment world.host [] (log_of moves) holds.made (omega arith) tt refl;
     on = λ on. (refl, holds);
+    fallen = λ lost. cc;
   }
 
   good-then : (piece : Piece S T) (before : List Entry) (rest : World S T → Piece S T) → Good piece before → Keeps rest
@@ -145,10 +166,12 @@ module _ {S T : Type 0}
                 ∙ ap (λ (l : List Entry). more ++ l)
                 (good.of.is ∙ ap (λ (l : List Entry). l ++ log_of good.of.moves) at.0)) next.of;
             on = next.on;
+            fallen = next.fallen;
           }
       go answer.Slip is = good
       go answer.Turns is = good
       go answer.NumbersSpent is = good
+      go answer.PowerLost is = good
       go answer.DiskFailed is = good
       go answer.NoMemory is = good
 
@@ -162,35 +185,50 @@ module _ {S T : Type 0}
   goes-out world moves holds = record {
     of = with_last moves world.equipment world.host [] (log_of moves) holds.made (omega arith) tt refl;
     on = λ on. cc;
+    fallen = λ lost. cc;
   }
 
   -- ---- steps
 
-  -- a step of either end, where one is left
-  step-keeps :
+  -- a step of either end
+  step-good :
       {X : Type 0} (did : ℕ → List Doing → X → Type 0) (side : Side) (step : Stepped X) (world : World S T)
-      (moves : List Move) (s : S) (t : T)
+      (moves : List Move) (s : S) (t : T) (n : ℕ) (cut : Option ℕ) (call : ℕ) (choice : CutChoice) (asked : AskedOf)
+      (halts : List Halt)
       → Holds world moves → (is : HasStepped did side plans world.moment moves step)
       → IsAt did_e Equipment plans (moves_with side world.moment is.done moves) s
-      → IsAt did_h Host plans (moves_with side world.moment is.done moves) t
+      → IsAt did_h Host plans (moves_with side world.moment is.done moves) t → (step.went ≡ answer.PowerLost → ⊥)
       → Good
-      (if world.steps == most_steps then turned_out world
-      else record {
+      (record {
         world =
-            record { equipment = s; host = t; ways = step.ways; moment = world.moment; steps = world.steps + 1 };
+            record {
+              equipment = s;
+              host = t;
+              ways = step.ways;
+              moment = world.moment;
+              steps = n;
+              cut = cut;
+              call = call;
+              choice = choice;
+            };
         entries = step.entries;
         went = step.went;
-        asked = asked_of side step.asked;
-        halts = map (halt_at side world.moment step.asked) step.fronts;
+        anew = false;
+        asked = asked;
+        halts = halts;
       })
       (log_of moves)
-  step-keeps did side step world moves s t holds is equipment host = by_turn (world.steps == most_steps)
+  step-good did side step world moves s t n cut call choice asked halts holds is equipment host powered = record {
+    of = with_last later s t is.last (step.entries ++ log_of moves) made_so is.few is.no_notes log;
+    on = λ went. let on = is.on went in (on.0, record { made = made_so; stands = on.1; bytes = on.2 });
+    fallen = λ lost. absurd (powered lost);
+  }
     where
       later : List Move
       later = moves_with side world.moment is.done moves
 
-      made : AreMade later s t
-      made =
+      made_so : AreMade later s t
+      made_so =
           made-more later (moves_with side world.moment is.done []) moves s t
           (moves-split side world.moment is.done moves) (did-no-start side world.moment is.done) holds.made.steps
           is.are.keep is.are.timely is.are.no_slip
@@ -202,55 +240,199 @@ module _ {S T : Type 0}
           ∙ append_assoc is.last (entries_of side world.moment is.noted) (log_of moves)
           ∙ ap (λ (es : List Entry). is.last ++ es) (sym is.are.log)
 
-      by_turn : (b : Bool)
-          → Good
-          (if b then turned_out world
-          else record {
-            world =
-                record { equipment = s; host = t; ways = step.ways; moment = world.moment; steps = world.steps + 1 };
-            entries = step.entries;
-            went = step.went;
-            asked = asked_of side step.asked;
-            halts = map (halt_at side world.moment step.asked) step.fronts;
-          })
-          (log_of moves)
-      by_turn true = goes-out world moves holds
-      by_turn false = record {
-        of = with_last later s t is.last (step.entries ++ log_of moves) made is.few is.no_notes log;
-        on = λ went. let on = is.on went in (on.0, record { made = made; stands = on.1; bytes = on.2 });
+  made-powered :
+      {X C : Type 0} (machine : Machine X C) (side : Side) (now : ℕ) (input : Input C) (s : X) (ways : Ways)
+      (went : Went X Happening) → (made machine side now input s ways went).went ≡ answer.PowerLost → ⊥
+  made-powered machine side now input s ways (Goes step) is = absurd (cc)
+  made-powered machine side now input s ways (Spent step) is = absurd (cc)
+
+  has-no-start : (side : Side) (now : ℕ) (later done : List Doing)
+      → HasNoStart (moves_with side now later [] ++ moves_with side now done [])
+  has-no-start side now [] done = did-no-start side now done
+  has-no-start side now (doing ∷ later) done = (tt, has-no-start side now later done)
+
+  -- in which the equipment loses its power
+  fallen-good :
+      (step : Stepped S) (world : World S T) (moves : List Move) (n : ℕ) (cut : Option ℕ) (call : ℕ)
+      (choice : CutChoice) (asked : AskedOf) (halts : List Halt)
+      → Holds world moves → HasFallen did_e e plans world.moment moves step → step.went ≡ answer.PowerLost
+      → Good
+      (record {
+        world =
+            record {
+              equipment = step.end;
+              host = world.host;
+              ways = step.ways;
+              moment = world.moment;
+              steps = n;
+              cut = cut;
+              call = call;
+              choice = choice;
+            };
+        entries = step.entries;
+        went = step.went;
+        anew = false;
+        asked = asked;
+        halts = halts;
+      })
+      (log_of moves)
+  fallen-good step world moves n cut call choice asked halts holds is lost = record {
+    of = record {
+      moves = after;
+      keep = is.keep;
+      timely = is.timely;
+      no_slip = is.no_slip;
+      steps = steps;
+      last = [];
+      at_most_one = omega arith;
+      no_notes = tt;
+      is = is.entries;
+    };
+    on = λ went. absurd (apart went lost);
+    fallen = λ went. (
+      refl,
+      record {
+        keep = is.keep;
+        timely = is.timely;
+        clean = is.no_slip;
+        host = other-is did_h Equipment plans world.moment is.done moves world.host holds.made.host;
+        steps = steps;
+        lost = is.lost;
+      },
+    );
+  }
+    where
+      apart : step.went ≡ answer.Went → step.went ≡ answer.PowerLost → ⊥
+      apart went lost = let same : answer.Went ≡ answer.PowerLost = sym went ∙ lost in cc
+
+      front : List Move
+      front = moves_with Equipment world.moment is.done []
+
+      after : List Move
+      after = moves_with Equipment world.moment is.done moves
+
+      more : List Move
+      more = moves_with Equipment world.moment is.later []
+
+      all : List Move
+      all = moves_with Equipment world.moment is.later after
+
+      whole : more ++ after ≡ all
+      whole = sym (moves-split Equipment world.moment is.later after)
+
+      host_at : IsAt did_h Host plans all world.host
+      host_at =
+          other-is did_h Equipment plans world.moment is.later after world.host
+          (other-is did_h Equipment plans world.moment is.done moves world.host holds.made.host)
+
+      states : AreAtStates did_e did_h plans all
+      states = record {
+        state_of_equipment = is.next;
+        state_of_host = world.host;
+        equipment_did = is.could;
+        host_did = host_at.is;
       }
+
+      steps : AreSteps did_e did_h plans after
+      steps =
+          cut_short after more front moves (moves-split Equipment world.moment is.done moves)
+          (has-no-start Equipment world.moment is.later is.done)
+          (subst (λ (ms : List Move). AreAtStates did_e did_h plans ms) (sym whole) states) holds.made.steps
+
+  some-same : {X : Type 0} (y x : X) → Some y ≡ Some x → x ≡ y
+  some-same y x is = cc
+
+  has-at : {X : Type 0} (xs : List X) (i : ℕ) (x : X) → slice_get xs i ≡ Some x → Has xs x
+  has-at [] i x is = absurd (cc)
+  has-at (y ∷ xs) zero x is = inl (some-same y x is)
+  has-at (y ∷ xs) (suc i) x is = inr (has-at xs i x is)
+
+  has-loss : {X : Type 0} (call : ℕ) (losses : List (Loss X)) (loss : Loss X) → call_of call losses ≡ Some loss
+      → Has losses loss
+  has-loss zero losses loss is = absurd (cc)
+  has-loss (suc before) losses loss is = has-at losses before loss is
+
+  -- a step, by whether it is a slip, and which loss is at its call
+  abbrev tool_step : Input ToolCommand → World S T → Bool → Option (Loss S) → Stepped S
+  tool_step input world slip lost =
+      if slip then slipped Equipment world.moment world.equipment world.ways
+      else made_by e Equipment world.moment world.choice input world.equipment world.ways lost
+
+  abbrev user_step : Input HostCommand → World S T → Bool → Stepped T
+  user_step input world slip =
+      if slip then slipped Host world.moment world.host world.ways
+      else made h Host world.moment input world.host world.ways (h.act world.host input world.moment)
 
   equipment-keeps :
       (input : Input ToolCommand) → MayTake tool input → (world : World S T) (moves : List Move) → Holds world moves
       → IsNext (seen_at Equipment plans moves).there.under_way input
       → Good (equipment_stepped e h input world) (log_of moves)
   equipment-keeps input may world moves holds next =
-      let is =
-      has-stepped did_e tool first_e e Equipment plans law_e world.moment moves world.equipment input world.ways may
-      holds.made.keep holds.made.timely holds.made.clean holds.made.equipment next holds.stands holds.bytes
-      in
-      step-keeps did_e Equipment (stepped e Equipment world.moment input world.equipment world.ways) world moves _
-      world.host holds is is.are.at (other-is did_h Equipment plans world.moment is.done moves world.host
-      holds.made.host)
+      by_turn (world.steps == most_steps) (slips e Equipment world.moment input world.equipment world.ways)
+      (call_of world.call (e.losses world.equipment input world.moment)) refl refl
+    where
+      whole : (step : Stepped S) → (is : HasStepped did_e Equipment plans world.moment moves step)
+          → (step.went ≡ answer.PowerLost → ⊥) → Good (with_equipment e h world step) (log_of moves)
+      whole step is powered =
+          step-good did_e Equipment step world moves step.end world.host _ _ _ _ _ _ holds is is.are.at
+          (other-is did_h Equipment plans world.moment is.done moves world.host holds.made.host) powered
+
+      by_turn : (turn slip : Bool) (lost : Option (Loss S))
+          → slips e Equipment world.moment input world.equipment world.ways ≡ slip
+          → call_of world.call (e.losses world.equipment input world.moment) ≡ lost
+          → Good (if turn then turned_out world else with_equipment e h world (tool_step input world slip lost)) (log_of moves)
+      by_turn true slip lost slip_is lost_is = goes-out world moves holds
+      by_turn false true lost slip_is lost_is =
+          whole (slipped Equipment world.moment world.equipment world.ways)
+          (has-slipped did_e tool first_e e Equipment plans law_e world.moment moves world.equipment world.ways
+          holds.made.keep holds.made.timely holds.made.clean holds.made.equipment) (λ is. cc)
+      by_turn false false None slip_is lost_is =
+          whole
+          (made e Equipment world.moment input world.equipment world.ways (e.act world.equipment input world.moment))
+          (has-made did_e tool first_e e Equipment plans law_e world.moment moves world.equipment input world.ways may
+          holds.made.keep holds.made.timely holds.made.clean holds.made.equipment next holds.stands holds.bytes slip_is)
+          (made-powered e Equipment world.moment input world.equipment world.ways
+          (e.act world.equipment input world.moment))
+      by_turn false false (Some loss) slip_is lost_is =
+          fallen-good (lost_at e Equipment world.moment world.choice input world.equipment world.ways loss) world moves
+          _ _ _ _ _ _ holds
+          (has-fallen did_e tool first_e e plans law_e world.moment world.choice moves world.equipment input world.ways
+          may holds.made.keep holds.made.timely holds.made.clean holds.made.equipment next holds.stands slip_is loss
+          (has-loss world.call (e.losses world.equipment input world.moment) loss lost_is)) refl
 
   host-keeps :
       (input : Input HostCommand) → MayTake user input → (world : World S T) (moves : List Move) → Holds world moves
       → IsNext (seen_at Host plans moves).there.under_way input
       → Good (host_stepped e h input world) (log_of moves)
   host-keeps input may world moves holds next =
-      let is =
-      has-stepped did_h user first_h h Host plans law_h world.moment moves world.host input world.ways may
-      holds.made.keep holds.made.timely holds.made.clean holds.made.host next holds.stands holds.bytes
-      in
-      step-keeps did_h Host (stepped h Host world.moment input world.host world.ways) world moves world.equipment _
-      holds is (other-is did_e Host plans world.moment is.done moves world.equipment holds.made.equipment) is.are.at
+      by_turn (world.steps == most_steps) (slips h Host world.moment input world.host world.ways) refl
+    where
+      whole : (step : Stepped T) → (is : HasStepped did_h Host plans world.moment moves step)
+          → (step.went ≡ answer.PowerLost → ⊥) → Good (with_host e h world step) (log_of moves)
+      whole step is powered =
+          step-good did_h Host step world moves world.equipment step.end _ _ _ _ _ _ holds is
+          (other-is did_e Host plans world.moment is.done moves world.equipment holds.made.equipment) is.are.at powered
+
+      by_turn : (turn slip : Bool) → slips h Host world.moment input world.host world.ways ≡ slip
+          → Good (if turn then turned_out world else with_host e h world (user_step input world slip)) (log_of moves)
+      by_turn true slip slip_is = goes-out world moves holds
+      by_turn false true slip_is =
+          whole (slipped Host world.moment world.host world.ways)
+          (has-slipped did_h user first_h h Host plans law_h world.moment moves world.host world.ways holds.made.keep
+          holds.made.timely holds.made.clean holds.made.host) (λ is. cc)
+      by_turn false false slip_is =
+          whole (made h Host world.moment input world.host world.ways (h.act world.host input world.moment))
+          (has-made did_h user first_h h Host plans law_h world.moment moves world.host input world.ways may
+          holds.made.keep holds.made.timely holds.made.clean holds.made.host next holds.stands holds.bytes slip_is)
+          (made-powered h Host world.moment input world.host world.ways (h.act world.host input world.moment))
 
   -- ---- characters
 
-  next-way : (side : Side) (ways : Ways) (line : Line) → StandsFor ways line
-      → characters_of (direction_to side ways).under_way ≡ (seen_from side line).there.under_way
-  next-way Equipment ways line stands = stands.to_equipment.under_way
-  next-way Host ways line stands = stands.to_host.under_way
+  next-way : (side : Side) (ways : Ways) (line : Line) → (like : IsLike ways line)
+      → characters_of (renamed_all like.name (direction_to side ways).under_way)
+      ≡ (seen_from side line).there.under_way
+  next-way Equipment ways line like = like.stands.to_equipment.under_way
+  next-way Host ways line like = like.stands.to_host.under_way
 
   given-keeps : (side : Side) → Keeps (given e h side)
   given-keeps side world moves holds = go side (direction_to side world.ways).under_way refl
@@ -265,7 +447,8 @@ module _ {S T : Type 0}
           → IsNextByte (seen_at side plans moves).there.under_way c.byte
       next side c cs is =
           subst (λ (cs : List order.Character). IsNextByte cs c.byte)
-          (ap characters_of (sym is) ∙ next-way side world.ways (line_of_moves plans moves) holds.stands) refl
+          (ap (λ (all : List Character). characters_of (renamed_all holds.stands.name all)) (sym is)
+          ∙ next-way side world.ways (line_of_moves plans moves) holds.stands) refl
 
       go : (side : Side) (under_way : List Character) → (direction_to side world.ways).under_way ≡ under_way
           → Good (given_next e h side (next_byte (characters_of under_way)) world) (log_of moves)
@@ -328,7 +511,7 @@ module _ {S T : Type 0}
       → Holds (lost_from 1 side world) (record { side = side; moment = world.moment; kind = Lost } ∷ moves)
   lost-once side world moves holds = record {
     made = fate-made side Lost world.moment moves world.equipment world.host tt holds.made;
-    stands = lose-stands side world.ways (line_of_moves plans moves) holds.stands;
+    stands = like-lost side world.ways (line_of_moves plans moves) holds.stands;
     bytes =
         bytes-with side (lost 1 (way_to side world)) world.ways
         (dropped 1 (way_to side world).under_way (bytes-to side world.ways holds.bytes)) holds.bytes;
@@ -347,7 +530,7 @@ module _ {S T : Type 0}
       goes-still (changed_at side place byte world)
       (record { side = side; moment = world.moment; kind = Changed place byte } ∷ moves) (record {
         made = fate-made side (Changed place byte) world.moment moves world.equipment world.host tt holds.made;
-        stands = change-stands side place byte world.ways (line_of_moves plans moves) holds.stands;
+        stands = like-change side place byte world.ways (line_of_moves plans moves) holds.stands;
         bytes =
             bytes-with side (with_change place byte (way_to side world)) world.ways
             (with-byte place byte (way_to side world).under_way small (bytes-to side world.ways holds.bytes))
@@ -359,7 +542,7 @@ module _ {S T : Type 0}
       goes-still (added_to side byte world)
       (record { side = side; moment = world.moment; kind = Added byte } ∷ moves) (record {
         made = fate-made side (Added byte) world.moment moves world.equipment world.host tt holds.made;
-        stands = add-stands side byte world.ways (line_of_moves plans moves) holds.stands;
+        stands = like-noise side byte world.ways (line_of_moves plans moves) holds.stands;
         bytes =
             bytes-with side (with_noise byte (way_to side world)) world.ways
             (small, bytes-to side world.ways holds.bytes) holds.bytes;
@@ -369,23 +552,247 @@ module _ {S T : Type 0}
   later-keeps ms more one world moves holds =
       one (later ms world) moves (record { made = holds.made; stands = holds.stands; bytes = holds.bytes })
 
+  -- ---- the power goes
+
+  -- at the end of what went on
+  goes-dark : (world : World S T) (moves : List Move) → Holds world moves → Fallen world moves
+  goes-dark world moves holds = record {
+    keep = holds.made.keep;
+    timely = holds.made.timely;
+    clean = holds.made.clean;
+    host = holds.made.host;
+    steps = holds.made.steps;
+    lost = record {
+      state = holds.made.equipment.state;
+      received = (law_e.keeps base doings world.equipment holds.made.equipment.is).received;
+      starts = law_e.restarts base doings world.equipment world.moment holds.made.equipment.is;
+      dark = dark-now world.ways (line_of_moves plans moves) holds.stands;
+    };
+  }
+    where
+      base : ℕ
+      base = (run_at Equipment plans moves).base
+
+      doings : List Doing
+      doings = (run_at Equipment plans moves).doings
+
+  -- that is noted
+  abbrev with_power : ℕ → List Move → List Move
+  with_power now moves = record { side = Equipment; moment = now; kind = Did (Says Power) } ∷ moves
+
+  -- and it starts anew
+  abbrev with_start : ℕ → List (ℕ × Spooled) → ℕ → List Move → List Move
+  with_start now found base moves =
+      record { side = Equipment; moment = now; kind = Started found base } ∷ with_power now moves
+
+  keep-power : (world : World S T) (moves : List Move) (now : ℕ) → Fallen world moves
+      → KeepLaws plans (with_power now moves)
+  keep-power world moves now fallen = (
+    (
+      (subst (λ (m : Option Message). IsInTurn m (Says Power)) (sym fallen.lost.received) tt, tt),
+      tt,
+    ),
+    fallen.keep,
+  )
+
+  steps-power : (world : World S T) (moves : List Move) (now : ℕ) → Fallen world moves
+      → AreSteps did_e did_h plans (with_power now moves)
+  steps-power world moves now fallen =
+      world_says (with_power now moves) moves Equipment now Power refl tt fallen.steps
+
+  -- the state of its line then
+  fresh-state : (doings : List Doing) (s : LineState) → s ≡ line_of (plan_at Equipment plans) doings
+      → new_state s.side s.times ≡ new_state Equipment plans.equipment.times
+  fresh-state doings s is =
+      ap (λ (l : LineState). new_state l.side l.times) is
+      ∙ ap (λ (side : Side). new_state side (line_of (plan_at Equipment plans) doings).times)
+      (side-kept (plan_at Equipment plans) doings)
+      ∙ ap (λ (times : Times). new_state Equipment times) (times-kept (plan_at Equipment plans) doings)
+
+  again-keeps : (world : World S T) (moves : List Move) → Fallen world moves → Good (again e h world) (log_of moves)
+  again-keeps world moves fallen = go (e.restart world.equipment world.moment) fallen.lost.starts
+    where
+      now : ℕ
+      now = world.moment
+
+      run : Run
+      run = run_at Equipment plans moves
+
+      go : (went : Went S Happening)
+          → OnStart (HasRestarted (plan_at Equipment plans) did_e run.base run.doings) went
+          → Good (started_anew e h (darkened world) went) (log_of moves)
+      go (Spent step) none = record {
+        of = record {
+          moves = with_power now moves;
+          keep = keep-power world moves now fallen;
+          timely = (tt, fallen.timely);
+          no_slip = fallen.clean;
+          steps = steps-power world moves now fallen;
+          last = [];
+          at_most_one = omega arith;
+          no_notes = tt;
+          is =
+              ap (λ (notes : List Happening). entries_of Equipment now (Power ∷ notes) ++ log_of moves) none;
+        };
+        on = λ on. cc;
+        fallen = λ lost. cc;
+      }
+      go (Goes step) starts = record {
+        of = with_last all step.next world.host [] (entries_of Equipment now (Power ∷ step.notes) ++ log_of moves)
+            made_so
+            (omega arith) tt log;
+        on = λ on. (refl, record { made = made_so; stands = fallen.lost.dark; bytes = (tt, tt) });
+        fallen = λ lost. cc;
+      }
+        where
+          found : List (ℕ × Spooled)
+          found = starts.started.found
+
+          base : ℕ
+          base = starts.started.base
+
+          all : List Move
+          all = with_start now found base moves
+
+          above : (drawn : ℕ) → Has (drawn_in (own_of (plan_at Equipment plans) run.doings)) drawn → drawn < base
+          above drawn has =
+              let low = starts.above drawn has in
+              let least = starts.started.above in
+              omega (arith, low, least)
+
+          least : run.base ≤ base
+          least =
+              let low = starts.no_lower in
+              let least = starts.started.above in
+              omega (arith, low, least)
+
+          equipment : IsAt did_e Equipment plans all step.next
+          equipment = record {
+            is = starts.started.is;
+            state = fresh-state run.doings (seen_at Equipment plans moves).here.state fallen.lost.state;
+          }
+
+          host : IsAt did_h Host plans all world.host
+          host = record { is = fallen.host.is; state = fallen.host.state }
+
+          made_so : AreMade all step.next world.host
+          made_so = record {
+            keep = (record { least = least; above = above }, keep-power world moves now fallen);
+            timely = (tt, (tt, fallen.timely));
+            clean = (refl, fallen.clean);
+            equipment = equipment;
+            host = host;
+            steps =
+                ends_start all (record { side = Equipment; moment = now; kind = Started found base } ∷ [])
+                (with_power now moves) refl (tt, tt) (at-states all step.next world.host equipment host)
+                (steps-power world moves now fallen);
+          }
+
+          log : entries_of Equipment now (Power ∷ step.notes) ++ log_of moves ≡ log_of all
+          log =
+              ap (λ (notes : List Happening). entries_of Equipment now (Power ∷ notes) ++ log_of moves)
+              starts.started.notes
+
+  without-keeps : (world : World S T) (moves : List Move) → Fallen world moves → Good (without e h world) (log_of moves)
+  without-keeps world moves fallen =
+      good-then (again e h world) (log_of moves) (equipment_stepped e h Time) (again-keeps world moves fallen)
+      (λ world moves holds. equipment-keeps Time tt world moves holds tt)
+
+  -- behind a piece that is dark then
+  good-without : (piece : Piece S T) (before : List Entry) (good : Good piece before)
+      → (good.of.last ≡ []) × Fallen piece.world good.of.moves → Good (and_on answer.Went piece (without e h)) before
+  good-without piece before good at =
+      let next = without-keeps piece.world good.of.moves at.1 in
+      let more = (without e h piece.world).entries in
+      record {
+        of =
+            same_moves (more ++ log_of good.of.moves) ((more ++ piece.entries) ++ before)
+            (append_assoc more piece.entries before
+            ∙ ap (λ (l : List Entry). more ++ l)
+            (good.of.is ∙ ap (λ (l : List Entry). l ++ log_of good.of.moves) at.0)) next.of;
+        on = next.on;
+        fallen = next.fallen;
+      }
+
+  ended-good : (is_cut : Bool) (piece : Piece S T) (before : List Entry) → Good piece before
+      → Good (ended_by e h is_cut piece.went piece) before
+  ended-good is_cut piece before good = go is_cut piece.went refl
+    where
+      go : (is_cut : Bool) (went : WorldStep) → piece.went ≡ went → Good (ended_by e h is_cut went piece) before
+      go is_cut answer.PowerLost is = good-without piece before good (good.fallen is)
+      go true answer.Went is =
+          let at = good.on is in
+          good-without piece before good (at.0, goes-dark piece.world good.of.moves at.1)
+      go false answer.Went is = good
+      go is_cut answer.Slip is = good
+      go is_cut answer.Turns is = good
+      go is_cut answer.NumbersSpent is = good
+      go is_cut answer.DiskFailed is = good
+      go is_cut answer.NoMemory is = good
+
   -- ---- events
 
-  event-keeps : (event : Event) → MayHappen tool user event → HasBytes event → Keeps (after_event e h event)
-  event-keeps (event.To side n) may bytes = times-keeps n side
-  event-keeps (event.Lose side n) may bytes = losses-keep n side
-  event-keeps (event.Change side place byte) may bytes = change-keeps side place byte bytes
-  event-keeps (event.Add side byte) may bytes = add-keeps side byte bytes
-  event-keeps event.Settle may bytes = settles-keeps 65536
-  event-keeps (event.Wait ms) may bytes = later-keeps ms (both_stepped e h) both-keeps
-  event-keeps (event.Tool command) may bytes =
+  -- all of it but what the world itself keeps
+  same-holds : (world other : World S T) (moves : List Move) → world.equipment ≡ other.equipment
+      → world.host ≡ other.host → world.ways ≡ other.ways → Holds world moves → Holds other moves
+  same-holds world other moves equipment host ways holds = record {
+    made =
+        subst (λ (s : S). AreMade moves s other.host) equipment
+        (subst (λ (t : T). AreMade moves world.equipment t) host holds.made);
+    stands = subst (λ (w : Ways). IsLike w (line_of_moves plans moves)) ways holds.stands;
+    bytes = subst AreByteWays ways holds.bytes;
+  }
+
+  armed-keeps : (call : ℕ) → Keeps (armed call)
+  armed-keeps call world moves holds =
+      let here = goes-still (record world { cut = None; call = call }) moves
+      (same-holds world (record world { cut = None; call = call }) moves refl refl refl holds) in
+      record { of = here.of; on = here.on; fallen = here.fallen }
+
+  happened-keeps : (event : Event) → MayHappen tool user loses event → HasBytes event → Keeps (happened e h event)
+  happened-keeps (event.To side n) may bytes = times-keeps n side
+  happened-keeps (event.Lose side n) may bytes = losses-keep n side
+  happened-keeps (event.Change side place byte) may bytes = change-keeps side place byte bytes
+  happened-keeps (event.Add side byte) may bytes = add-keeps side byte bytes
+  happened-keeps event.Settle may bytes = settles-keeps 65536
+  happened-keeps (event.Wait ms) may bytes = later-keeps ms (both_stepped e h) both-keeps
+  happened-keeps (event.Tool command) may bytes =
       λ world moves holds. equipment-keeps (Command command) may world moves holds tt
-  event-keeps (event.Host command) may bytes =
+  happened-keeps (event.Host command) may bytes =
       λ world moves holds. host-keeps (Command command) may world moves holds tt
-  event-keeps (event.Cut call choice) may bytes = goes-still
+  happened-keeps (event.Cut call choice) may bytes = λ world moves holds.
+      goes-still (record world { cut = Some call; choice = choice }) moves
+      (same-holds world (record world { cut = Some call; choice = choice }) moves refl refl refl holds)
+
+  met-keeps : (event : Event) → Keeps (happened e h event) → (cut : Option ℕ) → Keeps (met e h event cut)
+  met-keeps event keeps None world moves holds =
+      ended-good false (happened e h event world) (log_of moves) (keeps world moves holds)
+  met-keeps event keeps (Some call) world moves holds =
+      ended-good true (and_more (armed call world) (happened e h event)) (log_of moves)
+      (good-then (armed call world) (log_of moves) (happened e h event) (armed-keeps call world moves holds) keeps)
+
+  event-keeps : (event : Event) → MayHappen tool user loses event → HasBytes event → Keeps (after_event e h event)
+  event-keeps (event.Cut call choice) may bytes = happened-keeps (event.Cut call choice) may bytes
+  event-keeps (event.To side n) may bytes = λ world.
+      met-keeps (event.To side n) (happened-keeps (event.To side n) may bytes) world.cut world
+  event-keeps (event.Lose side n) may bytes = λ world.
+      met-keeps (event.Lose side n) (happened-keeps (event.Lose side n) may bytes) world.cut world
+  event-keeps (event.Change side place byte) may bytes = λ world.
+      met-keeps (event.Change side place byte) (happened-keeps (event.Change side place byte) may bytes) world.cut world
+  event-keeps (event.Add side byte) may bytes = λ world.
+      met-keeps (event.Add side byte) (happened-keeps (event.Add side byte) may bytes) world.cut world
+  event-keeps event.Settle may bytes = λ world.
+      met-keeps event.Settle (happened-keeps event.Settle may bytes) world.cut world
+  event-keeps (event.Wait ms) may bytes = λ world.
+      met-keeps (event.Wait ms) (happened-keeps (event.Wait ms) may bytes) world.cut world
+  event-keeps (event.Tool command) may bytes = λ world.
+      met-keeps (event.Tool command) (happened-keeps (event.Tool command) may bytes) world.cut world
+  event-keeps (event.Host command) may bytes = λ world.
+      met-keeps (event.Host command) (happened-keeps (event.Host command) may bytes) world.cut world
 
   events-keep :
-      (events : List Event) → All (MayHappen tool user) events → All HasBytes events → Keeps (after_events e h events)
+      (events : List Event) → All (MayHappen tool user loses) events → All HasBytes events → Keeps
+      (after_events e h events)
   events-keep [] may bytes = goes-still
   events-keep (event ∷ events) may bytes =
       keeps-then (after_event e h event) (after_events e h events)
@@ -416,7 +823,11 @@ module _ {S T : Type 0}
               ends_start started started [] (sym (append-nil started)) (tt, (tt, tt))
               (at-states started first_e.next first_h.next equipment host) no_moves;
         };
-    stands = new-stands plans.equipment.times plans.host.times law_e.fits.times law_h.fits.times;
+    stands = record {
+      name = λ n. n;
+      is = record { rises = λ a b less. less; next = λ n least. refl };
+      stands = new-stands plans.equipment.times plans.host.times law_e.fits.times law_h.fits.times;
+    };
     bytes = (tt, tt);
   }
     where
@@ -434,7 +845,7 @@ module _ {S T : Type 0}
       log_with 0 Host (start_of Host law_h.starts.found law_h.starts.base ∷ []) (log_with 0 Equipment ns []))
       law_e.starts.notes
 
-  pub run-is : (events : List Event) → All (MayHappen tool user) events → All HasBytes events
+  pub run-is : (events : List Event) → All (MayHappen tool user loses) events → All HasBytes events
       → Good (piece_of e h first_e first_h events) []
   run-is events may bytes =
       good-then (begun e h first_e first_h) [] (after_events e h events)
@@ -443,5 +854,6 @@ module _ {S T : Type 0}
             with_last started first_e.next first_h.next [] ((at_start e h first_e first_h).entries ++ [])
             start-holds.made (omega arith) tt (append-nil (at_start e h first_e first_h).entries ∙ start-log);
         on = λ on. (refl, start-holds);
+        fallen = λ lost. cc;
       }) both-keeps)
       (events-keep events may bytes)

@@ -1,10 +1,15 @@
+pub mod Anew
 pub mod ByteWays
 pub mod Bytes
 pub mod Causes
 pub mod Doing
+pub mod Ending
+pub mod Fallen
+pub mod FourWays
 pub mod Halts
 pub mod Holding
 pub mod LineDeeds
+pub mod LineKept
 pub mod LogText
 pub mod Moved
 pub mod Noting
@@ -12,7 +17,11 @@ pub mod OneDisk
 pub mod Opening
 pub mod Outcomes
 pub mod Pieces
+pub mod Powered
 pub mod Progress
+pub mod Renamed
+pub mod Restarting
 pub mod Stepping
 pub mod Texts
 pub mod Times
+pub mod Turning

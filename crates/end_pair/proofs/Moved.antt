@@ -1,5 +1,5 @@
 -- What an end does in a step keeps the laws, makes no slip, and is noted.
-use Rattle.std.proofs.Common.{◌≡◌, ◌≤◌, ℕ, Bool, true, false, List, [], ◌∷◌, ◌++◌, length, None, if◌then◌else◌, refl, sym, ap, subst, ◌∙◌, append-nil, arith}
+use Rattle.std.proofs.Common.{◌≡◌, ◌≤◌, ℕ, false, List, [], ◌∷◌, ◌++◌, length, None, refl, sym, ap, subst, ◌∙◌, append-nil, arith}
 use Rattle.std.proofs.lemmas.List.{append_cancel_left}
 use Rattle.gl_base.specs.declared.side.Side.{Side}
 use Rattle.gl_base.specs.declared.side.Side.TheVariants.{Equipment, Host}
@@ -7,10 +7,11 @@ use Rattle.gl_base.specs.Side.{other_side}
 use Rattle.line_end.specs.State.{LineState}
 use Rattle.line_end.specs.Step.{LineCall, is_due}
 use Rattle.line_end.specs.Step.LineCall.{Cancel, Resume, Send, Take, Tick}
-use Rattle.line_order.specs.Acts.{Deed, HasNoSlip, IsRun, act_here, handed, line_after}
+use Rattle.line_order.specs.Acts.{Deed, HasNoSlip, IsRun, act_here, handed, line_after, line_after_deed}
+use Rattle.line_order.specs.Acts.Act.{PowerLoss}
 use Rattle.line_order.specs.Characters.{Character}
 use Rattle.line_order.specs.Line.{Line, View, new_line, seen_from}
-use Rattle.line_way.specs.Kept.{ways_after}
+use Rattle.line_way.specs.Kept.{ways_after, without_power}
 use Rattle.line_way.specs.Step as way
 use Rattle.line_way.specs.Step.{AreDecisions, step_deeds}
 use Rattle.line_way.specs.Ways.{StandsFor, Ways}
@@ -18,17 +19,17 @@ use Rattle.line_way.proofs.Slipping.{slip-stands}
 use Rattle.line_way.proofs.Steps.{step-stands}
 use Rattle.message_end.specs.Core.{Step, Went}
 use Rattle.message_end.specs.Core.Went.{Goes, Spent}
-use Rattle.message_end.specs.Doings.{AreLawful, Doing, IsLawful, line_of}
+use Rattle.message_end.specs.Doings.{AreLawful, Doing, IsLawful, line_of, own_of}
 use Rattle.message_end.specs.Doings.Doing.{Calls, Does, Gives, Says}
 use Rattle.message_end.specs.Drops.{AreDroppedAt}
-use Rattle.message_end.specs.Ends.{AreBegunOf, AreOfStep, DoesMore, DoesStep, Input, KeepsLaw, Machine, MayTake, taking_calls}
+use Rattle.message_end.specs.Ends.{AreBegunOf, AreOfStep, DoesMore, DoesStep, HasRestarted, Input, KeepsLaw, Machine, MayTake, OnStart, taking_calls}
 use Rattle.message_end.specs.Ends.Input.{Char, Command, Time}
 use Rattle.message_end.specs.History.{noted_in, notes_of_own, written_in}
 use Rattle.message_end.specs.Log.{log_of, noted_of_own, with_note}
 use Rattle.message_end.specs.LineCalls.{calls_in}
 use Rattle.message_end.specs.Moves.{AreTimely, IsOnWay, KeepLaws, LinePlans, Move, act_of_call, deeds_of, Run, line_of_moves, plan_at, run_at, seen_at}
 use Rattle.message_end.specs.Moves.Kind.{Did}
-use Rattle.message_end.specs.Own.{Own}
+use Rattle.message_end.specs.Own.{Own, whole_in}
 use Rattle.message_end.specs.Own.Own.{DrewNumber, DroppedMessage, GaveBlock, HeardBlock, ReceivedMessage, SentMessage, WroteFrame}
 use Rattle.message_end.specs.Plan.{EndPlan}
 use Rattle.message_end.proofs.Fronts.{noted-behind}
@@ -38,10 +39,11 @@ use Rattle.trace_log.specs.Log.Entry.{Noted}
 use Rattle.trace_log.specs.Log.Happening.{Received, Sent, Wrote}
 use Rattle.end_pair.specs.declared.answers.WorldStep.TheVariants as answer
 use Rattle.end_pair.specs.Laws.{AreNoNotes}
-use Rattle.end_pair.specs.Steps.{Stepped, entries_of, gives, made, slip_of, slipped, slips, stepped, wrote}
+use Rattle.end_pair.specs.Steps.{Stepped, entries_of, gives, made, slip_of, slipped, slips, wrote}
 use Rattle.end_pair.proofs.ByteWays.{AreByteWays, bytes-after}
 use Rattle.end_pair.proofs.Bytes.{AreBytes, are-written, behind}
 use Rattle.end_pair.proofs.Doing.{AreDone, AreOnWay, IsNext, NoSlipIn, are-done, call_deed, deeds_by, deeds_with, line-after, no-slip, no-slip-first, on-way-first, seen-after, step-deeds, step-no-slip, step-on-way}
+use Rattle.end_pair.proofs.Renamed.{IsLike, like-of, renamed, renamed-slips, renamed-step, renaming-step}
 
 -- ---- doings as moves
 
@@ -59,7 +61,7 @@ moves-split side now [] moves = refl
 moves-split side now (doing ∷ before) moves =
     ap (λ (ms : List Move). move_of side now doing ∷ ms) (moves-split side now before moves)
 
-deeds-moves :
+pub deeds-moves :
     (side : Side) (now : ℕ) (done : List Doing) (moves : List Move)
     → deeds_of (moves_with side now done moves) ≡ deeds_with side (calls_in done) (deeds_of moves)
 deeds-moves side now [] moves = refl
@@ -78,14 +80,14 @@ line-moves plans side now done moves =
     ap (line_after (new_line plans.equipment.times plans.host.times)) (deeds-moves side now done moves)
     ∙ line-after side (calls_in done) (new_line plans.equipment.times plans.host.times) (deeds_of moves)
 
-own-base :
+pub own-base :
     (side : Side) (plans : LinePlans) (now : ℕ) (done : List Doing) (moves : List Move)
     → (run_at side plans (moves_with side now done moves)).base ≡ (run_at side plans moves).base
 own-base side plans now [] moves = refl
 own-base Equipment plans now (doing ∷ before) moves = own-base Equipment plans now before moves
 own-base Host plans now (doing ∷ before) moves = own-base Host plans now before moves
 
-own-doings :
+pub own-doings :
     (side : Side) (plans : LinePlans) (now : ℕ) (done : List Doing) (moves : List Move)
     → (run_at side plans (moves_with side now done moves)).doings ≡ done ++ (run_at side plans moves).doings
 own-doings side plans now [] moves = refl
@@ -96,7 +98,7 @@ own-doings Host plans now (doing ∷ before) moves =
 
 -- ---- the laws
 
-keep-done :
+pub keep-done :
     (side : Side) (plans : LinePlans) (now : ℕ) (done : List Doing) (moves : List Move)
     → AreLawful (plan_at side plans) (run_at side plans moves).base (done ++ (run_at side plans moves).doings)
     → AreOnWay side (line_of_moves plans moves) (calls_in done) → KeepLaws plans moves
@@ -132,7 +134,7 @@ keep-done side plans now (doing ∷ before) moves lawful on keep =
     on_before (Calls call) on = on.1
 
 -- what T4 drops in a step is dropped at the moment of its moves
-timely-done :
+pub timely-done :
     (side : Side) (now : ℕ) (done : List Doing) (moves : List Move) → AreDroppedAt now done → AreTimely moves
     → AreTimely (moves_with side now done moves)
 timely-done side now [] moves drops timely = timely
@@ -179,7 +181,7 @@ log-own side now before earlier log own same = go own
     go (HeardBlock block at flow) = none
     go (DroppedMessage header at) = none
 
-log-done :
+pub log-done :
     (side : Side) (now : ℕ) (done : List Doing) (moves : List Move)
     → log_of (moves_with side now done moves) ≡ log_with now side (noted_in done) (log_of moves)
 log-done side now [] moves = refl
@@ -225,7 +227,7 @@ other-state side (call ∷ before) line =
     ∙ there-state call (seen_from side (line_after line (deeds_by side before)))
     ∙ other-state side before line
 
-other-run :
+pub other-run :
     (side : Side) (plans : LinePlans) (now : ℕ) (done : List Doing) (moves : List Move)
     → run_at (other_side side) plans (moves_with side now done moves) ≡ run_at (other_side side) plans moves
 other-run side plans now [] moves = refl
@@ -280,7 +282,42 @@ pub record HasStepped {S : Type 0}
   pub entries : step.entries ≡ last ++ entries_of side now noted
   pub on :
       step.went ≡ answer.Went
-      → (last ≡ []) × StandsFor step.ways (line_of_moves plans (moves_with side now done moves)) × AreByteWays step.ways
+      → (last ≡ []) × IsLike step.ways (line_of_moves plans (moves_with side now done moves)) × AreByteWays step.ways
+
+-- behind these moves the equipment has lost its power, which leaves the line so and the directions so: the host is at a
+-- state still, and what starts anew then does so lawfully
+pub record HasLostAll {S : Type 0}
+    (did : ℕ → List Doing → S → Type 0) (plans : LinePlans) (machine_restart : Went S Happening) (ways : Ways)
+    (moves : List Move) : Type 0 where
+  pub state :
+      (seen_at Equipment plans moves).here.state
+      ≡ line_of (plan_at Equipment plans) (run_at Equipment plans moves).doings
+  pub received : whole_in (own_of (plan_at Equipment plans) (run_at Equipment plans moves).doings) ≡ None
+  pub starts :
+      OnStart
+      (HasRestarted (plan_at Equipment plans) did (run_at Equipment plans moves).base
+      (run_at Equipment plans moves).doings) machine_restart
+  pub dark :
+      IsLike (without_power Equipment ways)
+      (line_after_deed (line_of_moves plans moves) (record { side = Equipment; act = PowerLoss }))
+
+-- what a step has left in which it was lost is what its first moves have made, and could have gone on to a state
+pub record HasFallen {S C : Type 0}
+    (did : ℕ → List Doing → S → Type 0) (machine : Machine S C) (plans : LinePlans) (now : ℕ) (moves : List Move)
+    (step : Stepped S)
+    : Type 0 where
+  pub done : List Doing
+  pub later : List Doing
+  pub next : S
+  pub keep : KeepLaws plans (moves_with Equipment now done moves)
+  pub timely : AreTimely (moves_with Equipment now done moves)
+  pub no_slip :
+      HasNoSlip (new_line plans.equipment.times plans.host.times) (deeds_of (moves_with Equipment now done moves))
+  pub could :
+      did (run_at Equipment plans (moves_with Equipment now later (moves_with Equipment now done moves))).base
+      (run_at Equipment plans (moves_with Equipment now later (moves_with Equipment now done moves))).doings next
+  pub entries : step.entries ++ log_of moves ≡ log_of (moves_with Equipment now done moves)
+  pub lost : HasLostAll did plans (machine.restart step.end now) step.ways (moves_with Equipment now done moves)
 
 module _ {S C : Type 0} (did : ℕ → List Doing → S → Type 0) (takes : C → Type 0) (first : Step S Happening)
     (machine : Machine S C)
@@ -351,12 +388,12 @@ module _ {S C : Type 0} (did : ℕ → List Doing → S → Type 0) (takes : C �
           (law.keeps base (more.done ++ doings) step.next more.is).lawful on
 
   -- the calls of a step can be made, and make no slip
-  calls-on : (now : ℕ) (line : Line) (input : Input C) (calls : List LineCall) → AreOfStep input now calls
+  pub calls-on : (now : ℕ) (line : Line) (input : Input C) (calls : List LineCall) → AreOfStep input now calls
       → IsNext (seen_from side line).there.under_way input → AreOnWay side line calls
   calls-on now line input calls of next =
       subst (AreOnWay side line) (sym of.are) (step-on-way side input now line of.decided of.decisions next)
 
-  calls-quiet : (now : ℕ) (line : Line) (input : Input C) (calls : List LineCall) → AreOfStep input now calls
+  pub calls-quiet : (now : ℕ) (line : Line) (input : Input C) (calls : List LineCall) → AreOfStep input now calls
       → NoSlipIn side now line input → HasNoSlip line (deeds_by side calls)
   calls-quiet now line input calls of quiet =
       subst (λ (cs : List LineCall). HasNoSlip line (deeds_by side cs)) (sym of.are)
@@ -511,15 +548,45 @@ module _ {S C : Type 0} (did : ℕ → List Doing → S → Type 0) (takes : C �
       same : (seen_at side plans moves).here.state ≡ machine.line s
       same = at.state ∙ sym (law.keeps (run_at side plans moves).base (run_at side plans moves).doings s at.is).line_is
 
+  -- the directions are those of the line but for the names of frames
+  abbrev pub LikeMoves : Ways → List Move → Type 0
+  LikeMoves ways moves = IsLike ways (line_of_moves plans moves)
+
+  pub like-no-slip :
+      (now : ℕ) (moves : List Move) (s : S) (input : Input C) (ways : Ways) → IsAt did side plans moves s
+      → LikeMoves ways moves → slips machine side now input s ways ≡ false
+      → NoSlipIn side now (line_of_moves plans moves) input
+  like-no-slip now moves s input ways at like none =
+      no-slip-in now moves s input (renamed like.name ways) at like.stands
+      (renamed-slips machine like.name side now input s ways like.is ∙ none)
+
   -- a slip, found before it, leaves all as it was
-  pub has-stepped :
+  pub has-slipped :
+      (now : ℕ) (moves : List Move) (s : S) (ways : Ways) → KeepLaws plans moves
+      → AreTimely moves → HasNoSlip (new_line plans.equipment.times plans.host.times) (deeds_of moves)
+      → IsAt did side plans moves s
+      → HasStepped did side plans now moves (slipped side now s ways)
+  has-slipped now moves s ways keep timely clean at = record {
+    done = [];
+    noted = [];
+    are = record { keep = keep; timely = timely; no_slip = clean; at = at; log = refl };
+    last = slip_of side now ways ∷ [];
+    few = omega arith;
+    no_notes = (tt, tt);
+    entries = refl;
+    on = λ on. cc;
+  }
+
+  pub has-made :
       (now : ℕ) (moves : List Move) (s : S) (input : Input C) (ways : Ways) → MayTake takes input → KeepLaws plans moves
       → AreTimely moves → HasNoSlip (new_line plans.equipment.times plans.host.times) (deeds_of moves)
       → IsAt did side plans moves s
-      → IsNext (seen_at side plans moves).there.under_way input → StandsFor ways (line_of_moves plans moves)
-      → AreByteWays ways → HasStepped did side plans now moves (stepped machine side now input s ways)
-  has-stepped now moves s input ways may keep timely clean at next stands bytes =
-      by_slip (slips machine side now input s ways) refl
+      → IsNext (seen_at side plans moves).there.under_way input → LikeMoves ways moves
+      → AreByteWays ways → slips machine side now input s ways ≡ false
+      → HasStepped did side plans now moves (made machine side now input s ways (machine.act s input now))
+  has-made now moves s input ways may keep timely clean at next like bytes none =
+      by_went (like-no-slip now moves s input ways at like none) (machine.act s input now)
+      (law.goes_on run.base run.doings s input now at.is may)
     where
       run : Run
       run = run_at side plans moves
@@ -528,7 +595,8 @@ module _ {S C : Type 0} (did : ℕ → List Doing → S → Type 0) (takes : C �
           → DoesStep (plan_at side plans) did run.base run.doings input now went
           → HasStepped did side plans now moves (made machine side now input s ways went)
       by_went quiet (Goes step) more =
-          let moved = goes-moves now moves s input ways step keep timely clean at next quiet stands more in
+          let moved =
+          goes-moves now moves s input (renamed like.name ways) step keep timely clean at next quiet like.stands more in
           record {
             done = moved.done;
             noted = step.notes ++ wrote step.written;
@@ -539,7 +607,12 @@ module _ {S C : Type 0} (did : ℕ → List Doing → S → Type 0) (takes : C �
             entries = refl;
             on = λ on. (
               refl,
-              moved.ways_are,
+              like-of ways (ways_after side (gives input) (machine.line step.next).phase step.written ways)
+                  (line_of_moves plans moves) (line_of_moves plans (moves_with side now moved.done moves)) like
+                  (renaming-step like.name side (gives input) (machine.line step.next).phase step.written ways like.is)
+                  (subst (λ (w : Ways). StandsFor w (line_of_moves plans (moves_with side now moved.done moves)))
+                  (sym (renamed-step like.name side (gives input) (machine.line step.next).phase step.written ways
+                  like.is)) moved.ways_are),
               bytes-after side (gives input) (machine.line step.next).phase step.written ways moved.bytes bytes,
             );
           }
@@ -553,20 +626,3 @@ module _ {S C : Type 0} (did : ℕ → List Doing → S → Type 0) (takes : C �
         entries = refl;
         on = λ on. cc;
       }
-
-      by_slip : (b : Bool) → slips machine side now input s ways ≡ b
-          → HasStepped did side plans now moves
-          (if b then slipped side now s ways else made machine side now input s ways (machine.act s input now))
-      by_slip true is = record {
-        done = [];
-        noted = [];
-        are = record { keep = keep; timely = timely; no_slip = clean; at = at; log = refl };
-        last = slip_of side now ways ∷ [];
-        few = omega arith;
-        no_notes = (tt, tt);
-        entries = refl;
-        on = λ on. cc;
-      }
-      by_slip false none =
-          by_went (no-slip-in now moves s input ways at stands none) (machine.act s input now)
-          (law.goes_on run.base run.doings s input now at.is may)

@@ -30,6 +30,7 @@ stops_more more answer.Went stops = tt
 stops_more more answer.Slip stops = tt
 stops_more more answer.Turns stops = tt
 stops_more more answer.NumbersSpent stops = tt
+stops_more more answer.PowerLost stops = tt
 
 pub faults_more : {P Q : Type 0} → (P → Q) → (result : WorldFault) → FaultsFor P result → FaultsFor Q result
 faults_more more fault.DiskFailed stops = more stops

@@ -7,8 +7,8 @@ use Rattle.gl_base.specs.declared.side.Side.TheVariants.{Equipment, Host}
 use Rattle.line_schedule.specs.declared.event.Event.{Event}
 use Rattle.line_schedule.specs.declared.event.Event.TheVariants as event
 use Rattle.line_way.specs.Ways.{characters_of, is_under_way, next_byte}
-use Rattle.message_end.specs.Core.{Step}
-use Rattle.message_end.specs.Core.Went.{Goes}
+use Rattle.message_end.specs.Core.{Step, Went}
+use Rattle.message_end.specs.Core.Went.{Goes, Spent}
 use Rattle.message_end.specs.Doings.{Doing}
 use Rattle.message_end.specs.Ends.{Input, KeepsLaw, Machine}
 use Rattle.message_end.specs.Ends.Input.{Char, Command, Time}
@@ -25,7 +25,7 @@ use Rattle.end_pair.specs.Laws.{HasBytes, IsOfMoves, RunsAreBounded}
 use Rattle.end_pair.specs.Run.{closing, piece_of, whole_log}
 use Rattle.end_pair.specs.Run as run
 use Rattle.end_pair.specs.Steps.{stepped}
-use Rattle.end_pair.specs.World.{Piece, World, after_event, after_events, and_more, and_on, at_start, begun, both_stepped, equipment_stepped, given, given_next, given_times, host_stepped, later, most_steps, settled, settled_times, still, turned_out, way_to, with_equipment, with_host}
+use Rattle.end_pair.specs.World.{Piece, World, after_event, after_events, again, and_more, and_on, armed, at_start, begun, both_stepped, darkened, ended_by, equipment_stepped, given, given_next, given_times, happened, host_stepped, later, met, most_steps, settled, settled_times, started_anew, still, turned_out, way_to, with_equipment, with_host, without}
 use Rattle.end_pair.proofs.Causes.{by-cause}
 use Rattle.end_pair.proofs.Holding.{Good, run-is, same_moves}
 
@@ -33,30 +33,30 @@ use Rattle.end_pair.proofs.Holding.{Good, run-is, same_moves}
 
 pub log-is :
     {S T : Type 0} (did_e : ℕ → List Doing → S → Type 0) (did_h : ℕ → List Doing → T → Type 0)
-    (tool : ToolCommand → Type 0) (user : HostCommand → Type 0) (first_e : Step S Happening)
+    (tool : ToolCommand → Type 0) (user : HostCommand → Type 0) (loses : Type 0) (first_e : Step S Happening)
     (first_h : Step T Happening)
     (e : Machine S ToolCommand) (h : Machine T HostCommand) (plans : LinePlans)
     (law_e : KeepsLaw (plan_at Equipment plans) did_e tool (Goes first_e) e)
     (law_h : KeepsLaw (plan_at Host plans) did_h user (Goes first_h) h)
-    → (events : List Event) → All (MayHappen tool user) events → All HasBytes events
+    → (events : List Event) → All (MayHappen tool user loses) events → All HasBytes events
     → IsOfMoves did_e did_h plans (run.log_of e h first_e first_h events)
-log-is {S} {T} did_e did_h tool user first_e first_h e h plans law_e law_h events may bytes =
+log-is {S} {T} did_e did_h tool user loses first_e first_h e h plans law_e law_h events may bytes =
     go piece.went refl
   where
     piece : Piece S T
     piece = piece_of e h first_e first_h events
 
-    good : Good did_e did_h tool user first_e first_h e h plans law_e law_h piece []
-    good = run-is did_e did_h tool user first_e first_h e h plans law_e law_h events may bytes
+    good : Good did_e did_h tool user loses first_e first_h e h plans law_e law_h piece []
+    good = run-is did_e did_h tool user loses first_e first_h e h plans law_e law_h events may bytes
 
     of : IsOfMoves did_e did_h plans piece.entries
     of =
-        same_moves did_e did_h tool user first_e first_h e h plans law_e law_h (piece.entries ++ []) piece.entries
+        same_moves did_e did_h tool user loses first_e first_h e h plans law_e law_h (piece.entries ++ []) piece.entries
         (sym (append-nil piece.entries)) good.of
 
     some : piece.entries ≡ whole_log piece → IsOfMoves did_e did_h plans (whole_log piece)
     some is =
-        same_moves did_e did_h tool user first_e first_h e h plans law_e law_h piece.entries (whole_log piece)
+        same_moves did_e did_h tool user loses first_e first_h e h plans law_e law_h piece.entries (whole_log piece)
         (sym is) of
 
     same : (how : WorldStep) → piece.went ≡ how → closing how piece.world.moment ≡ [] → piece.entries ≡ whole_log piece
@@ -82,6 +82,7 @@ log-is {S} {T} did_e did_h tool user first_e first_h e h plans law_e law_h event
     go answer.Slip is = some (same answer.Slip is refl)
     go answer.Turns is = some (same answer.Turns is refl)
     go answer.NumbersSpent is = some (same answer.NumbersSpent is refl)
+    go answer.PowerLost is = some (same answer.PowerLost is refl)
     go answer.DiskFailed is = some (same answer.DiskFailed is refl)
     go answer.NoMemory is = some (same answer.NoMemory is refl)
 
@@ -107,6 +108,7 @@ module _ {S T : Type 0} (e : Machine S ToolCommand) (h : Machine T HostCommand) 
       go answer.Slip = is
       go answer.Turns = is
       go answer.NumbersSpent = is
+      go answer.PowerLost = is
       go answer.DiskFailed = is
       go answer.NoMemory = is
 
@@ -128,14 +130,16 @@ module _ {S T : Type 0} (e : Machine S ToolCommand) (h : Machine T HostCommand) 
 
   equipment-bounds : (input : Input ToolCommand) → Bounds (equipment_stepped e h input)
   equipment-bounds input world few =
-      turn-bounds world (with_equipment e h world (stepped e Equipment world.moment input world.equipment world.ways))
+      turn-bounds world (with_equipment e h world (stepped e Equipment world.moment world.call world.choice input
+      world.equipment world.ways))
       few refl
-      (by-cause e Equipment world.moment input world.equipment world.ways).no_other.0
+      (by-cause e Equipment world.moment world.call world.choice input world.equipment world.ways).no_other.0
 
   host-bounds : (input : Input HostCommand) → Bounds (host_stepped e h input)
   host-bounds input world few =
-      turn-bounds world (with_host e h world (stepped h Host world.moment input world.host world.ways)) few refl
-      (by-cause h Host world.moment input world.host world.ways).no_other.0
+      turn-bounds world (with_host e h world (stepped h Host world.moment 0 world.choice input world.host world.ways))
+      few refl
+      (by-cause h Host world.moment 0 world.choice input world.host world.ways).no_other.0
 
   given-bounds : (side : Side) → Bounds (given e h side)
   given-bounds side world few = go side (next_byte (characters_of (way_to side world).under_way))
@@ -166,16 +170,62 @@ module _ {S T : Type 0} (e : Machine S ToolCommand) (h : Machine T HostCommand) 
   both-bounds = bounds-then (equipment_stepped e h Time) (host_stepped e h Time) (equipment-bounds Time)
       (host-bounds Time)
 
+  happens-bounds : (event : Event) → Bounds (happened e h event)
+  happens-bounds (event.To side n) = times-bounds n side
+  happens-bounds (event.Lose side n) = λ world few. record { steps = few; turns = λ is. cc }
+  happens-bounds (event.Change side place byte) = λ world few. record { steps = few; turns = λ is. cc }
+  happens-bounds (event.Add side byte) = λ world few. record { steps = few; turns = λ is. cc }
+  happens-bounds event.Settle = settles-bounds 65536
+  happens-bounds (event.Wait ms) = λ world few. both-bounds (later ms world) few
+  happens-bounds (event.Tool command) = equipment-bounds (Command command)
+  happens-bounds (event.Host command) = host-bounds (Command command)
+  happens-bounds (event.Cut call choice) = λ world few. record { steps = few; turns = λ is. cc }
+
+  -- a start anew is no step
+  started-bounds : (world : World S T) → world.steps ≤ 4000000 → (went : Went S Happening)
+      → IsBounded (started_anew e h world went)
+  started-bounds world few (Goes step) = record { steps = few; turns = λ is. cc }
+  started-bounds world few (Spent step) = record { steps = few; turns = λ is. cc }
+
+  without-bounds : Bounds (without e h)
+  without-bounds world few =
+      bounded-then (again e h world) (equipment_stepped e h Time)
+      (started-bounds (darkened world) few (e.restart world.equipment world.moment)) (equipment-bounds Time)
+
+  ended-bounds : (is_cut : Bool) (piece : Piece S T) → IsBounded piece → IsBounded
+      (ended_by e h is_cut piece.went piece)
+  ended-bounds is_cut piece is = go is_cut piece.went
+    where
+      again_is : IsBounded (and_on answer.Went piece (without e h))
+      again_is = let next = without-bounds piece.world is.steps in record { steps = next.steps; turns = next.turns }
+
+      go : (is_cut : Bool) (went : WorldStep) → IsBounded (ended_by e h is_cut went piece)
+      go is_cut answer.PowerLost = again_is
+      go true answer.Went = again_is
+      go false answer.Went = is
+      go is_cut answer.Slip = is
+      go is_cut answer.Turns = is
+      go is_cut answer.NumbersSpent = is
+      go is_cut answer.DiskFailed = is
+      go is_cut answer.NoMemory = is
+
+  met-bounds : (event : Event) (cut : Option ℕ) → Bounds (met e h event cut)
+  met-bounds event None world few = ended-bounds false (happened e h event world) (happens-bounds event world few)
+  met-bounds event (Some call) world few =
+      ended-bounds true (and_more (armed call world) (happened e h event))
+      (bounded-then (armed call world) (happened e h event) (record { steps = few; turns = λ is. cc })
+      (happens-bounds event))
+
   event-bounds : (event : Event) → Bounds (after_event e h event)
-  event-bounds (event.To side n) = times-bounds n side
-  event-bounds (event.Lose side n) = λ world few. record { steps = few; turns = λ is. cc }
-  event-bounds (event.Change side place byte) = λ world few. record { steps = few; turns = λ is. cc }
-  event-bounds (event.Add side byte) = λ world few. record { steps = few; turns = λ is. cc }
-  event-bounds event.Settle = settles-bounds 65536
-  event-bounds (event.Wait ms) = λ world few. both-bounds (later ms world) few
-  event-bounds (event.Tool command) = equipment-bounds (Command command)
-  event-bounds (event.Host command) = host-bounds (Command command)
-  event-bounds (event.Cut call choice) = still-bounds
+  event-bounds (event.To side n) = λ world. met-bounds (event.To side n) world.cut world
+  event-bounds (event.Lose side n) = λ world. met-bounds (event.Lose side n) world.cut world
+  event-bounds (event.Change side place byte) = λ world. met-bounds (event.Change side place byte) world.cut world
+  event-bounds (event.Add side byte) = λ world. met-bounds (event.Add side byte) world.cut world
+  event-bounds event.Settle = λ world. met-bounds event.Settle world.cut world
+  event-bounds (event.Wait ms) = λ world. met-bounds (event.Wait ms) world.cut world
+  event-bounds (event.Tool command) = λ world. met-bounds (event.Tool command) world.cut world
+  event-bounds (event.Host command) = λ world. met-bounds (event.Host command) world.cut world
+  event-bounds (event.Cut call choice) = happens-bounds (event.Cut call choice)
 
   events-bounds : (events : List Event) → Bounds (after_events e h events)
   events-bounds [] = still-bounds

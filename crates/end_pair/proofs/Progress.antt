@@ -6,43 +6,62 @@ use Rattle.gl_base.specs.Told.{SinkTold}
 use Rattle.gl_base.specs.declared.copying.SinkAnswer.{SinkAnswer}
 use Rattle.gl_base.specs.declared.copying.SinkAnswer.TheVariants.{Done, Failed}
 use Rattle.gl_base.proofs.Appending.{copies_behind, cut_before, part_before, passes_behind, told, under_way_first}
-use Rattle.gl_base.specs.declared.side.Side.{Side}
 use Rattle.line_schedule.specs.declared.event.Event.{Event}
-use Rattle.message_end.specs.Ends.{Asked}
 use Rattle.trace_log.specs.Log.{Entry}
 use Rattle.trace_log.specs.Log.Entry.{Ended}
 use Rattle.trace_log.specs.Text.{entry_text, text_of}
 use Rattle.end_pair.specs.declared.answers.RunEnd.{RunEnd}
 use Rattle.end_pair.specs.declared.answers.RunEnd.TheVariants as end
 use Rattle.end_pair.specs.declared.answers.WorldStep.{WorldStep}
-use Rattle.end_pair.specs.declared.answers.WorldStep.TheVariants.{Went, Slip, Turns, NumbersSpent, DiskFailed, NoMemory}
-use Rattle.end_pair.specs.Kept.{AreLeft, HasHalted, PutPart, Puts, StopsFor}
+use Rattle.end_pair.specs.declared.answers.WorldStep.TheVariants.{Went, Slip, Turns, NumbersSpent, PowerLost, DiskFailed, NoMemory}
+use Rattle.end_pair.specs.Kept.{AreLeft, AreLost, Comes, HasHalted, IfWent, IsPowered, PutPart, Puts, Rooms, StopsFor}
 use Rattle.end_pair.specs.Run.{Ends, EndsAtHalt, EndsFor, HandsBack, Runs, closing, whole_log}
 use Rattle.end_pair.specs.World.{Piece, World, and_more, still}
 use Rattle.end_pair.proofs.LogText.{text_of-append}
-use Rattle.end_pair.proofs.Pieces.{Comes, Leads, comes_behind, comes_stop, leads_done, leads_on, leads_stop, put_none, puts_shift}
+use Rattle.end_pair.proofs.Pieces.{Leads, comes_behind, comes_stop, leads_done, leads_on, leads_stop, left_of, put_none, puts_shift}
+
+-- a world is what it means, and none is dark
+abbrev pub as_seen : (S T : Type 0) → World S T → World S T
+as_seen S T world = world
+
+abbrev pub NoDark : (S T : Type 0) → World S T → World S T → Type 0
+NoDark S T now left = Unit {0}
+
+-- what an event comes to, at the end of which there is power
+pub of_event :
+    {S T : Type 0} (piece : Piece S T) (world : World S T) (had has : Rooms) (old lines : List ℕ) (answer : WorldStep)
+    → IsPowered answer → Puts piece.went (text_of piece.entries) old lines answer
+    → IfWent answer (world ≡ piece.world) → IfWent answer (AreLeft had piece.anew piece.asked has)
+    → StopsFor (HasHalted piece.halts had old lines) answer
+    → Comes (as_seen S T) (NoDark S T) piece world had has old lines answer
+of_event {S} {T} piece world had has old lines answer powered puts is room stops = record {
+  puts = puts;
+  world = left_of (world ≡ piece.world) (NoDark S T world piece.world) answer powered is;
+  room = left_of (AreLeft had piece.anew piece.asked has) (AreLost had piece.asked has) answer powered room;
+  stops = stops;
+}
 
 -- what was sent and what the page holds, the lines behind it, and what is left of the run; and the room that the disks
 -- had, and have
-pub record IsAt {S T : Type 0} (whole left : Piece S T) (had has : Side → Asked) (lines page : List ℕ)
+pub record IsAt {S T : Type 0} (whole left : Piece S T) (had has : Rooms) (lines page : List ℕ)
     (out : SinkTold) : Type 0 where
   pub text : List ℕ
   pub under : IsUnderWay out text page
-  pub leads : Leads left has (text ++ lines) whole had []
+  pub leads : Leads (as_seen S T) (NoDark S T) left has (text ++ lines) whole had []
 
 -- at the start
 pub at_first :
     {was : Option (List ℕ)} {a : SinkHealth} {S T : Type 0} (first : Piece S T) (more : World S T → Piece S T)
     (world : World S T)
-    (had has : Side → Asked) (empty lines page : List ℕ)
+    (had has : Rooms) (empty lines page : List ℕ)
     → page ≡ [] → empty ≡ [] → world ≡ first.world → first.went ≡ Went → lines ≡ empty ++ text_of first.entries
-    → AreLeft had first.asked has
+    → AreLeft had first.anew first.asked has
     → IsAt (and_more first more) (more world) had has lines page (told was was a a)
-at_first first more world had has empty lines page no_page none is_world went is_lines left = record {
+at_first {was} {a} {S} {T} first more world had has empty lines page no_page none is_world went is_lines left = record {
   text = [];
   under = under_way_first page no_page;
   leads =
-      leads_on first more world had has [] lines (and_more first more) had []
+      leads_on (as_seen S T) (NoDark S T) first more world had has [] lines (and_more first more) had []
       (record {
         puts = (went, is_lines ∙ ap (λ (t : List ℕ). t ++ text_of first.entries) none);
         world = is_world;
@@ -55,7 +74,7 @@ at_first first more world had has empty lines page no_page none is_world went is
 
 module _ {was mid : Option (List ℕ)} {a b : SinkHealth} (now : Option (List ℕ)) (c : SinkHealth) {S T : Type 0}
     (whole left : Piece S T)
-    (had has : Side → Asked) (lines page : List ℕ)
+    (had has : Rooms) (lines page : List ℕ)
     (here : IsAt whole left had has lines page (told was mid a b)) where
   -- the lines are put to the page
   put : (slice page' : List ℕ) (answer : SinkAnswer) → slice ≡ lines
@@ -68,19 +87,23 @@ module _ {was mid : Option (List ℕ)} {a b : SinkHealth} (now : Option (List �
   -- the next event is carried out
   pub past_event :
       (slice page' empty lines' : List ℕ) (first : Piece S T) (more : World S T → Piece S T) (world' : World S T)
-      (after : Side → Asked)
+      (after : Rooms)
       → slice ≡ lines → IsUnderWay (told mid now b c) (page ++ slice) page' → empty ≡ [] → left ≡ and_more first more
-      → Comes first world' has after empty lines' Went → IsAt whole (more world') had after lines' page'
+      → Comes (as_seen S T) (NoDark S T) first world' has after empty lines' Went → IsAt whole (more world') had after
+      lines' page'
       (told was now a c)
   past_event slice page' empty lines' first more world' after is_slice passes none is_left comes = record {
     text = here.text ++ lines;
     under = put slice page' Done is_slice passes;
     leads =
-        leads_on first more world' has after (here.text ++ lines) ((here.text ++ lines) ++ lines') whole had []
-        (subst (λ (t : List ℕ). Comes first world' has after t ((here.text ++ lines) ++ lines') Went)
+        leads_on (as_seen S T) (NoDark S T) first more world' has after (here.text ++ lines)
+        ((here.text ++ lines) ++ lines') whole had []
+        (subst (λ (t : List ℕ). Comes (as_seen S T) (NoDark S T) first world' has after t
+        ((here.text ++ lines) ++ lines') Went)
         (ap (λ (t : List ℕ). (here.text ++ lines) ++ t) none ∙ append-nil (here.text ++ lines))
-        (comes_behind first world' has after (here.text ++ lines) empty lines' Went comes))
-        (subst (λ (p : Piece S T). Leads p has (here.text ++ lines) whole had []) is_left here.leads);
+        (comes_behind (as_seen S T) (NoDark S T) first world' has after (here.text ++ lines) empty lines' Went comes))
+        (subst (λ (p : Piece S T). Leads (as_seen S T) (NoDark S T) p has (here.text ++ lines) whole had []) is_left
+        here.leads);
   }
 
 -- ---- the end of it
@@ -143,6 +166,7 @@ module _ {S T : Type 0} (whole : Piece S T) where
       go Slip puts = (tail, all puts.1)
       go Turns puts = (tail, all puts.1)
       go NumbersSpent puts = (tail, all puts.1)
+      go PowerLost puts = (tail, all puts.1)
       go DiskFailed part = (
         part.rest ++ tail,
         whole_text ∙ ap (λ (t : List ℕ). t ++ tail) (part.whole ∙ ap (λ (t : List ℕ). t ++ part.rest) (sym part.lines))
@@ -156,9 +180,10 @@ module _ {S T : Type 0} (whole : Piece S T) where
 
   -- it went on no further
   pub runs_stop :
-      (out : SinkTold) (world : World S T) (had has : Side → Asked) (sofar : List ℕ) (answer : WorldStep)
+      (out : SinkTold) (world : World S T) (had has : Rooms) (sofar : List ℕ) (answer : WorldStep)
       (result : RunEnd)
-      → answer ≢ Went → Comes whole world had has [] sofar answer → Ends out sofar answer result
+      → answer ≢ Went → Comes (as_seen S T) (NoDark S T) whole world had has [] sofar answer → Ends out sofar answer
+      result
       → Runs out (text_of (whole_log whole)) whole.went result
   runs_stop out world had has sofar answer result stops comes ends = go result ends
     where
@@ -190,9 +215,9 @@ module _ {S T : Type 0} (whole : Piece S T) where
           subst (λ (t : List ℕ). WroteShort out t) (sym more.1) (cut_before sofar more.0 short)
 
   -- where a disk failed, all that was put so far is the text of a halt
-  pub stops_at : (out : SinkTold) (world : World S T) (had has : Side → Asked) (sofar : List ℕ) (answer : WorldStep)
+  pub stops_at : (out : SinkTold) (world : World S T) (had has : Rooms) (sofar : List ℕ) (answer : WorldStep)
       (result : RunEnd)
-      → Comes whole world had has [] sofar answer → Ends out sofar answer result
+      → Comes (as_seen S T) (NoDark S T) whole world had has [] sofar answer → Ends out sofar answer result
       → EndsFor (EndsAtHalt out whole.halts had) result
   stops_at out world had has sofar answer result comes ends = go result ends
     where
@@ -215,9 +240,10 @@ module _ {S T : Type 0} (whole : Piece S T) where
       go end.WriteFailed ends = tt
 
   -- the schedule is carried out: with the line of the end, or some of it
-  pub runs_closed : (out : SinkTold) (world : World S T) (had has : Side → Asked) (sofar all : List ℕ)
+  pub runs_closed : (out : SinkTold) (world : World S T) (had has : Rooms) (sofar all : List ℕ)
       (answer : WorldStep) (result : RunEnd)
-      → Comes whole world had has [] sofar Went → Puts Went (entry_text (Ended whole.world.moment)) sofar all answer
+      → Comes (as_seen S T) (NoDark S T) whole world had has [] sofar Went → Puts Went
+      (entry_text (Ended whole.world.moment)) sofar all answer
       → Ends out all answer result
       → Runs out (text_of (whole_log whole)) whole.went result
   runs_closed out world had has sofar all answer result comes puts ends = go result ends
@@ -243,6 +269,7 @@ module _ {S T : Type 0} (whole : Piece S T) where
           parts Slip puts = ([], trace_is ∙ sym puts.1 ∙ sym (append-nil all))
           parts Turns puts = ([], trace_is ∙ sym puts.1 ∙ sym (append-nil all))
           parts NumbersSpent puts = ([], trace_is ∙ sym puts.1 ∙ sym (append-nil all))
+          parts PowerLost puts = ([], trace_is ∙ sym puts.1 ∙ sym (append-nil all))
           parts DiskFailed part = (
             part.rest,
             trace_is ∙ ap (λ (t : List ℕ). sofar ++ t) part.whole ∙ sym (append_assoc sofar part.front part.rest)
@@ -266,15 +293,15 @@ module _ {S T : Type 0} (whole : Piece S T) where
 
 module _ {was mid : Option (List ℕ)} {a b : SinkHealth} (now after : Option (List ℕ)) (c d : SinkHealth) {S T : Type 0}
     (whole left : Piece S T)
-    (had has : Side → Asked) (lines page : List ℕ)
+    (had has : Rooms) (lines page : List ℕ)
     (here : IsAt whole left had has lines page (told was mid a b)) where
   -- an event went on no further
   pub stopped :
       (slice page' empty lines' slice' : List ℕ) (first : Piece S T) (more : World S T → Piece S T) (world' : World S T)
-      (has' : Side → Asked)
+      (has' : Rooms)
       (answer : WorldStep) (result : RunEnd)
       → slice ≡ lines → IsUnderWay (told mid now b c) (page ++ slice) page' → empty ≡ [] → left ≡ and_more first more
-      → answer ≢ Went → Comes first world' has has' empty lines' answer → slice' ≡ lines'
+      → answer ≢ Went → Comes (as_seen S T) (NoDark S T) first world' has has' empty lines' answer → slice' ≡ lines'
       → Ends (told now after c d) (page' ++ slice') answer result
       → Runs (told was after a d) (text_of (whole_log whole)) whole.went result
       × EndsFor (EndsAtHalt (told was after a d) whole.halts had) result
@@ -289,13 +316,14 @@ module _ {was mid : Option (List ℕ)} {a b : SinkHealth} (now after : Option (L
       text : List ℕ
       text = here.text ++ lines
 
-      comes_whole : Comes whole world' had has' [] (text ++ lines') answer
+      comes_whole : Comes (as_seen S T) (NoDark S T) whole world' had has' [] (text ++ lines') answer
       comes_whole =
-          leads_stop first more world' has has' text (text ++ lines') answer whole had [] stops
-          (subst (λ (t : List ℕ). Comes first world' has has' t (text ++ lines') answer)
+          leads_stop (as_seen S T) (NoDark S T) first more world' has has' text (text ++ lines') answer whole had []
+          stops
+          (subst (λ (t : List ℕ). Comes (as_seen S T) (NoDark S T) first world' has has' t (text ++ lines') answer)
           (ap (λ (t : List ℕ). text ++ t) none ∙ append-nil text)
-          (comes_behind first world' has has' text empty lines' answer comes))
-          (subst (λ (p : Piece S T). Leads p has text whole had []) is_left here.leads)
+          (comes_behind (as_seen S T) (NoDark S T) first world' has has' text empty lines' answer comes))
+          (subst (λ (p : Piece S T). Leads (as_seen S T) (NoDark S T) p has text whole had []) is_left here.leads)
 
       ends_whole : Ends (told was after a d) (text ++ lines') answer result
       ends_whole =
@@ -305,7 +333,7 @@ module _ {was mid : Option (List ℕ)} {a b : SinkHealth} (now after : Option (L
 
 -- a disk failed before the first event
 pub never_began :
-    {S T : Type 0} (out : SinkTold) (first : Piece S T) (more : World S T → Piece S T) (had : Side → Asked)
+    {S T : Type 0} (out : SinkTold) (first : Piece S T) (more : World S T → Piece S T) (had : Rooms)
     (empty page lines slice : List ℕ) (result : RunEnd)
     → empty ≡ [] → page ≡ [] → slice ≡ lines → PutPart (text_of first.entries) empty lines
     → HasHalted first.halts had empty lines → Ends out (page ++ slice) DiskFailed result
@@ -319,9 +347,9 @@ never_began {S} {T} out first more had empty page lines slice result no_lines no
     whole : Piece S T
     whole = and_more first more
 
-    comes : Comes whole first.world had had [] lines DiskFailed
+    comes : Comes (as_seen S T) (NoDark S T) whole first.world had had [] lines DiskFailed
     comes =
-        comes_stop first more first.world had had had [] lines DiskFailed (λ other. cc) (record {
+        comes_stop (as_seen S T) (NoDark S T) first more first.world had had [] lines DiskFailed (λ other. cc) (record {
           puts = subst (λ (t : List ℕ). PutPart (text_of first.entries) t lines) no_lines part;
           world = tt;
           room = tt;
@@ -336,7 +364,7 @@ never_began {S} {T} out first more had empty page lines slice result no_lines no
 pub put_failed :
     {was mid : Option (List ℕ)} {a b : SinkHealth} (now : Option (List ℕ)) (c : SinkHealth) {S T : Type 0}
     (whole left : Piece S T)
-    (had has : Side → Asked) (lines page slice page' : List ℕ)
+    (had has : Rooms) (lines page slice page' : List ℕ)
     (here : IsAt whole left had has lines page (told was mid a b)) → slice ≡ lines
     → Passes (told mid now b c) (page ++ slice) page' Failed
     → Runs (told was now a c) (text_of (whole_log whole)) whole.went end.WriteFailed
@@ -359,7 +387,7 @@ put_failed {was} {mid} {a} {b} now c whole left had has lines page slice page' h
 pub closed :
     {was mid : Option (List ℕ)} {a b : SinkHealth} (now : Option (List ℕ)) (c : SinkHealth) {S T : Type 0}
     (whole left : Piece S T)
-    (had has : Side → Asked) (lines page : List ℕ) (here : IsAt whole left had has lines page (told was mid a b))
+    (had has : Rooms) (lines page : List ℕ) (here : IsAt whole left had has lines page (told was mid a b))
     (world : World S T) (lines' slice : List ℕ) (moment : ℕ)
     (answer : WorldStep) (result : RunEnd)
     → left ≡ still world → moment ≡ world.moment → Puts Went (entry_text (Ended moment)) lines lines' answer
@@ -377,10 +405,11 @@ closed {was} {mid} {a} {b} now c {S} {T} whole left had has lines page here worl
       comes.world,
     )
   where
-    comes : Comes whole world had has [] (here.text ++ lines) Went
+    comes : Comes (as_seen S T) (NoDark S T) whole world had has [] (here.text ++ lines) Went
     comes =
-        leads_done world has (here.text ++ lines) whole had []
-        (subst (λ (p : Piece S T). Leads p has (here.text ++ lines) whole had []) is_left here.leads)
+        leads_done (as_seen S T) (NoDark S T) world has (here.text ++ lines) whole had []
+        (subst (λ (p : Piece S T). Leads (as_seen S T) (NoDark S T) p has (here.text ++ lines) whole had []) is_left
+        here.leads)
 
 pub next_event : (items events : List Event) (i : ℕ) (item : Event) → items ≡ events → i < length items
     → item ≡ get_or items i item → drop i events ≡ item ∷ drop (i + 1) events

@@ -1,16 +1,17 @@
 -- Characters given one by one.
-use Rattle.std.proofs.Common.{◌≡◌, ◌≢◌, zero, suc, ℕ, ◌+◌, not, ◌&&◌, Bool, true, false, List, [], ◌∷◌, ◌++◌, map, Option, None, if◌then◌else◌, refl, ap, subst, ◌∙◌, add-one}
+use Rattle.std.proofs.Common.{◌≡◌, ◌≢◌, zero, suc, ℕ, ◌+◌, not, ◌&&◌, ◌||◌, Bool, true, false, List, [], ◌∷◌, ◌++◌, map, Option, None, if◌then◌else◌, refl, ap, subst, ◌∙◌, add-one}
 use Rattle.gl_base.specs.declared.side.Side.{Side}
 use Rattle.gl_base.specs.declared.side.Side.TheVariants.{Equipment, Host}
 use Rattle.line_way.specs.declared.character.Character.{Character}
 use Rattle.line_way.specs.Ways.{characters_of, is_under_way, next_byte}
-use Rattle.message_end.specs.Ends.{Asked, Machine}
+use Rattle.message_end.specs.Ends.{Machine}
 use Rattle.trace_log.specs.declared.commands.HostCommand.{HostCommand}
 use Rattle.trace_log.specs.declared.commands.ToolCommand.{ToolCommand}
 use Rattle.end_pair.specs.declared.answers.WorldStep.{WorldStep}
 use Rattle.end_pair.specs.declared.answers.WorldStep.TheVariants.{Went}
-use Rattle.end_pair.specs.World.{Piece, World, and_more, asked_more, asked_of_none, given, given_next, given_times, halt_behind, settled, settled_times, still, way_to}
-use Rattle.end_pair.proofs.Pieces.{Comes, Leads, leads_done, leads_on, leads_stop}
+use Rattle.end_pair.specs.Kept.{Comes, Rooms}
+use Rattle.end_pair.specs.World.{Piece, World, and_more, asked_of_none, asked_on, given, given_next, given_times, halt_behind, settled, settled_times, still, way_to}
+use Rattle.end_pair.proofs.Pieces.{Leads, leads_done, leads_on, leads_stop}
 
 abbrev pub IsEmptyTo : {S T : Type 0} → Side → World S T → Type 0
 IsEmptyTo side world = is_under_way (characters_of (way_to side world).under_way) ≡ false
@@ -34,42 +35,44 @@ pub record Repeats {S T : Type 0}
   pub more : (n m : ℕ) (world : World S T) → n ≡ m + 1 → times n world ≡ and_more (once world) (times m)
   pub none : (n : ℕ) (world : World S T) → Empty world → times n world ≡ still world
 
-module _ {S T : Type 0} {once : World S T → Piece S T} {times : ℕ → World S T → Piece S T} {Empty : World S T → Type 0}
+module _ {V S T : Type 0} (see : V → World S T) (Dark : V → World S T → Type 0)
+    {once : World S T → Piece S T} {times : ℕ → World S T → Piece S T} {Empty : World S T → Type 0}
     (is : Repeats once times Empty) where
   pub times_done :
-      (n : ℕ) (world : World S T) (room : Side → Asked) (lines : List ℕ) (whole : Piece S T) (had : Side → Asked)
-      (old : List ℕ) → Empty world → Leads (times n world) room lines whole had old
-      → Comes whole world had room old lines Went
-  times_done n world room lines whole had old none leads =
-      leads_done world room lines whole had old
-      (subst (λ (p : Piece S T). Leads p room lines whole had old) (is.none n world none) leads)
+      (n : ℕ) (now : V) (room : Rooms) (lines : List ℕ) (whole : Piece S T) (had : Rooms) (old : List ℕ)
+      → Empty (see now) → Leads see Dark (times n (see now)) room lines whole had old
+      → Comes see Dark whole now had room old lines Went
+  times_done n now room lines whole had old none leads =
+      leads_done see Dark now room lines whole had old
+      (subst (λ (p : Piece S T). Leads see Dark p room lines whole had old) (is.none n (see now) none) leads)
 
   pub times_over :
-      (n : ℕ) (world : World S T) (room : Side → Asked) (lines : List ℕ) (whole : Piece S T) (had : Side → Asked)
-      (old : List ℕ) → n ≡ 0 → Leads (times n world) room lines whole had old
-      → Comes whole world had room old lines Went
-  times_over n world room lines whole had old over leads =
-      leads_done world room lines whole had old
-      (subst (λ (p : Piece S T). Leads p room lines whole had old)
-      (ap (λ (k : ℕ). times k world) over ∙ is.over world) leads)
+      (n : ℕ) (now : V) (room : Rooms) (lines : List ℕ) (whole : Piece S T) (had : Rooms) (old : List ℕ) → n ≡ 0
+      → Leads see Dark (times n (see now)) room lines whole had old → Comes see Dark whole now had room old lines Went
+  times_over n now room lines whole had old over leads =
+      leads_done see Dark now room lines whole had old
+      (subst (λ (p : Piece S T). Leads see Dark p room lines whole had old)
+      (ap (λ (k : ℕ). times k (see now)) over ∙ is.over (see now)) leads)
 
   pub times_on :
-      (n m : ℕ) (world after : World S T) (before now : Side → Asked) (between lines : List ℕ) (whole : Piece S T)
-      (had : Side → Asked) (old : List ℕ)
-      → n ≡ m + 1 → Comes (once world) after before now between lines Went
-      → Leads (times n world) before between whole had old → Leads (times m after) now lines whole had old
-  times_on n m world after before now between lines whole had old is_n comes leads =
-      leads_on (once world) (times m) after before now between lines whole had old comes
-      (subst (λ (p : Piece S T). Leads p before between whole had old) (is.more n m world is_n) leads)
+      (n m : ℕ) (now after : V) (before behind : Rooms) (between lines : List ℕ) (whole : Piece S T) (had : Rooms)
+      (old : List ℕ)
+      → n ≡ m + 1 → Comes see Dark (once (see now)) after before behind between lines Went
+      → Leads see Dark (times n (see now)) before between whole had old
+      → Leads see Dark (times m (see after)) behind lines whole had old
+  times_on n m now after before behind between lines whole had old is_n comes leads =
+      leads_on see Dark (once (see now)) (times m) after before behind between lines whole had old comes
+      (subst (λ (p : Piece S T). Leads see Dark p before between whole had old) (is.more n m (see now) is_n) leads)
 
   pub times_stop :
-      (n m : ℕ) (world after : World S T) (before now : Side → Asked) (between lines : List ℕ) (answer : WorldStep)
-      (whole : Piece S T) (had : Side → Asked) (old : List ℕ)
-      → n ≡ m + 1 → answer ≢ Went → Comes (once world) after before now between lines answer
-      → Leads (times n world) before between whole had old → Comes whole after had now old lines answer
-  times_stop n m world after before now between lines answer whole had old is_n stops comes leads =
-      leads_stop (once world) (times m) after before now between lines answer whole had old stops comes
-      (subst (λ (p : Piece S T). Leads p before between whole had old) (is.more n m world is_n) leads)
+      (n m : ℕ) (now after : V) (before behind : Rooms) (between lines : List ℕ) (answer : WorldStep)
+      (whole : Piece S T) (had : Rooms) (old : List ℕ)
+      → n ≡ m + 1 → answer ≢ Went → Comes see Dark (once (see now)) after before behind between lines answer
+      → Leads see Dark (times n (see now)) before between whole had old
+      → Comes see Dark whole after had behind old lines answer
+  times_stop n m now after before behind between lines answer whole had old is_n stops comes leads =
+      leads_stop see Dark (once (see now)) (times m) after before behind between lines answer whole had old stops comes
+      (subst (λ (p : Piece S T). Leads see Dark p before between whole had old) (is.more n m (see now) is_n) leads)
 
 -- ---- to one end
 
@@ -91,8 +94,9 @@ module _ {S T : Type 0} (e : Machine S ToolCommand) (h : Machine T HostCommand) 
         world = next.world;
         entries = next.entries ++ [];
         went = next.went;
-        asked = asked_more asked_of_none next.asked;
-        halts = [] ++ map (halt_behind [] asked_of_none) next.halts;
+        anew = false || next.anew;
+        asked = asked_on asked_of_none next.anew next.asked;
+        halts = [] ++ map (halt_behind [] false asked_of_none) next.halts;
       })
       (times-none n side world none)
 
@@ -126,8 +130,9 @@ module _ {S T : Type 0} (e : Machine S ToolCommand) (h : Machine T HostCommand) 
         world = next.world;
         entries = next.entries ++ [];
         went = next.went;
-        asked = asked_more asked_of_none next.asked;
-        halts = [] ++ map (halt_behind [] asked_of_none) next.halts;
+        anew = false || next.anew;
+        asked = asked_on asked_of_none next.anew next.asked;
+        halts = [] ++ map (halt_behind [] false asked_of_none) next.halts;
       })
       (settles-none n world none empty)
 

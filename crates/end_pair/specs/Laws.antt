@@ -1,5 +1,6 @@
 -- What holds of every run.
-use Rattle.std.specs.Prelude.{◌≡◌, ◌≢◌, ◌↔◌, ◌≤◌, ◌<◌, ℕ, true, false, List, [], ◌∷◌, ◌++◌, length}
+use Rattle.std.specs.Prelude.{◌≡◌, ◌≢◌, ◌↔◌, ◌⊎◌, ◌≤◌, ◌<◌, ℕ, true, false, List, [], ◌∷◌, ◌++◌, length, None, Some}
+use Rattle.disk_base.specs.declared.cut.CutChoice.{CutChoice}
 use Rattle.gl_base.specs.declared.side.Side.{Side}
 use Rattle.gl_base.specs.declared.side.Side.TheVariants.{Equipment, Host}
 use Rattle.line_order.specs.Acts.{HasNoSlip}
@@ -10,17 +11,19 @@ use Rattle.line_way.specs.Ways.{Ways}
 use Rattle.message_end.specs.Core.{Step}
 use Rattle.message_end.specs.Core.Went.{Spent}
 use Rattle.message_end.specs.Doings.{Doing}
-use Rattle.message_end.specs.Ends.{Input, Machine}
+use Rattle.message_end.specs.Doings.Doing.{Says}
+use Rattle.message_end.specs.Ends.{Input, IsOfWorld, Loss, Machine, call_of}
 use Rattle.message_end.specs.Log.{log_of}
 use Rattle.message_end.specs.Moves.{AreTimely, KeepLaws, Kind, LinePlans, Move, deeds_of, plan_at, run_at}
-use Rattle.message_end.specs.Moves.Kind.{Started}
+use Rattle.message_end.specs.Moves.Kind.{Did, Started}
 use Rattle.message_end.specs.Plan.{EndPlan}
 use Rattle.trace_log.specs.Log.{Entry, Happening}
 use Rattle.trace_log.specs.Log.Entry.{Ended, Noted, Slipped}
 use Rattle.trace_log.specs.declared.commands.HostCommand.{HostCommand}
 use Rattle.trace_log.specs.declared.commands.ToolCommand.{ToolCommand}
-use Rattle.end_pair.specs.declared.answers.WorldStep.TheVariants.{DiskFailed, NoMemory, NumbersSpent, Slip, Turns}
-use Rattle.end_pair.specs.Run.{piece_of}
+use Rattle.end_pair.specs.declared.answers.WorldStep.{WorldStep}
+use Rattle.end_pair.specs.declared.answers.WorldStep.TheVariants.{DiskFailed, NoMemory, NumbersSpent, PowerLost, Slip, Turns, Went}
+use Rattle.end_pair.specs.Run.{piece_of, whole_log}
 use Rattle.end_pair.specs.Steps.{slips, stepped}
 use Rattle.end_pair.specs.World.{most_steps}
 
@@ -32,23 +35,77 @@ RunsAreBounded E H =
     → let piece = piece_of e h equipment host events in
     (piece.world.steps ≤ most_steps) × (piece.went ≡ Turns → piece.world.steps ≡ most_steps)
 
--- a step ends a run for a slip and for spent numbers, where there is such a one, and never else: a slip goes first
+-- what an end has noted, a slip, and the end of a run
+abbrev pub IsNote : Entry → Type 0
+IsNote (Noted moment side what) = Unit {0}
+IsNote (Slipped moment side frame characters) = ⊥
+IsNote (Ended moment) = ⊥
+
+abbrev pub IsSlip : Entry → Type 0
+IsSlip (Noted moment side what) = ⊥
+IsSlip (Slipped moment side frame characters) = Unit {0}
+IsSlip (Ended moment) = ⊥
+
+abbrev pub IsEnd : Entry → Type 0
+IsEnd (Noted moment side what) = ⊥
+IsEnd (Slipped moment side frame characters) = ⊥
+IsEnd (Ended moment) = Unit {0}
+
+-- the newest entry of a log is such a one
+abbrev pub OnNewest : (Entry → Type 0) → List Entry → Type 0
+OnNewest Such [] = ⊥
+OnNewest Such (newest ∷ before) = Such newest
+
+abbrev pub AreNotes : List Entry → Type 0
+AreNotes [] = Unit {0}
+AreNotes (entry ∷ before) = IsNote entry × AreNotes before
+
+-- all of its entries are notes, but for the newest
+abbrev pub AreNotesBefore : List Entry → Type 0
+AreNotesBefore [] = Unit {0}
+AreNotesBefore (newest ∷ before) = AreNotes before
+
+-- a run is carried out to the end of its schedule, or it ends for a slip, for want of steps or for spent numbers, and
+-- for nothing else; and the newest entry of its log tells whether it was carried out, and whether a slip has ended it
+pub record EndsOneWay (went : WorldStep) (log : List Entry) : Type 0 where
+  pub how : (went ≡ Went) ⊎ ((went ≡ Slip) ⊎ ((went ≡ Turns) ⊎ (went ≡ NumbersSpent)))
+  pub whole : went ≡ Went ↔ OnNewest IsEnd log
+  pub slip : went ≡ Slip ↔ OnNewest IsSlip log
+  pub notes : AreNotesBefore log
+
+-- so does every run, whatever its ends are
+abbrev pub RunsEndFourWays : Type 0 → Type 0 → Type 0
+RunsEndFourWays E H =
+    (e : Machine E ToolCommand) (h : Machine H HostCommand) (equipment : Step E Happening)
+    (host : Step H Happening) (events : List Event)
+    → let piece = piece_of e h equipment host events in
+    EndsOneWay piece.went (whole_log piece)
+
+-- a step ends a run for a slip and for spent numbers, where there is such a one, or an event for a loss of power at the
+-- call that is planned, and never else: a slip goes first, and the loss before spent numbers
 pub record EndsByCause {S C : Type 0}
-    (machine : Machine S C) (side : Side) (now : ℕ) (input : Input C) (s : S) (ways : Ways) : Type 0 where
-  pub slip : (stepped machine side now input s ways).went ≡ Slip ↔ slips machine side now input s ways ≡ true
-  pub spent :
-      (stepped machine side now input s ways).went ≡ NumbersSpent
+    (machine : Machine S C) (side : Side) (now call : ℕ) (choice : CutChoice) (input : Input C) (s : S) (ways : Ways)
+    : Type 0 where
+  pub slip :
+      (stepped machine side now call choice input s ways).went ≡ Slip ↔ slips machine side now input s ways ≡ true
+  pub lost :
+      (stepped machine side now call choice input s ways).went ≡ PowerLost
       ↔ ((slips machine side now input s ways ≡ false)
-      × ((step : Step S Happening) × (machine.act s input now ≡ Spent step)))
+      × ((loss : Loss S) × (call_of call (machine.losses s input now) ≡ Some loss)))
+  pub spent :
+      (stepped machine side now call choice input s ways).went ≡ NumbersSpent
+      ↔ ((slips machine side now input s ways ≡ false)
+      × ((call_of call (machine.losses s input now) ≡ None)
+      × ((step : Step S Happening) × (machine.act s input now ≡ Spent step))))
   pub no_other :
-      ((stepped machine side now input s ways).went ≢ Turns)
-      × ((stepped machine side now input s ways).went ≢ DiskFailed)
-      × ((stepped machine side now input s ways).went ≢ NoMemory)
+      ((stepped machine side now call choice input s ways).went ≢ Turns)
+      × ((stepped machine side now call choice input s ways).went ≢ DiskFailed)
+      × ((stepped machine side now call choice input s ways).went ≢ NoMemory)
 
 abbrev pub StepsEndByCause : Type 0 → Type 0 → Type 0
 StepsEndByCause S C =
-    (machine : Machine S C) (side : Side) (now : ℕ) (input : Input C) (s : S) (ways : Ways)
-    → EndsByCause machine side now input s ways
+    (machine : Machine S C) (side : Side) (now call : ℕ) (choice : CutChoice) (input : Input C) (s : S) (ways : Ways)
+    → EndsByCause machine side now call choice input s ways
 
 -- an entry that no end has noted
 abbrev pub IsNoNote : Entry → Type 0
@@ -87,8 +144,9 @@ abbrev pub HasNoStart : List Move → Type 0
 HasNoStart [] = Unit {0}
 HasNoStart (move ∷ before) = IsNoStart move.kind × HasNoStart before
 
--- the moves come step by step, behind each of which both ends are in states that their doings have made: ends start, or
--- a step has no start in it. So what these doings keep between two steps they keep at each move
+-- the moves come step by step, behind each of which both ends are in states that their doings have made: ends start; a
+-- step has no start in it; power ends a step early, whose first moves these are, and which could have gone on to such
+-- states; or the world notes something of an end. So what doings keep between two steps they keep at each move
 pub data AreSteps {S T : Type 0}
     (equipment : ℕ → List Doing → S → Type 0) (host : ℕ → List Doing → T → Type 0) (plans : LinePlans)
     : List Move → Type 0 where
@@ -101,6 +159,14 @@ pub data AreSteps {S T : Type 0}
       (moves step before : List Move) → moves ≡ step ++ before → HasNoStart step
       → AreAtStates equipment host plans moves → AreSteps equipment host plans before
       → AreSteps equipment host plans moves
+  cut_short :
+      (moves later front before : List Move) → moves ≡ front ++ before → HasNoStart (later ++ front)
+      → AreAtStates equipment host plans (later ++ moves) → AreSteps equipment host plans before
+      → AreSteps equipment host plans moves
+  world_says :
+      (moves before : List Move) (side : Side) (moment : ℕ) (what : Happening)
+      → moves ≡ record { side = side; moment = moment; kind = Did (Says what) } ∷ before → IsOfWorld what
+      → AreSteps equipment host plans before → AreSteps equipment host plans moves
 
 -- the log is that of moves of which each end keeps the law, none of them a slip and each T4 drop at its moment, and at
 -- most one entry behind them, that of a slip or of the end

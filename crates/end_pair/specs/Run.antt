@@ -1,11 +1,10 @@
 -- The run of a schedule, and what it writes (this profile).
 use Rattle.std.specs.Prelude.{◌≡◌, ℕ, List, [], ◌∷◌, ◌++◌, Option, Some, None}
-use Rattle.gl_base.specs.declared.side.Side.{Side}
 use Rattle.gl_base.specs.Sending.{WrotePart, WroteShort, WroteText}
 use Rattle.gl_base.specs.Told.{SinkTold}
 use Rattle.line_schedule.specs.declared.event.Event.{Event}
 use Rattle.message_end.specs.Core.{Step}
-use Rattle.message_end.specs.Ends.{Asked, IsShort, Machine}
+use Rattle.message_end.specs.Ends.{IsShort, Machine}
 use Rattle.message_end.specs.Own.{Has}
 use Rattle.trace_log.specs.Log.{Entry, Happening}
 use Rattle.trace_log.specs.Log.Entry.{Ended}
@@ -15,7 +14,8 @@ use Rattle.trace_log.specs.declared.commands.ToolCommand.{ToolCommand}
 use Rattle.end_pair.specs.declared.answers.RunEnd.{RunEnd}
 use Rattle.end_pair.specs.declared.answers.RunEnd.TheVariants as end
 use Rattle.end_pair.specs.declared.answers.WorldStep.{WorldStep}
-use Rattle.end_pair.specs.declared.answers.WorldStep.TheVariants.{Went, Slip, Turns, NumbersSpent, DiskFailed, NoMemory}
+use Rattle.end_pair.specs.declared.answers.WorldStep.TheVariants.{Went, Slip, Turns, NumbersSpent, PowerLost, DiskFailed, NoMemory}
+use Rattle.end_pair.specs.Kept.{Rooms, room_from}
 use Rattle.end_pair.specs.World.{Halt, Piece, after_events, and_more, begun}
 
 -- a log that nothing has cut short ends with the end
@@ -24,6 +24,7 @@ closing Went now = Ended now ∷ []
 closing Slip now = []
 closing Turns now = []
 closing NumbersSpent now = []
+closing PowerLost now = []
 closing DiskFailed now = []
 closing NoMemory now = []
 
@@ -50,9 +51,10 @@ Ends out text how end.DiskFailed = (how ≡ DiskFailed) × WroteText out text
 Ends out text how end.NoMemory = (how ≡ NoMemory) × WroteText out text
 Ends out text how end.WriteFailed = WroteShort out text
 
--- how a run ends where all of its text went out
+-- how a run ends where all of its text went out. None ends without power
 abbrev pub end_of : WorldStep → RunEnd
 end_of Went = end.Whole
+end_of PowerLost = end.NoMemory
 end_of Slip = end.Slip
 end_of Turns = end.Turns
 end_of NumbersSpent = end.NumbersSpent
@@ -60,11 +62,11 @@ end_of DiskFailed = end.DiskFailed
 end_of NoMemory = end.NoMemory
 
 -- all of the text of a halt is written, where its end's disk had no room for what it was asked by then
-pub record EndsAtHalt (out : SinkTold) (halts : List Halt) (had : Side → Asked) : Type 0 where
+pub record EndsAtHalt (out : SinkTold) (halts : List Halt) (had : Rooms) : Type 0 where
   pub halt : Halt
   pub is : Has halts halt
   pub wrote : WroteText out (text_of halt.entries)
-  pub short : IsShort (had halt.side) halt.asked
+  pub short : IsShort (room_from halt.anew had halt.side) halt.asked
 
 -- where a run ends for a disk
 abbrev pub EndsFor : Type 0 → RunEnd → Type 0

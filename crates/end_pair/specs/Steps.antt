@@ -1,5 +1,6 @@
 -- One step of an end on the line (this profile).
-use Rattle.std.specs.Prelude.{◌&&◌, ℕ, Bool, true, false, List, [], ◌∷◌, ◌++◌, if◌then◌else◌}
+use Rattle.std.specs.Prelude.{◌&&◌, ℕ, Bool, true, false, List, [], ◌∷◌, ◌++◌, Option, Some, None, if◌then◌else◌}
+use Rattle.disk_base.specs.declared.cut.CutChoice.{CutChoice}
 use Rattle.gl_base.specs.declared.side.Side.{Side}
 use Rattle.line_end.specs.Step.{is_due}
 use Rattle.line_way.specs.Kept.{direction_to, gathered_with_next, makes_slip_in, ways_after}
@@ -7,7 +8,7 @@ use Rattle.line_way.specs.Slip.{first_frame}
 use Rattle.line_way.specs.Ways.{Ways, bytes_of, characters_of}
 use Rattle.message_end.specs.Core.{Went}
 use Rattle.message_end.specs.Core.Went.{Goes, Spent}
-use Rattle.message_end.specs.Ends.{Asked, Input, Machine, none_asked}
+use Rattle.message_end.specs.Ends.{Asked, Input, Loss, Machine, call_of, none_asked}
 use Rattle.message_end.specs.Ends.Input.{Char, Command, Time}
 use Rattle.trace_log.specs.Laws.{log_with}
 use Rattle.trace_log.specs.Log.{Entry, Happening}
@@ -85,7 +86,28 @@ slipped side now s ways = record {
   asked = none_asked;
 }
 
-abbrev pub stepped : {S C : Type 0} → Machine S C → Side → ℕ → Input C → S → Ways → Stepped S
-stepped machine side now input s ways =
+-- or its power is lost at a call of its disk: what was noted by then stands, and nothing is sent. Such a step isn't
+-- stopped for want of room
+abbrev pub lost_at :
+    {S C : Type 0} → Machine S C → Side → ℕ → CutChoice → Input C → S → Ways → Loss S → Stepped S
+lost_at machine side now choice input s ways loss = record {
+  end = loss.left choice;
+  ways = ways;
+  entries = entries_of side now loss.front;
+  went = answer.PowerLost;
+  fronts = [];
+  asked = machine.asks s input now;
+}
+
+abbrev pub made_by :
+    {S C : Type 0} → Machine S C → Side → ℕ → CutChoice → Input C → S → Ways → Option (Loss S) → Stepped S
+made_by machine side now choice input s ways None =
+    made machine side now input s ways (machine.act s input now)
+made_by machine side now choice input s ways (Some loss) = lost_at machine side now choice input s ways loss
+
+-- the power is to go at this call, counted from 1, of those of the disk that are to come
+abbrev pub stepped :
+    {S C : Type 0} → Machine S C → Side → ℕ → ℕ → CutChoice → Input C → S → Ways → Stepped S
+stepped machine side now call choice input s ways =
     if slips machine side now input s ways then slipped side now s ways
-    else made machine side now input s ways (machine.act s input now)
+    else made_by machine side now choice input s ways (call_of call (machine.losses s input now))

@@ -1,6 +1,8 @@
 -- A run that can be followed by hand: a host that sends one block, to an equipment that takes it, with no layer above.
-use Rattle.std.specs.Prelude.{◌≡◌, ℕ, List, [], ◌∷◌, ◌++◌, Option, Some, None}
+use Rattle.std.specs.Prelude.{◌≡◌, zero, suc, ℕ, ◌+◌, List, [], ◌∷◌, ◌++◌, Option, Some, None}
 use Rattle.block_codec.specs.Block.{BlockView}
+use Rattle.disk_base.specs.declared.cut.CutChoice.{CutChoice}
+use Rattle.disk_base.specs.declared.cut.CutChoice.TheVariants.{New, Old}
 use Rattle.gl_base.specs.declared.side.Side.{Side}
 use Rattle.gl_base.specs.declared.side.Side.TheVariants.{Equipment, Host}
 use Rattle.line_end.specs.State.{LineState, new_state}
@@ -11,13 +13,14 @@ use Rattle.line_schedule.specs.declared.event.Event.{Event}
 use Rattle.line_schedule.specs.declared.event.Event.TheVariants as event
 use Rattle.message_end.specs.Core.{Step, Went}
 use Rattle.message_end.specs.Core.Went.{Goes}
-use Rattle.message_end.specs.Ends.{Input, Machine, none_asked}
+use Rattle.message_end.specs.Ends.{Asked, Input, Loss, Machine, none_asked}
 use Rattle.message_end.specs.Ends.Input.{Char, Command, Time}
 use Rattle.trace_log.specs.Log.{Entry, Happening}
 use Rattle.trace_log.specs.Log.Entry.{Ended, Noted, Slipped}
-use Rattle.trace_log.specs.Log.Happening.{EquipmentStarted, HostStarted, Wrote}
+use Rattle.trace_log.specs.Log.Happening.{EquipmentStarted, Gone, HostStarted, Power, Stored, Wrote}
 use Rattle.end_pair.specs.declared.answers.WorldStep.TheVariants as answer
 use Rattle.end_pair.specs.Run.{log_of, piece_of, went_of}
+use Rattle.end_pair.specs.World.{Piece, after_events, at_start}
 
 -- its line, and the block that it is still to give to it
 pub record Sender : Type 0 where
@@ -54,6 +57,7 @@ sender = record {
   start_stops = [];
   asks = λ s input now. none_asked;
   start_asks = none_asked;
+  losses = λ s input now. [];
 }
 
 abbrev pub begins : Side → Option BlockView → Happening → Step Sender Happening
@@ -91,3 +95,67 @@ pub record WorkedRuns : Type 0 where
   pub steps : (piece_of sender sender equipment host events).world.steps ≡ 18
   pub slipped : log_of sender sender equipment host replaced ≡ Slipped 0 Equipment None its_frame ∷ first_entries
   pub ended : went_of sender sender equipment host replaced ≡ answer.Slip
+
+-- ---- losses of power
+
+-- an end that counts on a disk: each step but the first one of a start stores the count, by one call, and tells so
+pub record Counter : Type 0 where
+  pub count : ℕ
+  pub awake : ℕ
+
+abbrev pub counted_left : ℕ → CutChoice → Counter
+counted_left count New = record { count = count + 1; awake = 0 }
+counted_left count choice = record { count = count; awake = 0 }
+
+-- how many steps since the start count as none
+abbrev pub counted : Counter → ℕ → Went Counter Happening
+counted s zero = Goes (record { next = record s { awake = 1 }; notes = []; written = [] })
+counted s (suc n) =
+    Goes (record { next = record s { count = s.count + 1 }; notes = Stored s.count ∷ []; written = [] })
+
+abbrev pub counter_asks : ℕ → Asked
+counter_asks zero = none_asked
+counter_asks (suc n) = record { calls = 1; bytes = 1 }
+
+abbrev pub counter_losses : ℕ → ℕ → List (Loss Counter)
+counter_losses count zero = []
+counter_losses count (suc n) = record { front = Gone count ∷ []; left = counted_left count } ∷ []
+
+abbrev pub counter : {C : Type 0} → Side → Machine Counter C
+counter side = record {
+  act = λ s input now. counted s s.awake;
+  restart =
+      λ s now. Goes (record { next = record s { awake = 0 }; notes = EquipmentStarted [] s.count ∷ []; written = [] });
+  line = λ s. new_state side (times_with 3);
+  stops = λ s input now. [];
+  start_stops = [];
+  asks = λ s input now. counter_asks s.awake;
+  start_asks = none_asked;
+  losses = λ s input now. counter_losses s.count s.awake;
+}
+
+abbrev pub counts_from : Happening → Step Counter Happening
+counts_from what = record { next = record { count = 0; awake = 1 }; notes = what ∷ []; written = [] }
+
+abbrev pub counters_after : List Event → Piece Counter Counter
+counters_after events =
+    after_events (counter Equipment) (counter Host) events
+    (at_start (counter Equipment) (counter Host) (counts_from (EquipmentStarted [] 0)) (counts_from HostStarted)).world
+
+-- the power goes at the call of a wait, and the host doesn't wait: the store is done by `new` alone; a cut in front of
+-- another one is replaced; where nothing is stored power is lost at the end of the event; and the last one does
+-- nothing.
+-- The lost step counts among the steps, and so does the one behind the start
+pub record WorkedLosses : Type 0 where
+  pub done :
+      (counters_after (event.Cut 1 New ∷ event.Wait 5 ∷ [])).entries
+      ≡ Noted 5 Equipment (EquipmentStarted [] 1) ∷ Noted 5 Equipment Power ∷ Noted 5 Equipment (Gone 0) ∷ []
+  pub undone :
+      (counters_after (event.Cut 3 New ∷ event.Cut 1 Old ∷ event.Wait 5 ∷ [])).entries
+      ≡ Noted 5 Equipment (EquipmentStarted [] 0) ∷ Noted 5 Equipment Power ∷ Noted 5 Equipment (Gone 0) ∷ []
+  pub behind :
+      (counters_after (event.Cut 1 New ∷ event.Lose Host 1 ∷ [])).entries
+      ≡ Noted 0 Equipment (EquipmentStarted [] 0) ∷ Noted 0 Equipment Power ∷ []
+  pub last : (counters_after (event.Cut 1 New ∷ [])).entries ≡ []
+  pub steps : (counters_after (event.Cut 1 New ∷ event.Wait 5 ∷ [])).world.steps ≡ 2
+  pub went_on : (counters_after (event.Cut 1 New ∷ event.Wait 5 ∷ [])).went ≡ answer.Went

@@ -28,6 +28,8 @@ pub enum WorldStep {
     Turns,
     /// An end was to draw a number, and had none.
     NumbersSpent,
+    /// The equipment has lost its power at a call of its disk. No event ends so.
+    PowerLost,
     /// The disk of an end failed.
     DiskFailed,
     /// Memory ran out.

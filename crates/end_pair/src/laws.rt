@@ -4,10 +4,10 @@ ghost use Rattle.message_end.specs.Core.{step_in};
 ghost use Rattle.message_end.specs.Ends.{Opens};
 ghost use Rattle.message_end.specs.Moves.{LinePlans};
 ghost use Rattle.end_pair.specs.Kept.{MayHappen};
-ghost use Rattle.end_pair.specs.Laws.{AreOnLine, HasBytes, IsOfMoves, RunsAreBounded, StepsEndByCause};
+ghost use Rattle.end_pair.specs.Laws.{AreOnLine, HasBytes, IsOfMoves, RunsAreBounded, RunsEndFourWays, StepsEndByCause};
 ghost use Rattle.end_pair.specs.Noted.{EntriesAreOfCourses};
 ghost use Rattle.end_pair.specs.Run.{log_of};
-ghost use Rattle.end_pair.specs.Worked.{WorkedRuns};
+ghost use Rattle.end_pair.specs.Worked.{WorkedLosses, WorkedRuns};
 
 use message_end::End;
 use trace_log::{HostCommand, ToolCommand};
@@ -17,8 +17,15 @@ pub fn runs_are_bounded<E: End<Command = ToolCommand>, H: End<Command = HostComm
     ensures { RunsAreBounded E.State H.State }
 {}
 
+/// A run is carried out to the end of its schedule, or it ends for a slip, for want of steps or for spent numbers, and
+/// for nothing else. Its log ends with the end exactly where it is carried out, and with a slip exactly where one has
+/// ended it; all entries before are notes.
+pub fn runs_end_four_ways<E: End<Command = ToolCommand>, H: End<Command = HostCommand>>()
+    ensures { RunsEndFourWays E.State H.State }
+{}
+
 /// A step of an end ends a run exactly where a slip is found before it, or where the end was to draw a number and had
-/// none.
+/// none; and it loses its power exactly where it comes to the call of its disk that is planned.
 pub fn steps_end_by_cause<E: End>()
     ensures { StepsEndByCause E.State E.Command }
 {}
@@ -31,7 +38,7 @@ pub fn runs_are_moves<E: End<Command = ToolCommand>, H: End<Command = HostComman
         → E.fits equipment → H.fits host → E.holds equipment_store → H.holds host_store
         → Opens (E.start equipment equipment_store) → Opens (H.start host host_store)
         → AreOnLine plans (E.plan_of equipment) (H.plan_of host)
-        → All (MayHappen E.takes H.takes) events → All HasBytes events
+        → All (MayHappen E.takes H.takes E.loses) events → All HasBytes events
         → IsOfMoves
         (E.did equipment)
         (H.did host)
@@ -50,4 +57,9 @@ pub fn entries_are_of_courses<E: End<Command = ToolCommand>, H: End<Command = Ho
 /// slip.
 pub fn worked_runs()
     ensures { WorkedRuns }
+{}
+
+/// Losses of power that can be followed by hand, of an equipment that stores a count.
+pub fn worked_losses()
+    ensures { WorkedLosses }
 {}

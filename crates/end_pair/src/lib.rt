@@ -11,7 +11,8 @@ mod world;
 
 pub use answers::{RunEnd, WorldFault, WorldStep};
 pub use laws::{
-    entries_are_of_courses, runs_are_bounded, runs_are_moves, steps_end_by_cause, worked_runs,
+    entries_are_of_courses, runs_are_bounded, runs_are_moves, runs_end_four_ways,
+    steps_end_by_cause, worked_losses, worked_runs,
 };
 pub use running::run;
 pub use world::World;

@@ -6,7 +6,7 @@ ghost use Rattle.trace_log.specs.Log.Entry.{Ended};
 ghost use Rattle.trace_log.specs.Text.{entry_text};
 ghost use Rattle.message_end.specs.Core.{step_in};
 ghost use Rattle.message_end.specs.Ends.{Opens};
-ghost use Rattle.end_pair.specs.Kept.{MayHappen, Puts, StopsFor, both_rooms, seen};
+ghost use Rattle.end_pair.specs.Kept.{IsPowered, MayHappen, Puts, StopsFor, rooms_before, seen};
 ghost use Rattle.end_pair.specs.Run.{Ends, EndsAtHalt, EndsFor, HandsBack, Runs, end_of, piece_of, trace_text, went_of};
 
 use crate::answers::{RunEnd, WorldFault, WorldStep};
@@ -21,8 +21,8 @@ use trace_log::{HostCommand, ToolCommand, put_end};
 /// exactly where it answers `Whole`.
 ///
 /// The plans must fit, the stores hold, there must be numbers to start with, and each event must be one that may
-/// happen. For want of its disk a run ends only where that had no room for what the end's steps asked of it by then;
-/// what is written are the lines up to that work.
+/// happen: power is lost only with an equipment that has a disk. For want of its disk a run ends only where that had no
+/// room for what the end's steps asked of it by then; what is written are the lines up to that work.
 pub fn run<E: End<Command = ToolCommand>, H: End<Command = HostCommand>, W: Sink>(
     alloc: Global,
     equipment: &E::Plan,
@@ -38,7 +38,7 @@ pub fn run<E: End<Command = ToolCommand>, H: End<Command = HostCommand>, W: Sink
     requires host_store { H.holds host_store }
     requires equipment_opens { Opens (E.start equipment.now equipment_store) }
     requires host_opens { Opens (H.start host.now host_store) }
-    requires events { All (MayHappen E.takes H.takes) schedule.now.events }
+    requires events { All (MayHappen E.takes H.takes E.loses) schedule.now.events }
     ensures text { Runs
         (sink_told W.Sink out.old out.new)
         (trace_text E.machine H.machine
@@ -60,7 +60,7 @@ pub fn run<E: End<Command = ToolCommand>, H: End<Command = HostCommand>, W: Sink
         (piece_of E.machine H.machine
         (step_in (E.start equipment.now equipment_store)) (step_in (H.start host.now host_store))
         schedule.now.events).halts
-        (both_rooms (E.store_room equipment_store) (H.store_room host_store)))
+        (rooms_before (E.store_room equipment_store) (H.store_room host_store) (E.store_fresh equipment_store)))
         result.0 }
 {
     let mut page = Page::new();
@@ -103,6 +103,7 @@ pub fn run<E: End<Command = ToolCommand>, H: End<Command = HostCommand>, W: Sink
 fn close(now: u64, lines: &mut Row<u8>) -> WorldStep
     ensures puts { Puts answer.Went (entry_text (Ended now)) lines.old lines.new result }
     ensures no_disk { StopsFor ⊥ result }
+    ensures powered { IsPowered result }
 {
     match put_end(now, lines) {
         Ok(()) => WorldStep::Went,
@@ -112,6 +113,7 @@ fn close(now: u64, lines: &mut Row<u8>) -> WorldStep
 
 // Sends what the page holds and these lines, the last of a run that went on no further.
 fn stop<W: Sink>(went: WorldStep, lines: &[u8], page: &mut Page, out: &mut W) -> RunEnd
+    requires { IsPowered went }
     ensures { Ends (sink_told W.Sink out.old out.new) (page.old.bytes.items ++ lines.now) went result }
 {
     match write_rest(lines, page, out) {
@@ -128,6 +130,7 @@ fn end_of(went: WorldStep) -> RunEnd
         WorldStep::Slip => RunEnd::Slip,
         WorldStep::Turns => RunEnd::Turns,
         WorldStep::NumbersSpent => RunEnd::NumbersSpent,
+        WorldStep::PowerLost => RunEnd::NoMemory,
         WorldStep::DiskFailed => RunEnd::DiskFailed,
         WorldStep::NoMemory => RunEnd::NoMemory,
     }

@@ -1,27 +1,32 @@
 //! One step of an end on the line.
 
-ghost use Rattle.std.specs.Prelude.{◌≡◌, ◌<◌, ◌≤◌, ◌+◌, ◌^◌, ◌&&◌, map};
+ghost use Rattle.std.specs.Prelude.{◌≡◌, ◌<◌, ◌≤◌, ◌+◌, ◌-◌, ◌^◌, ◌++◌, ◌∷◌, ◌&&◌, ℕ, false, OnErr, OnOk, map};
+ghost use Rattle.disk_base.specs.declared.cut.CutChoice.{CutChoice};
 ghost use Rattle.gl_base.specs.declared.side.Side.{Side};
+ghost use Rattle.gl_base.specs.declared.side.Side.TheVariants as side;
 ghost use Rattle.line_end.specs.Step.{is_due};
 ghost use Rattle.line_way.specs.Kept.{IsSlipOf, direction_to, gathered_with_next, makes_slip_in};
-ghost use Rattle.message_end.specs.Ends.{Asked, IsLeft, MayTake, input_of};
+ghost use Rattle.message_end.specs.Ends.{IsLeft, MayTake, input_of};
 ghost use Rattle.std.specs.List.{flat_map};
+ghost use Rattle.message_end.specs.Core.{step_in};
 ghost use Rattle.trace_log.specs.Log.Entry.{Slipped};
-ghost use Rattle.trace_log.specs.Text.{entry_text, note_line, text_of};
+ghost use Rattle.trace_log.specs.Log.Happening.{Power};
+ghost use Rattle.trace_log.specs.Text.{entry_text, note_line, note_of, text_of};
 ghost use Rattle.end_pair.specs.declared.answers.WorldStep.TheVariants as answer;
-ghost use Rattle.end_pair.specs.Kept.{HasHalted, IfWent, Puts, PutsStopped, StopsFor};
-ghost use Rattle.end_pair.specs.Steps.{gives, slip_of, stepped};
+ghost use Rattle.end_pair.specs.Kept.{HasHalted, IfLeft, IfWent, IsNotAgain, IsPowered, Puts, PutsStopped, Rooms, StopsFor, gone, why_stopped};
+ghost use Rattle.end_pair.specs.Steps.{entries_of, gives, slip_of, stepped};
 ghost use Rattle.end_pair.specs.World.{halt_at};
 
 use crate::answers::WorldStep;
 use crate::putting::{put_notes, put_step};
 use arrayvec::ArrayVec;
+use disk_base::CutChoice;
 use gl_base::{NoMemory, Row, Side};
 use line_way::{Slip, Ways};
 use message_end::{End, Stop};
 use message_flow::{NodeInput, Note, StepOut};
 use std::alloc::Global;
-use trace_log::{notes_are_lines, put_slip};
+use trace_log::{notes_are_lines, power_note, put_note, put_slip};
 
 /// An end makes a step, with the next character on its way where it is given that; its lines are put.
 pub(crate) fn step_end<E: End>(
@@ -37,17 +42,36 @@ pub(crate) fn step_end<E: End>(
     requires input { MayTake E.takes (input_of input) }
     requires sound { E.sound end.old }
     requires count { ways.old.written < 2 ^ 62 }
-    ensures lines { let step = stepped E.machine side now (input_of input.entry) (E.means end.old) ways.old in
+    ensures lines { (choice : CutChoice) →
+        let step = stepped
+        E.machine side now (E.armed end.old) choice (input_of input.entry) (E.means end.old) ways.old in
         Puts step.went (text_of step.entries) lines.old lines.new result }
-    ensures end { IfWent result (E.means end.new
-        ≡ (stepped E.machine side now (input_of input.entry) (E.means end.old) ways.old).end) }
-    ensures ways { IfWent result (ways.new
-        ≡ (stepped E.machine side now (input_of input.entry) (E.means end.old) ways.old).ways) }
-    ensures room { let step = stepped E.machine side now (input_of input.entry) (E.means end.old) ways.old in
+    ensures end { (choice : CutChoice) →
+        let step = stepped
+        E.machine side now (E.armed end.old) choice (input_of input.entry) (E.means end.old) ways.old in
+        IfLeft result
+        (E.means end.new ≡ step.end)
+        ((later : ℕ) → E.anew end.new choice later ≡ E.machine.restart step.end later) }
+    ensures ways { (choice : CutChoice) →
+        let step = stepped
+        E.machine side now (E.armed end.old) choice (input_of input.entry) (E.means end.old) ways.old in
+        IfLeft result (ways.new ≡ step.ways) (ways.new ≡ step.ways) }
+    ensures near { (choice : CutChoice) →
+        let step = stepped
+        E.machine side now (E.armed end.old) choice (input_of input.entry) (E.means end.old) ways.old in
+        IfWent result (E.armed end.new ≡ E.armed end.old - step.asked.calls) }
+    ensures room { (choice : CutChoice) →
+        let step = stepped
+        E.machine side now (E.armed end.old) choice (input_of input.entry) (E.means end.old) ways.old in
         IfWent result (IsLeft (E.room end.old) step.asked (E.room end.new)) }
-    ensures stops { let step = stepped E.machine side now (input_of input.entry) (E.means end.old) ways.old in
-        (had : Side → Asked) → had side ≡ E.room end.old →
+    ensures stops { (choice : CutChoice) (had : Rooms) → had.had side ≡ E.room end.old →
+        let step = stepped
+        E.machine side now (E.armed end.old) choice (input_of input.entry) (E.means end.old) ways.old in
         StopsFor (HasHalted (map (halt_at side now step.asked) step.fronts) had lines.old lines.new) result }
+    ensures going { IfWent result (E.stopped end.new ≡ false) }
+    ensures powered { E.armed end.old ≡ 0 → IsPowered result }
+    ensures calm { E.armed end.old ≡ 0 → E.armed end.new ≡ 0 }
+    ensures fresh { E.fresh end.new ≡ E.fresh end.old }
     ensures sound { E.sound end.new }
     ensures count { ways.new.written ≤ ways.old.written + 1 }
 {
@@ -64,7 +88,10 @@ pub(crate) fn step_end<E: End>(
     match end.step(alloc, input, now, &mut out) {
         Ok(()) => {}
         Err(Stop::NumbersSpent) => return put_spent(now, side, out.notes.as_slice(), lines),
-        Err(Stop::DiskFailed) => return put_stopped(now, side, out.notes.as_slice(), lines),
+        Err(Stop::DiskFailed) => {
+            let why = why_stopped(end);
+            return put_stopped(now, side, why, out.notes.as_slice(), lines);
+        }
         Err(Stop::NoMemory) => return WorldStep::NoMemory,
     }
     let Ok(()) = put_step(alloc, now, side, &out, lines) else {
@@ -74,6 +101,62 @@ pub(crate) fn step_end<E: End>(
         Ok(()) => WorldStep::Went,
         Err(NoMemory) => WorldStep::NoMemory,
     }
+}
+
+/// The equipment has lost its power: that is noted, and it starts anew with its disk as the choice leaves it.
+pub(crate) fn restart_end<E: End>(
+    alloc: Global,
+    now: u64,
+    choice: CutChoice,
+    end: &mut E,
+    lines: &mut Row<u8>,
+) -> WorldStep
+    requires now { now < 2 ^ 62 }
+    requires sound { E.sound end.old }
+    ensures lines { let went = E.anew end.old choice now in
+        Puts (gone went) (text_of (entries_of side.Equipment now (Power ∷ (step_in went).notes)))
+        lines.old lines.new result }
+    ensures end { IfWent result (E.means end.new ≡ (step_in (E.anew end.old choice now)).next) }
+    ensures armed { IfWent result (E.armed end.new ≡ 0) }
+    ensures going { IfWent result (E.stopped end.new ≡ false) }
+    ensures room { IfWent result (IsLeft (E.fresh end.old) E.machine.start_asks (E.room end.new)) }
+    ensures stops { StopsFor (IsNotAgain E.machine now (E.fresh end.old) lines.old lines.new) result }
+    ensures fresh { E.fresh end.new ≡ E.fresh end.old }
+    ensures sound { E.sound end.new }
+    ensures powered { IsPowered result }
+{
+    notes_are_lines();
+    let Ok(()) = put_power(alloc, now, lines) else {
+        return WorldStep::NoMemory;
+    };
+    let mut out = StepOut {
+        line: ArrayVec::new(),
+        notes: Row::new(alloc),
+    };
+    match end.restart(alloc, choice, now, &mut out) {
+        Ok(()) => {}
+        Err(Stop::NumbersSpent) => return put_spent(
+            now,
+            Side::Equipment,
+            out.notes.as_slice(),
+            lines,
+        ),
+        Err(Stop::DiskFailed) => return WorldStep::DiskFailed,
+        Err(Stop::NoMemory) => return WorldStep::NoMemory,
+    }
+    let Ok(()) = put_notes(now, Side::Equipment, out.notes.as_slice(), lines) else {
+        return WorldStep::NoMemory;
+    };
+    WorldStep::Went
+}
+
+// Puts the line of a loss of power.
+fn put_power(alloc: Global, now: u64, lines: &mut Row<u8>) -> Result<(), NoMemory>
+    ensures ok { OnOk result (lines.new ≡ lines.old ++ note_line now side.Equipment (note_of Power)) }
+    ensures err { OnErr result (lines.new ≡ lines.old) }
+{
+    let note = power_note(alloc)?;
+    put_note(now, Side::Equipment, &note, lines)
 }
 
 // The slip that a step makes, where it gives the end the next character.
@@ -125,12 +208,29 @@ fn put_spent(now: u64, side: Side, notes: &[Note], lines: &mut Row<u8>) -> World
     }
 }
 
-// Puts the lines of a step that a disk has stopped.
-fn put_stopped(now: u64, side: Side, notes: &[Note], lines: &mut Row<u8>) -> WorldStep
-    ensures { PutsStopped (flat_map (note_line now side) notes.now) lines.old lines.new result }
+// What a disk that has failed makes of a step.
+fn why_stopped<E: End>(end: &E) -> WorldStep
+    ensures { result ≡ why_stopped (E.stopped end.now) }
+{
+    if end.is_stopped() {
+        WorldStep::PowerLost
+    } else {
+        WorldStep::DiskFailed
+    }
+}
+
+// Puts the lines of a step that a disk has stopped for this cause.
+fn put_stopped(
+    now: u64,
+    side: Side,
+    why: WorldStep,
+    notes: &[Note],
+    lines: &mut Row<u8>,
+) -> WorldStep
+    ensures { PutsStopped why (flat_map (note_line now side) notes.now) lines.old lines.new result }
 {
     match put_notes(now, side, notes, lines) {
-        Ok(()) => WorldStep::DiskFailed,
+        Ok(()) => why,
         Err(NoMemory) => WorldStep::NoMemory,
     }
 }

@@ -1,19 +1,20 @@
-ghost use Rattle.std.specs.Prelude.{◌≡◌, ◌<◌, ◌≤◌, ◌+◌, ◌*◌, ◌^◌, ◌++◌, ◌&&◌, not, IfErr, IfOk, OnErr, OnOk};
+ghost use Rattle.std.specs.Prelude.{◌≡◌, ◌<◌, ◌≤◌, ◌+◌, ◌*◌, ◌^◌, ◌++◌, ◌&&◌, false, not, None, Some, IfErr, IfOk, OnErr, OnOk};
 ghost use Rattle.gl_base.specs.declared.side.Side.TheVariants as sides;
 ghost use Rattle.message_end.specs.Core.{step_in};
 ghost use Rattle.message_end.specs.Ends.{IsLeft, MayTake, Opens, input_of};
 ghost use Rattle.trace_log.specs.Text.{text_of};
-ghost use Rattle.end_pair.specs.Kept.{AreLeft, FaultsFor, HasHalted, IfWent, IsNotStarted, MayHappen, PutPart, Puts, StopsFor, both_rooms, rooms, seen};
-ghost use Rattle.line_way.specs.Kept.{direction_to, with_direction};
+ghost use Rattle.end_pair.specs.Kept.{AreLeft, Comes, FaultsFor, HasHalted, IfWent, IsDark, IsNotStarted, IsPowered, MayHappen, PutPart, Puts, StopsFor, rooms, rooms_before, seen};
+ghost use Rattle.line_way.specs.Kept.{direction_to, with_direction, without_power};
 ghost use Rattle.line_way.specs.Ways.{characters_of, is_under_way};
 ghost use Rattle.end_pair.specs.Steps.{entries_of};
-ghost use Rattle.end_pair.specs.World.{added_to, after_event, at_start, begun, both_stepped, changed_at, equipment_stepped, given, given_times, host_stepped, later, lost, lost_from, settled, settled_times, way_to};
+ghost use Rattle.end_pair.specs.World.{World as WorldOf, added_to, after_event, again, armed, asked_of_none, at_start, begun, both_stepped, changed_at, equipment_stepped, given, given_times, happened, host_stepped, later, lost, lost_from, met, settled, settled_times, way_to, without};
 ghost use Rattle.end_pair.specs.declared.answers.WorldStep.TheVariants as answer;
 
 use crate::answers::{WorldFault, WorldStep};
 use crate::putting::put_notes;
-use crate::step::step_end;
+use crate::step::{restart_end, step_end};
 use arrayvec::ArrayVec;
+use disk_base::CutChoice;
 use gl_base::{NoMemory, Row, Side};
 use line_schedule::Event;
 use line_way::Ways;
@@ -39,10 +40,13 @@ pub struct World<E: End, H: End> {
     ways: Ways,
     moment: u64,
     steps: u32,
+    // at which call of the equipment's disk the next event ends the power, and what that leaves of the disk
+    cut: Option<u32>,
+    choice: CutChoice,
 }
 
 impl<E: End, H: End> Model for World<E, H> {
-    ghost use Rattle.std.specs.Prelude.{◌≤◌, ◌*◌};
+    ghost use Rattle.std.specs.Prelude.{◌≡◌, ◌≤◌, ◌*◌, IfSome};
     ghost use Rattle.end_pair.specs.World.{World};
 
     ghost Value = { World E H };
@@ -53,10 +57,15 @@ impl<E: End, H: End> Model for World<E, H> {
       ways = w.ways;
       moment = w.moment;
       steps = w.steps;
+      cut = w.cut;
+      call = E.armed w.equipment;
+      choice = w.choice;
     } };
 
     ghost invariant = { λ w. (E.sound w.equipment)
         × (H.sound w.host)
+        × (H.armed w.host ≡ 0)
+        × IfSome w.cut (λ call. E.loses)
         × (w.steps ≤ 4000000)
         × (w.moment ≤ 1000000 * w.steps)
         × (w.ways.written ≤ w.steps) };
@@ -97,16 +106,19 @@ impl<E: End<Command = ToolCommand>, H: End<Command = HostCommand>> World<E, H> {
             lines.old
             lines.new) }
         ensures room { IfOk result (λ world. AreLeft
-            (both_rooms (E.store_room equipment_store) (H.store_room host_store))
+            (rooms_before (E.store_room equipment_store) (H.store_room host_store) (E.store_fresh equipment_store))
+            (begun E.machine H.machine
+            (step_in (E.start equipment.now equipment_store))
+            (step_in (H.start host.now host_store))).anew
             (begun E.machine H.machine
             (step_in (E.start equipment.now equipment_store))
             (step_in (H.start host.now host_store))).asked
-            (rooms E.room H.room world)) }
+            (rooms E.room H.room E.fresh E.stopped world)) }
         ensures stops { IfErr result (FaultsFor (HasHalted
             (begun E.machine H.machine
             (step_in (E.start equipment.now equipment_store))
             (step_in (H.start host.now host_store))).halts
-            (both_rooms (E.store_room equipment_store) (H.store_room host_store))
+            (rooms_before (E.store_room equipment_store) (H.store_room host_store) (E.store_fresh equipment_store))
             lines.old
             lines.new)) }
     {
@@ -158,16 +170,17 @@ impl<E: End<Command = ToolCommand>, H: End<Command = HostCommand>> World<E, H> {
             lines.old
             lines.new) }
         ensures room { IfOk result (λ world. AreLeft
-            (both_rooms (E.store_room equipment_store) (H.store_room host_store))
+            (rooms_before (E.store_room equipment_store) (H.store_room host_store) (E.store_fresh equipment_store))
+            false
             (at_start E.machine H.machine
             (step_in (E.start equipment.now equipment_store))
             (step_in (H.start host.now host_store))).asked
-            (rooms E.room H.room world)) }
+            (rooms E.room H.room E.fresh E.stopped world)) }
         ensures stops { IfErr result (FaultsFor (HasHalted
             (at_start E.machine H.machine
             (step_in (E.start equipment.now equipment_store))
             (step_in (H.start host.now host_store))).halts
-            (both_rooms (E.store_room equipment_store) (H.store_room host_store))
+            (rooms_before (E.store_room equipment_store) (H.store_room host_store) (E.store_fresh equipment_store))
             lines.old
             lines.new)) }
     {
@@ -185,6 +198,8 @@ impl<E: End<Command = ToolCommand>, H: End<Command = HostCommand>> World<E, H> {
             ways: Ways::new(alloc),
             moment: 0,
             steps: 0,
+            cut: None,
+            choice: CutChoice::Old,
         })
     }
 
@@ -203,23 +218,189 @@ impl<E: End<Command = ToolCommand>, H: End<Command = HostCommand>> World<E, H> {
     }
 
     /// The moment, in milliseconds.
-    pub(crate) fn moment(&self) -> u64
+    pub fn moment(&self) -> u64
         ensures { result ≡ self.now.moment }
     {
         self.moment
     }
 
     /// Carries out an event, and puts its lines at the end. Every earlier call must have answered `Went`.
+    ///
+    /// A cut ends the equipment's power in the next event that isn't a cut itself: at the call of its disk that the cut
+    /// names, or at the event's end where fewer are made. It starts anew at once, and the rest of that event isn't
+    /// carried out.
     pub fn step(&mut self, alloc: Global, event: &Event, lines: &mut Row<u8>) -> WorldStep
-        requires { MayHappen E.takes H.takes event.now }
+        requires { MayHappen E.takes H.takes E.loses event.now }
         ensures lines { let piece = after_event E.machine H.machine event.now (seen E.means H.means self.old) in
             Puts piece.went (text_of piece.entries) lines.old lines.new result }
         ensures world { IfWent result (seen E.means H.means self.new
             ≡ (after_event E.machine H.machine event.now (seen E.means H.means self.old)).world) }
         ensures room { let piece = after_event E.machine H.machine event.now (seen E.means H.means self.old) in
-            IfWent result (AreLeft (rooms E.room H.room self.old) piece.asked (rooms E.room H.room self.new)) }
+            let had = rooms E.room H.room E.fresh E.stopped self.old in
+            let has = rooms E.room H.room E.fresh E.stopped self.new in
+            IfWent result (AreLeft had piece.anew piece.asked has) }
         ensures stops { let piece = after_event E.machine H.machine event.now (seen E.means H.means self.old) in
-            StopsFor (HasHalted piece.halts (rooms E.room H.room self.old) lines.old lines.new) result }
+            let had = rooms E.room H.room E.fresh E.stopped self.old in
+            StopsFor (HasHalted piece.halts had lines.old lines.new) result }
+        ensures powered { IsPowered result }
+    {
+        match event {
+            Event::Cut(call, choice) => {
+                self.plan(*call, *choice);
+                WorldStep::Went
+            }
+            _ => self.meet(alloc, event, lines),
+        }
+    }
+
+    // The next event ends the power.
+    fn plan(&mut self, call: u32, choice: CutChoice)
+        requires { E.loses }
+        ensures world { seen E.means H.means self.new
+            ≡ record (seen E.means H.means self.old) { cut = Some call; choice = choice } }
+        ensures room { rooms E.room H.room E.fresh E.stopped self.new ≡ rooms E.room H.room E.fresh E.stopped self.old }
+    {
+        self.cut = Some(call);
+        self.choice = choice;
+    }
+
+    // Carries out an event, at the end of which there is power again.
+    fn meet(&mut self, alloc: Global, event: &Event, lines: &mut Row<u8>) -> WorldStep
+        requires { MayHappen E.takes H.takes E.loses event.now }
+        ensures { Comes
+            (seen E.means H.means)
+            (IsDark E.anew E.machine.restart H.means)
+            (met E.machine H.machine event.now self.old.cut (seen E.means H.means self.old))
+            self.new
+            (rooms E.room H.room E.fresh E.stopped self.old)
+            (rooms E.room H.room E.fresh E.stopped self.new)
+            lines.old lines.new result }
+    {
+        match self.cut {
+            Some(call) => self.cut_short(alloc, call, event, lines),
+            None => self.carry_whole(alloc, event, lines),
+        }
+    }
+
+    // The power goes in this event.
+    fn cut_short(
+        &mut self,
+        alloc: Global,
+        call: u32,
+        event: &Event,
+        lines: &mut Row<u8>,
+    ) -> WorldStep
+        requires loses { E.loses }
+        requires event { MayHappen E.takes H.takes E.loses event.now }
+        ensures { Comes
+            (seen E.means H.means)
+            (IsDark E.anew E.machine.restart H.means)
+            (met E.machine H.machine event.now (Some call) (seen E.means H.means self.old))
+            self.new
+            (rooms E.room H.room E.fresh E.stopped self.old)
+            (rooms E.room H.room E.fresh E.stopped self.new)
+            lines.old lines.new result }
+    {
+        self.arm(call);
+        match self.carry(alloc, event, lines) {
+            WorldStep::Went => {
+                self.tell_whole();
+                self.start_over(alloc, lines)
+            }
+            WorldStep::PowerLost => self.start_over(alloc, lines),
+            stop => stop,
+        }
+    }
+
+    // While its disk isn't stopped, the equipment would start anew from what it is.
+    fn tell_whole(&self)
+        ensures { E.stopped self.now.equipment ≡ false
+            → IsDark E.anew E.machine.restart H.means self.now (seen E.means H.means self.now) }
+    {
+        let _ = &self.equipment;
+    }
+
+    // The power goes in it only where a call of the disk is planned still.
+    fn carry_whole(&mut self, alloc: Global, event: &Event, lines: &mut Row<u8>) -> WorldStep
+        requires { MayHappen E.takes H.takes E.loses event.now }
+        ensures { Comes
+            (seen E.means H.means)
+            (IsDark E.anew E.machine.restart H.means)
+            (met E.machine H.machine event.now None (seen E.means H.means self.old))
+            self.new
+            (rooms E.room H.room E.fresh E.stopped self.old)
+            (rooms E.room H.room E.fresh E.stopped self.new)
+            lines.old lines.new result }
+    {
+        match self.carry(alloc, event, lines) {
+            WorldStep::PowerLost => self.start_over(alloc, lines),
+            went => went,
+        }
+    }
+
+    // It is to go at this call of the equipment's disk.
+    fn arm(&mut self, call: u32)
+        requires { E.loses }
+        ensures world { seen E.means H.means self.new ≡ (armed call (seen E.means H.means self.old)).world }
+        ensures room { AreLeft
+            (rooms E.room H.room E.fresh E.stopped self.old)
+            false
+            asked_of_none
+            (rooms E.room H.room E.fresh E.stopped self.new) }
+        ensures going { E.stopped self.new.equipment ≡ false }
+    {
+        self.cut = None;
+        self.equipment.arm(call);
+    }
+
+    // The equipment has no power: it starts anew, and makes a step.
+    fn start_over(&mut self, alloc: Global, lines: &mut Row<u8>) -> WorldStep
+        ensures { (left : WorldOf E.State H.State)
+            → IsDark E.anew E.machine.restart H.means self.old left
+            → Comes
+            (seen E.means H.means)
+            (IsDark E.anew E.machine.restart H.means)
+            (without E.machine H.machine left)
+            self.new
+            (rooms E.room H.room E.fresh E.stopped self.old)
+            (rooms E.room H.room E.fresh E.stopped self.new)
+            lines.old lines.new result }
+    {
+        match self.start_anew(alloc, lines) {
+            WorldStep::Went => {}
+            stop => return stop,
+        }
+        self.step_equipment(alloc, 0, NodeInput::Time, lines)
+    }
+
+    // The line is emptied, and the equipment starts anew with what is left of its disk.
+    fn start_anew(&mut self, alloc: Global, lines: &mut Row<u8>) -> WorldStep
+        ensures { (left : WorldOf E.State H.State)
+            → IsDark E.anew E.machine.restart H.means self.old left
+            → Comes
+            (seen E.means H.means)
+            (IsDark E.anew E.machine.restart H.means)
+            (again E.machine H.machine left)
+            self.new
+            (rooms E.room H.room E.fresh E.stopped self.old)
+            (rooms E.room H.room E.fresh E.stopped self.new)
+            lines.old lines.new result }
+    {
+        empty_line(&mut self.ways);
+        restart_end(alloc, self.moment, self.choice, &mut self.equipment, lines)
+    }
+
+    // What a line of a schedule has happen, as long as there is power.
+    fn carry(&mut self, alloc: Global, event: &Event, lines: &mut Row<u8>) -> WorldStep
+        requires { MayHappen E.takes H.takes E.loses event.now }
+        ensures { Comes
+            (seen E.means H.means)
+            (IsDark E.anew E.machine.restart H.means)
+            (happened E.machine H.machine event.now (seen E.means H.means self.old))
+            self.new
+            (rooms E.room H.room E.fresh E.stopped self.old)
+            (rooms E.room H.room E.fresh E.stopped self.new)
+            lines.old lines.new result }
     {
         match event {
             Event::To(side, n) => self.give(alloc, *side, *n, lines),
@@ -241,20 +422,23 @@ impl<E: End<Command = ToolCommand>, H: End<Command = HostCommand>> World<E, H> {
                 Ok(()) => WorldStep::Went,
                 Err(NoMemory) => WorldStep::NoMemory,
             },
-            Event::Cut(_, _) => WorldStep::Went,
+            Event::Cut(call, choice) => {
+                self.plan(*call, *choice);
+                WorldStep::Went
+            }
         }
     }
 
     // Hands characters to one end: n of them, or as many as are on their way to it.
     fn give(&mut self, alloc: Global, side: Side, n: u32, lines: &mut Row<u8>) -> WorldStep
-        ensures lines { let piece = given_times E.machine H.machine n side (seen E.means H.means self.old) in
-            Puts piece.went (text_of piece.entries) lines.old lines.new result }
-        ensures world { IfWent result (seen E.means H.means self.new
-            ≡ (given_times E.machine H.machine n side (seen E.means H.means self.old)).world) }
-        ensures room { let piece = given_times E.machine H.machine n side (seen E.means H.means self.old) in
-            IfWent result (AreLeft (rooms E.room H.room self.old) piece.asked (rooms E.room H.room self.new)) }
-        ensures stops { let piece = given_times E.machine H.machine n side (seen E.means H.means self.old) in
-            StopsFor (HasHalted piece.halts (rooms E.room H.room self.old) lines.old lines.new) result }
+        ensures { Comes
+            (seen E.means H.means)
+            (IsDark E.anew E.machine.restart H.means)
+            (given_times E.machine H.machine n side (seen E.means H.means self.old))
+            self.new
+            (rooms E.room H.room E.fresh E.stopped self.old)
+            (rooms E.room H.room E.fresh E.stopped self.new)
+            lines.old lines.new result }
     {
         let mut left = n;
         'characters: while left > 0 {
@@ -272,14 +456,14 @@ impl<E: End<Command = ToolCommand>, H: End<Command = HostCommand>> World<E, H> {
 
     // Hands characters to both ends: n in all, or as many as are on their way.
     fn settle(&mut self, alloc: Global, n: u32, lines: &mut Row<u8>) -> WorldStep
-        ensures lines { let piece = settled_times E.machine H.machine n (seen E.means H.means self.old) in
-            Puts piece.went (text_of piece.entries) lines.old lines.new result }
-        ensures world { IfWent result (seen E.means H.means self.new
-            ≡ (settled_times E.machine H.machine n (seen E.means H.means self.old)).world) }
-        ensures room { let piece = settled_times E.machine H.machine n (seen E.means H.means self.old) in
-            IfWent result (AreLeft (rooms E.room H.room self.old) piece.asked (rooms E.room H.room self.new)) }
-        ensures stops { let piece = settled_times E.machine H.machine n (seen E.means H.means self.old) in
-            StopsFor (HasHalted piece.halts (rooms E.room H.room self.old) lines.old lines.new) result }
+        ensures { Comes
+            (seen E.means H.means)
+            (IsDark E.anew E.machine.restart H.means)
+            (settled_times E.machine H.machine n (seen E.means H.means self.old))
+            self.new
+            (rooms E.room H.room E.fresh E.stopped self.old)
+            (rooms E.room H.room E.fresh E.stopped self.new)
+            lines.old lines.new result }
     {
         let mut left = n;
         'characters: while left > 0 {
@@ -297,14 +481,14 @@ impl<E: End<Command = ToolCommand>, H: End<Command = HostCommand>> World<E, H> {
 
     // Hands one character to the equipment where one is on its way there, otherwise one to the host.
     fn settle_one(&mut self, alloc: Global, lines: &mut Row<u8>) -> WorldStep
-        ensures lines { let piece = settled E.machine H.machine (seen E.means H.means self.old) in
-            Puts piece.went (text_of piece.entries) lines.old lines.new result }
-        ensures world { IfWent result (seen E.means H.means self.new
-            ≡ (settled E.machine H.machine (seen E.means H.means self.old)).world) }
-        ensures room { let piece = settled E.machine H.machine (seen E.means H.means self.old) in
-            IfWent result (AreLeft (rooms E.room H.room self.old) piece.asked (rooms E.room H.room self.new)) }
-        ensures stops { let piece = settled E.machine H.machine (seen E.means H.means self.old) in
-            StopsFor (HasHalted piece.halts (rooms E.room H.room self.old) lines.old lines.new) result }
+        ensures { Comes
+            (seen E.means H.means)
+            (IsDark E.anew E.machine.restart H.means)
+            (settled E.machine H.machine (seen E.means H.means self.old))
+            self.new
+            (rooms E.room H.room E.fresh E.stopped self.old)
+            (rooms E.room H.room E.fresh E.stopped self.new)
+            lines.old lines.new result }
     {
         if self.is_under_way(Side::Equipment) {
             self.hand(alloc, Side::Equipment, lines)
@@ -330,14 +514,14 @@ impl<E: End<Command = ToolCommand>, H: End<Command = HostCommand>> World<E, H> {
 
     // Hands the next character to an end, where one is on its way to it.
     fn hand(&mut self, alloc: Global, side: Side, lines: &mut Row<u8>) -> WorldStep
-        ensures lines { let piece = given E.machine H.machine side (seen E.means H.means self.old) in
-            Puts piece.went (text_of piece.entries) lines.old lines.new result }
-        ensures world { IfWent result (seen E.means H.means self.new
-            ≡ (given E.machine H.machine side (seen E.means H.means self.old)).world) }
-        ensures room { let piece = given E.machine H.machine side (seen E.means H.means self.old) in
-            IfWent result (AreLeft (rooms E.room H.room self.old) piece.asked (rooms E.room H.room self.new)) }
-        ensures stops { let piece = given E.machine H.machine side (seen E.means H.means self.old) in
-            StopsFor (HasHalted piece.halts (rooms E.room H.room self.old) lines.old lines.new) result }
+        ensures { Comes
+            (seen E.means H.means)
+            (IsDark E.anew E.machine.restart H.means)
+            (given E.machine H.machine side (seen E.means H.means self.old))
+            self.new
+            (rooms E.room H.room E.fresh E.stopped self.old)
+            (rooms E.room H.room E.fresh E.stopped self.new)
+            lines.old lines.new result }
     {
         let Some(byte) = self.ways.next(side) else {
             return WorldStep::Went;
@@ -351,17 +535,14 @@ impl<E: End<Command = ToolCommand>, H: End<Command = HostCommand>> World<E, H> {
     // The clock goes on, and each end looks at it.
     fn step_both(&mut self, alloc: Global, milliseconds: u32, lines: &mut Row<u8>) -> WorldStep
         requires { milliseconds ≤ 1000000 }
-        ensures lines { let moved = later milliseconds (seen E.means H.means self.old) in
-            let piece = both_stepped E.machine H.machine moved in
-            Puts piece.went (text_of piece.entries) lines.old lines.new result }
-        ensures world { IfWent result (seen E.means H.means self.new
-            ≡ (both_stepped E.machine H.machine (later milliseconds (seen E.means H.means self.old))).world) }
-        ensures room { let moved = later milliseconds (seen E.means H.means self.old) in
-            let piece = both_stepped E.machine H.machine moved in
-            IfWent result (AreLeft (rooms E.room H.room self.old) piece.asked (rooms E.room H.room self.new)) }
-        ensures stops { let moved = later milliseconds (seen E.means H.means self.old) in
-            let piece = both_stepped E.machine H.machine moved in
-            StopsFor (HasHalted piece.halts (rooms E.room H.room self.old) lines.old lines.new) result }
+        ensures { Comes
+            (seen E.means H.means)
+            (IsDark E.anew E.machine.restart H.means)
+            (both_stepped E.machine H.machine (later milliseconds (seen E.means H.means self.old)))
+            self.new
+            (rooms E.room H.room E.fresh E.stopped self.old)
+            (rooms E.room H.room E.fresh E.stopped self.new)
+            lines.old lines.new result }
     {
         match self.step_equipment(alloc, milliseconds, NodeInput::Time, lines) {
             WorldStep::Went => self.step_host(alloc, NodeInput::Time, lines),
@@ -379,18 +560,15 @@ impl<E: End<Command = ToolCommand>, H: End<Command = HostCommand>> World<E, H> {
     ) -> WorldStep
         requires milliseconds { milliseconds ≤ 1000000 }
         requires input { MayTake E.takes (input_of input) }
-        ensures lines { let moved = later milliseconds (seen E.means H.means self.old) in
-            let piece = equipment_stepped E.machine H.machine (input_of input.entry) moved in
-            Puts piece.went (text_of piece.entries) lines.old lines.new result }
-        ensures world { let moved = later milliseconds (seen E.means H.means self.old) in
-            IfWent result (seen E.means H.means self.new
-            ≡ (equipment_stepped E.machine H.machine (input_of input.entry) moved).world) }
-        ensures room { let moved = later milliseconds (seen E.means H.means self.old) in
-            let piece = equipment_stepped E.machine H.machine (input_of input.entry) moved in
-            IfWent result (AreLeft (rooms E.room H.room self.old) piece.asked (rooms E.room H.room self.new)) }
-        ensures stops { let moved = later milliseconds (seen E.means H.means self.old) in
-            let piece = equipment_stepped E.machine H.machine (input_of input.entry) moved in
-            StopsFor (HasHalted piece.halts (rooms E.room H.room self.old) lines.old lines.new) result }
+        ensures { Comes
+            (seen E.means H.means)
+            (IsDark E.anew E.machine.restart H.means)
+            (equipment_stepped E.machine H.machine (input_of input.entry)
+            (later milliseconds (seen E.means H.means self.old)))
+            self.new
+            (rooms E.room H.room E.fresh E.stopped self.old)
+            (rooms E.room H.room E.fresh E.stopped self.new)
+            lines.old lines.new result }
     {
         if self.steps == MOST_STEPS {
             return WorldStep::Turns;
@@ -416,17 +594,14 @@ impl<E: End<Command = ToolCommand>, H: End<Command = HostCommand>> World<E, H> {
         lines: &mut Row<u8>,
     ) -> WorldStep
         requires { MayTake H.takes (input_of input) }
-        ensures lines { let piece =
-            host_stepped E.machine H.machine (input_of input.entry) (seen E.means H.means self.old) in
-            Puts piece.went (text_of piece.entries) lines.old lines.new result }
-        ensures world { IfWent result (seen E.means H.means self.new
-            ≡ (host_stepped E.machine H.machine (input_of input.entry) (seen E.means H.means self.old)).world) }
-        ensures room { let piece =
-            host_stepped E.machine H.machine (input_of input.entry) (seen E.means H.means self.old) in
-            IfWent result (AreLeft (rooms E.room H.room self.old) piece.asked (rooms E.room H.room self.new)) }
-        ensures stops { let piece =
-            host_stepped E.machine H.machine (input_of input.entry) (seen E.means H.means self.old) in
-            StopsFor (HasHalted piece.halts (rooms E.room H.room self.old) lines.old lines.new) result }
+        ensures { Comes
+            (seen E.means H.means)
+            (IsDark E.anew E.machine.restart H.means)
+            (host_stepped E.machine H.machine (input_of input.entry) (seen E.means H.means self.old))
+            self.new
+            (rooms E.room H.room E.fresh E.stopped self.old)
+            (rooms E.room H.room E.fresh E.stopped self.new)
+            lines.old lines.new result }
     {
         if self.steps == MOST_STEPS {
             return WorldStep::Turns;
@@ -475,6 +650,14 @@ fn lose_from(ways: &mut Ways, side: Side, n: u32)
     }
 }
 
+// The equipment has no power: nothing is on its way, and it has gathered nothing.
+fn empty_line(ways: &mut Ways)
+    ensures ways { ways.new ≡ without_power sides.Equipment ways.old }
+    ensures count { ways.new.written ≡ ways.old.written }
+{
+    ways.empty(Side::Equipment);
+}
+
 // An end starts, and the line of that is put.
 fn start_end<E: End>(
     alloc: Global,
@@ -488,6 +671,9 @@ fn start_end<E: End>(
     requires opens { Opens (E.start plan.now store) }
     ensures end { IfOk result (λ end. E.means end ≡ (step_in (E.start plan.now store)).next) }
     ensures sound { IfOk result (λ end. E.sound end) }
+    ensures armed { IfOk result (λ end. E.armed end ≡ 0) }
+    ensures going { IfOk result (λ end. E.stopped end ≡ false) }
+    ensures fresh { IfOk result (λ end. E.fresh end ≡ E.store_fresh store) }
     ensures lines { OnOk result (lines.new
         ≡ lines.old ++ text_of (entries_of side 0 (step_in (E.start plan.now store)).notes)) }
     ensures part { OnErr result (PutPart

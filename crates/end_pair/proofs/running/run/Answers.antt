@@ -5,11 +5,11 @@ use Rattle.message_end.specs.Core.{step_in}
 use Rattle.end_pair.specs.declared.answers.RunEnd.TheVariants as end
 use Rattle.end_pair.specs.declared.answers.WorldFault.{WorldFault}
 use Rattle.end_pair.specs.declared.answers.WorldStep.TheVariants.{DiskFailed}
-use Rattle.end_pair.specs.Kept.{FaultsFor, HasHalted, both_rooms, rooms, seen}
+use Rattle.end_pair.specs.Kept.{FaultsFor, HasHalted, rooms, rooms_before, seen}
 use Rattle.end_pair.specs.Run.{piece_of}
 use Rattle.end_pair.specs.World.{after_event, after_events, begun}
 use Rattle.end_pair.proofs.Opening.{ends_for, stops_more}
-use Rattle.end_pair.proofs.Progress.{at_first, closed, kept, kept_back, never_began, next_event, past_event, put_failed, stopped}
+use Rattle.end_pair.proofs.Progress.{at_first, closed, kept, kept_back, never_began, next_event, past_event, of_event, put_failed, stopped}
 use Rattle.end_pair.proofs.running.run.Goals as goal
 
 pub events-init : goal.events-init
@@ -19,8 +19,9 @@ events-init g c =
     at_first (begun e.machine h.machine (step_in (e.start c.args.equipment.now c.args.equipment_store))
     (step_in (h.start c.args.host.now c.args.host_store)))
     (after_events e.machine h.machine c.args.schedule.now.events) (seen e.means h.means c.in-Ok.world)
-    (both_rooms (e.store_room c.args.equipment_store) (h.store_room c.args.host_store))
-    (rooms e.room h.room c.in-Ok.world) _ _ _ c.new-page.ensures c.new-lines.ensures
+    (rooms_before (e.store_room c.args.equipment_store) (h.store_room c.args.host_store)
+    (e.store_fresh c.args.equipment_store))
+    (rooms e.room h.room e.fresh e.stopped c.in-Ok.world) _ _ _ c.new-page.ensures c.new-lines.ensures
     c.in-Ok.ensures.world c.in-Ok.ensures.went c.in-Ok.ensures.lines c.in-Ok.ensures.room
 
 pub returns-in_default-clause-text : goal.returns-in_default-clause-text
@@ -36,7 +37,8 @@ returns-in-Err-DiskFailed g c =
     (step_in (h.start c.args.host.now c.args.host_store)) in
     let halted =
     subst (λ (fault : WorldFault). FaultsFor
-    (HasHalted begins.halts (both_rooms (e.store_room c.args.equipment_store) (h.store_room c.args.host_store))
+    (HasHalted begins.halts (rooms_before (e.store_room c.args.equipment_store) (h.store_room c.args.host_store)
+    (e.store_fresh c.args.equipment_store))
     c.new-lines.result c.start.new.lines) fault)
     c.in-Err-DiskFailed.field-0-is c.in-Err-DiskFailed.ensures.stops
     in
@@ -44,7 +46,8 @@ returns-in-Err-DiskFailed g c =
     never_began _ (begun e.machine h.machine (step_in (e.start c.args.equipment.now c.args.equipment_store))
     (step_in (h.start c.args.host.now c.args.host_store)))
     (after_events e.machine h.machine c.args.schedule.now.events)
-    (both_rooms (e.store_room c.args.equipment_store) (h.store_room c.args.host_store)) c.new-lines.result
+    (rooms_before (e.store_room c.args.equipment_store) (h.store_room c.args.host_store)
+    (e.store_fresh c.args.equipment_store)) c.new-lines.result
     c.new-page.result.bytes.items
     c.start.new.lines c.as_slice.result.now c.stop.result c.new-lines.ensures c.new-page.ensures c.as_slice.ensures
     c.in-Err-DiskFailed.ensures.part
@@ -73,16 +76,13 @@ returns-in_default-step g c =
     stopped _ _ _ _ _ _ _ _ _ _ c.events.invariant _ c.put.new.self.bytes.items _ c.step.new.lines _
     (after_event e.machine h.machine c.event-item.result (seen e.means h.means c.events.world))
     (after_events e.machine h.machine (drop (i + 1) c.args.schedule.now.events)) (seen e.means h.means c.step.new.self)
-    (rooms e.room h.room c.step.new.self)
+    (rooms e.room h.room e.fresh e.stopped c.step.new.self)
     c.step.result c.stop-in_default-step.result
     c.as_slice-in-events.ensures c.in-Done.ensures.passes c.truncate.ensures next c.in_default-step.not-Went
-    (record {
-      puts = c.step.ensures.lines;
-      world = c.step.ensures.world;
-      room = c.step.ensures.room;
-      stops =
-          c.step.ensures.stops;
-    })
+    (of_event (after_event e.machine h.machine c.event-item.result (seen e.means h.means c.events.world))
+    (seen e.means h.means c.step.new.self) (rooms e.room h.room e.fresh e.stopped c.events.world)
+    (rooms e.room h.room e.fresh e.stopped c.step.new.self) _ c.step.new.lines c.step.result c.step.ensures.powered
+    c.step.ensures.lines c.step.ensures.world c.step.ensures.room c.step.ensures.stops)
     c.as_slice-in_default-step.ensures c.stop-in_default-step.ensures
     in
     record {
@@ -106,7 +106,7 @@ events-preserved g c =
     past_event _ _ _ _ _ _ _ _ c.events.invariant _ c.put.new.self.bytes.items _ c.step.new.lines
     (after_event e.machine h.machine c.event-item.result (seen e.means h.means c.events.world))
     (after_events e.machine h.machine (drop (i + 1) c.args.schedule.now.events)) (seen e.means h.means c.step.new.self)
-    (rooms e.room h.room c.step.new.self)
+    (rooms e.room h.room e.fresh e.stopped c.step.new.self)
     c.as_slice-in-events.ensures
     c.in-Done.ensures.passes c.truncate.ensures next
     (record {

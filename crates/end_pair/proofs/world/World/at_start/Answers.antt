@@ -2,7 +2,7 @@ use Rattle.std.proofs.Common.{◌++◌, List, ℕ, ap, append_assoc, subst, sym,
 use Rattle.gl_base.specs.declared.side.Side.TheVariants.{Equipment, Host}
 use Rattle.message_end.specs.Core.{step_in}
 use Rattle.trace_log.specs.Text.{text_of}
-use Rattle.end_pair.specs.Kept.{PutPart}
+use Rattle.end_pair.specs.Kept.{PutPart, rooms_before}
 use Rattle.end_pair.specs.Steps.{entries_of}
 use Rattle.end_pair.proofs.Halts.{start_first, start_second}
 use Rattle.end_pair.proofs.Opening.{faults_more}
@@ -25,7 +25,8 @@ returns-in-Err-clause-stops g c =
     faults_more
     (start_first e.machine h.machine (step_in (e.start c.args.equipment.now c.args.equipment_store))
     (step_in (h.start c.args.host.now c.args.host_store))
-    (e.store_room c.args.equipment_store) (h.store_room c.args.host_store) c.args.lines.now c.start_end.new.lines)
+    (rooms_before (e.store_room c.args.equipment_store) (h.store_room c.args.host_store)
+    (e.store_fresh c.args.equipment_store)) c.args.lines.now c.start_end.new.lines)
     c.in-Err.fault c.in-Err.ensures.stops
 
 pub returns-in-Err-start_end-clause-part : goal.returns-in-Err-start_end-clause-part
@@ -44,7 +45,8 @@ returns-in-Err-start_end-clause-stops g c =
     faults_more
     (start_second e.machine h.machine (step_in (e.start c.args.equipment.now c.args.equipment_store))
     (step_in (h.start c.args.host.now c.args.host_store))
-    (h.store_room c.args.host_store) (e.store_room c.args.equipment_store) c.args.lines.now c.start_end.new.lines
+    (rooms_before (e.store_room c.args.equipment_store) (h.store_room c.args.host_store)
+    (e.store_fresh c.args.equipment_store)) c.args.lines.now c.start_end.new.lines
     c.start_end-2.new.lines
     c.in-Ok.ensures.lines)
     c.in-Err-start_end.fault c.in-Err-start_end.ensures.stops

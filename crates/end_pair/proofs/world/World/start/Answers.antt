@@ -1,7 +1,7 @@
-use Rattle.std.proofs.Common.{◌≡◌, ◌++◌, List, ℕ, ap, append_assoc, subst, sym, ◌∙◌}
+use Rattle.std.proofs.Common.{◌≡◌, false, ◌++◌, List, ℕ, ap, append_assoc, subst, sym, ◌∙◌}
 use Rattle.message_end.specs.Core.{step_in}
 use Rattle.trace_log.specs.Text.{text_of}
-use Rattle.end_pair.specs.Kept.{AreLeft, HasHalted, PutPart, Puts, both_rooms, rooms}
+use Rattle.end_pair.specs.Kept.{AreLeft, HasHalted, PutPart, Puts, rooms, rooms_before}
 use Rattle.end_pair.specs.World.{World, at_start, both_stepped, later}
 use Rattle.end_pair.proofs.Halts.{halted_first, halted_more, left_both}
 use Rattle.end_pair.proofs.LogText.{text_of-append}
@@ -29,7 +29,8 @@ returns-in-Err-clause-stops g c =
     (step_in (h.start c.args.host.now c.args.host_store)) in
     faults_more
     (halted_first begins (both_stepped e.machine h.machine)
-    (both_rooms (e.store_room c.args.equipment_store) (h.store_room c.args.host_store)) c.args.lines.now
+    (rooms_before (e.store_room c.args.equipment_store) (h.store_room c.args.host_store)
+    (e.store_fresh c.args.equipment_store)) c.args.lines.now
     c.at_start.new.lines)
     c.in-Err.fault c.in-Err.ensures.stops
 
@@ -43,7 +44,7 @@ returns-in-Went-clause-lines g c =
     let two : c.step_both.new.lines ≡ c.at_start.new.lines ++ text_of both.entries =
     subst (λ (w : World e.State h.State). c.step_both.new.lines ≡ c.at_start.new.lines ++ text_of
     (both_stepped e.machine h.machine (later 0 w)).entries)
-    c.in-Ok.ensures.world c.in-Went.ensures.lines.1
+    c.in-Ok.ensures.world c.in-Went.ensures.puts.1
     in
     two ∙ ap (λ (t : List ℕ). t ++ text_of both.entries) c.in-Ok.ensures.lines
     ∙ append_assoc c.args.lines.now (text_of begins.entries) (text_of both.entries)
@@ -56,12 +57,15 @@ returns-in-Went-clause-room g c =
     let begins = at_start e.machine h.machine (step_in (e.start c.args.equipment.now c.args.equipment_store))
     (step_in (h.start c.args.host.now c.args.host_store)) in
     let both = both_stepped e.machine h.machine begins.world in
-    left_both (both_rooms (e.store_room c.args.equipment_store) (h.store_room c.args.host_store))
-    (rooms e.room h.room c.in-Ok.world) (rooms e.room h.room c.step_both.new.self) begins.asked both.asked
+    left_both (rooms_before (e.store_room c.args.equipment_store) (h.store_room c.args.host_store)
+    (e.store_fresh c.args.equipment_store))
+    (rooms e.room h.room e.fresh e.stopped c.in-Ok.world) (rooms e.room h.room e.fresh e.stopped c.step_both.new.self)
+    false both.anew begins.asked both.asked
     c.in-Ok.ensures.room
     (subst (λ (w : World e.State h.State).
-    AreLeft (rooms e.room h.room c.in-Ok.world) (both_stepped e.machine h.machine (later 0 w)).asked
-    (rooms e.room h.room c.step_both.new.self))
+    AreLeft (rooms e.room h.room e.fresh e.stopped c.in-Ok.world) (both_stepped e.machine h.machine (later 0 w)).anew
+    (both_stepped e.machine h.machine (later 0 w)).asked
+    (rooms e.room h.room e.fresh e.stopped c.step_both.new.self))
     c.in-Ok.ensures.world c.in-Went.ensures.room)
 
 pub returns-in-DiskFailed-clause-part : goal.returns-in-DiskFailed-clause-part
@@ -74,7 +78,7 @@ returns-in-DiskFailed-clause-part g c =
     let puts : PutPart (text_of both.entries) c.at_start.new.lines c.step_both.new.lines =
     subst (λ (w : World e.State h.State). PutPart (text_of (both_stepped e.machine h.machine (later 0 w)).entries)
     c.at_start.new.lines c.step_both.new.lines)
-    c.in-Ok.ensures.world c.in-DiskFailed.ensures.lines
+    c.in-Ok.ensures.world c.in-DiskFailed.ensures.puts
     in
     subst (λ (t : List ℕ). PutPart t c.args.lines.now c.step_both.new.lines)
     (sym (text_of-append both.entries begins.entries))
@@ -89,11 +93,12 @@ returns-in-DiskFailed-clause-stops g c =
     let begins = at_start e.machine h.machine (step_in (e.start c.args.equipment.now c.args.equipment_store))
     (step_in (h.start c.args.host.now c.args.host_store)) in
     halted_more begins (both_stepped e.machine h.machine)
-    (both_rooms (e.store_room c.args.equipment_store) (h.store_room c.args.host_store))
-    (rooms e.room h.room c.in-Ok.world)
+    (rooms_before (e.store_room c.args.equipment_store) (h.store_room c.args.host_store)
+    (e.store_fresh c.args.equipment_store))
+    (rooms e.room h.room e.fresh e.stopped c.in-Ok.world)
     c.args.lines.now c.at_start.new.lines c.step_both.new.lines c.in-Ok.ensures.lines c.in-Ok.ensures.room
     (subst (λ (w : World e.State h.State).
-    HasHalted (both_stepped e.machine h.machine (later 0 w)).halts (rooms e.room h.room c.in-Ok.world)
+    HasHalted (both_stepped e.machine h.machine (later 0 w)).halts (rooms e.room h.room e.fresh e.stopped c.in-Ok.world)
     c.at_start.new.lines c.step_both.new.lines)
     c.in-Ok.ensures.world c.in-DiskFailed.ensures.stops)
 
@@ -108,7 +113,7 @@ returns-in_default g c =
     subst (λ (w : World e.State h.State). Puts (both_stepped e.machine h.machine (later 0 w)).went
     (text_of (both_stepped e.machine h.machine (later 0 w)).entries) c.at_start.new.lines c.step_both.new.lines
     c.step_both.result)
-    c.in-Ok.ensures.world c.step_both.ensures.lines
+    c.in-Ok.ensures.world c.step_both.ensures.puts
     in
     record {
       world = tt;

@@ -1,38 +1,62 @@
-use Rattle.std.proofs.Common.{ℕ, map, refl, sym, subst}
-use Rattle.gl_base.specs.declared.side.Side.TheVariants.{Equipment}
+use Rattle.std.proofs.Common.{◌+◌, ℕ, refl, sym, ap, subst, ◌∙◌}
 use Rattle.message_end.specs.Ends.{input_of}
-use Rattle.end_pair.specs.Kept.{HasHalted, StopsFor, rooms, seen}
-use Rattle.end_pair.specs.Steps.{stepped}
-use Rattle.end_pair.specs.World.{Piece, World, equipment_stepped, halt_at, later}
-use Rattle.end_pair.proofs.Halts.{equipment_goes}
+use Rattle.end_pair.specs.Kept.{Comes, IsDark, rooms, seen}
+use Rattle.end_pair.specs.World.{World, equipment_stepped, later}
+use Rattle.end_pair.proofs.Turning.{equipment_comes, equipment_out}
 use Rattle.end_pair.proofs.world.World.step_equipment.Goals as goal
 
-pub returns-clause-stops : goal.returns-clause-stops
-returns-clause-stops g c =
+pub returns-then-self-eq-MOST_STEPS : goal.returns-then-self-eq-MOST_STEPS
+returns-then-self-eq-MOST_STEPS g c =
     let e = g.E.End in
     let h = g.H.End in
-    let world : World _ _ = record {
+    equipment_out (seen e.means h.means) (IsDark e.anew e.machine.restart h.means) e.machine h.machine
+    (input_of c.args.input) (later c.args.milliseconds (seen e.means h.means c.args.self.now)) c.args.self.now
+    (rooms e.room h.room e.fresh e.stopped c.args.self.now) (rooms e.room h.room e.fresh e.stopped c.args.self.now)
+    c.args.lines.now
+    (ap (λ (w : World _ _). w.steps) (sym c.self.view_is) ∙ c.if-self-eq-MOST_STEPS.true)
+
+pub returns : goal.returns
+returns g c =
+    let e = g.E.End in
+    let h = g.H.End in
+    let was : World _ _ = record {
       equipment = c.self.inside.equipment;
       host = c.self.inside.host;
       ways = c.self.inside.ways;
       moment = c.self.inside.moment;
       steps = c.self.inside.steps;
+      cut = c.self.inside.cut;
+      call = e.armed c.self.inside.equipment;
+      choice = c.self.inside.choice;
     }
     in
-    let moved : World e.State h.State = later c.args.milliseconds (seen e.means h.means world) in
+    let now : World _ _ = record {
+      equipment = c.step_end.new.end;
+      host = c.self.inside.host;
+      ways = c.step_end.new.ways;
+      moment = c.self.inside.moment + c.from.result;
+      steps = c.self.inside.steps + 1;
+      cut = c.self.inside.cut;
+      call = e.armed c.step_end.new.end;
+      choice = c.self.inside.choice;
+    }
+    in
     subst (λ (w : World _ _).
-    StopsFor
-    (HasHalted (equipment_stepped e.machine h.machine (input_of c.args.input)
-    (later c.args.milliseconds (seen e.means h.means w))).halts
-    (rooms e.room h.room w) c.args.lines.now c.step_end.new.lines) c.step_end.result) c.self.view_is
-    (subst (λ (piece : Piece e.State h.State).
-    StopsFor (HasHalted piece.halts (rooms e.room h.room world) c.args.lines.now c.step_end.new.lines)
-    c.step_end.result)
-    (sym (equipment_goes e.machine h.machine (input_of c.args.input) moved c.if-self-eq-MOST_STEPS.false))
+    Comes (seen e.means h.means) (IsDark e.anew e.machine.restart h.means)
+    (equipment_stepped e.machine h.machine (input_of c.args.input)
+    (later c.args.milliseconds (seen e.means h.means w)))
+    now (rooms e.room h.room e.fresh e.stopped w) (rooms e.room h.room e.fresh e.stopped now) c.args.lines.now
+    c.step_end.new.lines c.step_end.result) c.self.view_is
     (subst (λ (ms : ℕ).
-    let now = later ms (seen e.means h.means world) in
-    let step = stepped e.machine Equipment now.moment (input_of c.args.input) now.equipment now.ways in
-    StopsFor
-    (HasHalted (map (halt_at Equipment now.moment step.asked) step.fronts) (rooms e.room h.room world) c.args.lines.now
-    c.step_end.new.lines)
-    c.step_end.result) c.from.ensures (c.step_end.ensures.stops (rooms e.room h.room world) refl)))
+    Comes (seen e.means h.means) (IsDark e.anew e.machine.restart h.means)
+    (equipment_stepped e.machine h.machine (input_of c.args.input) (later ms (seen e.means h.means was)))
+    now (rooms e.room h.room e.fresh e.stopped was) (rooms e.room h.room e.fresh e.stopped now) c.args.lines.now
+    c.step_end.new.lines c.step_end.result) c.from.ensures
+    (equipment_comes e.means h.means e.anew e.machine h.machine (input_of c.args.input) was
+    (c.self.inside.moment + c.from.result) c.step_end.new.end c.step_end.new.ways (e.armed c.step_end.new.end)
+    (rooms e.room h.room e.fresh e.stopped was) (rooms e.room h.room e.fresh e.stopped now) c.args.lines.now
+    c.step_end.new.lines c.step_end.result c.if-self-eq-MOST_STEPS.false
+    (c.step_end.ensures.lines was.choice) (c.step_end.ensures.end was.choice) (c.step_end.ensures.ways was.choice)
+    (c.step_end.ensures.near was.choice) (c.step_end.ensures.room was.choice) c.step_end.ensures.going refl
+    c.step_end.ensures.fresh
+    (c.step_end.ensures.stops was.choice (rooms e.room h.room e.fresh e.stopped was) refl)))

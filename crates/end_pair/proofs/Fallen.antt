@@ -1,0 +1,249 @@
+-- A step in which the equipment loses its power: what it has done by then, as moves, and the line behind that.
+use Rattle.std.proofs.Common.{◌≡◌, ◌⊎◌, inl, inr, ℕ, false, List, [], ◌∷◌, ◌++◌, sym, ap, subst, ◌∙◌}
+use Rattle.std.proofs.lemmas.List.{append_cancel_left}
+use Rattle.disk_base.specs.declared.cut.CutChoice.{CutChoice}
+use Rattle.gl_base.specs.declared.side.Side.TheVariants.{Equipment}
+use Rattle.line_end.specs.declared.event.Phase.{Phase}
+use Rattle.line_end.specs.Step.{LineCall}
+use Rattle.line_end.specs.Step.LineCall.{Take, Tick}
+use Rattle.line_order.specs.Acts.{Deed, HasNoSlip, IsRun, line_after, line_after_deed}
+use Rattle.line_order.specs.Acts.Act.{PowerLoss}
+use Rattle.line_order.specs.Line.{Line, new_line, seen_from}
+use Rattle.line_way.specs.Kept.{ways_after, without_power}
+use Rattle.line_way.specs.Step as way
+use Rattle.line_way.specs.Step.{AreDecisions, step_deeds}
+use Rattle.line_way.specs.Ways.{StandsFor, Ways}
+use Rattle.line_way.proofs.Deeds.{power-stands}
+use Rattle.line_way.proofs.Steps.{step-stands}
+use Rattle.message_end.specs.Core.{Step}
+use Rattle.message_end.specs.Core.Went.{Goes}
+use Rattle.message_end.specs.Doings.{Doing, line_of, own_of}
+use Rattle.message_end.specs.Ends.{AreDecidedAt, AreOfStep, GoesSoFar, HasRestarted, Input, KeepsLaw, Loss, LosesAt, Machine, MayTake, OnStart, taking_calls}
+use Rattle.message_end.specs.Ends.Input.{Char, Command, Time}
+use Rattle.message_end.specs.History.{noted_in}
+use Rattle.message_end.specs.Log.{log_of}
+use Rattle.message_end.specs.LineCalls.{calls_in}
+use Rattle.message_end.specs.Moves.{AreTimely, KeepLaws, LinePlans, Move, deeds_of, Run, line_of_moves, plan_at, run_at, seen_at}
+use Rattle.message_end.specs.Own.{Has, whole_in}
+use Rattle.message_end.proofs.Fronts.{noted-behind}
+use Rattle.trace_log.specs.Laws.{log_with}
+use Rattle.trace_log.specs.Log.{Happening}
+use Rattle.end_pair.specs.Steps.{gives, lost_at, slips}
+use Rattle.end_pair.proofs.Doing.{AreDone, AreOnWay, IsNext, NoSlipIn, are-done, deeds_by, no-slip, no-slip-first, on-way-first, step-deeds}
+use Rattle.end_pair.proofs.Moved.{HasFallen, IsAt, calls-on, calls-quiet, deeds-moves, keep-done, like-no-slip, line-moves, log-done, log_with-behind, moves_with, own-base, own-doings, timely-done}
+use Rattle.end_pair.proofs.Renamed.{IsLike, dark-like, renamed, renamed-dark}
+
+-- ---- the first calls of a step are none, the timer alone, or those of a step
+
+tail-same : {X : Type 0} (x y : X) (xs ys : List X) → x ∷ xs ≡ y ∷ ys → xs ≡ ys
+tail-same x y xs ys same = cc
+
+none-left : {X : Type 0} (xs ys : List X) → xs ++ ys ≡ [] → ys ≡ []
+none-left [] ys none = none
+none-left (x ∷ xs) ys none = absurd (cc)
+
+-- the calls of a step, or of one at a look at the clock
+abbrev AreSome : {C : Type 0} → Input C → ℕ → List LineCall → Type 0
+AreSome {C} input now calls = AreOfStep input now calls ⊎ AreOfStep {C = C} Time now calls
+
+abbrev AreFew : {C : Type 0} → Input C → ℕ → List LineCall → Type 0
+AreFew input now calls = (calls ≡ []) ⊎ AreSome input now calls
+
+as-time : {C : Type 0} (input : Input C) (now : ℕ) (calls : List LineCall) → AreFew {C = C} Time now calls
+    → AreFew input now calls
+as-time input now calls (inl none) = inl none
+as-time input now calls (inr (inl of)) = inr (inr of)
+as-time input now calls (inr (inr of)) = inr (inr of)
+
+-- a call that is taken off the front, where those behind it are some
+begun-on :
+    {C : Type 0} (input : Input C) (now : ℕ) (call : LineCall) (later calls : List LineCall)
+    → ((other : Input C) → AreOfStep other now (later ++ calls) → AreFew other now calls) → (decided : List LineCall)
+    → call ∷ (later ++ calls) ≡ decided ++ taking_calls input now → AreDecidedAt now decided → AreFew input now calls
+begun-on input now call later calls rest (first ∷ decided) are decisions =
+    rest input (record {
+      decided = decided;
+      are = tail-same call first (later ++ calls) (decided ++ taking_calls input now) are;
+      decisions = decisions.1;
+    })
+begun-on (Char byte) now call later calls rest [] are decisions =
+    as-time (Char byte) now calls
+    (rest Time (record {
+      decided = [];
+      are = tail-same call (Take byte now) (later ++ calls) (Tick now ∷ []) are;
+      decisions = tt;
+    }))
+begun-on Time now call later calls rest [] are decisions =
+    inl (none-left later calls (tail-same call (Tick now) (later ++ calls) [] are))
+begun-on (Command command) now call later calls rest [] are decisions =
+    inl (none-left later calls (tail-same call (Tick now) (later ++ calls) [] are))
+
+begun : {C : Type 0} (input : Input C) (now : ℕ) (later calls : List LineCall) → AreOfStep input now (later ++ calls)
+    → AreFew input now calls
+begun input now [] calls of = inr (inl of)
+begun input now (call ∷ later) calls of =
+    begun-on input now call later calls (λ other some. begun other now later calls some) of.decided of.are of.decisions
+
+-- ---- the line without power
+
+abbrev dark : Line → Line
+dark line = line_after_deed line (record { side = Equipment; act = PowerLoss })
+
+-- the power goes where nothing was called since
+pub dark-now : (ways : Ways) (line : Line) → IsLike ways line → IsLike (without_power Equipment ways) (dark line)
+dark-now ways line like = record {
+  name = like.name;
+  is = like.is;
+  stands =
+      subst (λ (w : Ways). StandsFor w (dark line)) (sym (renamed-dark like.name Equipment ways))
+      (power-stands Equipment (renamed like.name ways) line like.stands);
+}
+
+-- or behind calls of a step
+dark-behind :
+    {C : Type 0} (input : Input C) (now : ℕ) (calls : List LineCall) (ways : Ways) (line : Line) → IsLike ways line
+    → IsRun line (deeds_by Equipment calls) → AreOfStep input now calls
+    → IsLike (without_power Equipment ways) (dark (line_after line (deeds_by Equipment calls)))
+dark-behind input now calls ways line like run of =
+    dark-like (gives input) phase written ways line (dark after) like
+    (power-stands Equipment (ways_after Equipment (gives input) phase written (renamed like.name ways)) after
+    (subst (λ (ds : List Deed).
+    StandsFor (ways_after Equipment (gives input) phase written (renamed like.name ways)) (line_after line ds))
+    (sym deeds_are)
+    (step-stands Equipment (gives input) phase written (renamed like.name ways) line now of.decided like.stands
+    (record {
+      decided = deeds.1;
+      run = subst (IsRun line) deeds_are run;
+      phase_is =
+          ap (λ (ds : List Deed). (seen_from Equipment (line_after line ds)).here.state.phase) (sym deeds_are);
+      written_is = ap (way.written_in line) (sym deeds_are);
+    }))))
+  where
+    after : Line
+    after = line_after line (deeds_by Equipment calls)
+
+    phase : Phase
+    phase = (seen_from Equipment after).here.state.phase
+
+    written : List ℕ
+    written = way.written_in line (deeds_by Equipment calls)
+
+    deeds :
+        (deeds_by Equipment (of.decided ++ taking_calls input now) ≡ step_deeds Equipment now (gives input) of.decided)
+        × AreDecisions of.decided
+    deeds = step-deeds Equipment input now of.decided of.decisions
+
+    deeds_are : deeds_by Equipment calls ≡ step_deeds Equipment now (gives input) of.decided
+    deeds_are = ap (deeds_by Equipment) of.are ∙ deeds.0
+
+dark-few :
+    {C : Type 0} (input : Input C) (now : ℕ) (calls : List LineCall) (ways : Ways) (line : Line) → IsLike ways line
+    → IsRun line (deeds_by Equipment calls) → AreFew input now calls
+    → IsLike (without_power Equipment ways) (dark (line_after line (deeds_by Equipment calls)))
+dark-few input now calls ways line like run (inl none) =
+    subst (λ (cs : List LineCall). IsLike (without_power Equipment ways)
+    (dark (line_after line (deeds_by Equipment cs))))
+    (sym none) (dark-now ways line like)
+dark-few input now calls ways line like run (inr (inl of)) = dark-behind input now calls ways line like run of
+dark-few {C} input now calls ways line like run (inr (inr of)) = dark-behind {C = C} Time now calls ways line like run of
+
+-- ---- the step
+
+module _ {S C : Type 0} (did : ℕ → List Doing → S → Type 0) (takes : C → Type 0) (first : Step S Happening)
+    (machine : Machine S C)
+    (plans : LinePlans) (law : KeepsLaw (plan_at Equipment plans) did takes (Goes first) machine) where
+  pub has-fallen :
+      (now : ℕ) (choice : CutChoice) (moves : List Move) (s : S) (input : Input C) (ways : Ways) → MayTake takes input
+      → KeepLaws plans moves → AreTimely moves
+      → HasNoSlip (new_line plans.equipment.times plans.host.times) (deeds_of moves)
+      → IsAt did Equipment plans moves s → IsNext (seen_at Equipment plans moves).there.under_way input
+      → IsLike ways (line_of_moves plans moves) → slips machine Equipment now input s ways ≡ false
+      → (loss : Loss S) → Has (machine.losses s input now) loss
+      → HasFallen did machine plans now moves (lost_at machine Equipment now choice input s ways loss)
+  has-fallen now choice moves s input ways may keep timely clean at next like none loss has = record {
+    done = done;
+    later = so_far.later;
+    next = so_far.next;
+    keep = keep-done Equipment plans now done moves so_far.lawful on keep;
+    timely = timely-done Equipment now done moves so_far.drops timely;
+    no_slip =
+        subst (λ (ds : List Deed). HasNoSlip (new_line plans.equipment.times plans.host.times) ds)
+        (sym (deeds-moves Equipment now done moves))
+        (no-slip Equipment (calls_in done) (new_line plans.equipment.times plans.host.times) (deeds_of moves)
+        (no-slip-first Equipment line so_far.calls.later (calls_in done)
+        (calls-quiet did takes first machine Equipment plans law now line input (so_far.calls.later ++ calls_in done)
+        so_far.calls.whole quiet))
+        clean);
+    could =
+        subst (λ (b : ℕ). did b (run_at Equipment plans all).doings so_far.next)
+        (sym (own-base Equipment plans now so_far.later after ∙ own-base Equipment plans now done moves))
+        (subst (λ (ds : List Doing). did run.base ds so_far.next)
+        (sym (own-doings Equipment plans now so_far.later after
+        ∙ ap (λ (ds : List Doing). so_far.later ++ ds) (own-doings Equipment plans now done moves)))
+        so_far.could);
+    entries =
+        sym (log-done Equipment now done moves
+        ∙ ap (λ (ns : List Happening). log_with now Equipment ns (log_of moves)) noted
+        ∙ log_with-behind now Equipment loss.front [] (log_of moves));
+    lost = record {
+      state =
+          ap (λ (l : Line). (seen_from Equipment l).here.state) (line-moves plans Equipment now done moves) ∙ are.state
+          ∙ ap (line_of (plan_at Equipment plans)) (sym (own-doings Equipment plans now done moves));
+      received =
+          ap (λ (ds : List Doing). whole_in (own_of (plan_at Equipment plans) ds))
+          (own-doings Equipment plans now done moves)
+          ∙ so_far.received;
+      starts =
+          subst (λ (b : ℕ).
+          OnStart
+          (HasRestarted (plan_at Equipment plans) did b (run_at Equipment plans after).doings)
+          (machine.restart (loss.left choice) now)) (sym (own-base Equipment plans now done moves))
+          (subst (λ (ds : List Doing).
+          OnStart (HasRestarted (plan_at Equipment plans) did run.base ds) (machine.restart (loss.left choice) now))
+          (sym (own-doings Equipment plans now done moves)) loses.starts);
+      dark =
+          subst (λ (l : Line). IsLike (without_power Equipment ways) (dark l))
+          (sym (line-moves plans Equipment now done moves))
+          (dark-few input now (calls_in done) ways line like are.run
+          (begun input now so_far.calls.later (calls_in done) so_far.calls.whole));
+    };
+  }
+    where
+      run : Run
+      run = run_at Equipment plans moves
+
+      line : Line
+      line = line_of_moves plans moves
+
+      loses : LosesAt (plan_at Equipment plans) did run.base run.doings input now loss.front
+          (machine.restart (loss.left choice) now)
+      loses = law.loses run.base run.doings s input now at.is may loss has choice
+
+      so_far : GoesSoFar (plan_at Equipment plans) did run.base run.doings input now loss.front
+      so_far = loses.so_far
+
+      done : List Doing
+      done = so_far.done
+
+      after : List Move
+      after = moves_with Equipment now done moves
+
+      all : List Move
+      all = moves_with Equipment now so_far.later after
+
+      quiet : NoSlipIn Equipment now line input
+      quiet = like-no-slip did takes first machine Equipment plans law now moves s input ways at like none
+
+      on : AreOnWay Equipment line (calls_in done)
+      on =
+          on-way-first Equipment line so_far.calls.later (calls_in done)
+          (calls-on did takes first machine Equipment plans law now line input (so_far.calls.later ++ calls_in done)
+          so_far.calls.whole next)
+
+      are : AreDone (plan_at Equipment plans) Equipment line run.doings done
+      are = are-done (plan_at Equipment plans) run.base Equipment line run.doings done at.state so_far.lawful on
+
+      noted : noted_in done ≡ loss.front
+      noted =
+          append_cancel_left (noted_in run.doings) (noted_in done) loss.front
+          (sym (noted-behind done run.doings) ∙ so_far.notes)
