@@ -9,7 +9,7 @@ use Rattle.message_end.specs.Log as moves
 use Rattle.trace_log.specs.Delivered.{Delivered}
 use Rattle.trace_log.specs.Log.{Entry}
 use Rattle.trace_log.specs.Log.Entry.{Ended, Noted, Slipped}
-use Rattle.line_world.specs.Run.{ComesInOrder, HostDid, plans_of}
+use Rattle.line_world.specs.Safe.{ComesInOrder, HostDid, plans_of}
 
 -- what no end has noted changes nothing of what is said of messages
 delivered-behind : (last log : List Entry) → AreNoNotes last → Delivered log → Delivered (last ++ log)

@@ -1,23 +1,25 @@
 -- All that is claimed of a run's log, from the laws of the crates below.
-use Rattle.std.proofs.Common.{◌≡◌, ◌<◌, ◌^◌, List, [], refl, sym, subst, arith}
+use Rattle.std.proofs.Common.{◌<◌, List, [], refl, sym, subst, arith}
 use Rattle.delivery.specs.Laws.{EndsDeliver}
 use Rattle.end_pair.specs.Laws.{IsOfMoves}
-use Rattle.end_pair.specs.Noted.{AreOfCourses}
+use Rattle.end_pair.specs.Noted.{AreOfCourses, noted_by}
 use Rattle.equipment_node.specs.End as equipment
 use Rattle.equipment_node.specs.Laws.{DidOf, ReportsAreOfTheirEvents}
 use Rattle.equipment_node.specs.Reported.{Reported}
 use Rattle.equipment_node.specs.SpoolKept.{SpoolIsKept, TriesAreInTurn, policy_of}
 use Rattle.equipment_tables.specs.Plan.{PlansFit}
 use Rattle.equipment_tables.specs.declared.plan.Plans.{Plans}
+use Rattle.gl_base.specs.declared.side.Side.TheVariants.{Equipment}
 use Rattle.host_node.specs.Host as host
 use Rattle.line_schedule.specs.declared.schedule.Schedule.{Schedule}
 use Rattle.spool_delivery.specs.Laws.{SpoolIsTakenInOrder}
 use Rattle.spool_law.specs.Shelf.{KeepsSpool}
-use Rattle.trace_log.specs.Delivered.{Delivered}
 use Rattle.trace_log.specs.Log.{Happening}
-use Rattle.line_world.specs.Run.{ComesInOrder, HoldsReports, HoldsSpool, HostDid, equipment_start, host_start, log_of, plans_of}
+use Rattle.line_world.specs.Run.{equipment_start, host_start, log_of}
+use Rattle.line_world.specs.Safe.{HostDid, IsSafe, plans_of}
 use Rattle.line_world.proofs.Behind.{in-order, is-delivered}
 use Rattle.line_world.proofs.Disks.{none-sent}
+use Rattle.line_world.proofs.OverStarts.{over-starts}
 use Rattle.line_world.proofs.Spool.{holds-spool}
 
 -- what the crates below promise
@@ -34,21 +36,30 @@ module _ (plans : Plans) (schedule : Schedule) (fit : PlansFit plans) (laws : La
     AreOfCourses equipment.machine host.host_machine (equipment_start plans) (host_start plans.host)
     (log_of plans schedule))
   where
-    pub delivered : Delivered (log_of plans schedule)
-    delivered = is-delivered plans fit laws.deliver (log_of plans schedule) moved
+    abbrev notes : List Happening
+    notes = noted_by Equipment (log_of plans schedule)
 
-    pub comes-in-order : ComesInOrder plans (log_of plans schedule)
-    comes-in-order = in-order plans fit laws.deliver (log_of plans schedule) moved
-
-    pub reported : HoldsReports plans (log_of plans schedule)
-    reported =
+    reports : Reported plans.equipment notes
+    reports =
         subst (λ (notes : List Happening). Reported plans.equipment notes) (sym courses.equipment_noted)
         (laws.reports plans.equipment plans.slots [] 0 fit.equipment (none-sent [] refl) courses.equipment_met).reported
 
-    pub spooled : HoldsSpool plans (log_of plans schedule)
-    spooled =
+    kept : KeepsSpool (policy_of plans.equipment plans.slots) notes
+    kept =
         let some : 0 < plans.slots = omega (arith, fit.slots_at_least) in
         let most : plans.slots < 65536 = omega (arith, fit.slots_at_most) in
-        holds-spool plans fit laws.take laws.tries (log_of plans schedule)
-        (subst (KeepsSpool (policy_of plans.equipment plans.slots)) (sym courses.equipment_noted)
-        (laws.kept plans.equipment plans.slots fit.equipment some most courses.equipment_met)) moved
+        subst (KeepsSpool (policy_of plans.equipment plans.slots)) (sym courses.equipment_noted)
+        (laws.kept plans.equipment plans.slots fit.equipment some most courses.equipment_met)
+
+    pub safe : IsSafe plans (log_of plans schedule)
+    safe = record {
+      delivered = is-delivered plans fit laws.deliver (log_of plans schedule) moved;
+      in_order = in-order plans fit laws.deliver (log_of plans schedule) moved;
+      reported =
+          record {
+            in_their_start = reports;
+            over_all_starts =
+                over-starts plans.equipment (policy_of plans.equipment plans.slots) notes reports kept;
+          };
+      spooled = holds-spool plans fit laws.take laws.tries (log_of plans schedule) kept moved;
+    }

@@ -1,23 +1,24 @@
 -- The run over the spool's disk: it starts on an empty spool, and ends for the disk only where that has no room.
-use Rattle.std.proofs.Common.{◌≡◌, ◌≢◌, ◌<◌, ◌≤◌, ◌+◌, ℕ, false, List, [], ◌∷◌, Option, Some, None, inl, inr, refl, sym, ap, subst, ◌∙◌, arith}
+use Rattle.std.proofs.Common.{◌≡◌, ◌≢◌, ◌⊎◌, ◌<◌, ◌+◌, ℕ, Bool, true, false, List, [], Option, Some, None, inl, inr, refl, sym, ap, subst, ◌∙◌, arith}
 use Rattle.disk_base.specs.MemDisk.{DiskState, disk_with}
-use Rattle.end_pair.specs.Kept.{both_rooms}
+use Rattle.end_pair.specs.Kept.{Rooms, room_from, rooms_before}
 use Rattle.end_pair.specs.Run as pair
 use Rattle.end_pair.specs.Run.{EndsAtHalt, EndsFor, HandsBack}
-use Rattle.end_pair.specs.World.{Halt, World}
+use Rattle.end_pair.specs.World.{World}
 use Rattle.end_pair.specs.declared.answers.RunEnd.{RunEnd}
 use Rattle.end_pair.specs.declared.answers.RunEnd.TheVariants as end
 use Rattle.end_pair.proofs.OneDisk.{run-keeps}
 use Rattle.equipment_node.specs.End as equipment
 use Rattle.equipment_node.specs.Equipment.{first_in, starts}
-use Rattle.equipment_node.specs.InMemory.{Holds, room_in}
+use Rattle.equipment_node.specs.InMemory.{Holds, IsMarkedBy, fresh_in, most_calls, most_written, room_in}
 use Rattle.equipment_node.specs.Sound.{AllCanBeSent}
 use Rattle.equipment_tables.specs.declared.plan.EquipmentPlan.{EquipmentPlan}
 use Rattle.equipment_tables.specs.declared.plan.Plans.{Plans}
 use Rattle.gem_spool.specs.declared.spool.GemSpool.{GemSpool}
+use Rattle.gl_base.specs.Sending.{WrotePart}
 use Rattle.gl_base.specs.Told.{SinkTold}
 use Rattle.gl_base.specs.declared.side.Side.{Side}
-use Rattle.gl_base.specs.declared.side.Side.TheVariants.{Equipment, Host}
+use Rattle.gl_base.specs.declared.side.Side.TheVariants.{Equipment}
 use Rattle.host_node.specs.Host as host
 use Rattle.line_schedule.specs.declared.schedule.Schedule.{Schedule}
 use Rattle.message_end.specs.Core.{Step, Went, step_in}
@@ -25,8 +26,10 @@ use Rattle.message_end.specs.Core.Went.{Goes}
 use Rattle.message_end.specs.Ends.{Asked, IsShort, Opens, none_asked}
 use Rattle.spool_slots.specs.Slot.{Message}
 use Rattle.trace_log.specs.Log.{Happening}
+use Rattle.line_world.specs.Bounds.{made_before}
 use Rattle.line_world.specs.Disk.{IsEmptySpool, list_in}
-use Rattle.line_world.specs.Run.{EndsAtWork, EquipmentView, HostView, IsPast, Runs, end_over_disk, equipment_start, halts_of, host_start, piece_of, trace_text, went_of}
+use Rattle.line_world.specs.Making.{IsHaltedAt}
+use Rattle.line_world.specs.Run.{EndsAtWork, EquipmentView, HostView, Runs, StopsAtWork, end_over_disk, equipment_start, halts_of, host_start, piece_of, trace_text, went_of}
 
 -- ---- the empty spool
 
@@ -37,7 +40,7 @@ starts_over plan spool = starts plan spool.spool.slots (list_in spool) spool.spo
 -- an empty spool, for laws that speak of no value
 abbrev pub blank_spool : ℕ → GemSpool DiskState
 blank_spool slots = record {
-  spool = record { disk = disk_with [] 65536 67108864; slots = slots; first = 0; len = 0; mark = 0 };
+  spool = record { disk = disk_with [] most_calls most_written; slots = slots; first = 0; len = 0; mark = 0 };
   active = false;
 }
 
@@ -50,13 +53,15 @@ holds-blank slots =
       can = none-sent (list_in (blank_spool slots)) refl;
       first = refl;
       sure = record { fails_not = refl; stops_not = refl; going = refl };
+      marked = refl;
     }
 
-pub holds-empty : (slots : ℕ) (spool : GemSpool DiskState) → IsEmptySpool slots spool → Holds spool
-holds-empty slots spool is = record {
+pub holds_empty : (slots : ℕ) (spool : GemSpool DiskState) → IsEmptySpool slots spool → Holds spool
+holds_empty slots spool is = record {
   can = none-sent (list_in spool) is.list;
   first = is.first ∙ sym (ap first_in is.list);
   sure = record { fails_not = is.fails_not; stops_not = is.stops_not; going = is.going };
+  marked = subst (IsMarkedBy spool.spool.disk.story.now.bytes) (sym is.mark) is.gate;
 }
 
 starts-over : (plans : Plans) (spool : GemSpool DiskState) → IsEmptySpool plans.slots spool
@@ -66,9 +71,9 @@ starts-over plans spool is =
     ∙ ap (λ (list : List Message). starts plans.equipment plans.slots list spool.spool.mark) is.list
     ∙ ap (λ (n : ℕ). starts plans.equipment plans.slots [] n) is.mark
 
-pub opens-empty : (plans : Plans) (spool : GemSpool DiskState) → IsEmptySpool plans.slots spool
+pub opens_empty : (plans : Plans) (spool : GemSpool DiskState) → IsEmptySpool plans.slots spool
     → Opens (starts_over plans.equipment spool)
-opens-empty plans spool is =
+opens_empty plans spool is =
     subst (λ (went : Went EquipmentView Happening). Opens went) (sym (starts-over plans spool is)) tt
 
 pub first-is : (plans : Plans) (spool : GemSpool DiskState) → IsEmptySpool plans.slots spool
@@ -86,16 +91,21 @@ blank-first plans = refl
 
 module _ (plans : Plans) (schedule : Schedule) (out : SinkTold) (spool : GemSpool DiskState)
     (empty : IsEmptySpool plans.slots spool) where
-  abbrev rooms : Side → Asked
-  rooms = both_rooms (room_in spool) none_asked
+  abbrev had : Rooms
+  had = rooms_before (room_in spool) none_asked (fresh_in spool)
 
-  -- there is no room for a call behind those that made the file and those that were asked for
-  past : (asked : Asked) → IsShort (room_in spool) asked → IsPast plans.slots asked
-  past asked (inl less) = inl (omega (arith, less, empty.calls))
-  past asked (inr less) = inr (omega (arith, less, empty.bytes))
+  -- there is no room for a call behind those that made the file, or that took it up again, and those that were asked
+  -- for
+  past : (anew : Bool) (asked : Asked) → IsShort (room_from anew had Equipment) asked
+      → (most_calls < (made_before anew plans.slots).calls + asked.calls)
+      ⊎ (most_written < (made_before anew plans.slots).bytes + asked.bytes)
+  past false asked (inl less) = inl (omega (arith, less, empty.calls))
+  past false asked (inr less) = inr (omega (arith, less, empty.bytes))
+  past true asked (inl less) = inl (omega (arith, less, empty.slots_are))
+  past true asked (inr less) = inr (omega (arith, less))
 
-  at-work : EndsAtHalt out (halts_of plans schedule) rooms → EndsAtWork out plans schedule
-  at-work stop =
+  pub stops-at : IsHaltedAt (halts_of plans schedule) had → StopsAtWork plans schedule
+  stops-at stop =
       let of =
       run-keeps equipment.machine host.host_machine (λ t input now. refl) refl (equipment_start plans)
       (host_start plans.host) schedule.events stop.halt stop.is
@@ -103,21 +113,29 @@ module _ (plans : Plans) (schedule : Schedule) (out : SinkTold) (spool : GemSpoo
       record {
         halt = stop.halt;
         is = stop.is;
-        equipment = of.side;
-        wrote = stop.wrote;
+        equipment = of;
         past =
-            past stop.halt.asked
-            (subst (λ (side : Side). IsShort (rooms side) stop.halt.asked) of.side stop.short);
+            past stop.halt.anew stop.halt.asked
+            (subst (λ (side : Side). IsShort (room_from stop.halt.anew had side) stop.halt.asked) of stop.short);
       }
 
+  at-work : WrotePart out (trace_text plans schedule) → EndsAtHalt out (halts_of plans schedule) had
+      → EndsAtWork out plans schedule
+  unfolding stops-at
+  at-work part stop = record {
+    work = stops-at (record { halt = stop.halt; is = stop.is; short = stop.short });
+    wrote = stop.wrote;
+    part = part;
+  }
+
   ends-as : (ended : RunEnd) → pair.Runs out (trace_text plans schedule) (went_of plans schedule) ended
-      → EndsFor (EndsAtHalt out (halts_of plans schedule) rooms) ended
+      → EndsFor (EndsAtHalt out (halts_of plans schedule) had) ended
       → Runs out plans schedule (end_over_disk ended)
   ends-as end.Whole runs stops = runs
   ends-as end.Slip runs stops = runs
   ends-as end.Turns runs stops = inl runs
   ends-as end.NumbersSpent runs stops = runs
-  ends-as end.DiskFailed runs stops = inr (at-work stops)
+  ends-as end.DiskFailed runs stops = inr (at-work runs stops)
   ends-as end.NoMemory runs stops = runs
   ends-as end.WriteFailed runs stops = runs
 
@@ -129,7 +147,7 @@ module _ (plans : Plans) (schedule : Schedule) (out : SinkTold) (spool : GemSpoo
       (pair.went_of equipment.machine host.host_machine first (host_start plans.host) schedule.events) ended
       → EndsFor
       (EndsAtHalt out
-      (pair.piece_of equipment.machine host.host_machine first (host_start plans.host) schedule.events).halts rooms)
+      (pair.piece_of equipment.machine host.host_machine first (host_start plans.host) schedule.events).halts had)
       ended
       → Runs out plans schedule result
   runs-over first is ended result named runs stops =
@@ -141,7 +159,7 @@ module _ (plans : Plans) (schedule : Schedule) (out : SinkTold) (spool : GemSpoo
       (subst (λ (s : Step EquipmentView Happening).
       EndsFor
       (EndsAtHalt out
-      (pair.piece_of equipment.machine host.host_machine s (host_start plans.host) schedule.events).halts rooms)
+      (pair.piece_of equipment.machine host.host_machine s (host_start plans.host) schedule.events).halts had)
       ended) is stops))
 
 hands-as : {W V : Type 0} (show : W → V) (world : V) (ended : RunEnd) (handed : Option W)

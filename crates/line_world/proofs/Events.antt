@@ -9,7 +9,7 @@ use Rattle.trace_log.specs.Commands.{HostCommandFits, ToolCommandFits}
 use Rattle.end_pair.specs.Kept.{MayHappen}
 use Rattle.end_pair.specs.Laws.{HasBytes}
 
-happens : (one : Event) → EventFits one → MayHappen ToolCommandFits HostCommandFits one
+happens : (one : Event) → EventFits one → MayHappen ToolCommandFits HostCommandFits (Unit {0}) one
 happens (event.To side n) fits = tt
 happens (event.Lose side n) fits = tt
 happens (event.Change side place byte) fits = tt
@@ -20,8 +20,9 @@ happens (event.Tool command) fits = fits
 happens (event.Host command) fits = fits
 happens (event.Cut call choice) fits = tt
 
-pub all-happen : (events : List Event) → All EventFits events → All (MayHappen ToolCommandFits HostCommandFits) events
-all-happen events fits = All-weaker EventFits (MayHappen ToolCommandFits HostCommandFits) happens events fits
+pub all-happen : (events : List Event) → All EventFits events
+    → All (MayHappen ToolCommandFits HostCommandFits (Unit {0})) events
+all-happen events fits = All-weaker EventFits (MayHappen ToolCommandFits HostCommandFits (Unit {0})) happens events fits
 
 has : (one : Event) → EventFits one → HasBytes one
 has (event.To side n) fits = tt

@@ -1,9 +1,9 @@
 -- The spool in the log of a run is kept, and the host takes its messages in order.
-use Rattle.std.proofs.Common.{◌≡◌, ◌<◌, ◌++◌, ℕ, List, [], ◌∷◌, refl, ap, subst, sym, ◌∙◌, arith}
+use Rattle.std.proofs.Common.{◌≡◌, ◌++◌, List, [], ◌∷◌, refl, ap, subst, sym, ◌∙◌}
 use Rattle.end_pair.specs.Laws.{AreNoNotes, IsOfMoves}
 use Rattle.end_pair.specs.Noted.{noted_by}
 use Rattle.equipment_node.specs.Laws.{DidOf}
-use Rattle.equipment_node.specs.SpoolKept.{SpoolIsKept, TriesAreInTurn, policy_of}
+use Rattle.equipment_node.specs.SpoolKept.{TriesAreInTurn, policy_of}
 use Rattle.equipment_tables.specs.Plan.{PlansFit}
 use Rattle.equipment_tables.specs.declared.plan.Plans.{Plans}
 use Rattle.gl_base.specs.declared.side.Side.TheVariants.{Equipment, Host}
@@ -15,7 +15,7 @@ use Rattle.spool_law.specs.Shelf.{KeepsSpool, Policy}
 use Rattle.trace_log.specs.Log.{Entry, Happening}
 use Rattle.trace_log.specs.Log.Entry.{Ended, Noted, Slipped}
 use Rattle.line_world.proofs.Tries.{keeps-tries}
-use Rattle.line_world.specs.Run.{HoldsSpool, HostDid, plans_of}
+use Rattle.line_world.specs.Safe.{HoldsSpool, HostDid, plans_of}
 
 -- what the equipment has noted is said in two ways
 same-notes : (log : List Entry) → noted_by Equipment log ≡ equipment_notes log

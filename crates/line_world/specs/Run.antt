@@ -1,9 +1,6 @@
 -- The run of a schedule over a tool and its host, and what it writes (this profile).
-use Rattle.std.specs.Prelude.{◌≡◌, ◌⊎◌, ℕ, ◌+◌, ◌<◌, ◌≤◌, List, [], ◌^◌}
-use Rattle.delivery.specs.Order.{AreInOrder}
+use Rattle.std.specs.Prelude.{◌≡◌, ◌⊎◌, ℕ, List, [], ◌^◌}
 use Rattle.end_pair.specs.Kept as kept
-use Rattle.end_pair.specs.Laws.{IsOfMoves}
-use Rattle.end_pair.specs.Noted.{noted_by}
 use Rattle.end_pair.specs.Run as pair
 use Rattle.end_pair.specs.World.{Halt, Piece, World}
 use Rattle.end_pair.specs.declared.answers.RunEnd.{RunEnd}
@@ -12,31 +9,22 @@ use Rattle.end_pair.specs.declared.answers.WorldStep.{WorldStep}
 use Rattle.end_pair.specs.declared.answers.WorldStep.TheVariants as went
 use Rattle.equipment_node.specs.End as equipment
 use Rattle.equipment_node.specs.Equipment as equipment_states
-use Rattle.equipment_node.specs.Laws.{DidOf}
-use Rattle.equipment_node.specs.Reported.{Reported}
-use Rattle.equipment_node.specs.SpoolKept.{policy_of}
 use Rattle.equipment_node.specs.declared.in_memory.EquipmentEnd.{EquipmentEnd}
+use Rattle.equipment_tables.specs.Plan.{PlansFit}
 use Rattle.equipment_tables.specs.declared.plan.Plans.{Plans}
-use Rattle.gl_base.specs.Sending.{WroteText}
+use Rattle.gl_base.specs.Sending.{WrotePart, WroteText}
 use Rattle.gl_base.specs.Told.{SinkTold}
 use Rattle.gl_base.specs.declared.side.Side.TheVariants as side
 use Rattle.host_node.specs.Host as host
 use Rattle.line_end.specs.declared.plan.HostPlan.{HostPlan}
 use Rattle.line_schedule.specs.declared.schedule.Schedule.{Schedule}
 use Rattle.message_end.specs.Core.{Step}
-use Rattle.message_end.specs.Doings.{Doing}
-use Rattle.message_end.specs.Ends.{Asked}
-use Rattle.message_end.specs.Moves.{LinePlans}
 use Rattle.message_end.specs.Own.{Has}
-use Rattle.message_end.specs.Parts.{Did, Node, started}
-use Rattle.spool_delivery.specs.Laws.{IsSpoolTaken}
+use Rattle.message_end.specs.Parts.{Node, started}
 use Rattle.trace_log.specs.Log.{Entry, Happening}
 use Rattle.trace_log.specs.Text.{text_of}
 use Rattle.transact.specs.Numbers.{numbers_from}
-
--- the plans of the two ends of one line
-abbrev pub plans_of : Plans → LinePlans
-plans_of plans = record { equipment = plans.equipment.line; host = plans.host.line }
+use Rattle.line_world.specs.Bounds.{AskForHalf, IsPast}
 
 -- what each end is
 abbrev pub EquipmentView : Type 0
@@ -72,27 +60,32 @@ trace_text plans schedule = text_of (log_of plans schedule)
 -- ---- the disk of the spool
 
 -- where it may end the run: at each work of a step, with what is noted by then, and what all works ask of it from the
--- start to the end of that step
+-- last start to the end of that step; and before a start anew
 abbrev pub halts_of : Plans → Schedule → List Halt
 halts_of plans schedule = (piece_of plans schedule).halts
 
--- its list has no room for these calls, or for what they write, behind those that made the file: it has 65,536 calls,
--- and 64 MiB that they write (this profile)
-abbrev pub IsPast : ℕ → Asked → Type 0
-IsPast slots asked = (65536 < slots + 2 + asked.calls) ⊎ (67108864 < slots + 4096 + asked.bytes)
-
--- the run ended at such a work, and all lines up to there are written
-pub record EndsAtWork (out : SinkTold) (plans : Plans) (schedule : Schedule) : Type 0 where
+-- the disk has no room for what was asked up to one of these
+pub record StopsAtWork (plans : Plans) (schedule : Schedule) : Type 0 where
   pub halt : Halt
   pub is : Has (halts_of plans schedule) halt
   pub equipment : halt.side ≡ side.Equipment
-  pub wrote : WroteText out (text_of halt.entries)
-  pub past : IsPast plans.slots halt.asked
+  pub past : IsPast plans.slots halt
 
--- what all works of the run ask for is within that
-pub record StaysWithin (plans : Plans) (schedule : Schedule) : Type 0 where
-  pub calls : plans.slots + 2 + ((piece_of plans schedule).asked side.Equipment).calls ≤ 65536
-  pub bytes : plans.slots + 4096 + ((piece_of plans schedule).asked side.Equipment).bytes ≤ 67108864
+-- the run ended there, and all lines up to there are written, which are the first ones of the trace
+pub record EndsAtWork (out : SinkTold) (plans : Plans) (schedule : Schedule) : Type 0 where
+  pub work : StopsAtWork plans schedule
+  pub wrote : WroteText out (text_of work.halt.entries)
+  pub part : WrotePart out (trace_text plans schedule)
+
+-- wherever it may end it, all works since the start before ask for less than half of what it has room for
+abbrev pub StaysWithin : Plans → Schedule → Type 0
+StaysWithin plans schedule = AskForHalf (halts_of plans schedule)
+
+-- so such a run doesn't end for its disk
+abbrev pub RunsWithin : Type 0
+RunsWithin =
+    (plans : Plans) (schedule : Schedule) → PlansFit plans → StaysWithin plans schedule
+    → StopsAtWork plans schedule → ⊥
 
 -- a run has no turn left where all steps are made, or where the disk has no room for a work
 abbrev pub Runs : SinkTold → Plans → Schedule → RunEnd → Type 0
@@ -119,27 +112,8 @@ end_over_disk end.NumbersSpent = end.NumbersSpent
 end_over_disk end.NoMemory = end.NoMemory
 end_over_disk end.WriteFailed = end.WriteFailed
 
--- ---- what holds of the log
+-- ---- the world
 
 -- the world of the ends' values as one of their states, where this is what the equipment's value stands for
 abbrev pub seen : (EquipmentEnd → EquipmentView) → World EquipmentEnd HostView → World EquipmentView HostView
 seen means world = kept.seen means (λ (end : HostView). end) world
-
--- what the doings of an end have made of it
-abbrev pub HostDid : HostPlan → ℕ → List Doing → HostView → Type 0
-HostDid plan = Did (host.HasPlan plan) (host.end_plan plan)
-
--- the log is that of moves on one line, each of which its end may make, and in these messages are received in order
-pub record ComesInOrder (plans : Plans) (log : List Entry) : Type 0 where
-  pub moved : IsOfMoves (DidOf plans.equipment) (HostDid plans.host) (plans_of plans) log
-  pub in_order : AreInOrder (plans_of plans) moved.moves
-
--- each S6F11, S6F16 and S6F20 that the equipment notes as sent holds what its variables held as its event happened, or
--- hold at the answer
-abbrev pub HoldsReports : Plans → List Entry → Type 0
-HoldsReports plans log = Reported plans.equipment (noted_by side.Equipment log)
-
--- what the equipment spools stands until it leaves: as confirmed, which the host has taken, or to make room, as asked
--- for or as the constant allows; and the host takes it in order, skipping none that wasn't purged or overwritten
-abbrev pub HoldsSpool : Plans → List Entry → Type 0
-HoldsSpool plans log = IsSpoolTaken (policy_of plans.equipment plans.slots) log

@@ -4,15 +4,11 @@ ghost use Rattle.std.specs.Prelude.{◌≤◌, IfOk};
 ghost use Rattle.line_world.specs.Disk.{IsEmptySpool};
 
 use disk_base::MemDisk;
+use equipment_node::{MOST_CALLS, MOST_WRITTEN};
 use gem_spool::GemSpool;
 use gl_base::NoMemory;
 use spool_slots::Raw;
 use std::alloc::Global;
-
-// What the disk's list has room for: calls, and written bytes.
-const MOST_CALLS: u32 = 65_536;
-
-const MOST_WRITTEN: u64 = 64 << 20;
 
 // The size of a slot, and of what stands before the first one.
 const SLOT_SIZE: u64 = 4_096;

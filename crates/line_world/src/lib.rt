@@ -1,11 +1,19 @@
 //! The world that runs: a tool and its host on one line, by a schedule, whose trace is written.
 #![tactic(auto)]
 
+mod counting;
 mod disk;
+mod laws;
+mod maker;
+mod making;
+mod rounds;
 mod running;
+mod summary;
 #[cfg(test)]
 mod tests;
 
 pub use end_pair::{RunEnd, World, WorldFault, WorldStep};
 pub use equipment_tables::Plans;
+pub use laws::{half_is_within, holds_at_each_entry, runs_within, worked_rounds};
+pub use maker::make;
 pub use running::run;

@@ -3,9 +3,9 @@ ghost use Rattle.end_pair.specs.Run.{HandsBack};
 ghost use Rattle.end_pair.specs.declared.answers.RunEnd.TheVariants as end;
 ghost use Rattle.equipment_tables.specs.Plan.{PlansFit};
 ghost use Rattle.gl_base.specs.Told.{sink_told};
-ghost use Rattle.line_schedule.specs.Schedule.{AreCarriedOut, Fits};
-ghost use Rattle.trace_log.specs.Delivered.{Delivered};
-ghost use Rattle.line_world.specs.Run.{ComesInOrder, HoldsReports, HoldsSpool, Runs, end_over_disk, log_of, piece_of, seen};
+ghost use Rattle.line_schedule.specs.Schedule.{Fits};
+ghost use Rattle.line_world.specs.Run.{Runs, end_over_disk, log_of, piece_of, seen};
+ghost use Rattle.line_world.specs.Safe.{IsSafe};
 
 use crate::disk::empty_spool;
 use delivery::ends_deliver;
@@ -19,16 +19,18 @@ use message_end::End;
 use spool_delivery::spool_is_taken_in_order;
 use std::alloc::Global;
 
-/// Carries out a schedule on the line between a tool and its host, and writes the trace of what both note. In that
-/// trace each message delivered was sent by the other end, whole, and once, and messages are delivered in order; each
-/// report that the tool sends holds what its variables held as its event happened, or as it was asked for; and what the
-/// tool spools stands until it leaves with a cause, and is taken by the host in order. Hands the world back exactly
-/// where it answers `Whole`.
+/// Carries out a schedule on the line between a tool and its host, losses of the tool's power included, and writes the
+/// trace of what both note. The log of that trace is safe, up to the first slip: each message delivered was sent by the
+/// other end, whole, and once in a start of its receiver, and messages are delivered in order; each report that the
+/// tool sends, at once or out of its spool, in that start or a later one, holds what its variables held as its event
+/// happened, or as it was asked for; what the tool spools is there at each of its starts until it leaves with a cause,
+/// and is taken by the host in order. Hands the world back exactly where it answers `Whole`.
 ///
-/// The disk of the tool's spool is in memory, and new. It fails only where it has no room for a call: a run has no turn
-/// left then, and what is written are the lines up to that work.
+/// The disk of the tool's spool is in memory, and new. For its sake a run has no turn left only where there is no room
+/// for a call, in a step in which no power goes; what is written then are the lines up to that work. In an event in
+/// which power is to go, want of room is want of memory.
 ///
-/// The plans and the schedule must fit, and each event must be one that is carried out by now.
+/// The plans and the schedule must fit.
 pub fn run<W: Sink>(
     alloc: Global,
     plans: &Plans,
@@ -37,18 +39,14 @@ pub fn run<W: Sink>(
 ) -> (RunEnd, Option<World<EquipmentEnd, Host>>)
     requires plans { PlansFit plans.now }
     requires schedule { Fits schedule.now }
-    requires carried { AreCarriedOut schedule.now }
     ensures text { Runs (sink_told W.Sink out.old out.new) plans.now schedule.now result.0 }
     ensures world { HandsBack
         (seen ⟦<EquipmentEnd as End>⟧.means)
         (piece_of plans.now schedule.now).world
         result.0
         result.1 }
-    ensures delivered { Delivered (log_of plans.now schedule.now) }
-    ensures in_order { ComesInOrder plans.now (log_of plans.now schedule.now) }
     ensures disk { result.0 ≢ end.DiskFailed }
-    ensures reported { HoldsReports plans.now (log_of plans.now schedule.now) }
-    ensures spooled { HoldsSpool plans.now (log_of plans.now schedule.now) }
+    ensures safe { IsSafe plans.now (log_of plans.now schedule.now) }
 {
     ends_deliver();
     spool_is_taken_in_order();

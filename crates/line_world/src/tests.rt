@@ -2,13 +2,15 @@ use super::*;
 use equipment_node::EquipmentEnd;
 use equipment_tables::{EquipmentPlan, HostPlan};
 use gem_remote::RemotePlan;
+use gem_spool::RuleEntry;
 use gem_states::ControlState;
-use gem_vars::VarsPlan;
+use gem_vars::{VariablePlan, VarsPlan};
 use gl_base::{MemSink, Row};
 use host_node::Host;
 use line_end::{LinePlan, Phase, Times};
 use line_schedule::read_schedule;
 use message_end::End;
+use secs_items::Item;
 use std::alloc::Global;
 
 /// A line with this device, T2 and RTY.
@@ -271,4 +273,52 @@ static NO_ROOM: Case = (b"settle", RunEnd::WriteFailed, None, b"");
 fn a_sink_without_room_ends_the_run(rt: HostRuntime) {
     let line = line(0, 10_000, 3);
     assert!(rt; goes(rt.alloc(), line, line, 10, &NO_ROOM));
+}
+
+/// A tool with one variable and one event, whose messages are spooled where the host is away.
+fn made_plans(alloc: Global) -> Option<Plans> {
+    let line = line(0, 10_000, 3);
+    let mut plans = plans(alloc, line, line)?;
+    let variable = VariablePlan {
+        vid: 1,
+        name: Row::new(alloc),
+        units: Row::new(alloc),
+        value: Item::number(alloc, 0).ok()?,
+    };
+    plans.equipment.vars.variables.push(variable).ok()?;
+    plans.equipment.events.push(1).ok()?;
+    let names: [(u8, u8); 3] = [(5, 1), (6, 11), (10, 1)];
+    for (stream, function) in names {
+        let entry = RuleEntry {
+            stream,
+            functions: Row::of(alloc, &[function]).ok()?,
+        };
+        plans.equipment.spooled.push(entry).ok()?;
+    }
+    Some(plans)
+}
+
+/// Whether so many rounds are made so, into a sink with so much room.
+fn makes(alloc: Global, rounds: u32, room: usize, end: RunEnd, summary: &[u8]) -> bool {
+    match (made_plans(alloc), MemSink::new(alloc, room)) {
+        (Some(plans), Ok(mut out)) => {
+            plans.fits() && make(alloc, &plans, rounds, &mut out) == end && out.bytes() == summary
+        }
+        _ => false,
+    }
+}
+
+/// The report of the only round is lost with the power.
+#[test]
+fn a_round_loses_power(rt: HostRuntime) {
+    let summary = b"rounds 1\nrx E 8 H 8\nreports 0\nstored 0\ngone 0\nstarts 2\n";
+    assert!(rt; makes(rt.alloc(), 1, 1_000, RunEnd::Whole, summary));
+}
+
+/// A character is lost, and goes out once more.
+#[test]
+fn two_rounds_report(rt: HostRuntime) {
+    let summary = b"rounds 2\nrx E 6 H 6\nreports 2\nstored 0\ngone 0\nstarts 1\n";
+    assert!(rt; makes(rt.alloc(), 2, 1_000, RunEnd::Whole, summary));
+    assert!(rt; makes(rt.alloc(), 2, 10, RunEnd::WriteFailed, b""));
 }

@@ -1,4 +1,4 @@
-use Rattle.std.proofs.Common.{List, [], refl, subst, sym, ◌∙◌}
+use Rattle.std.proofs.Common.{[], refl, subst, sym, ◌∙◌}
 use Rattle.end_pair.specs.Laws.{IsOfMoves}
 use Rattle.end_pair.specs.Run as pair
 use Rattle.equipment_node.specs.End as equipment
@@ -7,9 +7,10 @@ use Rattle.gl_base.proofs.Appending.{part_before, wrote_nothing}
 use Rattle.host_node.specs.Host as host
 use Rattle.message_end.specs.Core.{Step}
 use Rattle.trace_log.specs.Log.{Happening}
-use Rattle.line_world.specs.Run.{EquipmentView, HostDid, equipment_start, host_start, plans_of, trace_text}
-use Rattle.line_world.proofs.Claims.{LawsHold, comes-in-order, delivered, reported, spooled}
-use Rattle.line_world.proofs.Disks.{blank-first, blank-opens, blank_spool, first-is, hands-over, holds-blank, holds-empty, never-fails, opens-empty, runs-over}
+use Rattle.line_world.specs.Run.{EquipmentView, equipment_start, host_start, trace_text}
+use Rattle.line_world.specs.Safe.{HostDid, plans_of}
+use Rattle.line_world.proofs.Claims.{LawsHold, safe}
+use Rattle.line_world.proofs.Disks.{blank-first, blank-opens, blank_spool, first-is, hands-over, holds-blank, holds_empty, never-fails, opens_empty, runs-over}
 use Rattle.line_world.proofs.Events.{all-happen, all-have}
 use Rattle.line_world.proofs.running.run.Goals as goal
 
@@ -43,21 +44,18 @@ returns-in_default g c =
     record {
       text = part_before [] (trace_text plans c.args.schedule.now) wrote_nothing;
       world = tt;
-      delivered = delivered plans c.args.schedule.now fit laws moved courses;
-      in_order = comes-in-order plans c.args.schedule.now fit laws moved courses;
       disk = λ is. cc;
-      reported = reported plans c.args.schedule.now fit laws moved courses;
-      spooled = spooled plans c.args.schedule.now fit laws moved courses;
+      safe = safe plans c.args.schedule.now fit laws moved courses;
     }
 
 pub run-end-requires-clause-events : goal.run-end-requires-clause-events
 run-end-requires-clause-events g c = all-happen c.args.schedule.now.events c.requires.schedule.events
 
 pub run-end-requires-clause-equipment_store : goal.run-end-requires-clause-equipment_store
-run-end-requires-clause-equipment_store g c = holds-empty c.args.plans.now.slots c.in-Ok.spool c.in-Ok.ensures
+run-end-requires-clause-equipment_store g c = holds_empty c.args.plans.now.slots c.in-Ok.spool c.in-Ok.ensures
 
 pub run-end-requires-clause-equipment_opens : goal.run-end-requires-clause-equipment_opens
-run-end-requires-clause-equipment_opens g c = opens-empty c.args.plans.now c.in-Ok.spool c.in-Ok.ensures
+run-end-requires-clause-equipment_opens g c = opens_empty c.args.plans.now c.in-Ok.spool c.in-Ok.ensures
 
 pub returns : goal.returns
 returns g c =
@@ -94,9 +92,6 @@ returns g c =
       world =
           hands-over plans c.args.schedule.now _ _ is ended c.end_over_disk.result c.run-end.result.1
           c.end_over_disk.ensures c.run-end.ensures.world;
-      delivered = delivered plans c.args.schedule.now fit laws moved courses;
-      in_order = comes-in-order plans c.args.schedule.now fit laws moved courses;
       disk = λ at. never-fails ended (sym c.end_over_disk.ensures ∙ at);
-      reported = reported plans c.args.schedule.now fit laws moved courses;
-      spooled = spooled plans c.args.schedule.now fit laws moved courses;
+      safe = safe plans c.args.schedule.now fit laws moved courses;
     }

@@ -1,0 +1,65 @@
+-- All that is claimed of the log of a run (this profile).
+use Rattle.std.specs.Prelude.{ℕ, List, ◌++◌}
+use Rattle.delivery.specs.Order.{AreInOrder}
+use Rattle.end_pair.specs.Laws.{IsOfMoves}
+use Rattle.end_pair.specs.Noted.{noted_by}
+use Rattle.equipment_node.specs.Laws.{DidOf}
+use Rattle.equipment_node.specs.Reported.{Reported}
+use Rattle.equipment_node.specs.SpoolKept.{policy_of}
+use Rattle.equipment_tables.specs.declared.plan.Plans.{Plans}
+use Rattle.gl_base.specs.declared.side.Side.TheVariants as side
+use Rattle.host_node.specs.Host as host
+use Rattle.line_end.specs.declared.plan.HostPlan.{HostPlan}
+use Rattle.message_end.specs.Doings.{Doing}
+use Rattle.message_end.specs.Moves.{LinePlans}
+use Rattle.message_end.specs.Parts.{Did, Node}
+use Rattle.spool_delivery.specs.Laws.{IsSpoolTaken}
+use Rattle.trace_log.specs.Delivered.{Delivered}
+use Rattle.trace_log.specs.Log.{Entry}
+use Rattle.line_world.specs.Reports.{TellOfEvents}
+
+-- the plans of the two ends of one line
+abbrev pub plans_of : Plans → LinePlans
+plans_of plans = record { equipment = plans.equipment.line; host = plans.host.line }
+
+-- what the doings of an end have made of it
+abbrev pub HostDid : HostPlan → ℕ → List Doing → Node host.HostOwn host.Kind → Type 0
+HostDid plan = Did (host.HasPlan plan) (host.end_plan plan)
+
+-- the log is that of moves on one line, each of which its end may make, and in these messages are received in order
+pub record ComesInOrder (plans : Plans) (log : List Entry) : Type 0 where
+  pub moved : IsOfMoves (DidOf plans.equipment) (HostDid plans.host) (plans_of plans) log
+  pub in_order : AreInOrder (plans_of plans) moved.moves
+
+-- each S6F11, S6F16 and S6F20 that the equipment notes as sent holds what its variables held as its event happened, or
+-- hold at the answer; and whichever S6F11 it sends or puts into its spool, in any start, tells of an event of that
+-- start or an earlier one
+pub record HoldsReports (plans : Plans) (log : List Entry) : Type 0 where
+  pub in_their_start : Reported plans.equipment (noted_by side.Equipment log)
+  pub over_all_starts : TellOfEvents plans.equipment (noted_by side.Equipment log)
+
+-- what the equipment spools stands until it leaves: as confirmed, which the host has taken, or to make room, as asked
+-- for or as the constant allows; each start finds what stands; what goes out of the spool is what was put; and the host
+-- takes it in order, skipping none that wasn't purged or overwritten
+abbrev pub HoldsSpool : Plans → List Entry → Type 0
+HoldsSpool plans log = IsSpoolTaken (policy_of plans.equipment plans.slots) log
+
+-- at each entry of the log, over all starts of the equipment: each message received was sent by the other end, whole,
+-- once in a start of its receiver, and in order; reports hold the values of their events; and the spool is kept, and
+-- taken in order
+pub record IsSafe (plans : Plans) (log : List Entry) : Type 0 where
+  pub delivered : Delivered log
+  pub in_order : ComesInOrder plans log
+  pub reported : HoldsReports plans log
+  pub spooled : HoldsSpool plans log
+
+-- what of that is said of the entries so far
+pub record HoldsSoFar (plans : Plans) (log : List Entry) : Type 0 where
+  pub delivered : Delivered log
+  pub reported : HoldsReports plans log
+  pub spooled : HoldsSpool plans log
+
+-- it holds at each entry of a safe log, by all entries up to that one
+abbrev pub HoldsAtEachEntry : Type 0
+HoldsAtEachEntry =
+    (plans : Plans) (later log : List Entry) → IsSafe plans (later ++ log) → HoldsSoFar plans log
