@@ -20,4 +20,5 @@ refuses_others word words other =
       differs word _ other.host,
       differs word _ other.format,
       differs word _ other.spool,
+      differs word _ other.make,
     ) refl

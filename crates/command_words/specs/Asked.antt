@@ -13,6 +13,7 @@ pub data Asked : Type 0 where
   Host : (plan address : List ℕ) (polls : ℕ) → Asked
   Format : (spool : List ℕ) (slots : ℕ) → Asked
   Spool : (spool : List ℕ) → Asked
+  Make : (rounds : ℕ) → Asked
 
 -- what a command asks for
 abbrev pub asked_by : Command → Asked
@@ -24,10 +25,12 @@ asked_by (command.Equipment plan address spool polls) = Equipment plan.now addre
 asked_by (command.Host plan address polls) = Host plan.now address.now polls
 asked_by (command.Format spool slots) = Format spool.now slots
 asked_by (command.Spool spool) = Spool spool.now
+asked_by (command.Make rounds) = Make rounds
 
 -- the numbers of a command are in their ranges
 abbrev pub IsInRange : Asked → Type 0
 IsInRange (Equipment plan address spool polls) = (1 ≤ polls) × (polls ≤ 4294967295)
 IsInRange (Host plan address polls) = (1 ≤ polls) × (polls ≤ 4294967295)
 IsInRange (Format spool slots) = (1 ≤ slots) × (slots ≤ 65535)
+IsInRange (Make rounds) = (1 ≤ rounds) × (rounds ≤ 10000)
 IsInRange _ = Unit {0}

@@ -6,7 +6,7 @@ use Rattle.clap.specs.declared.builder.action.ArgAction.TheVariants.{SetTrue}
 use Rattle.command_words.specs.declared.forms.Role.{Role}
 use Rattle.command_words.specs.declared.forms.Role.TheVariants as role
 use Rattle.command_words.specs.declared.names.Name.{Name}
-use Rattle.command_words.specs.declared.names.Name.TheVariants.{Show, Spell, Replay, Equipment, Host, Format, Spool}
+use Rattle.command_words.specs.declared.names.Name.TheVariants.{Show, Spell, Replay, Equipment, Host, Format, Spool, Make}
 
 -- A value stands in its place and must be given. An option is written `--id VALUE` or `--id=VALUE`, and a flag `--id`;
 -- both may be missing.
@@ -37,3 +37,4 @@ app_for Equipment =
 app_for Host = app_with (codes "host") (codes "PLAN" ∷ codes "ADDRESS" ∷ []) (codes "polls" ∷ []) []
 app_for Format = app_with (codes "format") (codes "SPOOL" ∷ codes "SLOTS" ∷ []) [] []
 app_for Spool = app_with (codes "spool") (codes "SPOOL" ∷ []) [] []
+app_for Make = app_with (codes "make") (codes "N" ∷ []) [] []

@@ -1,6 +1,6 @@
 -- What holds of all words.
 use Rattle.std.specs.Prelude.{◌≡◌, ◌≢◌, ◌==◌, ◌++◌, ℕ, Bool, true, not, List, [], ◌∷◌, codes, Some, None}
-use Rattle.command_words.specs.Asked.{Equipment, Format, Host, Replay, Spool}
+use Rattle.command_words.specs.Asked.{Equipment, Format, Host, Make, Replay, Spool}
 use Rattle.command_words.specs.Numbers.{number_in}
 use Rattle.command_words.specs.Words.{asked_of}
 
@@ -13,6 +13,7 @@ pub record IsNoName (word : List ℕ) : Type 0 where
   pub host : word ≢ codes "host"
   pub format : word ≢ codes "format"
   pub spool : word ≢ codes "spool"
+  pub make : word ≢ codes "make"
 
 -- words that begin with no name are refused
 abbrev pub RefusesOtherNames : Type 0
@@ -44,6 +45,12 @@ pub record TakesPlainWords : Type 0 where
       (spool slots : List ℕ) → IsPlain spool → IsPlain slots → number_in 1 65535 slots ≡ None
       → asked_of (codes "format" ∷ spool ∷ slots ∷ []) ≡ None
   pub spool : (spool : List ℕ) → IsPlain spool → asked_of (codes "spool" ∷ spool ∷ []) ≡ Some (Spool spool)
+  pub make :
+      (rounds : List ℕ) (n : ℕ) → IsPlain rounds → number_in 1 10000 rounds ≡ Some n
+      → asked_of (codes "make" ∷ rounds ∷ []) ≡ Some (Make n)
+  pub beyond :
+      (rounds : List ℕ) → IsPlain rounds → number_in 1 10000 rounds ≡ None
+      → asked_of (codes "make" ∷ rounds ∷ []) ≡ None
 
 -- behind `--` any words at all are values, and behind `--polls=` any text is
 pub record TakesAllBehindHyphens : Type 0 where

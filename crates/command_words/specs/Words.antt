@@ -4,14 +4,14 @@ use Rattle.std.specs.Option.{option_and_then, option_map, option_map_or, option_
 use Rattle.clap.specs.Walk.{is_empty, rows_of}
 use Rattle.clap.specs.Words.{Kinds, Row, Text, fault_of, first_of, found_of, matches_of}
 use Rattle.clap.specs.declared.parser.matches.ArgMatches.{ArgMatches}
-use Rattle.command_words.specs.Asked.{Asked, asked_by, Equipment as AskedEquipment, Format as AskedFormat, Host as AskedHost, Replay as AskedReplay, Show as AskedShow, Spell as AskedSpell, SpellHex as AskedSpellHex, Spool as AskedSpool}
+use Rattle.command_words.specs.Asked.{Asked, asked_by, Equipment as AskedEquipment, Format as AskedFormat, Host as AskedHost, Make as AskedMake, Replay as AskedReplay, Show as AskedShow, Spell as AskedSpell, SpellHex as AskedSpellHex, Spool as AskedSpool}
 use Rattle.command_words.specs.Forms.{app_for}
 use Rattle.command_words.specs.Numbers.{number_in}
 use Rattle.command_words.specs.declared.command.Command.{Command}
 use Rattle.command_words.specs.declared.command.WordsFault.{WordsFault}
 use Rattle.command_words.specs.declared.command.WordsFault.TheVariants.{Usage, NoMemory}
 use Rattle.command_words.specs.declared.names.Name.{Name}
-use Rattle.command_words.specs.declared.names.Name.TheVariants.{Show, Spell, Replay, Equipment, Host, Format, Spool}
+use Rattle.command_words.specs.declared.names.Name.TheVariants.{Show, Spell, Replay, Equipment, Host, Format, Spool, Make}
 
 -- the name that a word is, spelled exactly so
 abbrev pub name_of : Text → Option Name
@@ -22,7 +22,8 @@ name_of word =
     else if bytes_eq word (codes "equipment") then Some Equipment
     else if bytes_eq word (codes "host") then Some Host
     else if bytes_eq word (codes "format") then Some Format
-    else if bytes_eq word (codes "spool") then Some Spool else None
+    else if bytes_eq word (codes "spool") then Some Spool
+    else if bytes_eq word (codes "make") then Some Make else None
 
 -- why `clap` refuses the words behind a name: nothing, where it takes them
 unfoldable pub refusals : Name → List Text → Kinds
@@ -58,6 +59,7 @@ meant_by Format rows =
     (option_zip (first_of (codes "SPOOL") rows)
     (option_and_then (number_in 1 65535) (first_of (codes "SLOTS") rows)))
 meant_by Spool rows = option_map AskedSpool (first_of (codes "SPOOL") rows)
+meant_by Make rows = option_map AskedMake (option_and_then (number_in 1 10000) (first_of (codes "N") rows))
 
 -- the command of a name and the words behind it
 abbrev pub asked_behind : Name → List Text → Option Asked

@@ -1,6 +1,6 @@
 -- Words with what they ask for, worked by `clap`'s own definitions.
 use Rattle.std.specs.Prelude.{◌≡◌, ℕ, List, [], ◌∷◌, codes, map, Option, Some, None}
-use Rattle.command_words.specs.Asked.{Asked, Equipment, Format, Host, Replay, Show, Spell, SpellHex, Spool}
+use Rattle.command_words.specs.Asked.{Asked, Equipment, Format, Host, Make, Replay, Show, Spell, SpellHex, Spool}
 use Rattle.command_words.specs.Words.{asked_of}
 
 abbrev pub Row : Type 0
@@ -31,6 +31,8 @@ taken =
     ∷ (codes "format" ∷ codes "f" ∷ codes "1" ∷ [], Some (Format (codes "f") 1))
     ∷ (codes "format" ∷ codes "f" ∷ codes "0000065535" ∷ [], Some (Format (codes "f") 65535))
     ∷ (codes "spool" ∷ codes "f" ∷ [], Some (Spool (codes "f")))
+    ∷ (codes "make" ∷ codes "1" ∷ [], Some (Make 1))
+    ∷ (codes "make" ∷ codes "--" ∷ codes "0000010000" ∷ [], Some (Make 10000))
     ∷ []
 
 abbrev pub refused : List (List (List ℕ))
@@ -69,6 +71,12 @@ refused =
     ∷ (codes "format" ∷ codes "f" ∷ [] ∷ [])
     ∷ (codes "spool" ∷ [])
     ∷ (codes "spool" ∷ codes "f" ∷ codes "f" ∷ [])
+    ∷ (codes "make" ∷ [])
+    ∷ (codes "make" ∷ codes "0" ∷ [])
+    ∷ (codes "make" ∷ codes "10001" ∷ [])
+    ∷ (codes "make" ∷ codes "00000010000" ∷ [])
+    ∷ (codes "make" ∷ codes "-1" ∷ [])
+    ∷ (codes "make" ∷ codes "1" ∷ codes "1" ∷ [])
     ∷ []
 
 pub record AreAsWorked : Type 0 where

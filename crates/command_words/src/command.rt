@@ -15,6 +15,9 @@ use std::alloc::Global;
 // How many slots a spool file has at most.
 const SLOTS_MOST: u32 = 65535;
 
+// How many rounds are made at most.
+const ROUNDS_MOST: u32 = 10_000;
+
 // How many polls an end makes at most, where its words don't say.
 const POLLS_USUAL: u32 = 1_000_000;
 
@@ -54,6 +57,10 @@ pub enum Command<'a> {
     /// Write the list of a spool file.
     Spool {
         spool: &'a str,
+    },
+    /// Write the summary of the trace of so many made rounds.
+    Make {
+        rounds: u32,
     },
 }
 
@@ -120,6 +127,7 @@ fn meant_by<'a>(name: Name, matches: &ArgMatches<'a>) -> Option<Command<'a>>
         Name::Host => host(matches),
         Name::Format => format(matches),
         Name::Spool => spool(matches),
+        Name::Make => make(matches),
     }
 }
 
@@ -199,4 +207,12 @@ fn spool<'a>(matches: &ArgMatches<'a>) -> Option<Command<'a>>
 {
     let spool = text_of(matches, "SPOOL")?;
     Some(Command::Spool { spool })
+}
+
+fn make<'a>(matches: &ArgMatches<'a>) -> Option<Command<'a>>
+    ensures command { option_map asked_by result ≡ meant_by Name.Make (rows_of (found_of matches.now)) }
+    ensures range { IfSome result (λ command. IsInRange (asked_by command)) }
+{
+    let rounds = number_in(1, ROUNDS_MOST, text_of(matches, "N")?)?;
+    Some(Command::Make { rounds })
 }

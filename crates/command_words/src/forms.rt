@@ -38,6 +38,7 @@ pub(crate) fn app_for<'a>(alloc: Global, name: Name) -> Result<Command<'a>, Allo
         Name::Host => app_with(alloc, "host", &["PLAN", "ADDRESS"], &["polls"], &[]),
         Name::Format => app_with(alloc, "format", &["SPOOL", "SLOTS"], &[], &[]),
         Name::Spool => app_with(alloc, "spool", &["SPOOL"], &[], &[]),
+        Name::Make => app_with(alloc, "make", &["N"], &[], &[]),
     }
 }
 

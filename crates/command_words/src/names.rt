@@ -13,6 +13,7 @@ pub(crate) enum Name {
     Host,
     Format,
     Spool,
+    Make,
 }
 
 /// The name that a word is.
@@ -33,6 +34,8 @@ pub(crate) fn name_of(word: &str) -> Option<Name>
         Some(Name::Format)
     } else if word == "spool" {
         Some(Name::Spool)
+    } else if word == "make" {
+        Some(Name::Make)
     } else {
         None
     }

@@ -201,8 +201,19 @@ static EQUIPMENTS: [Case; 4] = [
     (&["equipment", "p", "a", "s", "t"], USAGE),
 ];
 
-/// A command that isn't built yet.
-static NOT_BUILT: [Case; 1] = [(&["make", "1"], USAGE)];
+static MAKES: [Case; 8] = [
+    (&["make", "1"], Ok(Command::Make { rounds: 1 })),
+    (
+        &["make", "--", "0000010000"],
+        Ok(Command::Make { rounds: 10_000 }),
+    ),
+    (&["make", "0"], USAGE),
+    (&["make", "10001"], USAGE),
+    (&["make", "00000010000"], USAGE),
+    (&["make", "-1"], USAGE),
+    (&["make"], USAGE),
+    (&["make", "1", "1"], USAGE),
+];
 
 #[test]
 fn takes_each_command(rt: HostRuntime) {
@@ -237,6 +248,6 @@ fn refuses_too_few_and_too_many_words(rt: HostRuntime) {
 }
 
 #[test]
-fn refuses_commands_that_are_not_built(rt: HostRuntime) {
-    assert!(rt; are_answered(rt.alloc(), NOT_BUILT.as_slice()));
+fn reads_the_number_of_rounds(rt: HostRuntime) {
+    assert!(rt; are_answered(rt.alloc(), MAKES.as_slice()));
 }
