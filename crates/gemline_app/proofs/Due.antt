@@ -1,6 +1,6 @@
 -- Which outcome is due, and when another one comes in its place.
 use Rattle.std.proofs.Common.{◌≡◌, ◌⊎◌, ◌≤◌, ℕ, true, List, length, Option, Some, None, Result, Ok, Err, refl, sym, ap, subst, ◌∙◌, inl, inr, arith}
-use Rattle.command_words.specs.Asked.{Asked, Equipment, Format, Host, Replay, Show, Spell, SpellHex, Spool}
+use Rattle.command_words.specs.Asked.{Asked, Equipment, Format, Host, Make, Replay, Show, Spell, SpellHex, Spool}
 use Rattle.command_words.specs.Words.{asked_of}
 use Rattle.gl_base.specs.Sink.{with_bytes}
 use Rattle.gl_base.specs.Told.{FilesTold, SinkTold, SourceTold}
@@ -28,11 +28,12 @@ use Rattle.gemline_app.specs.Outcome.{outcome_of_show, status_of}
 use Rattle.gemline_app.specs.Spelling.{text_place}
 use Rattle.gemline_app.specs.Words.{capture_limit, item_limit}
 use Rattle.gemline_app.specs.declared.outcome.Outcome.{Outcome}
-use Rattle.gemline_app.specs.declared.outcome.Outcome.TheVariants.{Done, Usage, BadFrame, BadText, BadHex, BadItem, BadLine, Longer, FileLonger, FileFailed, ReadFailed, NoMemory, WriteFailed, TurnsSpent, NumbersSpent, Slip, DiskFailed, NotSpool, BadPlan, LineNotBuilt, BadScript, LinkFailed}
+use Rattle.gemline_app.specs.declared.outcome.Outcome.TheVariants.{Done, Usage, BadFrame, BadText, BadHex, BadItem, BadLine, Longer, FileLonger, FileFailed, ReadFailed, NoMemory, WriteFailed, TurnsSpent, NumbersSpent, Slip, DiskFailed, NotSpool, BadPlan, BadScript, LinkFailed}
 use Rattle.gemline_app.proofs.HexLaws.{means_read, one_break}
 use Rattle.gemline_app.proofs.EquipmentDue.{equipment_due}
 use Rattle.gemline_app.proofs.HostDue.{host_due}
 use Rattle.gemline_app.proofs.InputDue.{input_due, read_of}
+use Rattle.gemline_app.proofs.MakeDue.{make_due}
 use Rattle.gemline_app.proofs.ReplayDue.{Comes, replay_due}
 use Rattle.gemline_app.proofs.SpoolDue.{formatted_due, listed_due}
 
@@ -69,7 +70,6 @@ written_due source files disk link out line DiskFailed written = absurd written
 written_due source files disk link out line (NotSpool at) written = absurd written
 written_due source files disk link out line Slip written = absurd written
 written_due source files disk link out line (BadPlan key what) written = absurd written
-written_due source files disk link out line (LineNotBuilt number) written = absurd written
 written_due source files disk link out line (BadScript number) written = absurd written
 written_due source files disk link out line LinkFailed written = absurd written
 
@@ -95,7 +95,6 @@ text_refused text DiskFailed refuses = absurd refuses
 text_refused text (NotSpool at) refuses = absurd refuses
 text_refused text Slip refuses = absurd refuses
 text_refused text (BadPlan key what) refuses = absurd refuses
-text_refused text (LineNotBuilt number) refuses = absurd refuses
 text_refused text (BadScript number) refuses = absurd refuses
 text_refused text LinkFailed refuses = absurd refuses
 
@@ -120,7 +119,6 @@ hex_refused digits DiskFailed refuses = absurd refuses
 hex_refused digits (NotSpool at) refuses = absurd refuses
 hex_refused digits Slip refuses = absurd refuses
 hex_refused digits (BadPlan key what) refuses = absurd refuses
-hex_refused digits (LineNotBuilt number) refuses = absurd refuses
 hex_refused digits (BadScript number) refuses = absurd refuses
 hex_refused digits LinkFailed refuses = absurd refuses
 
@@ -209,6 +207,8 @@ comes_due (Some (Format spool slots)) source files disk link out outcome due (un
     formatted_due source files disk link out spool slots outcome due was is_due
 comes_due (Some (Spool spool)) source files disk link out outcome due (unread, files_unread, uncalled, was) is_due =
     listed_due source files disk link out spool outcome due was is_due
+comes_due (Some (Make rounds)) source files disk link out outcome due (unread, files_unread, unused, uncalled, comes) is_due =
+    make_due source files disk link out rounds outcome due comes is_due
 
 -- memory that runs out over the words hinders every outcome
 run_due : (asked : Option Asked) (source : SourceTold) (files : FilesTold) (disk : DiskTold) (link : LinkTold) (out : SinkTold) (outcome due : Outcome) →
@@ -258,7 +258,6 @@ module _ (source : SourceTold) (files : FilesTold) (disk : DiskTold) (link : Lin
   unread_ends (NotSpool at) was = absurd was
   unread_ends Slip was = absurd was
   unread_ends (BadPlan key what) was = absurd was
-  unread_ends (LineNotBuilt number) was = absurd was
   unread_ends (BadScript number) was = absurd was
   unread_ends LinkFailed was = absurd was
 

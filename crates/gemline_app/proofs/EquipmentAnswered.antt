@@ -18,7 +18,7 @@ use Rattle.gemline_app.specs.Laws.{EquipmentsAreAnswered, IsGiven}
 use Rattle.gemline_app.specs.LinkTold.{LinkTold}
 use Rattle.gemline_app.specs.Linked.{outcome_of_ending}
 use Rattle.gemline_app.specs.declared.outcome.Outcome.{Outcome}
-use Rattle.gemline_app.specs.declared.outcome.Outcome.TheVariants.{Done, Usage, BadFrame, BadText, BadHex, BadItem, BadLine, Longer, FileLonger, FileFailed, ReadFailed, NoMemory, WriteFailed, TurnsSpent, NumbersSpent, Slip, DiskFailed, NotSpool, BadPlan, LineNotBuilt, BadScript, LinkFailed}
+use Rattle.gemline_app.specs.declared.outcome.Outcome.TheVariants.{Done, Usage, BadFrame, BadText, BadHex, BadItem, BadLine, Longer, FileLonger, FileFailed, ReadFailed, NoMemory, WriteFailed, TurnsSpent, NumbersSpent, Slip, DiskFailed, NotSpool, BadPlan, BadScript, LinkFailed}
 use Rattle.gemline_app.proofs.EquipmentDue.{no_break}
 use Rattle.gemline_app.proofs.LinkedAnswered.{Answered, linked_answered}
 use Rattle.gemline_app.proofs.ReplayDue.{hindered}
@@ -63,7 +63,6 @@ module _ (source : SourceTold) (files : FilesTold) (disk : DiskTold) (link : Lin
     by_start TurnsSpent refuses = absurd refuses
     by_start Slip refuses = absurd refuses
     by_start (BadPlan key what) refuses = absurd refuses
-    by_start (LineNotBuilt number) refuses = absurd refuses
     by_start (BadScript number) refuses = absurd refuses
     by_start LinkFailed refuses = absurd refuses
 

@@ -11,7 +11,6 @@ use Rattle.message_end.specs.Core.Went.{Goes, Spent}
 use Rattle.equipment_tables.specs.declared.plan.EquipmentPlan.{EquipmentPlan}
 use Rattle.equipment_tables.specs.declared.plan.Plans.{Plans}
 use Rattle.equipment_node.specs.Equipment.{EquipmentView, is_marked_out, started_on, starts}
-use Rattle.equipment_node.specs.Sound.{AllCanBeSent}
 use Rattle.end_run.specs.Counts.{Counts}
 use Rattle.end_run.specs.Script.{ScriptLine}
 use Rattle.end_run.specs.declared.ending.Ending.{Ending}
@@ -21,7 +20,7 @@ use Rattle.gemline_app.specs.Laws.{BytesAskRun, EquipmentAsks, Hinders, IsLinked
 use Rattle.gemline_app.specs.LinkTold.{LinkTold}
 use Rattle.gemline_app.specs.Linked.{outcome_of_ending}
 use Rattle.gemline_app.specs.declared.outcome.Outcome.{Outcome}
-use Rattle.gemline_app.specs.declared.outcome.Outcome.TheVariants.{Done, Usage, BadFrame, BadText, BadHex, BadItem, BadLine, Longer, FileLonger, FileFailed, ReadFailed, NoMemory, WriteFailed, TurnsSpent, NumbersSpent, Slip, DiskFailed, NotSpool, BadPlan, LineNotBuilt, BadScript, LinkFailed}
+use Rattle.gemline_app.specs.declared.outcome.Outcome.TheVariants.{Done, Usage, BadFrame, BadText, BadHex, BadItem, BadLine, Longer, FileLonger, FileFailed, ReadFailed, NoMemory, WriteFailed, TurnsSpent, NumbersSpent, Slip, DiskFailed, NotSpool, BadPlan, BadScript, LinkFailed}
 use Rattle.gemline_app.proofs.LinkedDue.{linked_due, run_due}
 use Rattle.gemline_app.proofs.ReplayDue.{Comes}
 use Rattle.gemline_app.proofs.SpoolDue.{rose_of}
@@ -75,13 +74,13 @@ module _ (source : SourceTold) (files : FilesTold) (disk : DiskTold) (link : Lin
         inl (ap (λ (n : ℕ). NotSpool n) (some_same at place (sym breaks ∙ is)) ∙ sym is_due)
     not_spool at breaks (inr (inl (sound, marked, is_due))) =
         absurd (no_break (spool_break s.now.bytes) at breaks sound)
-    not_spool at breaks (inr (inr (sound, can, asks))) = absurd (no_break (spool_break s.now.bytes) at breaks sound)
+    not_spool at breaks (inr (inr (sound, asks))) = absurd (no_break (spool_break s.now.bytes) at breaks sound)
 
     spent_out : spool_break s.now.bytes ≡ None → is_marked_out (file_in s.now.bytes).mark ≡ true
         → BytesAskRun plan polls link lines s.now.bytes due → ComesDue NumbersSpent
     spent_out sound marked (inl (place, is, is_due)) = absurd (no_break (spool_break s.now.bytes) place is sound)
     spent_out sound marked (inr (inl (none, out_too, is_due))) = inl (sym is_due)
-    spent_out sound marked (inr (inr (none, can, (start, goes, asks)))) =
+    spent_out sound marked (inr (inr (none, (start, goes, asks)))) =
         absurd (no_start plan (file_in s.now.bytes) start goes marked)
 
     refused_due : (outcome : Outcome) → StartRefuses (with_file disk) outcome
@@ -105,7 +104,6 @@ module _ (source : SourceTold) (files : FilesTold) (disk : DiskTold) (link : Lin
     refused_due TurnsSpent refuses asks = absurd refuses
     refused_due Slip refuses asks = absurd refuses
     refused_due (BadPlan key what) refuses asks = absurd refuses
-    refused_due (LineNotBuilt number) refuses asks = absurd refuses
     refused_due (BadScript number) refuses asks = absurd refuses
     refused_due LinkFailed refuses asks = absurd refuses
 
@@ -125,11 +123,11 @@ module _ (source : SourceTold) (files : FilesTold) (disk : DiskTold) (link : Lin
         (outcome : Outcome) (how : Ending) → outcome ≡ outcome_of_ending how
         → (how ≡ ending.DiskFailed → Hinders source files disk link out DiskFailed)
         → (over : RanOver plan (file_in s.now.bytes) lines polls (with_file disk) link out how)
-        → AllCanBeSent (file_in s.now.bytes).list → (start : Step EquipmentView Happening)
+        → (start : Step EquipmentView Happening)
         → starts plan (file_in s.now.bytes).slots (file_in s.now.bytes).list (file_in s.now.bytes).mark ≡ Goes start
         → RunAsks (equipment_run start lines polls) link due → ComesDue outcome
-    started_due outcome how is on_disk over can start goes asks =
-        let ran = over.ran can in
+    started_due outcome how is on_disk over start goes asks =
+        let ran = over.ran in
         run_due source files disk link out _ ran.left ran.room ran.stop (equipment_run over.start lines polls) how
         outcome due is on_disk ran.runs
         (subst (λ (first : Step EquipmentView Happening). RunAsks (equipment_run first lines polls) link due)
@@ -141,9 +139,8 @@ module _ (source : SourceTold) (files : FilesTold) (disk : DiskTold) (link : Lin
         absurd (no_break (spool_break s.now.bytes) place is (was.sound s told))
     ran_due outcome was (inr (inl (none, marked, is_due))) =
         let over = was.ran s told in absurd (no_start plan (file_in s.now.bytes) over.start over.started marked)
-    ran_due outcome was (inr (inr (none, can, (start, goes, asks)))) =
-        started_due outcome was.ended was.outcome_is (disk_rose was.ended was.counts) (was.ran s told) can start goes
-        asks
+    ran_due outcome was (inr (inr (none, (start, goes, asks)))) =
+        started_due outcome was.ended was.outcome_is (disk_rose was.ended was.counts) (was.ran s told) start goes asks
 
     spool_due : (outcome : Outcome) → SpoolRuns plan lines polls (with_file disk) link out outcome
         → BytesAskRun plan polls link lines s.now.bytes due → ComesDue outcome

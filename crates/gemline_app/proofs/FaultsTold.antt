@@ -5,7 +5,7 @@ use Rattle.equipment_tables.specs.declared.plan.Plans.{Plans}
 use Rattle.gl_base.specs.Faults.{Rose}
 use Rattle.gem_config.specs.declared.fault.ConfigFault.{ConfigFault}
 use Rattle.gem_config.specs.declared.fault.ConfigFault.TheVariants as plan_fault
-use Rattle.command_words.specs.Asked.{Asked, Equipment, Format, Host, Replay, Show, Spell, SpellHex, Spool}
+use Rattle.command_words.specs.Asked.{Asked, Equipment, Format, Host, Make, Replay, Show, Spell, SpellHex, Spool}
 use Rattle.command_words.specs.Words.{asked_of}
 use Rattle.gl_base.specs.Sink.{SinkHealth}
 use Rattle.gl_base.specs.Files.{FilesHealth}
@@ -20,6 +20,7 @@ use Rattle.line_show.specs.declared.printer.Stop.TheVariants as stop
 use Rattle.line_schedule.specs.declared.schedule.ScheduleFault.{ScheduleFault}
 use Rattle.line_schedule.specs.declared.schedule.ScheduleFault.TheVariants as schedule_fault
 use Rattle.line_schedule.specs.declared.schedule.Schedule.{Schedule}
+use Rattle.line_world.specs.Making.{MakesRounds}
 use Rattle.line_world.specs.Run.{Runs}
 use Rattle.line_end.specs.declared.plan.HostPlan.{HostPlan}
 use Rattle.message_end.specs.Ends.{Asked as Room}
@@ -50,6 +51,7 @@ use Rattle.gemline_app.proofs.SpoolDue.{rose_of}
 use Rattle.gemline_app.specs.Gemline.{ComesFrom, ComesOnInput, HexRefuses, IsRefused, IsRun, RunComes, TextRefuses, WasPrinted, WasShown, WasSpelled, WasWritten}
 use Rattle.gemline_app.specs.Inputs.{InputRefuses, IsUnread}
 use Rattle.gemline_app.specs.Laws.{CountsFaults, IsCounted, is_disk_fault, is_file_fault, is_link_fault, is_read_fault, is_write_fault}
+use Rattle.gemline_app.specs.Make.{MakeComes, made_plans}
 use Rattle.gemline_app.specs.Outcome.{outcome_of_show}
 use Rattle.gemline_app.specs.Replay.{ReplayComes, ScheduleComes, ScheduleRefuses, TextRuns, files_since, outcome_of_end, schedule_refusal}
 use Rattle.gemline_app.specs.Words.{capture_limit, item_limit, script_limit}
@@ -57,7 +59,7 @@ use Rattle.gemline_app.specs.Written.{AreUnread, IsUntouched}
 use Rattle.gemline_app.specs.declared.outcome.FileRole.{FileRole}
 use Rattle.gemline_app.specs.declared.outcome.FileRole.TheVariants as role
 use Rattle.gemline_app.specs.declared.outcome.Outcome.{Outcome}
-use Rattle.gemline_app.specs.declared.outcome.Outcome.TheVariants.{Done, Usage, BadFrame, BadText, BadHex, BadItem, BadLine, Longer, FileLonger, FileFailed, ReadFailed, NoMemory, WriteFailed, TurnsSpent, NumbersSpent, Slip, DiskFailed, NotSpool, BadPlan, LineNotBuilt, BadScript, LinkFailed}
+use Rattle.gemline_app.specs.declared.outcome.Outcome.TheVariants.{Done, Usage, BadFrame, BadText, BadHex, BadItem, BadLine, Longer, FileLonger, FileFailed, ReadFailed, NoMemory, WriteFailed, TurnsSpent, NumbersSpent, Slip, DiskFailed, NotSpool, BadPlan, BadScript, LinkFailed}
 
 -- what a run came to: a fault of each object is the outcome
 record CountsAll (source : SourceTold) (files : FilesTold) (disk : DiskTold) (link : LinkTold) (out : SinkTold)
@@ -110,7 +112,6 @@ written_counts line out DiskFailed was = absurd was
 written_counts line out (NotSpool at) was = absurd was
 written_counts line out Slip was = absurd was
 written_counts line out (BadPlan key what) was = absurd was
-written_counts line out (LineNotBuilt number) was = absurd was
 written_counts line out (BadScript number) was = absurd was
 written_counts line out LinkFailed was = absurd was
 
@@ -142,7 +143,6 @@ text_plain text DiskFailed was = absurd was
 text_plain text (NotSpool at) was = absurd was
 text_plain text Slip was = absurd was
 text_plain text (BadPlan key what) was = absurd was
-text_plain text (LineNotBuilt number) was = absurd was
 text_plain text (BadScript number) was = absurd was
 text_plain text LinkFailed was = absurd was
 
@@ -166,7 +166,6 @@ hex_plain digits DiskFailed was = absurd was
 hex_plain digits (NotSpool at) was = absurd was
 hex_plain digits Slip was = absurd was
 hex_plain digits (BadPlan key what) was = absurd was
-hex_plain digits (LineNotBuilt number) was = absurd was
 hex_plain digits (BadScript number) was = absurd was
 hex_plain digits LinkFailed was = absurd was
 
@@ -219,7 +218,6 @@ module _ (source : SourceTold) (files : FilesTold) (disk : DiskTold) (link : Lin
   unread_counts limit stands left (NotSpool at) was = absurd was
   unread_counts limit stands left Slip was = absurd was
   unread_counts limit stands left (BadPlan key what) was = absurd was
-  unread_counts limit stands left (LineNotBuilt number) was = absurd was
   unread_counts limit stands left (BadScript number) was = absurd was
   unread_counts limit stands left LinkFailed was = absurd was
 
@@ -271,7 +269,6 @@ file_refused which name files out left DiskFailed was = absurd was
 file_refused which name files out left (NotSpool at) was = absurd was
 file_refused which name files out left Slip was = absurd was
 file_refused which name files out left (BadPlan key what) was = absurd was
-file_refused which name files out left (LineNotBuilt number) was = absurd was
 file_refused which name files out left (BadScript number) was = absurd was
 file_refused which name files out left LinkFailed was = absurd was
 
@@ -299,12 +296,10 @@ by_end out plans schedule end.WriteFailed short = record { read = refl; file = r
 
 left_of : (text : List ℕ) (out : SinkTold) (fault : ScheduleFault) → ScheduleRefuses text out fault → IsUntouched out
 left_of text out (schedule_fault.Line number) (at, left) = left
-left_of text out (schedule_fault.NotBuilt number) (at, left) = left
 left_of text out schedule_fault.NoMemory left = left
 
 schedule_plain : (fault : ScheduleFault) → IsPlain (schedule_refusal fault)
 schedule_plain (schedule_fault.Line number) = record { read = refl; file = refl; on_disk = refl; on_link = refl; write = refl }
-schedule_plain (schedule_fault.NotBuilt number) = record { read = refl; file = refl; on_disk = refl; on_link = refl; write = refl }
 schedule_plain schedule_fault.NoMemory = record { read = refl; file = refl; on_disk = refl; on_link = refl; write = refl }
 
 text_counts :
@@ -490,8 +485,6 @@ idle_counts link out outcome plain idle = record {
 script_plain : (fault : ScheduleFault) → IsPlain (script_refusal fault)
 script_plain (schedule_fault.Line number) =
     record { read = refl; file = refl; on_disk = refl; on_link = refl; write = refl }
-script_plain (schedule_fault.NotBuilt number) =
-    record { read = refl; file = refl; on_disk = refl; on_link = refl; write = refl }
 script_plain schedule_fault.NoMemory =
     record { read = refl; file = refl; on_disk = refl; on_link = refl; write = refl }
 
@@ -541,6 +534,33 @@ module _ (source : SourceTold) (files : FilesTold) (disk : DiskTold) (link : Lin
       (untouched out idle.written) outcome refuses
   host_counts (inr (plans, are, inr (text, read, runs))) =
       linked_only read.cause.same are.read.cause.same (script_counts plans.host text polls link out outcome runs)
+
+-- ---- made rounds
+
+rounds_count : (out : SinkTold) (rounds : ℕ) (ended : RunEnd) → MakesRounds out made_plans rounds ended
+    → CountsWrites out (outcome_of_end ended)
+rounds_count out rounds end.Whole (at, wrote) =
+    record { read = refl; file = refl; on_disk = refl; on_link = refl; write = wrote.health.same }
+rounds_count out rounds end.Slip (at, wrote) =
+    record { read = refl; file = refl; on_disk = refl; on_link = refl; write = wrote.health.same }
+rounds_count out rounds end.Turns (at, wrote) =
+    record { read = refl; file = refl; on_disk = refl; on_link = refl; write = wrote.health.same }
+rounds_count out rounds end.NumbersSpent (at, wrote) =
+    record { read = refl; file = refl; on_disk = refl; on_link = refl; write = wrote.health.same }
+rounds_count out rounds end.DiskFailed none = absurd none
+rounds_count out rounds end.NoMemory wrote =
+    record { read = refl; file = refl; on_disk = refl; on_link = refl; write = wrote.health.same }
+rounds_count out rounds end.WriteFailed (at, short) =
+    record { read = refl; file = refl; on_disk = refl; on_link = refl; write = short.fault.rose }
+
+make_counts : (rounds : ℕ) (out : SinkTold) (outcome : Outcome) → MakeComes rounds out outcome
+    → CountsWrites out outcome
+make_counts rounds out outcome (inl (is, left)) =
+    plain_counts out outcome
+    (subst IsPlain (sym is) (record { read = refl; file = refl; on_disk = refl; on_link = refl; write = refl }))
+    (untouched out left)
+make_counts rounds out outcome (inr was) =
+    subst (CountsWrites out) (sym was.outcome_is) (rounds_count out rounds was.ended was.made)
 
 -- ---- the equipment's end
 
@@ -608,7 +628,6 @@ module _ (source : SourceTold) (files : FilesTold) (disk : DiskTold) (link : Lin
     start_counts TurnsSpent refuses idle = absurd refuses
     start_counts Slip refuses idle = absurd refuses
     start_counts (BadPlan key what) refuses idle = absurd refuses
-    start_counts (LineNotBuilt number) refuses idle = absurd refuses
     start_counts (BadScript number) refuses idle = absurd refuses
     start_counts LinkFailed refuses idle = absurd refuses
 
@@ -790,6 +809,10 @@ comes_counts (Some (Spool name)) source files disk link out outcome (unread, fil
     all_told (Some (Spool name)) source files disk link out outcome
     (spool_counts source files disk link out outcome (ShowsSpool name disk out) unread files_unread uncalled
     (λ ended shows. by_listing disk out ended shows.shown) was)
+comes_counts (Some (Make rounds)) source files disk link out outcome (unread, files_unread, unused, uncalled, comes) =
+    all_told (Some (Make rounds)) source files disk link out outcome
+    (written_only source files disk link out outcome (source_stands source unread)
+    (others_stand files disk link files_unread unused uncalled) (make_counts rounds out outcome comes))
 
 run_counts : (asked : Option Asked) (source : SourceTold) (files : FilesTold) (disk : DiskTold) (link : LinkTold) (out : SinkTold) (outcome : Outcome) →
     RunComes asked source files disk link out outcome → CountsFaults asked source files disk link out outcome

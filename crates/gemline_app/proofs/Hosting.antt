@@ -1,5 +1,5 @@
 -- A plan and a script that were read, and what came of them.
-use Rattle.std.proofs.Common.{◌≡◌, ◌≢◌, ◌∙◌, ℕ, List, Option, Result, Ok, Err, refl, sym, ap, subst, inl, inr}
+use Rattle.std.proofs.Common.{◌≡◌, ◌∙◌, ℕ, List, Option, Result, Ok, Err, refl, sym, ap, subst, inl, inr}
 use Rattle.gl_base.specs.Told.{FilesTold, SinkTold}
 use Rattle.gl_base.specs.declared.files.FileAnswer.TheVariants as file
 use Rattle.gl_base.specs.declared.side.Side.{Side}
@@ -36,7 +36,6 @@ use Rattle.gemline_app.specs.declared.outcome.Outcome.{Outcome}
 pub record ReadsScript (side : Side) (text : List ℕ) (result : Result Script ScheduleFault) : Type 0 where
   pub only : (lines : List ScriptLine) → IsScript side text lines → ReadsOnly (λ (s : Script). s.lines) lines result
   pub line : (number : ℕ) → result ≡ Err (fault.Line number) → OutsideScriptAt side text number
-  pub not_built : (number : ℕ) → result ≢ Err (fault.NotBuilt number)
   pub outside : (number : ℕ) → OutsideScriptAt side text number → RefusesOnly (fault.Line number) result
 
 -- what a start has left, and its notes
@@ -91,7 +90,6 @@ module _ (end : Side) (Idle : Type 0) (Was : List ScriptLine → Type 0) (text :
 
   refuses : (named : ScheduleFault) → ReadsScript end text (Err named) → ScriptRefuses end text named
   refuses (fault.Line number) reads = reads.line number refl
-  refuses (fault.NotBuilt number) reads = reads.not_built number refl
   refuses fault.NoMemory reads = tt
 
   comes_idle : (found named : ScheduleFault) → RefusesOnly {R = Script} named (Err found) → Idle

@@ -6,6 +6,7 @@ mod Equipping
 mod FaultsTold
 mod Filing
 mod FirstExchange
+mod FittingMade
 mod HexLaws
 mod HexMeaning
 mod HostAnswered
@@ -14,6 +15,7 @@ mod Hosting
 mod InputDue
 mod LinkedAnswered
 mod LinkedDue
+mod MakeDue
 mod ReadBack
 mod ReplayDue
 mod Replaying

@@ -12,6 +12,7 @@ use Rattle.end_pair.specs.declared.answers.RunEnd.{RunEnd}
 use Rattle.end_pair.specs.declared.answers.RunEnd.TheVariants as end
 use Rattle.line_world.proofs.Within.{not-at-work}
 use Rattle.line_world.specs.Run.{Runs, StaysWithin, went_of}
+use Rattle.equipment_tables.specs.Plan.{PlansFit}
 use Rattle.equipment_tables.specs.declared.plan.Plans.{Plans}
 use Rattle.gem_config.specs.Plans.{IsReadAs}
 use Rattle.gem_config.specs.Reading.{Read, refused as is_refused}
@@ -26,7 +27,7 @@ use Rattle.gemline_app.specs.Words.{file_limit}
 use Rattle.gemline_app.specs.declared.outcome.FileRole.{FileRole}
 use Rattle.gemline_app.specs.declared.outcome.FileRole.TheVariants as role
 use Rattle.gemline_app.specs.declared.outcome.Outcome.{Outcome}
-use Rattle.gemline_app.specs.declared.outcome.Outcome.TheVariants.{Done, Usage, BadFrame, BadText, BadHex, BadItem, BadLine, Longer, FileLonger, FileFailed, ReadFailed, NoMemory, WriteFailed, TurnsSpent, NumbersSpent, Slip, DiskFailed, NotSpool, BadPlan, LineNotBuilt, BadScript, LinkFailed}
+use Rattle.gemline_app.specs.declared.outcome.Outcome.TheVariants.{Done, Usage, BadFrame, BadText, BadHex, BadItem, BadLine, Longer, FileLonger, FileFailed, ReadFailed, NoMemory, WriteFailed, TurnsSpent, NumbersSpent, Slip, DiskFailed, NotSpool, BadPlan, BadScript, LinkFailed}
 
 -- what reading a file came to, where the files tell its bytes
 told_answer : (limit : ℕ) (name bytes : List ℕ) (told : Option (List MemFile)) (answer : FileAnswer) → told_file name told ≡ Some bytes →
@@ -66,7 +67,6 @@ refused which name bytes files DiskFailed told refuses = absurd refuses
 refused which name bytes files (NotSpool at) told refuses = absurd refuses
 refused which name bytes files Slip told refuses = absurd refuses
 refused which name bytes files (BadPlan key what) told refuses = absurd refuses
-refused which name bytes files (LineNotBuilt number) told refuses = absurd refuses
 refused which name bytes files (BadScript number) told refuses = absurd refuses
 refused which name bytes files LinkFailed told refuses = absurd refuses
 
@@ -97,38 +97,35 @@ failed source files disk link out outcome found is rose = subst (Hinders source 
 ended_due :
     (source : SourceTold) (files : FilesTold) (disk : DiskTold) (link : LinkTold) (out : SinkTold) (plans : Plans)
     (schedule : Schedule) (ended : RunEnd) (outcome due : Outcome)
-    → outcome ≡ outcome_of_end ended → Runs out plans schedule ended → StaysWithin plans schedule
+    → PlansFit plans → outcome ≡ outcome_of_end ended → Runs out plans schedule ended → StaysWithin plans schedule
     → due ≡ outcome_of_run (went_of plans schedule) → Comes source files disk link out outcome due
-ended_due source files disk link out plans schedule end.Whole outcome due is (at, wrote) within is_due =
+ended_due source files disk link out plans schedule end.Whole outcome due fit is (at, wrote) within is_due =
     inl (is ∙ sym (is_due ∙ ap outcome_of_run at))
-ended_due source files disk link out plans schedule end.Slip outcome due is (at, wrote) within is_due =
+ended_due source files disk link out plans schedule end.Slip outcome due fit is (at, wrote) within is_due =
     inl (is ∙ sym (is_due ∙ ap outcome_of_run at))
-ended_due source files disk link out plans schedule end.Turns outcome due is (inl (at, wrote)) within is_due =
+ended_due source files disk link out plans schedule end.Turns outcome due fit is (inl (at, wrote)) within is_due =
     inl (is ∙ sym (is_due ∙ ap outcome_of_run at))
-ended_due source files disk link out plans schedule end.Turns outcome due is (inr work) within is_due =
-    absurd (not-at-work out plans schedule work within)
-ended_due source files disk link out plans schedule end.NumbersSpent outcome due is (at, wrote) within is_due =
+ended_due source files disk link out plans schedule end.Turns outcome due fit is (inr work) within is_due =
+    absurd (not-at-work out plans schedule fit work within)
+ended_due source files disk link out plans schedule end.NumbersSpent outcome due fit is (at, wrote) within is_due =
     inl (is ∙ sym (is_due ∙ ap outcome_of_run at))
-ended_due source files disk link out plans schedule end.DiskFailed outcome due is none within is_due = absurd none
-ended_due source files disk link out plans schedule end.NoMemory outcome due is part within is_due =
+ended_due source files disk link out plans schedule end.DiskFailed outcome due fit is none within is_due = absurd none
+ended_due source files disk link out plans schedule end.NoMemory outcome due fit is part within is_due =
     inr (hindered source files disk link out outcome is)
-ended_due source files disk link out plans schedule end.WriteFailed outcome due is short within is_due =
+ended_due source files disk link out plans schedule end.WriteFailed outcome due fit is short within is_due =
     inr (subst (Hinders source files disk link out) (sym is) short.fault.rose)
 
 text_due :
     (source : SourceTold) (files : FilesTold) (disk : DiskTold) (link : LinkTold) (out : SinkTold) (plans : Plans) (text : List ℕ)
     (outcome due : Outcome)
-    → TextRuns plans text out outcome → ScheduleAsks plans text due → Comes source files disk link out outcome due
-text_due source files disk link out plans text outcome due runs (inl (schedule, is, within, is_due)) = elim (runs.only schedule is) [
+    → PlansFit plans → TextRuns plans text out outcome → ScheduleAsks plans text due
+    → Comes source files disk link out outcome due
+text_due source files disk link out plans text outcome due fit runs (inl (schedule, is, within, is_due)) = elim (runs.only schedule is) [
   | inl was ↦
-      ended_due source files disk link out plans schedule was.ended outcome due was.outcome_is was.wrote within is_due
+      ended_due source files disk link out plans schedule was.ended outcome due fit was.outcome_is was.wrote within is_due
   | inr memory ↦ inr (hindered source files disk link out outcome memory.0)
 ]
-text_due source files disk link out plans text outcome due runs (inr (inl (n, at, is_due))) = elim (runs.outside n at).0 [
-  | inl named ↦ inl (named ∙ sym is_due)
-  | inr memory ↦ inr (hindered source files disk link out outcome memory)
-]
-text_due source files disk link out plans text outcome due runs (inr (inr (n, at, is_due))) = elim (runs.later n at).0 [
+text_due source files disk link out plans text outcome due fit runs (inr (n, at, is_due)) = elim (runs.outside n at).0 [
   | inl named ↦ inl (named ∙ sym is_due)
   | inr memory ↦ inr (hindered source files disk link out outcome memory)
 ]
@@ -138,10 +135,10 @@ text_due source files disk link out plans text outcome due runs (inr (inr (n, at
 schedule_due :
     (source : SourceTold) (files later : FilesTold) (disk : DiskTold) (link : LinkTold) (out : SinkTold) (plans : Plans)
     (name text : List ℕ) (outcome due : Outcome)
-    → later.health.faults ≡ files.health.faults → later.health_after ≡ files.health_after
+    → PlansFit plans → later.health.faults ≡ files.health.faults → later.health_after ≡ files.health_after
     → told_file name later.before ≡ Some text → ScheduleComes plans name later out outcome
     → IsScheduleDue plans text due → Comes source files disk link out outcome due
-schedule_due source files later disk link out plans name text outcome due since same told (inl (refuses, untouched)) is_due =
+schedule_due source files later disk link out plans name text outcome due fit since same told (inl (refuses, untouched)) is_due =
     go (refused role.Schedule name text later outcome told refuses) is_due
   where
     go : Refused role.Schedule text later outcome → IsScheduleDue plans text due
@@ -153,7 +150,7 @@ schedule_due source files later disk link out plans name text outcome due since 
         (subst (λ (n : ℕ). Rose n files.health_after.faults) since
         (subst (λ h. Rose later.health.faults h.faults) same rose)))
     go (inr (inr memory)) due_is = inr (hindered source files disk link out outcome memory)
-schedule_due source files later disk link out plans name text outcome due since same told (inr (whole, was, runs)) is_due =
+schedule_due source files later disk link out plans name text outcome due fit since same told (inr (whole, was, runs)) is_due =
     go is_due
   where
     read : (text ≡ whole) × (length text ≤ file_limit role.Schedule)
@@ -162,7 +159,7 @@ schedule_due source files later disk link out plans name text outcome due since 
     go : IsScheduleDue plans text due → Comes source files disk link out outcome due
     go (inl (past, is)) = let within = read.1 in absurd (omega arith)
     go (inr (within, asks)) =
-        text_due source files disk link out plans text outcome due
+        text_due source files disk link out plans text outcome due fit
         (subst (λ (t : List ℕ). TextRuns plans t out outcome) (sym read.0) runs) asks
 
 -- what a plan was read as
@@ -208,7 +205,7 @@ module _ (source : SourceTold) (files later : FilesTold) (disk : DiskTold) (link
   plans_due plans since same before read comes (inl (key, what, means, is_due)) =
       absurd (no_fault plans _ (read.only (is_refused key what) means))
   plans_due plans since same before read comes (inr (meant, text, means, told, rest)) =
-      schedule_due source files later disk link out plans schedule text outcome due since same
+      schedule_due source files later disk link out plans schedule text outcome due read.fits since same
       (ap (told_file schedule) before ∙ told) comes
       (subst (λ (p : Plans). IsScheduleDue p text due) (one_plan meant plans (read.only (Ok meant) means)) rest)
 

@@ -1,7 +1,7 @@
 -- A schedule's text that was read, and what came of it.
 use Rattle.std.proofs.Common.{◌≡◌, ◌≢◌, ℕ, List, Result, Ok, Err, refl, sym, ap, subst, inl, inr}
 use Rattle.line_schedule.specs.Lines.{ReadsOnly, RefusesOnly}
-use Rattle.line_schedule.specs.Schedule.{IsSchedule, LaterAt, OutsideAt}
+use Rattle.line_schedule.specs.Schedule.{IsSchedule, OutsideAt}
 use Rattle.line_schedule.specs.declared.event.Event.{Event}
 use Rattle.line_schedule.specs.declared.schedule.Schedule.{Schedule}
 use Rattle.line_schedule.specs.declared.schedule.ScheduleFault.{ScheduleFault}
@@ -10,8 +10,8 @@ use Rattle.equipment_tables.specs.declared.plan.Plans.{Plans}
 use Rattle.gl_base.specs.Told.{SinkTold}
 use Rattle.end_pair.specs.declared.answers.RunEnd.{RunEnd}
 use Rattle.end_pair.specs.declared.answers.RunEnd.TheVariants as end
-use Rattle.line_world.specs.Run.{ComesInOrder, HoldsReports, HoldsSpool, Runs, log_of}
-use Rattle.trace_log.specs.Delivered.{Delivered}
+use Rattle.line_world.specs.Run.{Runs, log_of}
+use Rattle.line_world.specs.Safe.{IsSafe}
 use Rattle.gemline_app.specs.Replay.{ComesOnly, ScheduleRefuses, TextRuns, WasReplayed, outcome_of_end, schedule_refusal}
 use Rattle.gemline_app.specs.Written.{IsUntouched}
 use Rattle.gemline_app.specs.declared.outcome.Outcome.{Outcome}
@@ -20,9 +20,7 @@ use Rattle.gemline_app.specs.declared.outcome.Outcome.{Outcome}
 pub record ReadsText (text : List ℕ) (result : Result Schedule ScheduleFault) : Type 0 where
   pub only : (events : List Event) → IsSchedule text events → ReadsOnly (λ (s : Schedule). s.events) events result
   pub line : (number : ℕ) → result ≡ Err (schedule_fault.Line number) → OutsideAt text number
-  pub not_built : (number : ℕ) → result ≡ Err (schedule_fault.NotBuilt number) → LaterAt text number
   pub outside : (number : ℕ) → OutsideAt text number → RefusesOnly (schedule_fault.Line number) result
-  pub later : (number : ℕ) → LaterAt text number → RefusesOnly (schedule_fault.NotBuilt number) result
 
 pub runs_schedule :
     (plans : Plans) (text : List ℕ) (out : SinkTold) (schedule : Schedule) (outcome : Outcome)
@@ -31,7 +29,6 @@ pub runs_schedule :
 runs_schedule plans text out schedule outcome reads is was = record {
   because = inl (schedule, is, was);
   outside = λ number at. absurd (reads.outside number at);
-  later = λ number at. absurd (reads.later number at);
   only = λ other is_other.
       let same : schedule.events ≡ other.events = reads.only other.events is_other in
       inl (subst (λ (s : Schedule). WasReplayed plans s out outcome)
@@ -40,7 +37,6 @@ runs_schedule plans text out schedule outcome reads is was = record {
 
 refuses : (text : List ℕ) (out : SinkTold) (fault : ScheduleFault) → ReadsText text (Err fault) → IsUntouched out → ScheduleRefuses text out fault
 refuses text out (schedule_fault.Line number) reads untouched = (reads.line number refl, untouched)
-refuses text out (schedule_fault.NotBuilt number) reads untouched = (reads.not_built number refl, untouched)
 refuses text out schedule_fault.NoMemory reads untouched = untouched
 
 comes_only : (out : SinkTold) (fault named : ScheduleFault) → RefusesOnly {R = Schedule} named (Err fault) → IsUntouched out
@@ -55,7 +51,6 @@ refuses_text plans text out fault outcome reads untouched is =
     subst (TextRuns plans text out) (sym is) (record {
       because = inr (fault, refuses text out fault reads untouched, refl);
       outside = λ number at. comes_only out fault (schedule_fault.Line number) (reads.outside number at) untouched;
-      later = λ number at. comes_only out fault (schedule_fault.NotBuilt number) (reads.later number at) untouched;
       only = λ other is_other. inr (ap schedule_refusal (reads.only other.events is_other), untouched);
     })
 
@@ -63,17 +58,11 @@ refuses_text plans text out fault outcome reads untouched is =
 pub replayed_over :
     (plans : Plans) (schedule : Schedule) (out : SinkTold) (ended : RunEnd) (outcome : Outcome)
     → outcome ≡ outcome_of_end ended → ended ≢ end.DiskFailed
-    → Runs out plans schedule ended
-    → Delivered (log_of plans schedule) → ComesInOrder plans (log_of plans schedule)
-    → HoldsReports plans (log_of plans schedule) → HoldsSpool plans (log_of plans schedule)
-    → WasReplayed plans schedule out outcome
-replayed_over plans schedule out ended outcome is no_disk wrote delivered in_order reported spooled = record {
+    → Runs out plans schedule ended → IsSafe plans (log_of plans schedule) → WasReplayed plans schedule out outcome
+replayed_over plans schedule out ended outcome is no_disk wrote safe = record {
   ended = ended;
   outcome_is = is;
   no_disk = no_disk;
   wrote = wrote;
-  delivered = delivered;
-  in_order = in_order;
-  reported = reported;
-  spooled = spooled;
+  safe = safe;
 }

@@ -19,7 +19,6 @@ use Rattle.equipment_node.specs.End.{machine}
 use Rattle.equipment_node.specs.Equipment.{EquipmentView, is_marked_out, starts}
 use Rattle.equipment_node.specs.Held.{HasMark, IsUntouched as HasUntouched}
 use Rattle.equipment_node.specs.Left.{Holds, Leaves}
-use Rattle.equipment_node.specs.Sound.{AllCanBeSent}
 use Rattle.equipment_node.specs.Step.{deadline_of}
 use Rattle.end_run.specs.Counts.{Counted, Counts, counted_by}
 use Rattle.end_run.specs.Outcome.{RunsOver}
@@ -80,12 +79,12 @@ pub record RunsFrom (start : Step EquipmentView Happening) (lines : List ScriptL
       ended
   pub holds : HoldsLeft left stop after
 
--- it was started by its plan over what a file holds; where each message there can be sent, it ran from that start
+-- it was started by its plan over what a file holds, and ran from that start
 pub record RanOver (plan : EquipmentPlan) (file : SpoolFile) (lines : List ScriptLine) (polls : ℕ) (disk : DiskTold)
     (link : LinkTold) (out : SinkTold) (ended : Ending) : Type 0 where
   pub start : Step EquipmentView Happening
   pub started : starts plan file.slots file.list file.mark ≡ Goes start
-  pub ran : AllCanBeSent file.list → RunsFrom start lines polls disk.after link out ended
+  pub ran : RunsFrom start lines polls disk.after link out ended
 
 -- ---- faults
 

@@ -1,6 +1,6 @@
 -- What a run of the program is, by its words and what the outside tells (this profile).
 use Rattle.std.specs.Prelude.{◌≡◌, ◌⊎◌, ℕ, List, Option, Some, None, Result, Ok, Err}
-use Rattle.command_words.specs.Asked.{Asked, Equipment, Format, Host, Replay, Show, Spell, SpellHex, Spool}
+use Rattle.command_words.specs.Asked.{Asked, Equipment, Format, Host, Make, Replay, Show, Spell, SpellHex, Spool}
 use Rattle.command_words.specs.Words.{asked_of}
 use Rattle.gl_base.specs.Sending.{Sends, WroteShort, WroteText}
 use Rattle.gl_base.specs.Told.{FilesTold, SinkTold, SourceTold}
@@ -23,6 +23,7 @@ use Rattle.gemline_app.specs.Equipment.{EquipmentComes}
 use Rattle.gemline_app.specs.Host.{HostComes}
 use Rattle.gemline_app.specs.Inputs.{InputRefuses, IsUnread, WasRead}
 use Rattle.gemline_app.specs.LinkTold.{IsUncalled, LinkTold}
+use Rattle.gemline_app.specs.Make.{MakeComes}
 use Rattle.gemline_app.specs.Outcome.{line_of, name_of, outcome_of_show, status_of}
 use Rattle.gemline_app.specs.Spelling.{HexSpells, spelled_line, text_line, text_place}
 use Rattle.gemline_app.specs.Replay.{ReplayComes}
@@ -128,6 +129,8 @@ ComesFrom (Some (Format spool slots)) source files disk link out outcome =
     IsUnread source × AreUnread files × IsUncalled link × EndedAs (FormatsSpool spool slots disk out) outcome
 ComesFrom (Some (Spool spool)) source files disk link out outcome =
     IsUnread source × AreUnread files × IsUncalled link × EndedAs (ShowsSpool spool disk out) outcome
+ComesFrom (Some (Make rounds)) source files disk link out outcome =
+    IsUnread source × AreUnread files × IsUnused disk × IsUncalled link × MakeComes rounds out outcome
 
 -- what a run comes from: the words, unless memory runs out over them
 abbrev pub RunComes : Option Asked → SourceTold → FilesTold → DiskTold → LinkTold → SinkTold → Outcome → Type 0

@@ -1,6 +1,6 @@
 -- What holds of all runs.
 use Rattle.std.specs.Prelude.{◌≡◌, ◌<◌, ◌≤◌, ◌⊎◌, ℕ, Bool, true, false, List, [], length, Option, Some, None, Ok}
-use Rattle.command_words.specs.Asked.{Asked, Equipment, Format, Host, Replay, Show, Spell, SpellHex, Spool}
+use Rattle.command_words.specs.Asked.{Asked, Equipment, Format, Host, Make, Replay, Show, Spell, SpellHex, Spool}
 use Rattle.command_words.specs.Words.{asked_of}
 use Rattle.equipment_tables.specs.declared.plan.Plans.{Plans}
 use Rattle.gem_config.specs.Plans.{Means}
@@ -14,7 +14,7 @@ use Rattle.gl_base.specs.Link.{LinkContents}
 use Rattle.gl_base.specs.declared.link.LinkIn.{LinkIn}
 use Rattle.gl_base.specs.declared.side.Side.{Side}
 use Rattle.gl_base.specs.declared.side.Side.TheVariants as side
-use Rattle.line_schedule.specs.Schedule.{IsSchedule, LaterAt, OutsideAt}
+use Rattle.line_schedule.specs.Schedule.{IsSchedule, OutsideAt}
 use Rattle.line_schedule.specs.Script.{IsScript, OutsideScriptAt}
 use Rattle.line_schedule.specs.declared.schedule.Schedule.{Schedule}
 use Rattle.trace_log.specs.Log.{Happening}
@@ -22,12 +22,12 @@ use Rattle.message_end.specs.Core.{Step}
 use Rattle.message_end.specs.Core.Went.{Goes}
 use Rattle.equipment_tables.specs.declared.plan.EquipmentPlan.{EquipmentPlan}
 use Rattle.equipment_node.specs.Equipment.{EquipmentView, is_marked_out, starts}
-use Rattle.equipment_node.specs.Sound.{AllCanBeSent}
 use Rattle.end_run.specs.Pieces.{Piece as RunPiece}
 use Rattle.end_run.specs.Script.{ScriptLine}
 use Rattle.end_run.specs.declared.ending.Ending.{Ending as RunEnding}
 use Rattle.end_pair.specs.declared.answers.WorldStep.{WorldStep}
 use Rattle.end_pair.specs.declared.answers.WorldStep.TheVariants as went
+use Rattle.line_world.specs.Make.{make_schedule}
 use Rattle.line_world.specs.Run.{StaysWithin, went_of}
 use Rattle.line_show.specs.Capture.{Piece, Reads}
 use Rattle.line_show.specs.Lines.{lines_of}
@@ -49,12 +49,13 @@ use Rattle.gemline_app.specs.Gemline.{IsRun}
 use Rattle.gemline_app.specs.HexInput.{HexMeans, IsHexBreak}
 use Rattle.gemline_app.specs.Equipment.{equipment_run}
 use Rattle.gemline_app.specs.Host.{host_run}
+use Rattle.gemline_app.specs.Make.{made_plans}
 use Rattle.gemline_app.specs.Outcome.{outcome_of_show}
 use Rattle.gemline_app.specs.Spelling.{HexSpells, spelled_line, text_line, text_place}
 use Rattle.gemline_app.specs.Words.{capture_limit, file_limit, item_limit, script_limit}
 use Rattle.gemline_app.specs.declared.outcome.FileRole.TheVariants as role
 use Rattle.gemline_app.specs.declared.outcome.Outcome.{Outcome}
-use Rattle.gemline_app.specs.declared.outcome.Outcome.TheVariants.{Done, Usage, BadText, BadHex, BadItem, BadLine, Longer, FileLonger, FileFailed, ReadFailed, NoMemory, WriteFailed, TurnsSpent, NumbersSpent, Slip, DiskFailed, NotSpool, BadPlan, LineNotBuilt, BadScript, LinkFailed}
+use Rattle.gemline_app.specs.declared.outcome.Outcome.TheVariants.{Done, Usage, BadText, BadHex, BadItem, BadLine, Longer, FileLonger, FileFailed, ReadFailed, NoMemory, WriteFailed, TurnsSpent, NumbersSpent, Slip, DiskFailed, NotSpool, BadPlan, BadScript, LinkFailed}
 
 -- what a capture asks for: its pieces, and the outcome of how they end
 abbrev pub CaptureAsks : List ℕ → Outcome → Type 0
@@ -85,22 +86,23 @@ IsInputDue limit Asks source due =
     (bytes : List ℕ) × (source.before ≡ Some bytes)
     × (((limit < length bytes) × (due ≡ Longer)) ⊎ ((length bytes ≤ limit) × Asks bytes due))
 
--- what the text of a schedule asks for: its trace, where the works of its run stay within the disk's room, or its first
--- line that can't be carried out
+-- the outcome of how a run goes, which it does in the first four of these ways alone (`runs_end_four_ways` of end_pair)
 abbrev pub outcome_of_run : WorldStep → Outcome
 outcome_of_run went.Went = Done
 outcome_of_run went.Slip = Slip
 outcome_of_run went.Turns = TurnsSpent
 outcome_of_run went.NumbersSpent = NumbersSpent
+outcome_of_run went.PowerLost = NoMemory
 outcome_of_run went.DiskFailed = DiskFailed
 outcome_of_run went.NoMemory = NoMemory
 
+-- what the text of a schedule asks for: its trace, where the works of its run from each start on ask for less than half
+-- of the disk's room, or its first line that is outside the grammar
 abbrev pub ScheduleAsks : Plans → List ℕ → Outcome → Type 0
 ScheduleAsks plans text due =
     ((schedule : Schedule) × IsSchedule text schedule.events × StaysWithin plans schedule
     × (due ≡ outcome_of_run (went_of plans schedule)))
-    ⊎ (((number : ℕ) × OutsideAt text number × (due ≡ BadLine number))
-    ⊎ ((number : ℕ) × LaterAt text number × (due ≡ LineNotBuilt number)))
+    ⊎ ((number : ℕ) × OutsideAt text number × (due ≡ BadLine number))
 
 -- the outcome that is due of a schedule's text
 abbrev pub IsScheduleDue : Plans → List ℕ → Outcome → Type 0
@@ -167,13 +169,12 @@ abbrev pub HostAsks : ℕ → LinkTold → Plans → List ScriptLine → Outcome
 HostAsks polls link plans lines due = RunAsks (host_run plans.host lines polls) link due
 
 -- what they ask of the equipment over a file that a disk tells: the first place at which its bytes break; or they stand
--- for a spool, and no system bytes are left, or each message there can be sent and it runs
+-- for a spool, and no system bytes are left, or it runs
 abbrev pub BytesAskRun : EquipmentPlan → ℕ → LinkTold → List ScriptLine → List ℕ → Outcome → Type 0
 BytesAskRun plan polls link lines bytes due =
     ((at : ℕ) × (spool_break bytes ≡ Some at) × (due ≡ NotSpool at))
     ⊎ (((spool_break bytes ≡ None) × (is_marked_out (file_in bytes).mark ≡ true) × (due ≡ NumbersSpent))
-    ⊎ ((spool_break bytes ≡ None) × AllCanBeSent (file_in bytes).list
-    × ((start : Step EquipmentView Happening)
+    ⊎ ((spool_break bytes ≡ None) × ((start : Step EquipmentView Happening)
     × (starts plan (file_in bytes).slots (file_in bytes).list (file_in bytes).mark ≡ Goes start)
     × RunAsks (equipment_run start lines polls) link due)))
 
@@ -192,6 +193,15 @@ outcome_of_break (Some at) = NotSpool at
 abbrev pub IsSpoolDue : DiskTold → Outcome → Type 0
 IsSpoolDue disk due = (s : Story) × (disk.before ≡ Some s) × (due ≡ outcome_of_break (spool_break s.now.bytes))
 
+-- ---- made rounds
+
+-- the outcome that is due of so many: their summary, where the works of their run from each start on ask for less than
+-- half of the disk's room
+abbrev pub IsMakeDue : ℕ → Outcome → Type 0
+IsMakeDue rounds due =
+    StaysWithin made_plans (make_schedule rounds)
+    × (due ≡ outcome_of_run (went_of made_plans (make_schedule rounds)))
+
 -- the outcome that is due of words: usage where they are no command's, else what the command's input, files or disk ask
 -- for
 abbrev pub IsDue : Option Asked → SourceTold → FilesTold → DiskTold → LinkTold → Outcome → Type 0
@@ -206,6 +216,7 @@ IsDue (Some (Host plan address polls)) source files disk link due =
     IsLinkedDue side.Host (HostAsks polls link) plan source files due
 IsDue (Some (Format spool slots)) source files disk link due = due ≡ Done
 IsDue (Some (Spool spool)) source files disk link due = IsSpoolDue disk due
+IsDue (Some (Make rounds)) source files disk link due = IsMakeDue rounds due
 
 -- an outcome that may come in place of the one that is due: memory ran out, or a count of faults rose
 abbrev pub Hinders : SourceTold → FilesTold → DiskTold → LinkTold → SinkTold → Outcome → Type 0

@@ -10,6 +10,7 @@ pub mod Laws
 pub mod LinkTold
 pub mod Linked
 pub mod LinkedEquipment
+pub mod Make
 pub mod Outcome
 pub mod Replay
 pub mod Spelling

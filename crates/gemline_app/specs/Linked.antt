@@ -70,16 +70,14 @@ pub record IsIdle (link : LinkTold) (out : SinkTold) : Type 0 where
 abbrev pub ComesIdle : Type 0 → Outcome → Outcome → Type 0
 ComesIdle Idle due outcome = ((outcome ≡ due) ⊎ (outcome ≡ NoMemory)) × Idle
 
--- the refusal of a script's text. Each kind of line of a script is built
+-- the refusal of a script's text
 abbrev pub script_refusal : ScheduleFault → Outcome
 script_refusal (script_fault.Line number) = BadScript number
-script_refusal (script_fault.NotBuilt number) = BadScript number
 script_refusal script_fault.NoMemory = NoMemory
 
 -- why a text is refused
 abbrev pub ScriptRefuses : Side → List ℕ → ScheduleFault → Type 0
 ScriptRefuses side text (script_fault.Line number) = OutsideScriptAt side text number
-ScriptRefuses side text (script_fault.NotBuilt number) = ⊥
 ScriptRefuses side text script_fault.NoMemory = Unit {0}
 
 -- what a text that is to be a script of a side came to: this was done of its lines, or it was refused and nothing was

@@ -16,7 +16,7 @@ use Rattle.line_show.specs.declared.printer.Stop.{Stop}
 use Rattle.line_show.specs.declared.printer.Stop.TheVariants as stop
 use Rattle.gemline_app.specs.Words.{name_in}
 use Rattle.gemline_app.specs.declared.outcome.Outcome.{Outcome}
-use Rattle.gemline_app.specs.declared.outcome.Outcome.TheVariants.{Done, Usage, BadFrame, BadText, BadHex, BadItem, BadLine, Longer, FileLonger, FileFailed, ReadFailed, NoMemory, WriteFailed, TurnsSpent, NumbersSpent, Slip, DiskFailed, NotSpool, BadPlan, LineNotBuilt, BadScript, LinkFailed}
+use Rattle.gemline_app.specs.declared.outcome.Outcome.TheVariants.{Done, Usage, BadFrame, BadText, BadHex, BadItem, BadLine, Longer, FileLonger, FileFailed, ReadFailed, NoMemory, WriteFailed, TurnsSpent, NumbersSpent, Slip, DiskFailed, NotSpool, BadPlan, BadScript, LinkFailed}
 
 -- what words come to that are no command
 abbrev pub refusal_of : WordsFault → Outcome
@@ -50,7 +50,6 @@ status_of Slip = 76
 status_of NumbersSpent = 77
 status_of DiskFailed = 74
 status_of (NotSpool at) = 78
-status_of (LineNotBuilt number) = 79
 status_of (BadScript number) = 65
 status_of LinkFailed = 69
 
@@ -92,7 +91,6 @@ head_of Slip = codes "gemline: 76 slip\n"
 head_of NumbersSpent = codes "gemline: 77 numbers\n"
 head_of DiskFailed = codes "gemline: 74 disk\n"
 head_of (NotSpool at) = codes "gemline: 78 not a spool at " ++ decimal at ++ codes "\n"
-head_of (LineNotBuilt number) = codes "gemline: 79 not built at line " ++ decimal number ++ codes "\n"
 head_of (BadScript number) = codes "gemline: 65 script line " ++ decimal number ++ codes "\n"
 head_of LinkFailed = codes "gemline: 69 link\n"
 

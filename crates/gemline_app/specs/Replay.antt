@@ -4,20 +4,20 @@ use Rattle.gl_base.specs.Files.{FilesHealth}
 use Rattle.gl_base.specs.declared.files.FileAnswer.TheVariants as file
 use Rattle.gl_base.specs.declared.files.MemFile.{MemFile}
 use Rattle.equipment_tables.specs.declared.plan.Plans.{Plans}
-use Rattle.line_schedule.specs.Schedule.{IsSchedule, LaterAt, OutsideAt}
+use Rattle.line_schedule.specs.Schedule.{IsSchedule, OutsideAt}
 use Rattle.line_schedule.specs.declared.schedule.Schedule.{Schedule}
 use Rattle.line_schedule.specs.declared.schedule.ScheduleFault.{ScheduleFault}
 use Rattle.line_schedule.specs.declared.schedule.ScheduleFault.TheVariants as schedule_fault
 use Rattle.gl_base.specs.Told.{FilesTold, SinkTold}
 use Rattle.end_pair.specs.declared.answers.RunEnd.{RunEnd}
 use Rattle.end_pair.specs.declared.answers.RunEnd.TheVariants as end
-use Rattle.line_world.specs.Run.{ComesInOrder, HoldsReports, HoldsSpool, Runs, log_of}
-use Rattle.trace_log.specs.Delivered.{Delivered}
+use Rattle.line_world.specs.Run.{Runs, log_of}
+use Rattle.line_world.specs.Safe.{IsSafe}
 use Rattle.gemline_app.specs.Files.{FileRefuses, PlanRefuses, PlansAre, WasFile}
 use Rattle.gemline_app.specs.Written.{IsUntouched}
 use Rattle.gemline_app.specs.declared.outcome.FileRole.TheVariants as role
 use Rattle.gemline_app.specs.declared.outcome.Outcome.{Outcome}
-use Rattle.gemline_app.specs.declared.outcome.Outcome.TheVariants.{Done, BadLine, LineNotBuilt, DiskFailed, TurnsSpent, NumbersSpent, Slip, NoMemory, WriteFailed}
+use Rattle.gemline_app.specs.declared.outcome.Outcome.TheVariants.{Done, BadLine, DiskFailed, TurnsSpent, NumbersSpent, Slip, NoMemory, WriteFailed}
 
 -- what the end of a run is an outcome of
 abbrev pub outcome_of_end : RunEnd → Outcome
@@ -29,25 +29,21 @@ outcome_of_end end.DiskFailed = DiskFailed
 outcome_of_end end.NoMemory = NoMemory
 outcome_of_end end.WriteFailed = WriteFailed
 
--- A schedule was carried out over these plans: its trace was written, or a part of it. Each message that its log notes
--- as delivered was sent, whole, and once; messages come in order; each report holds what its variables held at its
--- event, or at the answer; and what the equipment spools stands until it leaves with a cause, and is taken by the host
--- in order (SEMI E4, E5, E30; this profile).
+-- A schedule was carried out over these plans: its trace was written, or a part of it. Its log is safe, losses of power
+-- included: each message that it notes as delivered was sent, whole, and once in a start; messages come in order; each
+-- report holds what its variables held at its event, or at the answer; and what the equipment spools stands at each of
+-- its starts until it leaves with a cause, and is taken by the host in order (SEMI E4, E5, E30; this profile).
 pub record WasReplayed (plans : Plans) (schedule : Schedule) (out : SinkTold) (outcome : Outcome) : Type 0 where
   pub ended : RunEnd
   pub outcome_is : outcome ≡ outcome_of_end ended
   -- a disk that has no room leaves no turn
   pub no_disk : ended ≢ end.DiskFailed
   pub wrote : Runs out plans schedule ended
-  pub delivered : Delivered (log_of plans schedule)
-  pub in_order : ComesInOrder plans (log_of plans schedule)
-  pub reported : HoldsReports plans (log_of plans schedule)
-  pub spooled : HoldsSpool plans (log_of plans schedule)
+  pub safe : IsSafe plans (log_of plans schedule)
 
 -- the refusal of a schedule's text
 abbrev pub schedule_refusal : ScheduleFault → Outcome
 schedule_refusal (schedule_fault.Line number) = BadLine number
-schedule_refusal (schedule_fault.NotBuilt number) = LineNotBuilt number
 schedule_refusal schedule_fault.NoMemory = NoMemory
 
 -- an outcome comes, or memory ran out and nothing was written
@@ -57,7 +53,6 @@ ComesOnly due out outcome = ((outcome ≡ due) ⊎ (outcome ≡ NoMemory)) × Is
 -- why a text is refused
 abbrev pub ScheduleRefuses : List ℕ → SinkTold → ScheduleFault → Type 0
 ScheduleRefuses text out (schedule_fault.Line number) = OutsideAt text number × IsUntouched out
-ScheduleRefuses text out (schedule_fault.NotBuilt number) = LaterAt text number × IsUntouched out
 ScheduleRefuses text out schedule_fault.NoMemory = IsUntouched out
 
 -- what a text that is to be a schedule came to over these plans: it was carried out, or refused; and what it is decides
@@ -67,7 +62,6 @@ pub record TextRuns (plans : Plans) (text : List ℕ) (out : SinkTold) (outcome 
       ((schedule : Schedule) × IsSchedule text schedule.events × WasReplayed plans schedule out outcome)
       ⊎ ((fault : ScheduleFault) × ScheduleRefuses text out fault × (outcome ≡ schedule_refusal fault))
   pub outside : (number : ℕ) → OutsideAt text number → ComesOnly (BadLine number) out outcome
-  pub later : (number : ℕ) → LaterAt text number → ComesOnly (LineNotBuilt number) out outcome
   pub only : (schedule : Schedule) → IsSchedule text schedule.events
       → WasReplayed plans schedule out outcome ⊎ ((outcome ≡ NoMemory) × IsUntouched out)
 

@@ -1,6 +1,7 @@
 //! The equipment's end of a line over its spool file, run by a script.
 
 ghost use Rattle.std.specs.Prelude.{◌≡◌, ◌<◌, ◌^◌, None, Option, Some};
+ghost use Rattle.disk_base.specs.Disk.{TellsBytes};
 ghost use Rattle.disk_base.specs.SameDisk.{IsSameDisk};
 ghost use Rattle.gl_base.specs.Told.{files_told, sink_told, source_told};
 ghost use Rattle.spool_show.specs.Told.{disk_told};
@@ -372,6 +373,7 @@ fn run_attached<D: Disk, L: Link, W: Sink>(
 ) -> Outcome
     requires plan { EquipmentPlanFits plan.now }
     requires script { AreTold told_equipment ToolCommandFits script.now.lines }
+    requires bytes { TellsBytes (D.told disk.old) }
     ensures runs { SpoolRuns plan.now script.now.lines polls
         (disk_told D.Disk disk.old disk.new)
         (link_told L.Link link.old link.new)
@@ -405,6 +407,7 @@ fn run_over<D: Disk + Drop, L: Link, W: Sink>(
 ) -> (Outcome, D)
     requires plan { EquipmentPlanFits plan.now }
     requires script { AreTold told_equipment ToolCommandFits script.now.lines }
+    requires bytes { TellsBytes (D.told raw.disk) }
     ensures runs { SpoolRuns plan.now script.now.lines polls
         (disk_told D.Disk raw.disk result.1)
         (link_told L.Link link.old link.new)

@@ -238,9 +238,7 @@ pub(crate) fn script_refusal(fault: ScheduleFault) -> Outcome
     ensures { result ≡ script_refusal fault }
 {
     match fault {
-        ScheduleFault::Line(number) | ScheduleFault::NotBuilt(number) => {
-            Outcome::BadScript { number }
-        }
+        ScheduleFault::Line(number) => Outcome::BadScript { number },
         ScheduleFault::NoMemory => Outcome::NoMemory,
     }
 }

@@ -6,6 +6,7 @@ mod hex_input;
 mod host;
 mod inputs;
 mod laws;
+mod make;
 mod outcome;
 mod replay;
 mod run;

@@ -56,8 +56,6 @@ pub enum Outcome {
     DiskFailed,
     /// The bytes of the spool file stand for no list. They break there.
     NotSpool { at: u64 },
-    /// The line of this number, from 1, is of a kind that isn't built yet.
-    LineNotBuilt { number: u32 },
     /// The line of this number, from 1, is none of a script.
     BadScript { number: u32 },
     /// The link failed.
@@ -93,7 +91,6 @@ impl Outcome {
             Outcome::NumbersSpent => 77,
             Outcome::DiskFailed => 74,
             Outcome::NotSpool { .. } => 78,
-            Outcome::LineNotBuilt { .. } => 79,
         }
     }
 
@@ -137,13 +134,6 @@ impl Outcome {
             Outcome::DiskFailed => put(&mut line, b"gemline: 74 disk\n"),
             Outcome::NotSpool { at } => {
                 put_place(&mut line, b"gemline: 78 not a spool at ", *at);
-            }
-            Outcome::LineNotBuilt { number } => {
-                put_place(
-                    &mut line,
-                    b"gemline: 79 not built at line ",
-                    u64::from(*number),
-                );
             }
         }
         line

@@ -67,7 +67,8 @@ fn run_text<W: Sink>(alloc: Global, plans: &Plans, text: &[u8], out: &mut W) -> 
     }
 }
 
-fn outcome_of_end(end: RunEnd) -> Outcome
+// What the end of a run came to.
+pub(crate) fn outcome_of_end(end: RunEnd) -> Outcome
     ensures { result ≡ outcome_of_end end }
 {
     match end {
@@ -87,7 +88,6 @@ fn schedule_refusal(fault: ScheduleFault) -> Outcome
 {
     match fault {
         ScheduleFault::Line(number) => Outcome::BadLine { number },
-        ScheduleFault::NotBuilt(number) => Outcome::LineNotBuilt { number },
         ScheduleFault::NoMemory => Outcome::NoMemory,
     }
 }

@@ -14,6 +14,7 @@ ghost use Rattle.spool_show.specs.Told.{disk_told};
 use crate::equipment::equipment;
 use crate::host::host;
 use crate::inputs::whole_input;
+use crate::make::make;
 use crate::outcome::{FileRole, Outcome};
 use crate::replay::replay;
 use crate::spelling::{spell, spell_hex};
@@ -38,8 +39,9 @@ const ITEM_LIMIT: usize = 1024 * 1024;
 /// finds a plan and a schedule in `files`, lets both ends of a line run by them and tells what they do, as a trace.
 /// `equipment` and `host` run an end of a line by a plan in `files` and by the script on `input`, over `link`, and tell
 /// what it does, each line before the characters of its step are sent; the equipment has its spool on `disk`.
-/// `format` makes a spool file on `disk`, and `spool` writes the list of one. `err` gets one line where the status
-/// isn't 0.
+/// `format` makes a spool file on `disk`, and `spool` writes the list of one. `make` lets both ends of a line run by so
+/// many made rounds, and tells how many lines of their trace there are of each kind. `err` gets one line where the
+/// status isn't 0.
 pub fn gemline<F: Files, R: Source, W: Sink, E: Sink, D: Disk, L: Link>(
     alloc: Global,
     words: &[String],
@@ -222,6 +224,7 @@ fn run<F: Files, R: Source, W: Sink, D: Disk, L: Link>(
         } => host(alloc, plan, address, polls, files, input, link, out),
         Command::Format { spool, slots } => make_spool(spool, slots, out, disk),
         Command::Spool { spool } => list_spool(spool, out, disk),
+        Command::Make { rounds } => make(alloc, rounds, out),
     }
 }
 

@@ -346,8 +346,8 @@ static SCHEDULES: [Case; 7] = [
         (65, "", "gemline: 65 schedule line 2\n"),
     ),
     (
-        (b"", b"wait 1\ncut 1 old", 1, b""),
-        (79, "", "gemline: 79 not built at line 2\n"),
+        (b"", b"wait 1\ncut 1 old\nwait 1", 1, b""),
+        (0, STARTED_ANEW, ""),
     ),
     (
         (b"", b"\n", 131_072, b"settle"),
@@ -552,6 +552,12 @@ const NO_ANSWER: &str = "0 E start len=0 base=0\n0 H start\n0 E comms WAIT-CRA\n
     0 E sent S1F13 W 00000000 0102410747454D4C494E45410131\n0 E tx 05\n\
     10000 E tx 05\n20000 E tx 05\n30000 E tx 05\n40000 E failed S1F13 W 00000000\n\
     40000 E comms WAIT-DELAY\n40000 E spool ACTIVE\n40000 end\n";
+
+/// Power is lost while the first character is on its way.
+const STARTED_ANEW: &str = "0 E start len=0 base=0\n0 H start\n0 E comms WAIT-CRA\n\
+    0 E sent S1F13 W 00000000 0102410747454D4C494E45410131\n0 E tx 05\n2 E power\n\
+    2 E start len=0 base=4096\n2 E comms WAIT-CRA\n\
+    2 E sent S1F13 W 00001000 0102410747454D4C494E45410131\n2 E tx 05\n2 end\n";
 
 /// No variable is planned.
 const REFUSED: &str = "0 E start len=0 base=0\n0 H start\n0 E comms WAIT-CRA\n\
@@ -780,6 +786,54 @@ fn are_refused(alloc: Global, all: &[&'static [&'static str]]) -> bool {
         }
     }
     true
+}
+
+/// What is written of rounds, of which neither input nor files are read.
+static MADE: [Failing; 3] = [
+    (
+        &["make", "1"],
+        b"",
+        [1, 1, 0],
+        (
+            0,
+            "rounds 1\nrx E 8 H 8\nreports 0\nstored 0\ngone 0\nstarts 2\n",
+            "",
+        ),
+    ),
+    (
+        &["make", "0000000003"],
+        b"",
+        [1, 1, 0],
+        (
+            0,
+            "rounds 3\nrx E 7 H 7\nreports 2\nstored 1\ngone 0\nstarts 1\n",
+            "",
+        ),
+    ),
+    (
+        &["make", "1"],
+        b"",
+        [1, 1, 1],
+        (73, "", "gemline: 73 write\n"),
+    ),
+];
+
+/// Words of rounds that are refused.
+static MAKE_WORDS: [&'static [&'static str]; 6] = [
+    &["make"],
+    &["make", "0"],
+    &["make", "10001"],
+    &["make", "00000000001"],
+    &["make", "-1"],
+    &["make", "1", "1"],
+];
+
+#[test]
+fn rounds_are_made(rt: HostRuntime) -> Result<(), Fail> {
+    let alloc = rt.alloc();
+    assert!(rt; are_failing(alloc, &MADE));
+    assert!(rt; are_refused(alloc, &MAKE_WORDS));
+    Ok(())
 }
 
 #[test]

@@ -22,3 +22,6 @@ returns-in-Failed g c =
         written = record { received = refl; health = refl };
       };
     })
+
+pub run_attached-requires-clause-bytes : goal.run_attached-requires-clause-bytes
+run_attached-requires-clause-bytes g c = c.in-Done.ensures.bytes

@@ -16,9 +16,9 @@ returns-in-Ok-clause-runs g c =
           record {
             start = begun.gone.step;
             started = begun.gone.is;
-            ran = λ can.
-                c.run_linked-ended.ensures.runs (begun.in_state can) begun.gone.step begun.gone.next_is
-                (sym begun.gone.notes ∙ sym c.as_slice.ensures);
+            ran =
+                c.run_linked-ended.ensures.runs (begun.in_state (c.requires.bytes s told)) begun.gone.step
+                begun.gone.next_is (sym begun.gone.notes ∙ sym c.as_slice.ensures);
           };
     })
 

@@ -15,7 +15,6 @@ returns-in-Ok g c =
     (record {
       only = reads.only;
       line = reads.line;
-      not_built = reads.not_built;
       outside = reads.outside;
     }) reads.found c.run_host.ensures
 
@@ -26,7 +25,6 @@ returns-in-Err g c =
     (record {
       only = reads.only;
       line = reads.line;
-      not_built = reads.not_built;
       outside = reads.outside;
     })
     (record {

@@ -10,12 +10,9 @@ returns-in-Ok g c =
     (record {
       only = reads.only;
       line = reads.line;
-      not_built = reads.not_built;
       outside = reads.outside;
-      later = reads.later;
     }) reads.found
-    (replayed_over _ c.in-Ok.schedule _ c.run-end.result.0 _ c.outcome_of_end.ensures run.disk run.text run.delivered
-    run.in_order run.reported run.spooled)
+    (replayed_over _ c.in-Ok.schedule _ c.run-end.result.0 _ c.outcome_of_end.ensures run.disk run.text run.safe)
 
 pub returns-in-Err : goal.returns-in-Err
 returns-in-Err g c =
@@ -24,8 +21,6 @@ returns-in-Err g c =
     (record {
       only = reads.only;
       line = reads.line;
-      not_built = reads.not_built;
       outside = reads.outside;
-      later = reads.later;
     })
     (record { received = refl; health = refl }) c.schedule_refusal.ensures
