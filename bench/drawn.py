@@ -1,0 +1,122 @@
+"""Plans and schedules drawn by a seed: a tool that reports, a host that asks, a bad line, and losses of power."""
+import random
+
+# Report 10 has both variables, and both events have it.
+REPORTED = ["host send S2F33 W <L <U4 1> <L <L <U4 10> <L <U4 1> <U4 2>>>>>", "settle",
+            "host send S2F35 W <L <U4 2> <L <L <U4 1> <L <U4 10>>>>>", "settle",
+            "host send S2F37 W <L <BOOLEAN 01> <L>>", "settle"]
+SPOOLED = ["host send S6F23 W <U1 0>", "settle"]
+
+# What a host may ask for else. Some of it is refused, some wants more room than one block has.
+TABLES = ["S2F33 W <L <U4 1> <L <L <U4 11> <L <U4 1>>>>>", "S2F33 W <L <U4 1> <L>>",
+          "S2F33 W <L <U4 1> <L <L <U4 10> <L>>>>", "S2F35 W <L <U4 1> <L <L <U4 1> <L>>>>",
+          "S2F35 W <L <U4 1> <L <L <U4 2> <L <U4 11> <U4 10>>>>>",
+          "S2F33 W <L <U4 1> <L <L <U4 12> <L <U4 2>>> <L <U4 13> <L <U4 99>>>>>",
+          "S2F33 W <L <U4 1> <L <L <U4 10> <L>> <L <U4 13> <L <U4 99>>>>>",
+          "S2F33 <L <U4 1> <L <L <U4 14> <L <U4 1>>>>>", "S2F33 <L <U4 1> <L <L <U4 10> <L <U4 2>>>>>",
+          "S2F35 <L <U4 2> <L <L <U4 2> <L <U4 14>>>>>", "S2F35 <L <U4 2> <L <L <U4 2> <L>>>>",
+          "S2F37 W <L <BOOLEAN 00> <L <U4 1>>>", "S2F37 W <L <BOOLEAN 01> <L <U4 2>>>",
+          "S2F37 W <L <BOOLEAN 00> <L <U4 9>>>"]
+SPOOLING = ["S2F43 W <L <L <U1 6> <L>> <L <U1 5> <L>>>", "S2F43 W <L>",
+            "S2F43 W <L <L <U1 6> <L <U1 11>>> <L <U1 10> <L <U1 1>>>>",
+            *[f"S2F15 W <L <L <U4 {constant}> <BOOLEAN {value}>>>" for constant in (2, 3) for value in ("00", "01")],
+            *[f"S2F15 W <L <L <U4 4> <U4 {most}>>>" for most in (0, 1, 2)]]
+OTHERS = ["S1F1 W -", "S1F13 W -", "S1F3 W <L>", "S1F11 -", "S3F1 W -", "S6F15 W <U4 1>", "S6F19 W <U4 10>",
+          'S10F5 W <L <B 00> <L <A "yes"> <A "no">>>', f'S10F5 W <L <B 00> <L <A "{"y" * 300}"> <A "no">>>']
+STATES = [["tool disable", "settle", "tool enable"], ["host disable", "settle", "host enable"],
+          ["tool offline", "tool online", "settle"], ["tool local"], ["host send S1F13 W -", "settle"],
+          ["host send S1F15 W -", "settle", "host send S1F17 W -", "settle"]]
+
+
+def drawn(seed):
+    """A plan and a schedule."""
+    one = Drawing(random.Random(seed))
+    return one.plan(), one.schedule()
+
+
+class Drawing:
+    def __init__(self, rng):
+        self.rng, self.value = rng, 0
+        self.retries = rng.choice([0, 0, 1, 1, 2])
+        self.long = rng.random() < 0.15             # whether a report takes two blocks
+
+    def plan(self):
+        pick = self.rng.choice
+        spooled = pick([None, None, None, '["S6F11"]', '["S5F1", "S10F1"]', "[]"])
+        return "\n".join([
+            "[line]", f"rty = {self.retries}", "t3 = 25000",
+            "[equipment]", f"slots = {pick([1, 2, 2, 3, 4, 6])}", f"overwrite = {pick(['true', 'false'])}",
+            f"max_transmit = {pick([0, 0, 0, 1, 2])}", f"enable_spool = {pick(['true', 'true', 'true', 'false'])}",
+            f"delay = {pick([1, 5, 15])}", *([f"spooled = {spooled}"] if spooled else []),
+            "[[variable]]", "vid = 1", 'value = "<U4 0>"',
+            "[[variable]]", "vid = 2", f"value = '<A \"{'x' * (230 if self.long else 0)}\">'",
+            "[[event]]", "ceid = 1", "[[event]]", "ceid = 2",
+            "[[alarm]]", "alid = 7", "category = 3", 'text = "HOT"', ""])
+
+    def schedule(self):
+        pick, lines = self.rng.choice, ["settle", *REPORTED]
+        if self.rng.random() < 0.8:
+            lines += self.events() + self.failure() + pick([["settle"], ["settle"], []])
+        for _ in range(self.rng.randrange(8, 24)):
+            lines += self.some([(8, self.loss), (10, self.unload), (12, self.events), (6, self.failure),
+                                (64, self.line)])
+        # The communication is there again, and all that stands in the spool is taken.
+        lines += ["tool enable", "host enable", "settle", "wait 45000", "settle", "wait 45000", "settle",
+                  "host send S1F13 W -", "settle", "host send S2F15 W <L <L <U4 4> <U4 0>>>", "settle"]
+        return "\n".join(lines + SPOOLED * 2) + "\n"
+
+    def some(self, ways):
+        weights, calls = zip(*ways)
+        return self.rng.choices(calls, weights)[0]()
+
+    def line(self):
+        """One thing or another that happens."""
+        rng, pick = self.rng, self.rng.choice
+        self.value += 1
+        return self.some([
+            (13, lambda: [f"tool set 1 <U4 {self.value}>"]),
+            (2, lambda: [f'tool set 2 <A "{self.letters(pick([3, 240] if self.long else [0, 1, 3]))}">']),
+            (21, lambda: [f"tool event {pick([1, 1, 1, 2])}"]),
+            (5, lambda: [f"tool alarm 7 {pick(['set', 'clear'])}"]),
+            (4, lambda: [f'tool terminal {rng.randrange(3)} <A "t{self.value}">']),
+            (12, lambda: ["settle"]),
+            (9, lambda: [f"host send S6F23 W <U1 {pick([0, 0, 0, 0, 1])}>"] + pick([[], ["settle"]])),
+            (6, lambda: [f"to {pick('EH')} {rng.randrange(1, 70)}" for _ in range(rng.randrange(1, 4))]),
+            (5, lambda: [f"lose {pick('EH')} {rng.randrange(1, 6)}"]),
+            (2, lambda: [f"change {pick('EH')} {rng.randrange(30)} {rng.randrange(256):02X}"]),
+            (1, lambda: [f"add {pick('EH')} {pick([5, 4, 6, 0x15, rng.randrange(256)]):02X}"]),
+            (6, lambda: [f"wait {pick([500, 1000, 5000, 10000, 10000, 25000, 45000])}"]),
+            (4, lambda: self.failure() + pick([[], ["settle"]])),
+            (2, lambda: list(REPORTED)),
+            (6, lambda: [f"host send {pick(pick([TABLES, SPOOLING, OTHERS]))}", pick(["settle"] * 2 + ["to E 1"])]),
+            (4, lambda: pick(STATES))])
+
+    def letters(self, count):
+        return chr(97 + self.value % 26) * count
+
+    def events(self):
+        count = self.rng.randrange(1, 4)
+        return [f"tool set 1 <U4 {self.value}>"] + [f"tool event {self.rng.choice([1, 1, 2])}" for _ in range(count)]
+
+    def failure(self):
+        """What the tool sends is lost until it gives up; or what the host sends."""
+        return [f"lose {self.rng.choice('HHHE')} 400", "wait 10000"] * (self.retries + 1)
+
+    def unload(self):
+        """An unload up to the frame of its first message, or not so far; then what may befall that. The last character
+        that the tool gets may be one that looks like an acknowledgement."""
+        way = ["settle", f"host send S6F23 W <U1 {self.rng.choice([0, 0, 0, 0, 1])}>", "to E 1", "to H 1", "to E 16",
+               "to H 2", "to E 1", "to H 20", "to E 1", "to H 1", "to E 1"]
+        return way[:self.rng.choice([5, 8, 11, 11, 11])] + self.rng.choice([
+            ["lose H 400", "add E 06", "to E 1", "settle", "wait 25000"], ["lose H 1", "wait 10000", "settle"],
+            ["to H 300", "lose E 1", "wait 10000", "settle"],
+            ["to H 300", "to E 1", "lose E 400", "wait 25000", "settle"],
+            ["to H 300", "tool event 1", "tool event 1", "settle"], ["settle"], self.failure()])
+
+    def loss(self):
+        rng, pick = self.rng, self.rng.choice
+        choice = pick(["old", "new", "new", "fill 5A", f"fill {rng.randrange(256):02X}", f"first {rng.randrange(3)}"])
+        ways = [self.line, self.events, lambda: ["settle"], lambda: SPOOLED, self.unload, self.failure]
+        lines = list(pick(ways)())
+        lines.insert(rng.randrange(len(lines)), f"cut {pick([1, 1, 2, 2, 3, 3, 4, 4, 5, 6, 8])} {choice}")
+        return lines + pick([["settle", *REPORTED], ["settle", *REPORTED], ["settle"], []])

@@ -1,0 +1,494 @@
+"""A reading of what `gemline` promises of a replay, from its plan, its schedule and its trace alone.
+
+1. What an end takes was sent by the other end: the same name, system bytes and body. Within one start of an end it is
+   taken once. A request never has the system bytes of an earlier one of the same end, whatever start sent that.
+2. A report has the values that its variables had at its event. What an unload sends is what was stored.
+3. A start of the tool finds in its spool what stood there, in order. A message that was leaving may be gone, and one
+   that was being stored may stand last. The first that stands is the one that leaves: confirmed where the host has
+   taken it, purged where the host has just asked for that, overwritten where the constant says so and each slot is
+   used.
+4. The host takes what was stored in order, each perhaps more than once in a row, and skips only what was purged or
+   overwritten.
+
+A trace has no values of `tool set` and no texts of terminals: they are taken from the schedule. It has no body behind
+`storing`: that is the message which was made just before, or one of those that were open when the communication was
+lost, in the order in which they began. Of a list that a start finds it has the length; what stands there is seen when
+it leaves. Nor does it say whether a request without W was accepted, which is judged here.
+"""
+import copy
+import re
+import tomllib
+
+CODES = {"L": 0o00, "B": 0o10, "BOOLEAN": 0o11, "A": 0o20, "J": 0o21, "I8": 0o30, "I1": 0o31, "I2": 0o32, "I4": 0o34,
+         "F8": 0o40, "F4": 0o44, "U8": 0o50, "U1": 0o51, "U2": 0o52, "U4": 0o54}
+DONE = "210100"
+MOST = (1 << 32) - 1
+
+
+# Items as bytes.
+
+def headed(kind, count, content):
+    size = 1 if count < 1 << 8 else 2 if count < 1 << 16 else 3
+    return bytes([CODES[kind] * 4 + size]) + count.to_bytes(size, "big") + content
+
+
+def list_of(items):
+    return headed("L", len(items), b"".join(items))
+
+
+def u4(number):
+    return headed("U4", 4, number.to_bytes(4, "big"))
+
+
+def spelled(text):
+    """The kind of an item, and its bytes."""
+    words = re.findall(r'<\w+|>|"(?:[^"\\]|\\x..)*"|[^\s<>"]+', text)
+    at = 0
+
+    def item():
+        nonlocal at
+        kind, parts = words[at][1:], []
+        at += 1
+        while words[at] != ">":
+            word = words[at]
+            if word[0] == "<":
+                parts.append(item())
+                continue
+            at += 1
+            if kind == "A":
+                parts.append(re.sub(rb"\\x(..)", lambda found: bytes.fromhex(found[1].decode()), word[1:-1].encode()))
+            elif kind[0] in "UI":
+                parts.append(int(word).to_bytes(int(kind[1]), "big", signed=kind[0] == "I"))
+            else:
+                parts.append(bytes.fromhex(word))
+        at += 1
+        content = b"".join(parts)
+        return headed(kind, len(parts) if kind == "L" else len(content), content)
+
+    return words[0][1:], item()
+
+
+def parsed(spelling):
+    """A list as a list, an unsigned number as a number, a flag as 0 or 1."""
+    def item(at):
+        code, size = spelling[at] >> 2, spelling[at] & 3
+        count, at = int.from_bytes(spelling[at + 1:at + 1 + size], "big"), at + 1 + size
+        if code != CODES["L"]:
+            number = int.from_bytes(spelling[at:at + count], "big")
+            return min(number, 1) if code == CODES["BOOLEAN"] else number, at + count
+        items = []
+        for _ in range(count):
+            one, at = item(at)
+            items.append(one)
+        return items, at
+    return item(0)[0]
+
+
+class Plan:
+    def __init__(self, text):
+        plan = tomllib.loads(text)
+        tool = plan.get("equipment", {})
+        self.slots = tool.get("slots", 16)
+        self.overwrites = tool.get("overwrite", True)
+        self.variables = {row["vid"]: spelled(row["value"]) for row in plan.get("variable", [])}
+        self.events = {row["ceid"] for row in plan.get("event", [])}
+        self.constants = {1: (1, 120), 2: (0, 1), 3: (0, 1), 4: (0, MOST)}
+        for row in plan.get("constant", []):
+            self.constants[row["ecid"]] = (row.get("min", 0), row.get("max", MOST))
+        self.alarms = {row["alid"]: (row.get("category", 0), row.get("text", "")) for row in plan.get("alarm", [])}
+
+    def alarm_body(self, alarm, state):
+        category, text = self.alarms[alarm]
+        code = headed("B", 1, bytes([category + (0x80 if state == "set" else 0)]))
+        return list_of([code, u4(alarm), headed("A", len(text), text.encode())])
+
+
+class Commands:
+    """The values and texts that a schedule gives to one start of the tool, in order."""
+
+    def __init__(self):
+        self.sets, self.texts = [], []
+
+
+def starts_of(plan, schedule):
+    """What each start of the tool is told: the event behind a `cut` is the last one of its start."""
+    starts, is_cut = [Commands()], False
+    for line in schedule.splitlines():
+        words = line.split(" ", 3)
+        if words[0] == "cut":
+            is_cut = True
+        elif line and line[0] != "#":
+            if words[:2] == ["tool", "set"]:
+                variable, (kind, value) = int(words[2]), spelled(words[3])
+                if plan.variables.get(variable, [None])[0] == kind:
+                    starts[-1].sets.append((variable, value))
+            elif words[:2] == ["tool", "terminal"]:
+                terminal = headed("B", 1, bytes([int(words[2])]))
+                starts[-1].texts.append(list_of([terminal, spelled(words[3])[1]]))
+            if is_cut:
+                starts.append(Commands())
+                is_cut = False
+    return starts
+
+
+class Tables:
+    """Values, reports, links and the constant OverWriteSpool, as one start of the tool has them now."""
+
+    def __init__(self, plan):
+        self.plan = plan
+        self.values = {variable: value for variable, (_, value) in plan.variables.items()}
+        self.overwrites, self.reports, self.links = plan.overwrites, {}, {}
+
+    def after(self, request, body):
+        """The tables behind S2F15, S2F33 or S2F35, and these where it is refused. Want of room isn't known here."""
+        new, told = copy.copy(self), parsed(body)
+        if request == "S2F15":
+            if not all(self.can_be(*pair) for pair in told):
+                return self
+            new.overwrites = dict(told).get(3, self.overwrites)
+            return new
+        new.reports, new.links = dict(self.reports), dict(self.links)
+        change = new.define if request == "S2F33" else new.link
+        if not all(change(*pair) for pair in told[1]):
+            return self
+        if request == "S2F33" and not told[1]:
+            new.reports, new.links = {}, {}
+        return new
+
+    def can_be(self, constant, value):
+        least, most = self.plan.constants.get(constant, (1, 0))
+        return least <= value <= most
+
+    def define(self, report, variables):
+        """Whether that may be."""
+        if variables:
+            may = report not in self.reports and set(variables) <= set(self.values)
+            self.reports[report] = variables
+            return may
+        self.reports.pop(report, None)
+        for event, linked in self.links.items():
+            self.links[event] = [one for one in linked if one != report]
+        return True
+
+    def link(self, event, reports):
+        """Whether that may be."""
+        may = not reports or not self.links.get(event) and set(reports) <= set(self.reports)
+        self.links[event] = reports
+        return may and event in self.plan.events
+
+    def report(self, report):
+        return list_of([self.values[variable] for variable in self.reports.get(report, [])])
+
+    def event(self, event, number):
+        reports = [list_of([u4(report), self.report(report)]) for report in self.links.get(event, [])]
+        return list_of([u4(number), u4(event), list_of(reports)])
+
+
+class Message:
+    """A message that the tool has made. Its body is None where the reading has lost it."""
+
+    def __init__(self, name, body):
+        self.name, self.body = name, body
+
+
+class Put:
+    """A message that was stored: by which number, why it is to leave, and why it has left."""
+
+    def __init__(self, number, message):
+        self.number, self.message, self.why, self.cause = number, message, None, None
+
+
+UNLOADED = Message("unloaded", None)
+CHANGES = ("S2F15", "S2F33", "S2F35")
+
+
+class Reading:
+    def __init__(self, plan_text, schedule):
+        self.plan = Plan(plan_text)
+        self.starts = starts_of(self.plan, schedule)
+        self.broken, self.losses = [], 0
+        self.sent = {"E": set(), "H": set()}        # of all starts
+        self.requests = {"E": set(), "H": set()}    # the system bytes of the requests among them
+        self.received = {"E": set(), "H": set()}    # system bytes and kind, of one start
+        self.puts, self.standing = [], []           # all that were stored; those in the spool
+        self.moving = None                          # the put that is being stored or is leaving
+        self.tries, self.taken = {}, []             # system bytes to their put; what the host took, without repeats
+        self.begin()
+
+    def begin(self):
+        """A new start of the tool: all but the spool is gone."""
+        self.received["E"] = set()
+        self.commands = self.starts[min(self.losses, len(self.starts) - 1)]
+        self.tables = Tables(self.plan)
+        self.events = {}                            # their messages, by their bodies
+        self.open = {}                              # what waits for a reply, by the system bytes that were sent
+        self.failed = []                            # what was open when the communication was lost, to be stored
+        self.made = None                            # what this step has made
+        self.request = self.silent = self.last_received = None
+        self.before = []
+
+    def breaks(self, why):
+        self.broken.append(f"line {self.at}: {why}: {self.line[:150]}")
+
+    def read(self, trace):
+        """All that the lines of a trace break."""
+        for self.at, self.line in enumerate(trace, 1):
+            words = self.line.split(" ")[1:]
+            if words[0] == "end":
+                if self.losses != len(self.starts) - 1:
+                    self.breaks(f"{self.losses} losses of power where {len(self.starts) - 1} were planned")
+                break
+            side, kind, *words = words
+            if side == "E" and self.moving and kind not in ("stored", "gone", "power", "start"):
+                self.breaks("nothing comes between the two lines of a message that moves")
+                self.moving = None
+            if side == "E" and self.silent:
+                self.judge(kind)
+            try:
+                getattr(self, f"{'tool' if side == 'E' else 'host'}_{kind}", lambda *words: None)(*words)
+            except (IndexError, KeyError, TypeError, ValueError):
+                self.breaks("this can't be read")
+            if side == "E":
+                if kind not in ("event", "alarm", "leaving", "gone"):
+                    self.made = None
+                self.before = [kind, *words]
+        return self.broken
+
+    # What both ends do.
+
+    def gives(self, side, words):
+        *name, system, body = words
+        self.sent[side].add(tuple(words))
+        if not is_reply(name[0]):
+            if system in self.requests[side]:
+                self.breaks("system bytes that an earlier request had")
+            self.requests[side].add(system)
+        return " ".join(name), system, b"" if body == "-" else bytes.fromhex(body)
+
+    def takes(self, side, words):
+        *name, system, body = words
+        if tuple(words) not in self.sent["H" if side == "E" else "E"]:
+            self.breaks("taken, and never sent so")
+        key = (system, is_reply(name[0]))
+        if key in self.received[side]:
+            self.breaks("taken twice in one start")
+        self.received[side].add(key)
+        return " ".join(name), system, b"" if body == "-" else bytes.fromhex(body)
+
+    def host_sent(self, *words):
+        self.gives("H", words)
+
+    def host_rx(self, *words):
+        name, system, _ = self.takes("H", words)
+        if name.endswith(" W") and system in self.tries:
+            put = self.tries[system]
+            if self.taken[-1:] != [put]:
+                self.taken.append(put)
+            due = [put for put in self.puts if put in self.taken or put.cause not in ("purged", "overwritten")]
+            if self.taken != due[:len(self.taken)]:
+                self.breaks(f"the host takes {numbers(self.taken)} where {numbers(due)} is the order")
+
+    # Power.
+
+    def tool_power(self):
+        self.losses += 1
+
+    def tool_start(self, found, _base):
+        found, stood = int(found[len("len="):]), len(self.standing)
+        if self.moving:
+            kind, put = self.moving
+            if kind == "storing" and found == stood + 1:
+                self.standing.append(put)
+            elif kind == "storing":
+                self.puts.remove(put)
+            elif found < stood:
+                self.leave(put.why, stood - found)
+        if found != len(self.standing):
+            self.breaks(f"{stood} stood in the spool")
+            self.standing = self.standing[:found]
+        self.moving = None
+        self.begin()
+
+    # Values, and what is made of them.
+
+    def tool_set(self, variable):
+        wanted = self.commands.sets.pop(0) if self.commands.sets else (None, None)
+        if wanted[0] != int(variable):
+            self.breaks(f"the schedule sets {wanted[0]} next")
+        else:
+            self.tables.values[wanted[0]] = wanted[1]
+
+    def tool_event(self, event, number):
+        self.made = Message("S6F11 W", self.tables.event(int(event), int(number)))
+        self.events[self.made.body] = self.made
+
+    def tool_alarm(self, alarm, state):
+        self.made = Message("S5F1 W", self.plan.alarm_body(int(alarm), state))
+
+    def new(self, name):
+        """The message of this name that the step has made. A text of a terminal has no line of its own."""
+        if name == "S10F1 W":
+            return Message(name, self.commands.texts.pop(0)) if self.commands.texts else None
+        return self.made if self.made and self.made.name == name else None
+
+    # Requests of the host.
+
+    def tool_rx(self, *words):
+        name, system, _ = self.last_received = self.takes("E", words)
+        if name.endswith(" W"):
+            self.request = self.last_received
+        elif is_reply(name):
+            self.open.pop(system, None)
+        elif name in CHANGES:
+            self.silent = self.last_received
+
+    def judge(self, kind):
+        """A request without W was carried out where the acknowledgement of its block is the next line."""
+        name, _, body = self.silent
+        if kind == "tx":
+            self.tables = self.tables.after(name, body)
+        self.silent = None
+
+    def answers(self, name, system, body):
+        if not self.request or self.request[1] != system:
+            return
+        request, _, asked = self.request
+        request = request.split(" ")[0]
+        if body.hex() == DONE and request in CHANGES:
+            self.tables = self.tables.after(request, asked)
+        if name == "S6F16" and body != self.tables.event(parsed(asked), 0):
+            self.breaks("other values than those of now")
+        if name == "S6F20" and body != self.tables.report(parsed(asked)):
+            self.breaks("other values than those of now")
+        self.request = None
+
+    # What the tool sends, and what becomes of it.
+
+    def tool_sent(self, *words):
+        name, system, body = self.gives("E", words)
+        if not name.endswith(" W"):
+            return self.answers(name, system, body)
+        if system in self.tries:
+            wanted = self.tries[system].message
+            if wanted.name != name or wanted.body not in (None, body):
+                self.breaks("another message than the one that was stored")
+            self.open[system] = UNLOADED
+        elif name == "S6F11 W":
+            self.sent_new(system, body, self.events.get(body))
+        elif name in ("S5F1 W", "S10F1 W"):
+            self.sent_new(system, body, self.new(name))
+        elif name == "S6F5 W" and self.before[0] == "try":
+            self.open[system] = UNLOADED
+        elif name == "S6F5 W":
+            self.sent_new(system, self.made.body if self.made else b"", self.made)
+
+    def sent_new(self, system, body, wanted):
+        if not wanted or wanted.body != body:
+            self.breaks(f"the tool has made {wanted.body.hex().upper() if wanted else 'no such message'}")
+        else:
+            self.open[system] = wanted
+
+    def tool_failed(self, name, *words):
+        if name != "S6F5" and not is_reply(name):
+            self.open.pop(words[-1], None)
+
+    def tool_t3(self, *words):
+        self.open.pop(words[-1], None)
+
+    def tool_dropped(self, *name):
+        if self.before[:2] == ["failed", "S6F5"]:
+            self.open.pop(self.before[-1], None)
+        else:
+            self.new(" ".join(name))
+
+    def tool_full(self, *name):
+        if self.before[0] != "try":
+            self.new(" ".join(name))
+
+    def tool_toolong(self, *name):
+        self.new_or_failed(" ".join(name))
+
+    def tool_discarded(self, *name):
+        self.new_or_failed(" ".join(name))
+
+    def new_or_failed(self, name):
+        if self.failed and self.failed[0].name == name:
+            return self.failed.pop(0)
+        return self.new(name)
+
+    def tool_comms(self, state):
+        if state != "COMMUNICATING":
+            self.failed, self.open = [one for one in self.open.values() if one is not UNLOADED], {}
+
+    # The spool.
+
+    def tool_storing(self, number, *name):
+        name = " ".join(name)
+        message = self.failed.pop(0) if self.failed else self.new(name)
+        if not message or message.name != name:
+            self.breaks(f"{message.name if message else 'nothing'} is to be stored here")
+            message = Message(name, None)
+        self.puts.append(Put(int(number), message))
+        self.moving = ("storing", self.puts[-1])
+
+    def tool_stored(self, number):
+        if self.ends("storing", number):
+            self.standing.append(self.moving[1])
+        self.moving = None
+
+    def tool_leaving(self, number, cause):
+        if not self.is_first(number):
+            return
+        put = self.standing[0]
+        if cause == "confirmed" and put not in self.taken:
+            self.breaks("the host hasn't taken it")
+        if cause == "purged" and not self.is_purge_asked():
+            self.breaks("the host hasn't asked for that")
+        if cause == "overwritten" and not self.tables.overwrites:
+            self.breaks("the constant forbids that")
+        if cause == "overwritten" and len(self.standing) < self.plan.slots:
+            self.breaks(f"{len(self.standing)} of {self.plan.slots} slots are used")
+        put.why = cause
+        self.moving = ("leaving", put)
+
+    def tool_gone(self, number):
+        if self.ends("leaving", number):
+            why = self.moving[1].why
+            self.leave(why, len(self.standing) if why == "purged" else 1)
+        self.moving = None
+
+    def tool_try(self, number, system):
+        if self.is_first(number):
+            self.tries[system] = self.standing[0]
+
+    def is_first(self, number):
+        if self.standing and self.standing[0].number == int(number):
+            return True
+        self.breaks(f"{numbers(self.standing)} stand in the spool")
+        return False
+
+    def ends(self, kind, number):
+        if self.moving and self.moving[0] == kind and self.moving[1].number == int(number):
+            return True
+        self.breaks(f"no message of this number was {kind}")
+        return False
+
+    def is_purge_asked(self):
+        return (self.last_received and self.last_received[0].startswith("S6F23")
+                and parsed(self.last_received[2]) == 1)
+
+    def leave(self, cause, count):
+        """The first ones leave. Only the cause `purged` takes more than one."""
+        if count > 1 and cause != "purged":
+            return
+        for put in self.standing[:count]:
+            put.cause = cause
+        del self.standing[:count]
+
+
+def is_reply(name):
+    return int(name.split(" ")[0].split("F")[1]) % 2 == 0
+
+
+def numbers(puts):
+    return [put.number for put in puts]

@@ -1,0 +1,53 @@
+"""What the scripts share that read traces: replays of texts, and what is kept of those that break the promise."""
+import os
+import subprocess
+import tempfile
+
+from reading import Reading
+
+COUNTED = ("rx", "power", "stored", "try", "confirmed", "purged", "overwritten", "slip")
+
+
+class Replays:
+    """Runs the program on plans and schedules, in a folder of its own."""
+
+    def __init__(self, gemline, folder):
+        self.gemline, self.folder, self.done, self.broken = gemline, folder, 0, 0
+        self.counts = dict.fromkeys(COUNTED, 0)
+
+    def run(self, plan, schedule):
+        """The lines of the trace, and the status."""
+        files = [os.path.join(self.folder, name) for name in ("plan", "schedule")]
+        for file, text in zip(files, (plan, schedule)):
+            with open(file, "w") as out:
+                out.write(text)
+        ran = subprocess.run([self.gemline, "replay", *files], capture_output=True, text=True)
+        return ran.stdout.splitlines(), ran.returncode
+
+    def read(self, name, plan, schedule):
+        """Runs one, says what its trace breaks, and answers the trace."""
+        trace, status = self.run(plan, schedule)
+        broken = Reading(plan, schedule).read(trace)
+        wanted = 76 if is_slip(trace[-1:]) else 0
+        if status != wanted:
+            broken.append(f"status {status} where {wanted} is wanted")
+        for line in trace:
+            for word in set(line.split(" ")[2:]).intersection(COUNTED):
+                self.counts[word] += 1
+        self.done += 1
+        if broken:
+            self.broken += 1
+            kept = tempfile.mkdtemp(prefix="gemline-")
+            for file, text in (("plan", plan), ("schedule", schedule), ("trace", "\n".join(trace) + "\n")):
+                with open(os.path.join(kept, file), "w") as out:
+                    out.write(text)
+            print(f"{name}, kept in {kept}:", *broken[:3], sep="\n    ", flush=True)
+        return trace
+
+    def tell(self):
+        counts = ", ".join(f"{count} {word}" for word, count in self.counts.items())
+        print(f"{self.done} traces, {self.broken} break the promise: {counts}", flush=True)
+
+
+def is_slip(last):
+    return [line.split(" ")[2:3] for line in last] == [["slip"]]
