@@ -105,6 +105,13 @@ impl MemDisk {
         self.plan.stop_in = call;
     }
 
+    /// How many calls are left up to the one at which it is to stop, itself counted, 0 for none.
+    pub fn stops_in(&self) -> u32
+        ensures { result ≡ self.now.plan.stop_in }
+    {
+        self.plan.stop_in
+    }
+
     /// Whether the call was made from which on all fail. Stopped or not, a crash leaves one of the images, whatever is
     /// chosen.
     pub fn stopped(&self) -> bool

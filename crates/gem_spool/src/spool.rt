@@ -278,6 +278,13 @@ impl GemSpool<MemDisk> {
     {
         self.spool.arm(call);
     }
+
+    /// How many calls are left up to the one at which the disk is to stop, itself counted, 0 for none.
+    pub fn stops_in(&self) -> u32
+        ensures { result ≡ self.now.spool.disk.plan.stop_in }
+    {
+        self.spool.stops_in()
+    }
 }
 
 // Takes all messages off, the oldest first.

@@ -189,4 +189,11 @@ impl Spool<MemDisk> {
     {
         self.disk.stop_at(call);
     }
+
+    /// How many calls are left up to the one at which the disk is to stop, itself counted, 0 for none.
+    pub fn stops_in(&self) -> u32
+        ensures { result ≡ self.now.disk.plan.stop_in }
+    {
+        self.disk.stops_in()
+    }
 }
