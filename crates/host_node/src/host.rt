@@ -4,7 +4,7 @@ ghost use Rattle.block_codec.specs.Protocol.{longest_text};
 ghost use Rattle.message_flow.specs.Assembly.{WholeFits};
 ghost use Rattle.trace_log.specs.Commands.{HostCommandFits, IsPrimaryName};
 ghost use Rattle.message_end.specs.Calls.{deadline_of_end};
-ghost use Rattle.message_end.specs.Ends.{EndsBy, IsEmpty, Leaves, MayTake, input_of, none_asked};
+ghost use Rattle.message_end.specs.Ends.{EndsBy, IsEmpty, Leaves, MayTake, input_of, most_calls};
 ghost use Rattle.message_end.specs.Parts.{Takes, TakesAll, fixed_turn};
 ghost use Rattle.host_node.specs.Host.{breaks, ends_late, enters, follows, given, heeds, heeds_primary, heeds_secondary, host_machine, is_acceptance, judges, obeys, offers, parts, sends, takes, ticks};
 
@@ -53,11 +53,11 @@ impl End for Host {
 
     type Store = ();
 
-    ghost use Rattle.std.specs.Prelude.{◌^◌, false, [], refl};
+    ghost use Rattle.std.specs.Prelude.{◌+◌, ◌^◌, false, [], refl};
     ghost use Rattle.line_end.specs.Plan.{HostPlanFits};
     ghost use Rattle.message_end.specs.Calls.{deadline_of_end};
     ghost use Rattle.message_end.specs.Core.Went.{Goes};
-    ghost use Rattle.message_end.specs.Ends.{none_asked};
+    ghost use Rattle.message_end.specs.Ends.{most_calls};
     ghost use Rattle.message_end.specs.Parts.{Did, Node, started};
     ghost use Rattle.trace_log.specs.Commands.{HostCommandFits};
     ghost use Rattle.transact.specs.Numbers.{numbers_from};
@@ -86,17 +86,10 @@ impl End for Host {
 
     ghost due = { λ s. deadline_of_end s.core };
 
-    ghost room = { λ host. none_asked };
-
-    ghost store_room = { λ store. none_asked };
-
-    ghost fresh = { λ host. none_asked };
-
-    ghost store_fresh = { λ store. none_asked };
-
     ghost loses = { ⊥ };
 
-    ghost armed = { λ host. 0 };
+    // It makes no call of a disk, so none of those that it might make is ever the last.
+    ghost planned = { λ host. most_calls + 1 };
 
     ghost stopped = { λ host. false };
 
@@ -117,9 +110,7 @@ impl End for Host {
     }
 
     // It has no disk.
-    fn arm(&mut self, _call: u32) {}
-
-    fn is_stopped(&self) -> bool {
+    fn arm(&mut self, _call: u32) -> bool {
         false
     }
 
@@ -148,8 +139,8 @@ impl End for Host {
         requires input { MayTake HostCommandFits (input_of input) }
         requires out { IsEmpty out.old }
         ensures step { Leaves [] (host_machine.act self.old (input_of input.entry) now) self.new out.new result }
-        ensures ends { EndsBy host_machine [] 0 0 false (λ choice now. host_machine.restart self.new now)
-            none_asked none_asked none_asked out.new result }
+        ensures ends { EndsBy host_machine [] (most_calls + 1) (most_calls + 1) false
+            (λ choice now. host_machine.restart self.new now) out.new result }
     {
         self.step_on(alloc, input, now, out)
     }

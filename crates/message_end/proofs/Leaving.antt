@@ -10,7 +10,7 @@ use Rattle.message_end.specs.declared.end.Stop.TheVariants as stop
 use Rattle.message_end.specs.Core.{EndView, Step, Went, and_then, at_first}
 use Rattle.message_end.specs.Core.Went.{Goes, Spent}
 use Rattle.message_end.specs.Duties.{all_done}
-use Rattle.message_end.specs.Ends.{HasGone, HasSpent, IsEmpty, Leaves, Uses, none_asked}
+use Rattle.message_end.specs.Ends.{HasGone, HasSpent, IsEmpty, Leaves}
 use Rattle.message_end.specs.Laws.{read_as, went_as}
 use Rattle.message_end.specs.Parts.{ComesTo, Node, Part, Turn, after_parts, after_turn, core_step, on_the_way, went_with}
 use Rattle.message_end.proofs.Duties.{read-done}
@@ -112,12 +112,3 @@ module _ {S K : Type 0} (parts : List (Part S K)) (s : Node S K) (out : StepOut)
       leaves-spent new middle after done notes quiet
   leaves-stopped new middle after stop.DiskFailed done notes quiet fronts = absurd done
   leaves-stopped new middle after stop.NoMemory done notes quiet fronts = quiet
-
--- where no disk may stop it a step asks for no room
-pub uses_none :
-    {S : Type 0} (went : Went S Happening) (next : S) (out : StepOut) (result : Result (Unit {0}) Stop)
-    → Leaves [] went next out result → Uses none_asked none_asked none_asked result
-uses_none went next out (Ok done) leaves = record { calls = omega arith; bytes = omega arith }
-uses_none went next out (Err stop.NumbersSpent) leaves = tt
-uses_none went next out (Err stop.DiskFailed) leaves = absurd leaves.may
-uses_none went next out (Err stop.NoMemory) leaves = tt

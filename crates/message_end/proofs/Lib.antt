@@ -16,4 +16,3 @@ pub mod Parts
 pub mod Reading
 pub mod Steps
 pub mod Such
-pub mod Unarmed

@@ -1,6 +1,6 @@
 -- What an end of the line is to those above: what it is given in a step, what it makes of that, and the law that it
 -- keeps.
-use Rattle.std.specs.Prelude.{◌≡◌, ◌≢◌, ◌⊎◌, ◌+◌, ◌-◌, ◌<◌, ◌≤◌, zero, suc, ℕ, Bool, true, false, List, [], ◌∷◌, ◌++◌, Option, Some, None, Result, Ok, Err}
+use Rattle.std.specs.Prelude.{◌≡◌, ◌≢◌, ◌⊎◌, ◌+◌, ◌-◌, ◌<◌, ◌≤◌, zero, suc, ℕ, Bool, false, List, [], ◌∷◌, ◌++◌, length, Option, Some, None, Result, Ok, Err}
 use Rattle.std.specs.List.{filter_map, slice_get}
 use Rattle.disk_base.specs.declared.cut.CutChoice.{CutChoice}
 use Rattle.line_end.specs.Plan.{LinePlanFits}
@@ -53,7 +53,8 @@ pub record Loss (S : Type 0) : Type 0 where
 
 -- what an end makes of its state in a step at a moment, and when it starts anew without power; and its line. Its disk
 -- may stop a step, or a start, with these notes: one list for each piece of work that it asks of the disk, in their
--- order; and all of them ask so much of it. In a step its power may be lost at each call of the disk, in their order
+-- order; and all of them ask so much of it. A step may be stopped, or its power lost, at each call of the disk, in their
+-- order; and so many calls has a start left behind it, those that have made or taken up its file among them
 pub record Machine (S C : Type 0) : Type 0 where
   pub act : S → Input C → ℕ → Went S Happening
   pub restart : S → ℕ → Went S Happening
@@ -63,6 +64,15 @@ pub record Machine (S C : Type 0) : Type 0 where
   pub asks : S → Input C → ℕ → Asked
   pub start_asks : Asked
   pub losses : S → Input C → ℕ → List (Loss S)
+  pub start_calls : S → ℕ
+
+-- the most calls of an end's disk since its file was made, or power was lost (this profile)
+abbrev pub most_calls : ℕ
+most_calls = 65536
+
+-- how many are left behind a start, up to the one for which there is no room, itself counted
+abbrev pub calls_left : {S C : Type 0} → Machine S C → S → ℕ
+calls_left machine s = most_calls + 1 - machine.start_calls s
 
 -- the one at a call, which are counted from 1; none at 0
 abbrev pub call_of : {X : Type 0} → ℕ → List X → Option X
@@ -148,26 +158,26 @@ pub record IsLeft (room asked left : Asked) : Type 0 where
 abbrev pub IsShort : Asked → Asked → Type 0
 IsShort room asked = (room.calls < asked.calls) ⊎ (room.bytes < asked.bytes)
 
--- a start that asks for so much uses up no more, and its disk stops it only where there is no room for that
+-- what asks for so much uses up no more, and its disk stops it only where there is no room for that
 abbrev pub Uses : Asked → Asked → Asked → Result (Unit {0}) Stop → Type 0
 Uses room asked left (Ok done) = IsLeft room asked left
 Uses room asked left (Err stop.DiskFailed) = IsShort room asked
 Uses room asked left (Err stop.NumbersSpent) = Unit {0}
 Uses room asked left (Err stop.NoMemory) = Unit {0}
 
--- the same of a first start, which gives an end
-abbrev pub StartUses : {E : Type 0} → Asked → Asked → (E → Asked) → Result E Stop → Type 0
-StartUses room asked room_of (Ok end) = IsLeft room asked (room_of end)
-StartUses room asked room_of (Err stop.DiskFailed) = IsShort room asked
-StartUses room asked room_of (Err stop.NumbersSpent) = Unit {0}
-StartUses room asked room_of (Err stop.NoMemory) = Unit {0}
+-- ---- where its disk stops it
 
--- ---- where its power is lost
+-- no start is stopped by a disk: where that has no room for it, memory has run out
+abbrev pub IsNotStopped : {R : Type 0} → Result R Stop → Type 0
+IsNotStopped (Ok done) = Unit {0}
+IsNotStopped (Err stop.NumbersSpent) = Unit {0}
+IsNotStopped (Err stop.DiskFailed) = ⊥
+IsNotStopped (Err stop.NoMemory) = Unit {0}
 
 -- the call that is to stop the disk, 0 for none, isn't among a step's, and comes nearer by as many as these
-pub record IsNearer {S : Type 0} (losses : List (Loss S)) (before calls after : ℕ) : Type 0 where
+pub record IsNearer {S : Type 0} (losses : List (Loss S)) (before after : ℕ) : Type 0 where
   pub passes : call_of before losses ≡ None
-  pub left : after ≡ before - calls
+  pub left : after ≡ before - length losses
 
 -- it was one of them: what was noted by then is noted, and a start anew comes to what the loss says
 pub record HasLost {S C : Type 0}
@@ -178,28 +188,15 @@ pub record HasLost {S C : Type 0}
   pub notes : out.notes ≡ printed loss.front
   pub starts : (choice : CutChoice) (now : ℕ) → anew choice now ≡ machine.restart (loss.left choice) now
 
--- no call of a step is to stop the disk, and there is no room for what these ask
-abbrev pub HasNoRoom : {S : Type 0} → List (Loss S) → ℕ → (room asked : Asked) → Type 0
-HasNoRoom losses call room asked = (call_of call losses ≡ None) × IsShort room asked
-
--- a disk that fails was stopped so, or has no room
-abbrev pub FailsBy : Bool → Type 0 → Type 0 → Type 0
-FailsBy true Lost Short = Lost
-FailsBy false Lost Short = Short
-
--- a step that asks for so much of its disk uses up no more, and isn't stopped; where its disk fails, that was stopped
--- at its call, or, in a step that isn't to be stopped, there was no room for so much; and the numbers are spent only in
--- a step that isn't stopped
+-- a step goes on where the planned call isn't among its own; a disk that stops it does so at that call; and the numbers
+-- are spent only in a step that isn't stopped
 abbrev pub EndsBy :
     {S C : Type 0} → Machine S C → List (Loss S) → (before after : ℕ) → Bool → (CutChoice → ℕ → Went S Happening)
-    → (room asked left : Asked) → StepOut → Result (Unit {0}) Stop → Type 0
-EndsBy machine losses before after stopped anew room asked left out (Ok done) =
-    IsLeft room asked left × IsNearer losses before asked.calls after × (stopped ≡ false)
-EndsBy machine losses before after stopped anew room asked left out (Err stop.DiskFailed) =
-    FailsBy stopped (HasLost machine losses before anew out) (HasNoRoom losses before room asked)
-EndsBy machine losses before after stopped anew room asked left out (Err stop.NumbersSpent) =
-    call_of before losses ≡ None
-EndsBy machine losses before after stopped anew room asked left out (Err stop.NoMemory) = Unit {0}
+    → StepOut → Result (Unit {0}) Stop → Type 0
+EndsBy machine losses before after stopped anew out (Ok done) = IsNearer losses before after × (stopped ≡ false)
+EndsBy machine losses before after stopped anew out (Err stop.DiskFailed) = HasLost machine losses before anew out
+EndsBy machine losses before after stopped anew out (Err stop.NumbersSpent) = call_of before losses ≡ None
+EndsBy machine losses before after stopped anew out (Err stop.NoMemory) = Unit {0}
 
 -- there are numbers to start with
 abbrev pub Opens : {S : Type 0} → Went S Happening → Type 0

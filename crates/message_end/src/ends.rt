@@ -1,11 +1,11 @@
-ghost use Rattle.std.specs.Prelude.{◌≡◌, ◌<◌, ◌^◌, ℕ, Bool, false, List, Option, IfOk, OnOk};
+ghost use Rattle.std.specs.Prelude.{◌≡◌, ◌<◌, ◌^◌, nat_le, ℕ, Bool, false, List, Option, IfOk, OnOk, if◌then◌else◌};
 ghost use Rattle.disk_base.specs.declared.cut.CutChoice.{CutChoice};
 ghost use Rattle.line_end.specs.Step.{is_due};
 ghost use Rattle.line_end.specs.State.{LineState};
 ghost use Rattle.trace_log.specs.Log.{Happening};
 ghost use Rattle.message_end.specs.Core.{Went};
 ghost use Rattle.message_end.specs.Doings.{Doing};
-ghost use Rattle.message_end.specs.Ends.{Asked, EndsBy, IsEmpty, KeepsLaw, Leaves, Machine, MayTake, StartUses, Starts, Uses, input_of};
+ghost use Rattle.message_end.specs.Ends.{EndsBy, IsEmpty, IsNotStopped, KeepsLaw, Leaves, Machine, MayTake, Starts, calls_left, input_of};
 ghost use Rattle.message_end.specs.Plan.{EndPlan};
 
 use crate::end::Stop;
@@ -51,21 +51,11 @@ pub trait End: Drop {
     // When a state acts next by itself.
     ghost due: { State → Option ℕ };
 
-    // How much its disk has room for; that of a store before a start; and for how much there is room behind a loss of
-    // power.
-    ghost room: { Self → Asked };
-
-    ghost store_room: { Self.Store → Asked };
-
-    ghost fresh: { Self → Asked };
-
-    ghost store_fresh: { Self.Store → Asked };
-
     // Whether it has a disk that may be stopped. How many calls of that are left up to the one that stops it, itself
     // counted, 0 for none; and whether that was made.
     ghost loses: { Type 0 };
 
-    ghost armed: { Self → ℕ };
+    ghost planned: { Self → ℕ };
 
     ghost stopped: { Self → Bool };
 
@@ -83,25 +73,20 @@ pub trait End: Drop {
         requires store { holds store }
         requires out { IsEmpty out.old }
         ensures start { Starts machine.start_stops (start plan.now store) means out.new result }
-        ensures room { StartUses (store_room store) machine.start_asks room result }
-        ensures fresh { IfOk result (λ end. fresh end ≡ store_fresh store) }
-        ensures armed { IfOk result (λ end. armed end ≡ 0) }
+        ensures whole { IsNotStopped result }
+        ensures planned { IfOk result (λ end. planned end ≡ calls_left machine (means end)) }
         ensures going { IfOk result (λ end. stopped end ≡ false) }
         ensures sound { IfOk result (λ end. sound end) };
 
-    /// Plans that its disk stops at a call, the next one for 1, and at none for 0. An end without a disk plans nothing.
-    fn arm(&mut self, call: u32)
+    /// Plans that its disk stops at a call, the next one for 1, and answers whether it does. Where there is no room for
+    /// that many calls it is left to stop at the first one too many. An end without a disk plans nothing.
+    fn arm(&mut self, call: u32) -> bool
         requires sound { sound self.old }
-        ensures armed { loses → armed self.new ≡ call }
+        ensures within { loses → result ≡ nat_le call (planned self.old) }
+        ensures planned { planned self.new ≡ (if result then call else planned self.old) }
         ensures going { stopped self.new ≡ false }
         ensures means { means self.new ≡ means self.old }
-        ensures room { room self.new ≡ room self.old }
-        ensures fresh { fresh self.new ≡ fresh self.old }
         ensures sound { sound self.new };
-
-    /// Whether a call has stopped its disk.
-    fn is_stopped(&self) -> bool
-        ensures { result ≡ stopped self.now };
 
     /// It has lost its power: its disk is left as the choice says, and it starts anew with what is there.
     fn restart(
@@ -115,14 +100,12 @@ pub trait End: Drop {
         requires sound { sound self.old }
         requires out { IsEmpty out.old }
         ensures start { Leaves machine.start_stops (anew self.old choice now) (means self.new) out.new result }
-        ensures room { Uses (fresh self.old) machine.start_asks (room self.new) result }
-        ensures fresh { fresh self.new ≡ fresh self.old }
-        ensures armed { OnOk result (armed self.new ≡ 0) }
+        ensures whole { IsNotStopped result }
+        ensures planned { OnOk result (planned self.new ≡ calls_left machine (means self.new)) }
         ensures going { OnOk result (stopped self.new ≡ false) }
         ensures sound { sound self.new };
 
-    /// One step. A call at which its disk stops ends it. Where a stop is planned, and the disk lacks room without
-    /// having come to it, the answer is want of memory.
+    /// One step. The call at which its disk is to stop ends it.
     fn step(
         &mut self,
         alloc: Global,
@@ -143,17 +126,12 @@ pub trait End: Drop {
         ensures ends { EndsBy
             machine
             (machine.losses (means self.old) (input_of input.entry) now)
-            (armed self.old)
-            (armed self.new)
+            (planned self.old)
+            (planned self.new)
             (stopped self.new)
             (anew self.new)
-            (room self.old)
-            (machine.asks (means self.old) (input_of input.entry) now)
-            (room self.new)
             out.new
             result }
-        ensures calm { armed self.old ≡ 0 → armed self.new ≡ 0 }
-        ensures fresh { fresh self.new ≡ fresh self.old }
         ensures sound { sound self.new };
 
     /// When it acts next by itself.
