@@ -25,7 +25,7 @@ change-long c (work.Put stream function body) = omega arith
 change-long c work.DropOldest = omega arith
 change-long c work.Purge = purge-long c.slots _ c.len
 
-work-long : (bytes : List ℕ) (st : Standing) (one : DiskWork) → length (disk_calls bytes st one) ≡ calls_of st one
+pub work-long : (bytes : List ℕ) (st : Standing) (one : DiskWork) → length (disk_calls bytes st one) ≡ calls_of st one
 work-long bytes st Reserve = omega arith
 work-long bytes st (Change one) = change-long _ one
 work-long bytes st ReadOldest = omega arith
@@ -59,7 +59,8 @@ change-written c (work.Put stream function body) =
 change-written c work.DropOldest = omega arith
 change-written c work.Purge = purge-written c.slots _ c.len
 
-work-written : (bytes : List ℕ) (st : Standing) (one : DiskWork) → written_by (disk_calls bytes st one) ≡ bytes_of st one
+pub work-written :
+    (bytes : List ℕ) (st : Standing) (one : DiskWork) → written_by (disk_calls bytes st one) ≡ bytes_of st one
 work-written bytes st Reserve =
     let long = length-copy (st.mark + 4096) in omega (arith, long)
 work-written bytes st (Change one) = change-written _ one

@@ -1,11 +1,8 @@
 -- That a start over what a disk was left with finds what its bytes say.
-use Rattle.std.proofs.Common.{◌≡◌, ◌⊎◌, refl, sym, ap, subst, ◌∙◌, inl, inr, arith, ◌+◌, ◌*◌, ◌/◌, ◌<◌, ◌≤◌, nat_le, Bool, true, false, ℕ, [], ◌∷◌, List, length, Option, Some, None}
-use Rattle.std.proofs.lemmas.Bool.Decides.{nat_tests}
+use Rattle.std.proofs.Common.{◌≡◌, refl, sym, ap, subst, ◌∙◌, Bool, true, false, ℕ, [], ◌∷◌, List, length, Option, Some, None, if◌then◌else◌}
 use Rattle.std.specs.Prelude.{IfSome, OnOk, Result, Ok, Err}
 use Rattle.disk_base.specs.Cut.{image_of, settled_before, settled_if}
-use Rattle.disk_base.specs.Faults.{IsPlanned}
-use Rattle.disk_base.specs.Images.{IsImage}
-use Rattle.disk_base.specs.MemDisk.{DiskState, after_cut, disk_health, disk_size}
+use Rattle.disk_base.specs.MemDisk.{DiskState, after_cut, disk_health}
 use Rattle.disk_base.specs.declared.cut.CutChoice.{CutChoice}
 use Rattle.disk_base.proofs.Marks.{AreIn, image_is}
 use Rattle.disk_base.proofs.Moments.{only_now}
@@ -17,58 +14,98 @@ use Rattle.message_flow.specs.declared.step.StepOut.{StepOut}
 use Rattle.spool_slots.specs.Changes.{Ends, Recovers}
 use Rattle.spool_slots.specs.File.{SpoolFile, StandsFor, file_in}
 use Rattle.spool_slots.specs.Spool.{SpoolView}
-use Rattle.spool_slots.specs.declared.states.Recovering.{Recovering}
-use Rattle.spool_slots.specs.declared.states.Recovering.TheVariants as recovering
 use Rattle.trace_log.specs.Log.{Happening}
 use Rattle.message_end.specs.declared.end.Stop.{Stop}
 use Rattle.message_end.specs.Core.{Went}
-use Rattle.message_end.specs.Ends.{Asked, HasGone, IsLeft, IsShort, Leaves, Uses}
+use Rattle.message_end.specs.Ends.{HasGone, IsNotStopped, Leaves, calls_left}
 use Rattle.message_end.specs.Parts.{Node}
 use Rattle.equipment_tables.specs.declared.plan.EquipmentPlan.{EquipmentPlan}
 use Rattle.equipment_tables.specs.Plan.{EquipmentPlanFits}
-use Rattle.equipment_node.specs.declared.disk_step.Ended.{Ended}
-use Rattle.equipment_node.specs.declared.disk_step.Ended.TheVariants as ended
 use Rattle.equipment_node.specs.declared.kind.Kind.{Kind}
 use Rattle.equipment_node.specs.declared.own.Tool.{Tool}
-use Rattle.equipment_node.specs.Asked.{IsSureDisk, room_by}
+use Rattle.equipment_node.specs.Asked.{HasSpared, IsSureDisk}
 use Rattle.equipment_node.specs.Breaking.{KeepsMarked}
-use Rattle.equipment_node.specs.Equipment.{EquipmentView, starts}
 use Rattle.equipment_node.specs.Disk.{reserve_asks, standing_in}
-use Rattle.equipment_node.specs.InMemory.{HasPower, IsFileOf, IsLost, IsIdle, IsMarkedBy, IsRoomy, IsWhole, anew_over, armed_in, disk_of, file_cut, fresh_for, most_calls, most_written, room_in, room_with, starts_over}
+use Rattle.equipment_node.specs.End.{machine}
+use Rattle.equipment_node.specs.Equipment.{EquipmentView, starts}
+use Rattle.equipment_node.specs.InMemory.{HasPower, IsArmed, IsFileOf, IsLost, IsMarkedBy, IsWhole, Restarts, anew_over, disk_of, file_cut, left_behind, planned_in, starts_over, stop_told, with_stop}
 use Rattle.equipment_node.specs.Node.{node_of}
 use Rattle.equipment_node.specs.Own.{OwnView}
 use Rattle.equipment_node.specs.Sound.{AllCanBeSent}
-use Rattle.equipment_node.specs.StartOver.{HasStartedOver, IsFresh, Restarts, StartAsks}
-use Rattle.equipment_node.specs.Stepping.{HasSeat, stop_by, view_of}
-use Rattle.equipment_node.proofs.Asking.{not-planned, spared-used}
-use Rattle.equipment_node.proofs.Seated.{start-gone, start-seat, start-stops}
+use Rattle.equipment_node.specs.StartOver.{HasStartedOver, IsFresh}
+use Rattle.equipment_node.specs.Stepping.{stop_by, view_of}
+use Rattle.equipment_node.proofs.Asking.{spared-used}
+use Rattle.equipment_node.proofs.Seated.{start-ends, start-gone, start-on, told-whole}
 use Rattle.equipment_node.proofs.TakenUp.{file-is, is-fresh, slots-are}
 
--- a spool in hand on a disk that goes on
-pub power-of :
-    (plan : EquipmentPlan) (slots planned : ℕ) (node : Node OwnView Kind) (k : GemSpool DiskState)
-    → HasSeat ghosts node k → IsMarkedBy k.spool.disk.story.now.bytes k.spool.mark → node.own.plan ≡ plan
-    → node.own.ledger.slots ≡ slots → HasPower ghosts plan slots planned node k
-power-of plan slots planned node k seat marked of_plan same = record {
-  on = seat.on;
-  fails_not = seat.sure.fails_not;
-  going = seat.sure.going;
-  marked = marked;
-  plan_is = of_plan;
-  slots_are = same;
-  calm = λ none. seat.sure.stops_not;
+-- where another call is planned it is the same spool
+pub armed-power :
+    (plan : EquipmentPlan) (slots : ℕ) (node : Node OwnView Kind) (g : GemSpool DiskState) (call : ℕ)
+    → HasPower ghosts plan slots node g → HasPower ghosts plan slots node (with_stop call g)
+armed-power plan slots node g call is = record {
+  on = record {
+    clear = record {
+      stands = record {
+        count = is.on.clear.stands.count;
+        mark = is.on.clear.stands.mark;
+        run = is.on.clear.stands.run;
+        file = λ s told. is.on.clear.stands.file s told;
+      };
+      owes = is.on.clear.owes;
+      len = is.on.clear.len;
+    };
+    made = is.on.made;
+  };
+  fails_not = is.fails_not;
+  going = is.going;
+  marked = is.marked;
+  plan_is = is.plan_is;
+  slots_are = is.slots_are;
 }
 
--- by a copy of its plan, and with the slots of its spool
-pub power-over :
-    (plan : EquipmentPlan) (g k : GemSpool DiskState) (tool : Tool) (out : StepOut) (slots planned : ℕ)
-    → HasStartedOver ghosts plan g tool k out → HasSeat ghosts (node_of tool) k
-    → IsMarkedBy k.spool.disk.story.now.bytes k.spool.mark → g.spool.slots ≡ slots → (copy : EquipmentPlan)
-    → plan ≡ copy → HasPower ghosts copy slots planned (node_of tool) k
-power-over plan g k tool out slots planned started seat marked same copy copied =
-    power-of copy slots planned (node_of tool) k seat marked
-    (ap (λ (n : Node OwnView Kind). n.own.plan) started.node_is ∙ copied)
-    (ap (λ (n : Node OwnView Kind). n.own.ledger.slots) started.node_is ∙ same)
+-- a call is planned, or what was planned stands
+module _ (plan : EquipmentPlan) (slots : ℕ) (node : Node OwnView Kind) (g : GemSpool DiskState) (call : ℕ) where
+  pub within-power :
+      (within : Bool) → HasPower ghosts plan slots node g
+      → HasPower ghosts plan slots node (if within then with_stop call g else g)
+  within-power true is = armed-power plan slots node g call is
+  within-power false is = is
+
+  pub within-planned :
+      (within : Bool)
+      → planned_in (Some (if within then with_stop call g else g)) ≡ (if within then call else planned_in (Some g))
+  within-planned true = refl
+  within-planned false = refl
+
+  pub within-means :
+      (within : Bool)
+      → view_of ghosts node (Some (if within then with_stop call g else g)) ≡ view_of ghosts node (Some g)
+  within-means true = refl
+  within-means false = refl
+
+-- a start over a spool, by a copy of its plan, and with its slots
+module _ (plan : EquipmentPlan) (fits : EquipmentPlanFits plan) (g k : GemSpool DiskState) (tool : Tool) (out : StepOut)
+    (slots : ℕ) (started : HasStartedOver ghosts plan g tool k out) (same : g.spool.slots ≡ slots)
+  where
+    pub seated-slots : (node_of tool).own.ledger.slots ≡ slots
+    seated-slots = ap (λ (n : Node OwnView Kind). n.own.ledger.slots) started.node_is ∙ same
+
+    pub seated-power :
+        AllCanBeSent (standing_of ghosts g.spool).list
+        → HasSpared (disk_health g.spool.disk) (disk_health k.spool.disk) reserve_asks
+        → IsSureDisk (disk_health g.spool.disk) → IsMarkedBy k.spool.disk.story.now.bytes k.spool.mark
+        → (copy : EquipmentPlan) → plan ≡ copy
+        → HasPower ghosts copy slots (node_of tool) (with_stop (left_behind slots) k)
+    seated-power can spared sure marked copy copied =
+        armed-power copy slots (node_of tool) k (left_behind slots)
+        (record {
+          on = start-on ghosts plan fits g k tool out started can;
+          fails_not = (spared.sure sure).fails_not;
+          going = (spared.sure sure).going;
+          marked = marked;
+          plan_is = ap (λ (n : Node OwnView Kind). n.own.plan) started.node_is ∙ copied;
+          slots_are = seated-slots;
+        })
 
 module _ (slots : ℕ) (disk : DiskState) (is : IsFileOf slots disk) (v : SpoolView DiskState)
     (recovers : Recovers ghosts disk (Ok v)) (h : GemSpool DiskState) (made : h.spool ≡ v) (plan : EquipmentPlan)
@@ -95,22 +132,6 @@ module _ (slots : ℕ) (disk : DiskState) (is : IsFileOf slots disk) (v : SpoolV
         ((spared-used recovers.0.synced (ghosts.health v.disk) recovers.0.reads.made 0 recovers.0.reads.cause).sure
         ((spared-used (ghosts.health disk) recovers.0.synced 1 0 recovers.0.cause).sure is.sure))
 
-    -- what there is room for behind the calls that have taken it up
-    enough : IsRoomy slots disk → IsLeft (fresh_for slots) (record { calls = 0; bytes = 0 }) (room_in h)
-    enough roomy =
-        subst (λ (x : SpoolView DiskState). IsLeft (fresh_for slots) (record { calls = 0; bytes = 0 })
-        (room_by (ghosts.health x.disk))) (sym made)
-        (record {
-          calls =
-              let least = roomy.calls in let first = recovers.0.cause.calls_left in
-              let behind = recovers.0.reads.cause.calls_left in let few = recovers.0.reads.few in
-              let same : v.slots ≡ slots = ap (λ (x : SpoolView DiskState). x.slots) (sym made) ∙ same-slots in
-              omega (arith, least, first, behind, few, same);
-          bytes =
-              let least = roomy.bytes in let first = recovers.0.cause.room_left in
-              let behind = recovers.0.reads.cause.room_left in omega (arith, least, first, behind);
-        })
-
     -- the gate goes with the mark that was taken up
     taken-marked : IsMarkedBy h.spool.disk.story.now.bytes h.spool.mark
     taken-marked =
@@ -124,7 +145,7 @@ module _ (slots : ℕ) (disk : DiskState) (is : IsFileOf slots disk) (v : SpoolV
     module _ (out : StepOut) where
       pub from-leaves :
           (tool : Tool) (spool : Option (GemSpool DiskState)) (result : Result (Unit {0}) Stop)
-          → Restarts ghosts plan h tool spool out result
+          → Restarts ghosts plan slots h tool spool out result
           → Leaves ([] ∷ []) (starts_over plan disk) (view_of ghosts (node_of tool) spool) out result
       from-leaves tool spool (Ok done) has =
           subst
@@ -139,110 +160,61 @@ module _ (slots : ℕ) (disk : DiskState) (is : IsFileOf slots disk) (v : SpoolV
           (sym has.end_is)
           (subst
           (λ (went : Went EquipmentView Happening).
-          Leaves ([] ∷ []) went (view_of ghosts (node_of tool) spool) out (Err (stop_by has.ended))) starts-so
-          (start-stops ghosts plan fits h out has.ended (has.started fresh) (view_of ghosts (node_of tool) spool)))
+          Leaves ([] ∷ []) went (view_of ghosts (node_of tool) spool) out (Err (stop_told false (stop_by has.ended))))
+          starts-so
+          (start-ends ghosts plan fits h out has.ended (has.started fresh) (view_of ghosts (node_of tool) spool)))
 
       pub from-whole :
-          (planned : ℕ) (tool : Tool) (spool : Option (GemSpool DiskState)) (result : Result (Unit {0}) Stop)
-          → Restarts ghosts plan h tool spool out result
+          (tool : Tool) (spool : Option (GemSpool DiskState)) (result : Result (Unit {0}) Stop)
+          → Restarts ghosts plan slots h tool spool out result
           → IfSome spool (λ (k : GemSpool DiskState).
           KeepsMarked (Some h.spool.disk.story) h.spool.mark (Some k.spool.disk.story) k.spool.mark)
-          → IsWhole ghosts plan slots planned (node_of tool) spool None
-      from-whole planned tool spool (Ok done) has keeps =
-          subst (λ (o : Option (GemSpool DiskState)). IsWhole ghosts plan slots planned (node_of tool) o None)
+          → IsWhole ghosts plan slots (node_of tool) spool None
+      from-whole tool spool (Ok done) has keeps =
+          subst (λ (o : Option (GemSpool DiskState)). IsWhole ghosts plan slots (node_of tool) o None)
           (sym has.spool_is)
-          (power-over plan h has.seated tool out slots planned (has.started fresh)
-          (start-seat ghosts plan fits h out has.seated tool (has.started fresh) can has.asks sure)
+          (seated-power plan fits h has.seated tool out slots (has.started fresh) same-slots can has.spared sure
           (subst
           (λ (o : Option (GemSpool DiskState)).
           IfSome o (λ (k : GemSpool DiskState).
           KeepsMarked (Some h.spool.disk.story) h.spool.mark (Some k.spool.disk.story) k.spool.mark))
-          has.spool_is keeps h.spool.disk.story has.seated.spool.disk.story refl refl taken-marked) same-slots
+          has.spool_is keeps h.spool.disk.story has.seated.spool.disk.story refl refl taken-marked)
           plan refl)
-      from-whole planned tool spool (Err end) has keeps =
-          subst (λ (o : Option (GemSpool DiskState)). IsWhole ghosts plan slots planned (node_of tool) o None)
+      from-whole tool spool (Err end) has keeps =
+          subst (λ (o : Option (GemSpool DiskState)). IsWhole ghosts plan slots (node_of tool) o None)
           (sym has.spool_is) tt
 
-      pub from-idle :
-          (tool : Tool) (spool : Option (GemSpool DiskState)) (result : Result (Unit {0}) Stop)
-          → Restarts ghosts plan h tool spool out result → IsIdle spool
-      from-idle tool spool (Ok done) has =
-          subst IsIdle (sym has.spool_is)
-          (start-seat ghosts plan fits h out has.seated tool (has.started fresh) can has.asks sure).sure.stops_not
-      from-idle tool spool (Err end) has = subst IsIdle (sym has.spool_is) tt
-
-      ended-uses :
-          (end : Ended DiskState) (left : Asked) → StartAsks ghosts h.spool.disk (Err end) → IsRoomy slots disk
-          → Uses (fresh_for slots) reserve_asks left (Err (stop_by end))
-      ended-uses (ended.DiskFailed spent) left asks roomy = go (asks sure)
-        where
-          go : IsShort (room_by (ghosts.health h.spool.disk)) reserve_asks → IsShort (fresh_for slots) reserve_asks
-          go (inl short) = inl (let some = (enough roomy).calls in omega (arith, some, short))
-          go (inr short) = inr (let some = (enough roomy).bytes in omega (arith, some, short))
-      ended-uses (ended.NumbersSpent spent) left asks roomy = tt
-      ended-uses (ended.NoMemory spent) left asks roomy = tt
-
-      pub from-room :
-          (tool : Tool) (spool : Option (GemSpool DiskState)) (result : Result (Unit {0}) Stop)
-          → Restarts ghosts plan h tool spool out result → IsRoomy slots disk
-          → Uses (fresh_for slots) reserve_asks (room_with spool) result
-      from-room tool spool (Ok done) has roomy =
-          subst
-          (λ (o : Option (GemSpool DiskState)). IsLeft (fresh_for slots) reserve_asks (room_with o))
-          (sym has.spool_is)
-          (record {
-            calls =
-                let some = (enough roomy).calls in let spared = has.asks.left.calls in omega (arith, some, spared);
-            bytes =
-                let some = (enough roomy).bytes in let spared = has.asks.left.bytes in omega (arith, some, spared);
-          })
-      from-room tool spool (Err end) has roomy =
-          subst (λ (e : Stop). Uses (fresh_for slots) reserve_asks (room_with spool) (Err e)) (sym has.end_is)
-          (ended-uses has.ended (room_with spool) has.asks roomy)
-
--- reads without room for them come of many slots alone
-few-left :
-    (slots pages calls synced made : ℕ) → most_calls + 2 * pages ≤ calls + (2 * slots + 2) → calls ≤ synced + 1
-    → made ≤ 2 * pages + 1 → synced < made → (fresh_for slots).calls < 5
-few-left slots pages calls synced made roomy first few more = omega (arith, roomy, first, few, more)
-
--- a spool file is taken up, where there is room for that
-pub not-taken-up :
-    (slots : ℕ) (disk : DiskState) (why : Recovering DiskState) → IsFileOf slots disk → IsRoomy slots disk
-    → Recovers ghosts disk (Err why) → IsShort (fresh_for slots) reserve_asks
-not-taken-up slots disk (recovering.NotSpool raw break) is roomy recovers =
-    absurd (none-some break.at (sym is.stands.sound ∙ (recovers.1 disk.story refl).0))
+-- no start anew is stopped by its disk, and one that goes on has planned how far that goes
+module _ (plan : EquipmentPlan) (slots : ℕ) (h : GemSpool DiskState) (tool : Tool) (spool : Option (GemSpool DiskState))
+    (out : StepOut)
   where
-    none-some : (n : ℕ) → None ≡ Some n → ⊥
-    none-some n same = absurd (cc)
-not-taken-up slots disk (recovering.Failed spent) is roomy (inl none) =
-    absurd (go (none.cause.lacking (let least = roomy.calls in omega (arith, least))))
+    pub anew-whole :
+        (result : Result (Unit {0}) Stop) → Restarts ghosts plan slots h tool spool out result → IsNotStopped result
+    anew-whole (Ok done) has = tt
+    anew-whole (Err end) has =
+        subst (λ (e : Stop). IsNotStopped {R = Unit {0}} (Err e)) (sym has.end_is)
+        (told-whole (Unit {0}) (stop_by has.ended))
+
+    pub anew-armed :
+        (result : Result (Unit {0}) Stop) → Restarts ghosts plan slots h tool spool out result
+        → OnOk result (IsArmed slots spool)
+    anew-armed (Ok done) has = subst (IsArmed slots) (sym has.spool_is) refl
+    anew-armed (Err end) has = tt
+
+-- what is planned then is what its state says
+pub planned-left :
+    (plan : EquipmentPlan) (slots : ℕ) (node : Node OwnView Kind) (spool : Option (GemSpool DiskState))
+    (lost : Option DiskState) (result : Result (Unit {0}) Stop) → IsWhole ghosts plan slots node spool lost
+    → OnOk result (IsArmed slots spool)
+    → OnOk result (planned_in spool ≡ calls_left machine (view_of ghosts node spool))
+planned-left plan slots node spool lost (Ok done) whole armed = go spool lost whole armed
   where
-    go : IsPlanned (disk_health disk) 1 ⊎ ⊥ → ⊥
-    go (inl planned) = not-planned (disk_health disk) 1 is.sure planned
-    go (inr none) = none
-not-taken-up slots disk (recovering.Failed spent) is roomy (inr has) =
-    go (nat_le has.reads.made has.synced.calls) refl
-  where
-    sure : IsSureDisk has.synced
-    sure = (spared-used (disk_health disk) has.synced 1 0 has.cause).sure is.sure
-
-    by : IsPlanned has.synced has.reads.made ⊎ ⊥ → ⊥
-    by (inl planned) = not-planned has.synced has.reads.made sure planned
-    by (inr none) = none
-
-    go : (within : Bool) → nat_le has.reads.made has.synced.calls ≡ within
-        → IsShort (fresh_for slots) reserve_asks
-    go true e = absurd (by (has.reads.cause.lacking (grind (arith, nat_tests, e))))
-    go false e =
-        let more : has.synced.calls < has.reads.made = grind (arith, nat_tests, e) in
-        inl (few-left slots (disk_size disk / 4096) (disk_health disk).calls has.synced.calls has.reads.made roomy.reads
-        has.cause.calls_left has.reads.few more)
-
-pub armed-idle :
-    (spool : Option (GemSpool DiskState)) (planned : ℕ) → IsIdle spool → planned ≡ 0 → armed_in spool planned ≡ 0
-armed-idle None planned is none = none
-armed-idle (Some g) planned is none = is
+    go : (o : Option (GemSpool DiskState)) (lost : Option DiskState) → IsWhole ghosts plan slots node o lost
+        → IsArmed slots o → planned_in o ≡ calls_left machine (view_of ghosts node o)
+    go None lost whole armed = absurd armed
+    go (Some g) None whole armed = armed ∙ ap left_behind (sym whole.slots_are)
+    go (Some g) (Some lost) whole armed = absurd whole
+planned-left plan slots node spool lost (Err end) whole armed = tt
 
 -- ---- what a disk is left with
 
@@ -259,39 +231,22 @@ cut-file slots lost is choice most room = record {
   slots_are = is.slots_are choice;
 }
 
--- on one that is given as much room as it may need
-pub cut-roomy :
-    (slots : ℕ) (lost new : DiskState) (choice : CutChoice) (calls size : ℕ)
-    → new ≡ after_cut choice calls most_written lost → IsImage lost.story.now new.story.now.bytes
-    → size ≡ disk_size lost → most_calls ≤ calls → most_calls + 2 * (size / 4096) ≤ calls + (2 * slots + 2)
-    → IsRoomy slots new
-cut-roomy slots lost new choice calls size same image sized least reads = record {
-  calls =
-      subst (λ (d : DiskState). most_calls ≤ (disk_health d).calls) (sym same) (omega (arith, least));
-  bytes = subst (λ (d : DiskState). most_written ≤ (disk_health d).room) (sym same) (omega arith);
-  reads =
-      subst (λ (n : ℕ). most_calls + 2 * (n / 4096) ≤ (disk_health new).calls + (2 * slots + 2))
-      (sized ∙ sym image.long)
-      (subst (λ (d : DiskState). most_calls + 2 * (size / 4096) ≤ (disk_health d).calls + (2 * slots + 2))
-      (sym same) (let most = reads in omega (arith, most)));
-}
-
 pub power-in :
-    (plan : EquipmentPlan) (slots planned : ℕ) (node : Node OwnView Kind) (spool : Option (GemSpool DiskState))
+    (plan : EquipmentPlan) (slots : ℕ) (node : Node OwnView Kind) (spool : Option (GemSpool DiskState))
     (lost : Option DiskState) (g : GemSpool DiskState) → spool ≡ Some g
-    → IsWhole ghosts plan slots planned node spool lost
-    → HasPower ghosts plan slots planned node g × (lost ≡ None)
-power-in plan slots planned node spool lost g same is =
-    go lost (subst (λ (o : Option (GemSpool DiskState)). IsWhole ghosts plan slots planned node o lost) same is)
+    → IsWhole ghosts plan slots node spool lost
+    → HasPower ghosts plan slots node g × (lost ≡ None)
+power-in plan slots node spool lost g same is =
+    go lost (subst (λ (o : Option (GemSpool DiskState)). IsWhole ghosts plan slots node o lost) same is)
   where
-    go : (lost : Option DiskState) → IsWhole ghosts plan slots planned node (Some g) lost
-        → HasPower ghosts plan slots planned node g × (lost ≡ None)
+    go : (lost : Option DiskState) → IsWhole ghosts plan slots node (Some g) lost
+        → HasPower ghosts plan slots node g × (lost ≡ None)
     go None is = (is, refl)
     go (Some lost) is = absurd is
 
 -- a disk that nothing is asked of keeps its bytes
-module _ (plan : EquipmentPlan) (slots planned : ℕ) (node : Node OwnView Kind) (g : GemSpool DiskState)
-    (is : HasPower ghosts plan slots planned node g) where
+module _ (plan : EquipmentPlan) (slots : ℕ) (node : Node OwnView Kind) (g : GemSpool DiskState)
+    (is : HasPower ghosts plan slots node g) where
   ends : Ends g.spool.disk.story (file_of (standing_in (view_of ghosts node (Some g))))
   ends = is.on.clear.stands.file g.spool.disk.story refl
 
@@ -331,58 +286,21 @@ module _ (plan : EquipmentPlan) (slots planned : ℕ) (node : Node OwnView Kind)
 
 -- whichever disk there is, a start anew finds what it is left with
 pub anew-of :
-    (plan : EquipmentPlan) (slots planned : ℕ) (node : Node OwnView Kind) (spool : Option (GemSpool DiskState))
+    (plan : EquipmentPlan) (slots : ℕ) (node : Node OwnView Kind) (spool : Option (GemSpool DiskState))
     (lost : Option DiskState) (disk : DiskState)
-    → IsWhole ghosts plan slots planned node spool lost → disk_of lost spool ≡ Some disk
+    → IsWhole ghosts plan slots node spool lost → disk_of lost spool ≡ Some disk
     → IsLost slots disk × ((choice : CutChoice) (now : ℕ)
     → anew_over ghosts plan node None (Some disk) choice now ≡ anew_over ghosts plan node spool lost choice now)
-anew-of plan slots planned node None (Some lost) disk is same =
+anew-of plan slots node None (Some lost) disk is same =
     subst
     (λ (d : DiskState). IsLost slots d × ((choice : CutChoice) (now : ℕ)
     → anew_over ghosts plan node None (Some d) choice now ≡ anew_over ghosts plan node None (Some lost) choice now))
     (let one : lost ≡ disk = cc in one) (is, λ choice now. refl)
-anew-of plan slots planned node (Some g) (Some lost) disk is same = absurd is
-anew-of plan slots planned node (Some g) None disk is same =
+anew-of plan slots node (Some g) (Some lost) disk is same = absurd is
+anew-of plan slots node (Some g) None disk is same =
     subst
     (λ (d : DiskState). IsLost slots d × ((choice : CutChoice) (now : ℕ)
     → anew_over ghosts plan node None (Some d) choice now ≡ anew_over ghosts plan node (Some g) None choice now))
     (let one : g.spool.disk ≡ disk = cc in one)
-    (power-lost plan slots planned node g is, λ choice now. power-anew plan slots planned node g is choice now)
-anew-of plan slots planned node None None disk is same = absurd (cc)
-
-pub ok-so : (r : Result (Unit {0}) Stop) (P : Type 0) → P → OnOk r P
-ok-so (Ok done) P is = is
-ok-so (Err stop) P is = tt
-
--- ---- a planned call
-
-abbrev pub with_stop : ℕ → GemSpool DiskState → GemSpool DiskState
-with_stop call g = record {
-  spool = record g.spool { disk = record g.spool.disk { plan = record g.spool.disk.plan { stop_in = call } } };
-  active = g.active;
-}
-
-pub armed-power :
-    (plan : EquipmentPlan) (slots planned : ℕ) (node : Node OwnView Kind) (g : GemSpool DiskState) (call : ℕ)
-    → HasPower ghosts plan slots planned node g → HasPower ghosts plan slots call node (with_stop call g)
-armed-power plan slots planned node g call is = record {
-  on = record {
-    clear = record {
-      stands = record {
-        count = is.on.clear.stands.count;
-        mark = is.on.clear.stands.mark;
-        run = is.on.clear.stands.run;
-        file = λ s told. is.on.clear.stands.file s told;
-      };
-      owes = is.on.clear.owes;
-      len = is.on.clear.len;
-    };
-    made = is.on.made;
-  };
-  fails_not = is.fails_not;
-  going = is.going;
-  marked = is.marked;
-  plan_is = is.plan_is;
-  slots_are = is.slots_are;
-  calm = λ none. none;
-}
+    (power-lost plan slots node g is, λ choice now. power-anew plan slots node g is choice now)
+anew-of plan slots node None None disk is same = absurd (cc)

@@ -31,9 +31,9 @@ use Rattle.message_end.specs.Calls.{answered_by, dropped_now, failed_as, failed_
 use Rattle.message_end.specs.Core.{EndView, Step, Went, and_then, at_first, calls, carried, carry, draws, drops, held_header, is_crowded_out, judges, noted, sends, step_in, takes, takes_back, tells, times_out, unsent_name, with_assembly, with_end}
 use Rattle.message_end.specs.Core.Command.{Draw, DropDue, Expire, GiveUp, Halt, Note, Primary, Take, Tick}
 use Rattle.message_end.specs.Core.Went.{Goes, Spent}
-use Rattle.message_end.specs.Course.{Course, Meeting, broken_at, course_of, noted_behind, notes_of, went_on, with_meeting}
+use Rattle.message_end.specs.Course.{Course, Meeting, broken_at, course_of, filled_at, noted_behind, notes_of, went_on, with_meeting}
 use Rattle.message_end.specs.Course.Course.{Reached, Stopped}
-use Rattle.message_end.specs.Course.Meeting.{Acts, Breaks, LosesPower, Restarts, Writes}
+use Rattle.message_end.specs.Course.Meeting.{Acts, Breaks, Fills, LosesPower, Restarts, Writes}
 use Rattle.message_end.specs.Duties.{all_done}
 use Rattle.message_end.specs.Ends.{Input, IsFront, Loss, call_of}
 use Rattle.message_end.specs.Own.{Has}
@@ -1117,6 +1117,32 @@ module _ (plan : EquipmentPlan) (fits : EquipmentPlanFits plan) (looked : Tables
     kept-before [] notes kept = kept
     kept-before (what ∷ rest) notes kept = (kept-before rest (what ∷ notes) kept).1
 
+    -- so do those at a call of the disk
+    kept-at-call :
+        (input : Input ToolCommand) (now : ℕ) (said : List ToolCommand) (s : EquipmentView) (notes : List Happening)
+        (loss : Loss EquipmentView) → Has (losses s input now) loss
+        → Holds plan said s.node.own s.node.core.drawn notes → IsGoodView plan fits s → IsSpoolSo s notes
+        → KeepsSpool (policy_of plan slots) (noted_behind loss.front notes)
+    kept-at-call input now said s notes loss has holds good so =
+        kept-before first.rest (noted_behind loss.front notes)
+        (subst (KeepsSpool (policy_of plan slots))
+        (ap (λ (ns : List Happening). noted_behind ns notes) first.whole ∙ behind-both loss.front first.rest notes)
+        (lost-so said notes input now s holds good so).0)
+      where
+        first : IsFront loss.front (step_in (begun_step s input now)).notes
+        first =
+            fronts-are (step_works s input now) [] (step_in (begun_step s input now)).notes loss.front
+            ((losses-counted s input now).1 loss has)
+
+    filled-so :
+        (input : Input ToolCommand) (now call : ℕ) (said : List ToolCommand) (s : EquipmentView)
+        (notes : List Happening) (found : Option (Loss EquipmentView)) → call_of call (losses s input now) ≡ found
+        → Holds plan said s.node.own s.node.core.drawn notes → IsGoodView plan fits s → IsSpoolSo s notes
+        → IsCourseKept (filled_at s notes found)
+    filled-so input now call said s notes None is holds good so = so
+    filled-so input now call said s notes (Some loss) is holds good so =
+        kept-at-call input now said s notes loss (has-call call (losses s input now) loss is) holds good so
+
     broken-so :
         (input : Input ToolCommand) (now call : ℕ) (choice : CutChoice) (said : List ToolCommand) (s : EquipmentView)
         (notes : List Happening) (found : Option (Loss EquipmentView)) → call_of call (losses s input now) ≡ found
@@ -1148,17 +1174,8 @@ module _ (plan : EquipmentPlan) (fits : EquipmentPlanFits plan) (looked : Tables
         is-found : IsFoundAt slots (shelf_of (noted_behind loss.front notes)) st
         is-found = at.at choice
 
-        first : IsFront loss.front (step_in (begun_step s input now)).notes
-        first =
-            fronts-are (step_works s input now) [] (step_in (begun_step s input now)).notes loss.front
-            ((losses-counted s input now).1 loss has)
-
         kept : KeepsSpool (policy_of plan slots) (noted_behind loss.front notes)
-        kept =
-            kept-before first.rest (noted_behind loss.front notes)
-            (subst (KeepsSpool (policy_of plan slots))
-            (ap (λ (ns : List Happening). noted_behind ns notes) first.whole
-            ∙ behind-both loss.front first.rest notes) lost.0)
+        kept = kept-at-call input now said s notes loss has holds good so
 
         below : is-found.well.first + length st.list ≤ 2 ^ 63 + 65535
         below =
@@ -1226,6 +1243,8 @@ module _ (plan : EquipmentPlan) (fits : EquipmentPlanFits plan) (looked : Tables
     meeting-so (Breaks input now call choice) said (Reached s notes) reported so =
         broken-so input now call choice said s notes (call_of call (losses s input now)) refl reported.holds
         reported.good so
+    meeting-so (Fills input now call) said (Reached s notes) reported so =
+        filled-so input now call said s notes (call_of call (losses s input now)) refl reported.holds reported.good so
 
     course-kept : (meetings : List (Meeting ToolCommand))
         → IsCourseKept (course_of (started_on plan slots [] 0) machine meetings)

@@ -1,5 +1,4 @@
 mod Alarms
-mod Anew
 mod Asking
 mod Beginning
 mod Broken
@@ -76,3 +75,4 @@ mod Trying
 mod Turned
 mod UnloadOpen
 mod WorkLines
+mod WritesFew

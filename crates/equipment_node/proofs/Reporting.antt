@@ -25,9 +25,9 @@ use Rattle.message_end.specs.Calls.{dropped_now, due_now, failed_as, failed_at, 
 use Rattle.message_end.specs.Core.{EndView, IsText, Step, Went, and_then, asked_by, at_first, calls, carried, held_header, judges, step_in, takes_back, tells, with_assembly, with_end}
 use Rattle.message_end.specs.Core.Command.{DropDue, Expire, Halt, Offer, Take, Tick}
 use Rattle.message_end.specs.Core.Went.{Goes, Spent}
-use Rattle.message_end.specs.Course.{Course, Meeting, broken_at, course_of, noted_behind, went_on, with_meeting}
+use Rattle.message_end.specs.Course.{Course, Meeting, broken_at, course_of, filled_at, noted_behind, went_on, with_meeting}
 use Rattle.message_end.specs.Course.Course.{Reached, Stopped}
-use Rattle.message_end.specs.Course.Meeting.{Acts, Breaks, LosesPower, Restarts, Writes}
+use Rattle.message_end.specs.Course.Meeting.{Acts, Breaks, Fills, LosesPower, Restarts, Writes}
 use Rattle.message_end.specs.Duties.{all_done}
 use Rattle.message_end.specs.Ends.{Input, IsFront, Loss, call_of}
 use Rattle.message_end.specs.Own.{Has}
@@ -671,6 +671,16 @@ module _ (plan : EquipmentPlan) (fits : EquipmentPlanFits plan) (looked : Tables
           at-call (LeavesWell s.mark (step_in (act s input now)).next.mark) s (works_of s input now) (standing_in s) []
           (step_in (begun_step s input now)).notes loss (all-well plan fits s input now so.good) has
 
+  -- there is no room for one
+  filled-keeps :
+      (input : Input ToolCommand) (now call : ℕ) (said : List ToolCommand) (s : EquipmentView) (notes : List Happening)
+      (found : Option (Loss EquipmentView)) → call_of call (losses s input now) ≡ found → IsReachedSo said s notes
+      → IsCourseSo said (filled_at s notes found)
+  filled-keeps input now call said s notes None is so = so
+  filled-keeps input now call said s notes (Some loss) is so =
+      front-so said notes input now s loss.front so.holds
+      ((losses-counted s input now).1 loss (has-call call (losses s input now) loss is))
+
   meeting-keeps :
       (meeting : Meeting ToolCommand) (said : List ToolCommand) (course : Course EquipmentView)
       → IsCourseSo said course
@@ -695,6 +705,8 @@ module _ (plan : EquipmentPlan) (fits : EquipmentPlanFits plan) (looked : Tables
   }
   meeting-keeps (Breaks input now call choice) said (Reached s notes) so =
       broken-keeps input now call choice said s notes (call_of call (losses s input now)) refl so
+  meeting-keeps (Fills input now call) said (Reached s notes) so =
+      filled-keeps input now call said s notes (call_of call (losses s input now)) refl so
 
   pub course-so :
       (slots : ℕ) (list : List Kept) (mark : ℕ) → AllCanBeSent list → (meetings : List (Meeting ToolCommand))

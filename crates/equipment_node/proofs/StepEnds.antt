@@ -1,5 +1,5 @@
--- How a step over a disk in memory ends: what room is left, and where a planned call has stopped the disk.
-use Rattle.std.proofs.Common.{◌≡◌, refl, sym, ap, subst, ◌∙◌, arith, zero, suc, ◌-◌, ◌≤◌, ◌&&◌, nat_le, nat_lt, Bool, true, false, ℕ, List, [], ◌∷◌, length, Option, Some, None, is_some}
+-- How a step over a disk in memory ends, and where a planned call has stopped the disk.
+use Rattle.std.proofs.Common.{◌≡◌, refl, sym, ap, subst, ◌∙◌, arith, zero, suc, ◌≤◌, ◌&&◌, nat_le, Bool, true, false, ℕ, List, [], ◌∷◌, length, Option, Some, None, is_some}
 use Rattle.std.proofs.lemmas.Bool.Decides.{nat_tests}
 use Rattle.std.specs.Prelude.{IfSome, slice_get, Err}
 use Rattle.disk_base.specs.Cut.{image_of}
@@ -17,22 +17,21 @@ use Rattle.trace_log.specs.Log.{Happening}
 use Rattle.message_end.specs.declared.end.Stop.{Stop}
 use Rattle.message_end.specs.declared.end.Stop.TheVariants as stop
 use Rattle.message_end.specs.Core.{Went, step_in}
-use Rattle.message_end.specs.Ends.{Asked, EndsBy, HasLost, HasNoRoom, Input, IsLeft, IsNearer, Leaves, Loss, call_of}
+use Rattle.message_end.specs.Ends.{EndsBy, HasLost, Input, IsNearer, Leaves, Loss, call_of}
 use Rattle.message_end.specs.Parts.{Node}
 use Rattle.equipment_tables.specs.declared.plan.EquipmentPlan.{EquipmentPlan}
 use Rattle.equipment_node.specs.declared.disk_step.Ended.{Ended}
 use Rattle.equipment_node.specs.declared.disk_step.Ended.TheVariants as ended
 use Rattle.equipment_node.specs.declared.kind.Kind.{Kind}
-use Rattle.equipment_node.specs.Asked.{HasAsked, HasSpared}
 use Rattle.equipment_node.specs.Breaking.{BreaksAt, BreaksBy, HasBrokenAt, HasRoomLeft, IsGoingDisk, LeavesImages, Passes, mark_behind}
-use Rattle.equipment_node.specs.Disk.{asks, standing_in, works_of}
+use Rattle.equipment_node.specs.Disk.{standing_in, works_of}
 use Rattle.equipment_node.specs.DiskCalls.{disk_in}
 use Rattle.equipment_node.specs.End.{machine}
 use Rattle.equipment_node.specs.Equipment.{EquipmentView, act, begun_step, restarts, starts}
-use Rattle.equipment_node.specs.InMemory.{HasPower, IsLost, IsMarkedBy, IsWhole, anew_over, armed_in, file_cut, lost_by, lost_if, room_with, stop_told}
+use Rattle.equipment_node.specs.InMemory.{HasPower, IsLost, IsMarkedBy, IsWhole, anew_over, file_cut, lost_by, lost_if, stop_told}
 use Rattle.equipment_node.specs.Lawful.{IsGoodView}
 use Rattle.equipment_node.specs.LawfulLosses.{LeavesWell, all-well}
-use Rattle.equipment_node.specs.LossCalls.{IsAtCall, at-call, has-call, losses-counted}
+use Rattle.equipment_node.specs.LossCalls.{IsAtCall, at-call, has-call}
 use Rattle.equipment_node.specs.Losses.{losses}
 use Rattle.equipment_node.specs.Own.{OwnView}
 use Rattle.equipment_node.specs.Sound.{AllCanBeSent}
@@ -62,12 +61,8 @@ three true true false is = absurd (cc)
 three true false c is = absurd (cc)
 three false b c is = absurd (cc)
 
--- one without a spool in hand makes no call
-pub gone-idle : (spool : Option (GemSpool DiskState)) → spool ≡ None → armed_in spool 0 ≡ 0
-gone-idle spool gone = ap (λ (o : Option (GemSpool DiskState)). armed_in o 0) gone
-
-module _ (plan : EquipmentPlan) (slots planned : ℕ) (node : Node OwnView Kind) (g : GemSpool DiskState)
-    (power : HasPower ghosts plan slots planned node g) (input : Input ToolCommand) (now : ℕ) (out : StepOut)
+module _ (plan : EquipmentPlan) (slots : ℕ) (node : Node OwnView Kind) (g : GemSpool DiskState)
+    (power : HasPower ghosts plan slots node g) (input : Input ToolCommand) (now : ℕ) (out : StepOut)
   where
     abbrev s : EquipmentView
     s = view_of ghosts node (Some g)
@@ -84,28 +79,16 @@ module _ (plan : EquipmentPlan) (slots planned : ℕ) (node : Node OwnView Kind)
     goes : IsGoingDisk (disk_health g.spool.disk)
     goes = record { fails_not = power.fails_not; going = power.going }
 
-    counted : length some ≡ (asks s input now).calls
-    counted = (losses-counted s input now).0
-
     -- ---- it goes on
 
     module _ (mid : Node OwnView Kind) (h : GemSpool DiskState) (has : HasStepped ghosts s input now mid out h)
-        (spared : HasSpared (disk_health g.spool.disk) (disk_health h.spool.disk) (asks s input now))
         (passes : Passes ghosts g.spool.disk s.mark some h.spool.disk (mark_behind s))
       where
-        nearer : h.spool.disk.plan.stop_in ≡ call - (asks s input now).calls
-        nearer = (passes.passed goes).nearer ∙ ap (λ (n : ℕ). call - n) counted
-
-        pub ok-calm : call ≡ 0 → h.spool.disk.plan.stop_in ≡ 0
-        ok-calm none = let same = nearer in omega (arith, none, same)
-
         pub ok-ends :
             (lost : Option DiskState) → lost ≡ None
-            → IsLeft (room_with (Some g)) (asks s input now) (room_with (Some h))
-            × IsNearer some call (asks s input now).calls h.spool.disk.plan.stop_in × (is_some lost ≡ false)
+            → IsNearer some call h.spool.disk.plan.stop_in × (is_some lost ≡ false)
         ok-ends lost none = (
-          spared.left,
-          record { passes = none-at call some (passes.passed goes).passes; left = nearer },
+          record { passes = none-at call some (passes.passed goes).passes; left = (passes.passed goes).nearer },
           ap (λ (o : Option DiskState). is_some o) none,
         )
 
@@ -127,7 +110,7 @@ module _ (plan : EquipmentPlan) (slots planned : ℕ) (node : Node OwnView Kind)
             ∙ sym (ap (λ (went : Went EquipmentView Happening). (step_in went).next.node.own.ledger.slots) has.is)
             ∙ act-slots power.on.made.plan power.on.made.fits s input now good ∙ power.slots_are
 
-        ok-power : HasPower ghosts plan slots planned mid h
+        ok-power : HasPower ghosts plan slots mid h
         ok-power = record {
           on = step-on ghosts s input now mid out h has;
           fails_not = (passes.passed goes).on.fails_not;
@@ -137,12 +120,11 @@ module _ (plan : EquipmentPlan) (slots planned : ℕ) (node : Node OwnView Kind)
               (passes.marked goes g.spool.disk.story h.spool.disk.story refl refl power.marked);
           plan_is = plan-is;
           slots_are = slots-are;
-          calm = λ none. ok-calm (power.calm none);
         }
 
-        pub ok-whole : (lost : Option DiskState) → lost ≡ None → IsWhole ghosts plan slots planned mid (Some h) lost
+        pub ok-whole : (lost : Option DiskState) → lost ≡ None → IsWhole ghosts plan slots mid (Some h) lost
         ok-whole lost none =
-            subst (λ (o : Option DiskState). IsWhole ghosts plan slots planned mid (Some h) o) (sym none) ok-power
+            subst (λ (o : Option DiskState). IsWhole ghosts plan slots mid (Some h) o) (sym none) ok-power
 
     -- ---- a planned call has stopped its disk
 
@@ -200,16 +182,14 @@ module _ (plan : EquipmentPlan) (slots planned : ℕ) (node : Node OwnView Kind)
 
     -- ---- it ends
 
-    abbrev Ends : Node OwnView Kind → Option (GemSpool DiskState) → Option DiskState → ℕ → Asked → Stop → Type 0
-    Ends mid spool lost after left why =
+    abbrev Ends : Node OwnView Kind → Option (GemSpool DiskState) → Option DiskState → ℕ → Stop → Type 0
+    Ends mid spool lost after why =
         EndsBy machine some call after (is_some lost)
-        (λ choice later. anew_over ghosts plan mid spool lost choice later)
-        (room_with (Some g)) (asks s input now) left out (Err why)
+        (λ choice later. anew_over ghosts plan mid spool lost choice later) out (Err why)
 
     module _ (spent : Device DiskState)
         (breaks : IsGoingDisk (disk_health g.spool.disk)
         → BreaksAt ghosts g.spool.disk s.mark some spent.disk out.notes)
-        (fallen : HasAsked ghosts g.spool.disk (asks s input now) (Err (ended.DiskFailed spent)))
       where
         abbrev is_stopped : Bool
         is_stopped =
@@ -231,101 +211,72 @@ module _ (plan : EquipmentPlan) (slots planned : ℕ) (node : Node OwnView Kind)
             room-left enough wide =
                 record { calls = grind (arith, nat_tests, enough); bytes = grind (arith, nat_tests, wide) }
 
-        -- no call was planned, and there was no room
-        short : planned ≡ 0 → HasNoRoom some call (room_with (Some g)) (asks s input now)
-        short none = (
-          ap (λ (n : ℕ). call_of n some) (power.calm none),
-          fallen (record { fails_not = power.fails_not; stops_not = power.calm none; going = power.going }),
-        )
-
         failed-ends :
-            (mid : Node OwnView Kind) (after : ℕ) (left : Asked) (is : Bool) → is_stopped ≡ is
-            → IfSome (lost_if is spent.disk) (λ (d : DiskState). LeavesImages d.story) → (is_planned : Bool)
-            → nat_lt 0 planned ≡ is_planned
-            → Ends mid None (lost_if is spent.disk) after left
-            (stop_told is_planned (is_some (lost_if is spent.disk)) stop.DiskFailed)
-        failed-ends mid after left true so images true e = has-lost spent.disk (broken so images) mid
-        failed-ends mid after left true so images false e = has-lost spent.disk (broken so images) mid
-        failed-ends mid after left false so images true e = tt
-        failed-ends mid after left false so images false e =
-            short (grind (arith, nat_tests, e))
+            (mid : Node OwnView Kind) (after : ℕ) (is : Bool) → is_stopped ≡ is
+            → IfSome (lost_if is spent.disk) (λ (d : DiskState). LeavesImages d.story)
+            → Ends mid None (lost_if is spent.disk) after (stop_told (is_some (lost_if is spent.disk)) stop.DiskFailed)
+        failed-ends mid after true so images = has-lost spent.disk (broken so images) mid
+        failed-ends mid after false so images = tt
 
         failed-whole :
-            (mid : Node OwnView Kind) (later : ℕ) (is : Bool) → is_stopped ≡ is
+            (mid : Node OwnView Kind) (is : Bool) → is_stopped ≡ is
             → IfSome (lost_if is spent.disk) (λ (d : DiskState). LeavesImages d.story)
-            → IsWhole ghosts plan slots later mid None (lost_if is spent.disk)
-        failed-whole mid later true so images = is-lost spent.disk (broken so images)
-        failed-whole mid later false so images = tt
+            → IsWhole ghosts plan slots mid None (lost_if is spent.disk)
+        failed-whole mid true so images = is-lost spent.disk (broken so images)
+        failed-whole mid false so images = tt
 
     ends-at :
-        (mid : Node OwnView Kind) (end : Ended DiskState) (after : ℕ) (left : Asked)
+        (mid : Node OwnView Kind) (end : Ended DiskState) (after : ℕ)
         → IfSome (lost_by end) (λ (d : DiskState). LeavesImages d.story)
-        → HasAsked ghosts g.spool.disk (asks s input now) (Err end)
         → BreaksBy ghosts disk_in g.spool.disk s.mark some (mark_behind s) out.notes (Err end)
-        → Ends mid None (lost_by end) after left (stop_told (nat_lt 0 planned) (is_some (lost_by end)) (stop_by end))
-    ends-at mid (ended.NoMemory spent) after left images asked breaks = tt
-    ends-at mid (ended.NumbersSpent spent) after left images asked breaks =
-        none-at call some (breaks.passed goes).passes
-    ends-at mid (ended.DiskFailed spent) after left images asked breaks =
-        failed-ends spent breaks asked mid after left (is_stopped spent breaks asked) refl images (nat_lt 0 planned)
-        refl
+        → Ends mid None (lost_by end) after (stop_told (is_some (lost_by end)) (stop_by end))
+    ends-at mid (ended.NoMemory spent) after images breaks = tt
+    ends-at mid (ended.NumbersSpent spent) after images breaks = none-at call some (breaks.passed goes).passes
+    ends-at mid (ended.DiskFailed spent) after images breaks =
+        failed-ends spent breaks mid after (is_stopped spent breaks) refl images
 
     whole-at :
-        (mid : Node OwnView Kind) (later : ℕ) (end : Ended DiskState)
+        (mid : Node OwnView Kind) (end : Ended DiskState)
         → IfSome (lost_by end) (λ (d : DiskState). LeavesImages d.story)
-        → HasAsked ghosts g.spool.disk (asks s input now) (Err end)
         → BreaksBy ghosts disk_in g.spool.disk s.mark some (mark_behind s) out.notes (Err end)
-        → IsWhole ghosts plan slots later mid None (lost_by end)
-    whole-at mid later (ended.NoMemory spent) images asked breaks = tt
-    whole-at mid later (ended.NumbersSpent spent) images asked breaks = tt
-    whole-at mid later (ended.DiskFailed spent) images asked breaks =
-        failed-whole spent breaks asked mid later (is_stopped spent breaks asked) refl images
+        → IsWhole ghosts plan slots mid None (lost_by end)
+    whole-at mid (ended.NoMemory spent) images breaks = tt
+    whole-at mid (ended.NumbersSpent spent) images breaks = tt
+    whole-at mid (ended.DiskFailed spent) images breaks =
+        failed-whole spent breaks mid (is_stopped spent breaks) refl images
 
     module _ (mid : Node OwnView Kind) (end : Ended DiskState) (lost : Option DiskState) (lost-is : lost ≡ lost_by end)
         (images : IfSome lost (λ (d : DiskState). LeavesImages d.story)) (spool : Option (GemSpool DiskState))
-        (gone : spool ≡ None) (asked : HasAsked ghosts g.spool.disk (asks s input now) (Err end))
+        (gone : spool ≡ None)
         (breaks : BreaksBy ghosts disk_in g.spool.disk s.mark some (mark_behind s) out.notes (Err end))
       where
         images-by : IfSome (lost_by end) (λ (d : DiskState). LeavesImages d.story)
         images-by = subst (λ (o : Option DiskState). IfSome o (λ (d : DiskState). LeavesImages d.story)) lost-is images
 
-        pub err-ends : (after : ℕ) (left : Asked) (told why : Stop)
-            → told ≡ stop_told (nat_lt 0 planned) (is_some lost) why → why ≡ stop_by end
-            → Ends mid spool lost after left told
-        err-ends after left told why told_is why_is =
-            subst (λ (e : Stop). Ends mid spool lost after left e) (sym told_is)
+        pub err-ends : (after : ℕ) (told why : Stop) → told ≡ stop_told (is_some lost) why → why ≡ stop_by end
+            → Ends mid spool lost after told
+        err-ends after told why told_is why_is =
+            subst (λ (e : Stop). Ends mid spool lost after e) (sym told_is)
+            (subst (λ (e : Stop). Ends mid spool lost after (stop_told (is_some lost) e)) (sym why_is)
             (subst
-            (λ (e : Stop). Ends mid spool lost after left (stop_told (nat_lt 0 planned) (is_some lost) e))
-            (sym why_is)
+            (λ (o : Option (GemSpool DiskState)). Ends mid o lost after (stop_told (is_some lost) (stop_by end)))
+            (sym gone)
             (subst
-            (λ (o : Option (GemSpool DiskState)).
-            Ends mid o lost after left (stop_told (nat_lt 0 planned) (is_some lost) (stop_by end))) (sym gone)
-            (subst
-            (λ (o : Option DiskState).
-            Ends mid None o after left (stop_told (nat_lt 0 planned) (is_some o) (stop_by end))) (sym lost-is)
-            (ends-at mid end after left images-by asked breaks))))
+            (λ (o : Option DiskState). Ends mid None o after (stop_told (is_some o) (stop_by end))) (sym lost-is)
+            (ends-at mid end after images-by breaks))))
 
-        pub err-whole : (later : ℕ) → IsWhole ghosts plan slots later mid spool lost
-        err-whole later =
-            subst (λ (o : Option (GemSpool DiskState)). IsWhole ghosts plan slots later mid o lost) (sym gone)
-            (subst (λ (o : Option DiskState). IsWhole ghosts plan slots later mid None o) (sym lost-is)
-            (whole-at mid later end images-by asked breaks))
+        pub err-whole : IsWhole ghosts plan slots mid spool lost
+        err-whole =
+            subst (λ (o : Option (GemSpool DiskState)). IsWhole ghosts plan slots mid o lost) (sym gone)
+            (subst (λ (o : Option DiskState). IsWhole ghosts plan slots mid None o) (sym lost-is)
+            (whole-at mid end images-by breaks))
 
--- where it is told so it sends nothing, either
-quiet :
-    (fronts : List (List Happening)) (went : Went EquipmentView Happening) (next : EquipmentView) (out : StepOut)
-    (why : Stop) → Leaves fronts went next out (Err why) → out.line.items ≡ []
-quiet fronts went next out stop.NoMemory leaves = leaves
-quiet fronts went next out stop.NumbersSpent leaves = leaves.quiet
-quiet fronts went next out stop.DiskFailed leaves = leaves.quiet
-
+-- where it is told as want of memory it sends nothing, either
 pub told-leaves :
     (fronts : List (List Happening)) (went : Went EquipmentView Happening) (next : EquipmentView) (out : StepOut)
-    (is_planned is_lost : Bool) (why : Stop) → Leaves fronts went next out (Err why)
-    → Leaves fronts went next out (Err (stop_told is_planned is_lost why))
-told-leaves fronts went next out is_planned is_lost stop.NoMemory leaves = leaves
-told-leaves fronts went next out is_planned is_lost stop.NumbersSpent leaves = leaves
-told-leaves fronts went next out false is_lost stop.DiskFailed leaves = leaves
-told-leaves fronts went next out true true stop.DiskFailed leaves = leaves
-told-leaves fronts went next out true false stop.DiskFailed leaves =
-    quiet fronts went next out stop.DiskFailed leaves
+    (is_lost : Bool) (why : Stop) → Leaves fronts went next out (Err why)
+    → Leaves fronts went next out (Err (stop_told is_lost why))
+told-leaves fronts went next out is_lost stop.NoMemory leaves = leaves
+told-leaves fronts went next out is_lost stop.NumbersSpent leaves = leaves
+told-leaves fronts went next out true stop.DiskFailed leaves = leaves
+told-leaves fronts went next out false stop.DiskFailed leaves = leaves.quiet

@@ -1,12 +1,13 @@
 -- The equipment as an end of the line.
-use Rattle.std.specs.Prelude.{[], ◌∷◌}
+use Rattle.std.specs.Prelude.{◌+◌, [], ◌∷◌}
 use Rattle.trace_log.specs.declared.commands.ToolCommand.{ToolCommand}
 use Rattle.message_end.specs.Ends.{Machine}
 use Rattle.equipment_node.specs.Disk.{asks, reserve_asks, stops}
 use Rattle.equipment_node.specs.Equipment.{EquipmentView, act, restarts}
 use Rattle.equipment_node.specs.Losses.{losses}
 
--- at a start the disk is asked before anything is noted
+-- at a start the disk is asked before anything is noted: a call of each slot and two make or take up the file, and five
+-- reserve system bytes
 abbrev pub machine : Machine EquipmentView ToolCommand
 machine = record {
   act = act;
@@ -17,4 +18,5 @@ machine = record {
   asks = asks;
   start_asks = reserve_asks;
   losses = losses;
+  start_calls = λ s. s.node.own.ledger.slots + 7;
 }

@@ -4,7 +4,7 @@ use Rattle.trace_log.specs.declared.commands.ToolCommand.{ToolCommand}
 use Rattle.message_end.specs.Core.{Step}
 use Rattle.message_end.specs.Course.{Course, Meeting, course_of, notes_of}
 use Rattle.message_end.specs.Course.Course.{Reached, Stopped}
-use Rattle.message_end.specs.Course.Meeting.{Acts, Breaks, LosesPower, Restarts, Writes}
+use Rattle.message_end.specs.Course.Meeting.{Acts, Breaks, Fills, LosesPower, Restarts, Writes}
 use Rattle.message_end.specs.Ends.{Input, Loss, call_of}
 use Rattle.message_end.specs.Ends.Input.{Char, Command, Time}
 use Rattle.trace_log.specs.Log.{Happening}
@@ -36,6 +36,7 @@ commands_behind (Restarts now) course commands = []
 commands_behind (Writes characters) course commands = commands
 commands_behind LosesPower course commands = commands
 commands_behind (Breaks input now call choice) course commands = commands_at course input now call commands
+commands_behind (Fills input now call) course commands = commands
 
 abbrev pub commands_met : Step EquipmentView Happening → List (Meeting ToolCommand) → List ToolCommand
 commands_met start [] = []

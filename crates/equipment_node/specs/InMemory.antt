@@ -1,53 +1,33 @@
 -- The disk in memory of an equipment's spool, in a world.
-use Rattle.std.specs.Prelude.{◌≡◌, ◌==◌, ◌&&◌, ◌+◌, ◌-◌, ◌*◌, ◌/◌, ◌%◌, ◌≤◌, nat_le, ℕ, Bool, true, false, List, [], Option, Some, None}
+use Rattle.std.specs.Prelude.{◌≡◌, ◌==◌, ◌&&◌, ◌+◌, ◌-◌, ◌/◌, ◌%◌, nat_le, ℕ, Bool, true, false, List, [], Option, Some, None, Result, Ok, Err}
 use Rattle.disk_base.specs.Cut.{image_of}
-use Rattle.disk_base.specs.MemDisk.{DiskState, disk_health, disk_size}
+use Rattle.disk_base.specs.MemDisk.{DiskState, disk_health}
 use Rattle.disk_base.specs.declared.cut.CutChoice.{CutChoice}
 use Rattle.disk_base.specs.declared.disk.Disk as disk
 use Rattle.gem_spool.specs.declared.spool.GemSpool.{GemSpool}
+use Rattle.message_flow.specs.declared.step.StepOut.{StepOut}
 use Rattle.spool_slots.specs.File.{SpoolFile, StandsFor, file_in}
 use Rattle.spool_slots.specs.Losses.{marks_second}
 use Rattle.trace_log.specs.Log.{Happening}
 use Rattle.message_end.specs.declared.end.Stop.{Stop}
 use Rattle.message_end.specs.declared.end.Stop.TheVariants as stop
 use Rattle.message_end.specs.Core.{Went}
-use Rattle.message_end.specs.Ends.{Asked, none_asked}
+use Rattle.message_end.specs.Ends.{most_calls}
 use Rattle.message_end.specs.Parts.{Node}
 use Rattle.equipment_tables.specs.declared.plan.EquipmentPlan.{EquipmentPlan}
 use Rattle.equipment_node.specs.declared.disk_step.Ended.{Ended}
 use Rattle.equipment_node.specs.declared.disk_step.Ended.TheVariants as ended
 use Rattle.equipment_node.specs.declared.kind.Kind.{Kind}
-use Rattle.equipment_node.specs.Asked.{IsSureDisk, room_by}
+use Rattle.equipment_node.specs.declared.own.Tool.{Tool}
+use Rattle.equipment_node.specs.Asked.{HasSpared, IsSureDisk}
+use Rattle.equipment_node.specs.Disk.{reserve_asks}
 use Rattle.equipment_node.specs.Equipment.{EquipmentView, first_in, restarts, starts}
 use Rattle.equipment_node.specs.Own.{OwnView}
 use Rattle.equipment_node.specs.Sound.{AllCanBeSent}
-use Rattle.equipment_node.specs.Stepping.{IsOn, view_of}
+use Rattle.equipment_node.specs.StartOver.{HasStartedOver, IsFresh, StartsOver}
+use Rattle.equipment_node.specs.Stepping.{IsOn, stop_by, view_of}
 
--- for how much it has room
-abbrev pub room_in : GemSpool DiskState → Asked
-room_in spool = room_by (disk_health spool.spool.disk)
-
--- one that has stopped asks nothing of it any more
-abbrev pub room_with : Option (GemSpool DiskState) → Asked
-room_with None = none_asked
-room_with (Some g) = room_in g
-
--- for how many calls, and written bytes, there is room on the disk of a world's spool (this profile)
-abbrev pub most_calls : ℕ
-most_calls = 65536
-
-abbrev pub most_written : ℕ
-most_written = 67108864
-
--- for so much of that there is room behind the calls that take up a spool of so many slots: a sync, a read of what
--- stands before the slots, and two of each slot
-abbrev pub fresh_for : ℕ → Asked
-fresh_for slots = record { calls = most_calls - (2 * slots + 2); bytes = most_written }
-
-abbrev pub fresh_in : GemSpool DiskState → Asked
-fresh_in spool = fresh_for spool.spool.slots
-
--- no call of it is to fail
+-- no call of its disk is to fail
 abbrev pub IsSure : GemSpool DiskState → Type 0
 IsSure spool = IsSureDisk (disk_health spool.spool.disk)
 
@@ -65,11 +45,26 @@ pub record Holds (spool : GemSpool DiskState) : Type 0 where
 
 -- ---- where its power may be lost
 
--- how many calls are left up to the one that stops its disk, itself counted; one without a spool in hand makes none,
--- and keeps what was planned
-abbrev pub armed_in : Option (GemSpool DiskState) → ℕ → ℕ
-armed_in None planned = planned
-armed_in (Some g) planned = g.spool.disk.plan.stop_in
+-- how many calls are left up to the one that stops its disk, itself counted; one without a spool in hand makes none
+abbrev pub planned_in : Option (GemSpool DiskState) → ℕ
+planned_in None = 0
+planned_in (Some g) = g.spool.disk.plan.stop_in
+
+-- the same spool, and its disk stops at this call
+abbrev pub with_stop : ℕ → GemSpool DiskState → GemSpool DiskState
+with_stop call g = record {
+  spool = record g.spool { disk = record g.spool.disk { plan = record g.spool.disk.plan { stop_in = call } } };
+  active = g.active;
+}
+
+-- a start with so many slots plans that its disk stops at the first call too many: a call of each slot and two have
+-- made or taken up the file, and five have reserved system bytes
+abbrev pub left_behind : ℕ → ℕ
+left_behind slots = most_calls + 1 - (slots + 7)
+
+abbrev pub IsArmed : ℕ → Option (GemSpool DiskState) → Type 0
+IsArmed slots None = ⊥
+IsArmed slots (Some g) = g.spool.disk.plan.stop_in ≡ left_behind slots
 
 -- what the bytes stand for that a disk is left with
 abbrev pub file_cut : DiskState → CutChoice → SpoolFile
@@ -91,26 +86,25 @@ pub record IsLost (slots : ℕ) (lost : DiskState) : Type 0 where
   pub marked : (choice : CutChoice) → IsMarkedBy (image_of choice lost.story) (file_cut lost choice).mark
   pub slots_are : (choice : CutChoice) → (file_cut lost choice).slots ≡ slots
 
--- the spool in hand is that of its state, by this plan and with so many slots; no call of its disk is to fail by
--- itself, and none is to stop it where none was planned, and the disk goes on
-pub record HasPower (members : disk.Ghosts DiskState) (plan : EquipmentPlan) (slots planned : ℕ)
-    (node : Node OwnView Kind) (g : GemSpool DiskState) : Type 0 where
+-- the spool in hand is that of its state, by this plan and with so many slots; no call of its disk is to fail alone,
+-- and the disk goes on
+pub record HasPower (members : disk.Ghosts DiskState) (plan : EquipmentPlan) (slots : ℕ) (node : Node OwnView Kind)
+    (g : GemSpool DiskState) : Type 0 where
   pub on : IsOn members g.spool (view_of members node (Some g))
   pub fails_not : g.spool.disk.plan.fail_in ≡ 0
   pub going : g.spool.disk.plan.stopped ≡ false
   pub marked : IsMarkedBy g.spool.disk.story.now.bytes g.spool.mark
   pub plan_is : node.own.plan ≡ plan
   pub slots_are : node.own.ledger.slots ≡ slots
-  pub calm : planned ≡ 0 → g.spool.disk.plan.stop_in ≡ 0
 
 -- it has its spool in hand, or a disk that was stopped, or neither, where it has ended otherwise
 abbrev pub IsWhole :
-    disk.Ghosts DiskState → EquipmentPlan → (slots planned : ℕ) → Node OwnView Kind → Option (GemSpool DiskState)
-    → Option DiskState → Type 0
-IsWhole members plan slots planned node (Some g) None = HasPower members plan slots planned node g
-IsWhole members plan slots planned node (Some g) (Some lost) = ⊥
-IsWhole members plan slots planned node None None = Unit {0}
-IsWhole members plan slots planned node None (Some lost) = IsLost slots lost
+    disk.Ghosts DiskState → EquipmentPlan → ℕ → Node OwnView Kind → Option (GemSpool DiskState) → Option DiskState
+    → Type 0
+IsWhole members plan slots node (Some g) None = HasPower members plan slots node g
+IsWhole members plan slots node (Some g) (Some lost) = ⊥
+IsWhole members plan slots node None None = Unit {0}
+IsWhole members plan slots node None (Some lost) = IsLost slots lost
 
 -- a disk that was left so, and that nothing was asked of since: a spool file of so many slots, the messages of which
 -- can be sent
@@ -121,13 +115,6 @@ pub record IsFileOf (slots : ℕ) (disk : DiskState) : Type 0 where
   pub marked : IsMarkedBy disk.story.now.bytes (file_in disk.story.now.bytes).mark
   pub sure : IsSureDisk (disk_health disk)
   pub slots_are : (file_in disk.story.now.bytes).slots ≡ slots
-
--- there is room on it for so much as on a world's disk; and where it is larger than a file of so many slots, for two
--- reads more of each page behind them
-pub record IsRoomy (slots : ℕ) (disk : DiskState) : Type 0 where
-  pub calls : most_calls ≤ (disk_health disk).calls
-  pub bytes : most_written ≤ (disk_health disk).room
-  pub reads : most_calls + 2 * (disk_size disk / 4096) ≤ (disk_health disk).calls + (2 * slots + 2)
 
 abbrev pub starts_over : EquipmentPlan → DiskState → Went EquipmentView Happening
 starts_over plan disk =
@@ -146,22 +133,38 @@ lost_by (ended.DiskFailed spent) =
 lost_by (ended.NoMemory spent) = None
 lost_by (ended.NumbersSpent spent) = None
 
--- why it stops. Where a call was planned that stops the disk, and it isn't lost, there is no memory for the list of its
--- calls: nothing is told of how much room there was
-abbrev pub stop_told : (is_planned is_lost : Bool) → Stop → Stop
-stop_told is_planned is_lost stop.NoMemory = stop.NoMemory
-stop_told is_planned is_lost stop.NumbersSpent = stop.NumbersSpent
-stop_told false is_lost stop.DiskFailed = stop.DiskFailed
-stop_told true true stop.DiskFailed = stop.DiskFailed
-stop_told true false stop.DiskFailed = stop.NoMemory
-
--- no call of the spool's disk is to stop it
-abbrev pub IsIdle : Option (GemSpool DiskState) → Type 0
-IsIdle None = Unit {0}
-IsIdle (Some g) = g.spool.disk.plan.stop_in ≡ 0
+-- why it stops: where the disk fails and no planned call has stopped it, the list of its calls has no memory for them
+abbrev pub stop_told : Bool → Stop → Stop
+stop_told is_lost stop.NoMemory = stop.NoMemory
+stop_told is_lost stop.NumbersSpent = stop.NumbersSpent
+stop_told true stop.DiskFailed = stop.DiskFailed
+stop_told false stop.DiskFailed = stop.NoMemory
 
 -- the disk that there is
 abbrev pub disk_of : Option DiskState → Option (GemSpool DiskState) → Option DiskState
 disk_of (Some lost) spool = Some lost
 disk_of None (Some g) = Some g.spool.disk
 disk_of None None = None
+
+-- ---- a start anew over a spool that was just taken up
+
+pub record HasRestarted (members : disk.Ghosts DiskState) (plan : EquipmentPlan) (slots : ℕ) (g : GemSpool DiskState)
+    (tool : Tool) (spool : Option (GemSpool DiskState)) (out : StepOut) : Type 0 where
+  pub seated : GemSpool DiskState
+  pub spool_is : spool ≡ Some (with_stop (left_behind slots) seated)
+  pub started : IsFresh members g → HasStartedOver members plan g tool seated out
+  pub spared : HasSpared (disk_health g.spool.disk) (disk_health seated.spool.disk) reserve_asks
+
+pub record HasNotRestarted (members : disk.Ghosts DiskState) (plan : EquipmentPlan) (g : GemSpool DiskState)
+    (spool : Option (GemSpool DiskState)) (out : StepOut) (end : Stop) : Type 0 where
+  pub spool_is : spool ≡ None
+  pub ended : Ended DiskState
+  pub end_is : end ≡ stop_told false (stop_by ended)
+  pub started : IsFresh members g → StartsOver members plan g out (Err ended)
+
+-- it has the spool in hand then, or none where it stops
+abbrev pub Restarts :
+    disk.Ghosts DiskState → EquipmentPlan → ℕ → GemSpool DiskState → Tool → Option (GemSpool DiskState) → StepOut
+    → Result (Unit {0}) Stop → Type 0
+Restarts members plan slots g tool spool out (Ok done) = HasRestarted members plan slots g tool spool out
+Restarts members plan slots g tool spool out (Err end) = HasNotRestarted members plan g spool out end

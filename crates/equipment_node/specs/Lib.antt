@@ -54,3 +54,4 @@ pub mod WorkedLosses
 pub mod WorkedReports
 pub mod WorkedSpent
 pub mod WorkedSpool
+pub mod WritesFew

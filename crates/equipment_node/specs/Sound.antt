@@ -1,5 +1,5 @@
 -- What the equipment keeps is sound.
-use Rattle.std.specs.Prelude.{◌≡◌, ℕ, ◌<◌, ◌%◌, ◌==◌, true, All, IfSome, List, Option}
+use Rattle.std.specs.Prelude.{◌≡◌, ℕ, ◌<◌, ◌≤◌, ◌%◌, ◌==◌, true, All, IfSome, List, Option, length}
 use Rattle.gem_spool.specs.declared.works.Work.{Work}
 use Rattle.gem_spool.specs.declared.works.Work.TheVariants as work
 use Rattle.spool_slots.specs.Slot.{Message}
@@ -20,9 +20,9 @@ pub record CanBeSent (message : Spooled) : Type 0 where
   pub odd : (message.function % 2 == 1) ≡ true
   pub body : IsText message.body
 
--- so is what is put into the spool
+-- so is what is put into the spool, and a slot has room for it
 abbrev pub PutsGood : Work → Type 0
-PutsGood (work.Put stream function body) = CanBeSent (spooled stream function body)
+PutsGood (work.Put stream function body) = CanBeSent (spooled stream function body) × (length body ≤ 4081)
 PutsGood work.DropOldest = Unit {0}
 PutsGood work.Purge = Unit {0}
 
@@ -35,8 +35,7 @@ pub record IsGoodLedger (slots : ℕ) (stood : Stand) (ledger : LedgerView) : Ty
   pub stood_is : ledger.stood ≡ stood
 
 -- the plan stays; and whatever is kept for later can be sent: what waits for S6F6, what was sent and may be put into
--- the
--- spool, and what the ledger has
+-- the spool, and what the ledger has
 pub record IsSound (plan : EquipmentPlan) (slots : ℕ) (stood : Stand) (own : OwnView) : Type 0 where
   pub plan_is : own.plan ≡ plan
   pub texts : All (λ waiting. IsText waiting.body) own.for_grant

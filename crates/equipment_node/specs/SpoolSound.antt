@@ -1,8 +1,11 @@
 -- That the ledger of the spool stays good, and notes what no law of messages speaks of.
-use Rattle.std.proofs.Common.{refl, Bool, true, false, not, ℕ, ◌+◌, ◌&&◌, ◌==◌, List, [], ◌∷◌, ◌++◌, All, Option, Some, None, if◌then◌else◌, length}
+use Rattle.std.proofs.Common.{◌≡◌, refl, arith, Bool, true, false, not, ℕ, ◌+◌, ◌^◌, ◌&&◌, ◌==◌, ◌≤◌, nat_le, nat_lt, List, [], ◌∷◌, ◌++◌, All, Option, Some, None, if◌then◌else◌, length}
 use Rattle.std.specs.Option.{option_map, option_map_or}
 use Rattle.std.specs.Prelude.{IfSome, is_none}
+use Rattle.std.proofs.lemmas.Bool.Decides.{nat_tests}
 use Rattle.std.proofs.lemmas.List.Elements.{All-nil, All-cons, All-head, All-tail}
+use Rattle.gem_spool.specs.Spool.{room_in}
+use Rattle.gem_spool.specs.declared.count.Count.{Count}
 use Rattle.gem_spool.specs.declared.spool.Room.{Room}
 use Rattle.gem_spool.specs.declared.spool.Room.TheVariants as room
 use Rattle.gem_spool.specs.declared.works.Work.{Work}
@@ -18,7 +21,7 @@ use Rattle.spool_ledger.specs.declared.ledger.Stand.{Stand}
 use Rattle.spool_ledger.specs.declared.unload.Tried.{Tried}
 use Rattle.spool_ledger.specs.declared.unload.Unload.{Unload}
 use Rattle.spool_ledger.specs.Activity.{activated, changed, is_done, rested}
-use Rattle.spool_ledger.specs.Ledger.{Booked, LedgerView, and_then, carried_out, new_ledger, owed, quiet, room_for}
+use Rattle.spool_ledger.specs.Ledger.{Booked, LedgerView, and_then, carried_out, decided_count, new_ledger, owed, quiet, room_for}
 use Rattle.spool_ledger.specs.Storing.{all_out, oldest_out, put, stored, stored_by}
 use Rattle.spool_ledger.specs.Unloading.{after_next, confirmed, counted, is_oldest_tried, is_over, let_go, settled, taken_up, trying, unload_next, waiting_in, with_each, with_unload}
 use Rattle.equipment_node.specs.Equipment.{settled_list, spooled_of}
@@ -89,6 +92,27 @@ next-waits most v (Some unload) is = go (is_none unload.tried && is_over most v 
     go true = tt
     go false = is
 
+-- ---- what is put
+
+-- where a body is put a slot has room for it
+abbrev IsShortFor : Room → ℕ → Type 0
+IsShortFor room.Fits long = long ≤ 4081
+IsShortFor room.Full long = long ≤ 4081
+IsShortFor room.TooLong long = Unit {0}
+IsShortFor room.NumbersSpent long = Unit {0}
+
+room-short : (c : Count) (long : ℕ) → IsShortFor (room_in c long) long
+room-short c long = go (nat_lt 4081 long) (nat_le (2 ^ 63) c.next) (c.len == c.slots) refl
+  where
+    go : (too spent full : Bool) → nat_lt 4081 long ≡ too
+        → IsShortFor
+        (if too then room.TooLong else (if spent then room.NumbersSpent else (if full then room.Full else room.Fits)))
+        long
+    go true spent full e = tt
+    go false true full e = tt
+    go false false true e = grind (arith, nat_tests, e)
+    go false false false e = grind (arith, nat_tests, e)
+
 module _ {slots : ℕ} {stood : Stand} where
   booked-then :
       (booked : Booked) (call : LedgerView → Booked) → IsGoodBooked slots stood booked
@@ -107,12 +131,12 @@ module _ {slots : ℕ} {stood : Stand} where
   owes-more : (v : LedgerView) (one : Work) → IsGoodLedger slots stood v → PutsGood one → All PutsGood (owed v one)
   owes-more v one is good = All-snoc PutsGood v.works one is.works good
 
-  pub put-good : (message : Spooled) (v : LedgerView) → CanBeSent message → IsGoodLedger slots stood v → IsGoodBooked
-      slots stood (put message v)
-  put-good message v can is = record {
+  put-good : (message : Spooled) (v : LedgerView) → CanBeSent message → length message.body ≤ 4081
+      → IsGoodLedger slots stood v → IsGoodBooked slots stood (put message v)
+  put-good message v can short is = record {
     next = record {
       waiting = is.waiting;
-      works = owes-more v (work.Put message.stream message.function message.body) is can;
+      works = owes-more v (work.Put message.stream message.function message.body) is (can, short);
       slots_are = is.slots_are;
       stood_is = is.stood_is;
     };
@@ -153,22 +177,23 @@ module _ {slots : ℕ} {stood : Stand} where
       }
 
   stored-by-good :
-      (found : Room) (overwrites : Bool) (message : Spooled) (v : LedgerView) → CanBeSent message → IsGoodLedger slots
-      stood v
+      (found : Room) (overwrites : Bool) (message : Spooled) (v : LedgerView) → CanBeSent message
+      → IsShortFor found (length message.body) → IsGoodLedger slots stood v
       → IfSome (stored_by found overwrites message v) (IsGoodBooked slots stood)
-  stored-by-good room.Fits overwrites message v can is = put-good message v can is
-  stored-by-good room.Full true message v can is =
+  stored-by-good room.Fits overwrites message v can short is = put-good message v can short is
+  stored-by-good room.Full true message v can short is =
       booked-then (oldest_out Overwritten v) (put message) (oldest-good Overwritten v is)
-      (λ w so. put-good message w can so)
-  stored-by-good room.Full false message v can is = record { next = is; plain = (tt, tt) }
-  stored-by-good room.TooLong overwrites message v can is = record { next = is; plain = (tt, tt) }
-  stored-by-good room.NumbersSpent overwrites message v can is = tt
+      (λ w so. put-good message w can short so)
+  stored-by-good room.Full false message v can short is = record { next = is; plain = (tt, tt) }
+  stored-by-good room.TooLong overwrites message v can short is = record { next = is; plain = (tt, tt) }
+  stored-by-good room.NumbersSpent overwrites message v can short is = tt
 
   pub stored-good :
       (overwrites : Bool) (message : Spooled) (v : LedgerView) → CanBeSent message → IsGoodLedger slots stood v
       → IfSome (stored overwrites message v) (IsGoodBooked slots stood)
   stored-good overwrites message v can is =
-      stored-by-good (room_for v (length message.body)) overwrites message v can is
+      stored-by-good (room_for v (length message.body)) overwrites message v can
+      (room-short (decided_count v) (length message.body)) is
 
   -- ---- messages one after the other
 
@@ -289,7 +314,7 @@ all-tail (first ∷ list) all = All-tail Sendable first list all
 
 pub list-good : (next : ℕ) (list : List Message) (one : Work) → AllCanBeSent list → PutsGood one
     → AllCanBeSent (list_after next list one)
-list-good next list (work.Put stream function body) all is = All-snoc Sendable list _ all is
+list-good next list (work.Put stream function body) all is = All-snoc Sendable list _ all is.0
 list-good next list work.DropOldest all is = all-tail list all
 list-good next list work.Purge all is = All-nil Sendable
 

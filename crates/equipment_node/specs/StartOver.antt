@@ -1,5 +1,5 @@
 -- What the code says of a start over a spool.
-use Rattle.std.specs.Prelude.{◌≡◌, ℕ, true, false, [], ◌∷◌, ◌++◌, Option, Some, None, Result, Ok, Err}
+use Rattle.std.specs.Prelude.{◌≡◌, ℕ, true, false, [], ◌∷◌, ◌++◌, Some, Result, Ok, Err}
 use Rattle.disk_base.specs.Story.{Story}
 use Rattle.disk_base.specs.Through.{EachImage}
 use Rattle.disk_base.specs.declared.disk.Disk as disk
@@ -12,7 +12,6 @@ use Rattle.spool_slots.specs.declared.states.Spent.{Spent}
 use Rattle.trace_log.specs.Log.{Happening}
 use Rattle.trace_log.specs.Text.{IsStartNote}
 use Rattle.transact.specs.Numbers.{numbers_from}
-use Rattle.message_end.specs.declared.end.Stop.{Stop}
 use Rattle.message_end.specs.Core.{Step}
 use Rattle.message_end.specs.Ends.{printed}
 use Rattle.message_end.specs.Laws.{new_end}
@@ -34,7 +33,7 @@ use Rattle.equipment_node.specs.Held.{Held}
 use Rattle.equipment_node.specs.Node.{node_of}
 use Rattle.equipment_node.specs.Own.{OwnView}
 use Rattle.equipment_node.specs.Step.{end_plan}
-use Rattle.equipment_node.specs.Stepping.{IsClear, IsTold, stop_by}
+use Rattle.equipment_node.specs.Stepping.{IsClear, IsTold}
 
 -- it was taken up from its device, and nothing was done with it since: an empty one begins with number 0
 pub record IsFresh {D : Type 0} (members : disk.Ghosts D) (g : GemSpool D) : Type 0 where
@@ -75,31 +74,6 @@ StartAsks members old (Ok e) = HasSpared (members.health old) (members.health e.
 StartAsks members old (Err (ended.DiskFailed spent)) = HasFallen (members.health old) reserve_asks
 StartAsks members old (Err (ended.NumbersSpent spent)) = Unit {0}
 StartAsks members old (Err (ended.NoMemory spent)) = Unit {0}
-
--- a start anew of an end, and one that stopped
-pub record HasRestarted
-    {D : Type 0} (members : disk.Ghosts D) (plan : EquipmentPlan) (g : GemSpool D) (tool : Tool)
-    (spool : Option (GemSpool D)) (out : StepOut) : Type 0 where
-  pub seated : GemSpool D
-  pub spool_is : spool ≡ Some seated
-  pub started : IsFresh members g → HasStartedOver members plan g tool seated out
-  pub asks : HasSpared (members.health g.spool.disk) (members.health seated.spool.disk) reserve_asks
-
-pub record HasNotRestarted
-    {D : Type 0} (members : disk.Ghosts D) (plan : EquipmentPlan) (g : GemSpool D) (spool : Option (GemSpool D))
-    (out : StepOut) (end : Stop) : Type 0 where
-  pub spool_is : spool ≡ None
-  pub ended : Ended D
-  pub end_is : end ≡ stop_by ended
-  pub started : IsFresh members g → StartsOver members plan g out (Err ended)
-  pub asks : StartAsks members g.spool.disk (Err ended)
-
--- an end that starts anew has the spool in hand, or none where it stops
-abbrev pub Restarts :
-    {D : Type 0} → disk.Ghosts D → EquipmentPlan → GemSpool D → Tool → Option (GemSpool D) → StepOut
-    → Result (Unit {0}) Stop → Type 0
-Restarts members plan g tool spool out (Ok done) = HasRestarted members plan g tool spool out
-Restarts members plan g tool spool out (Err end) = HasNotRestarted members plan g spool out end
 
 -- the same, as the equipment
 abbrev pub BeginsOver :

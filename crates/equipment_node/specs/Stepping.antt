@@ -16,7 +16,7 @@ use Rattle.message_end.specs.declared.end.Stop.TheVariants as stop
 use Rattle.message_end.specs.Core.{EndView, Step}
 use Rattle.message_end.specs.Core.Went.{Goes}
 use Rattle.message_end.specs.Doings.{Doing}
-use Rattle.message_end.specs.Ends.{Asked, HasSpent, HasStopped, Input, none_asked, printed}
+use Rattle.message_end.specs.Ends.{HasSpent, HasStopped, Input, printed}
 use Rattle.message_end.specs.Parts.{Node}
 use Rattle.equipment_tables.specs.declared.plan.EquipmentPlan.{EquipmentPlan}
 use Rattle.equipment_tables.specs.Plan.{EquipmentPlanFits}
@@ -25,7 +25,6 @@ use Rattle.spool_ledger.specs.Unloading.{taken_up}
 use Rattle.equipment_node.specs.declared.disk_step.Ended.{Ended}
 use Rattle.equipment_node.specs.declared.disk_step.Ended.TheVariants as ended
 use Rattle.equipment_node.specs.declared.kind.Kind.{Kind}
-use Rattle.equipment_node.specs.Asked.{IsSureDisk, room_by}
 use Rattle.equipment_node.specs.Disk.{standing_in, stops}
 use Rattle.equipment_node.specs.Equipment.{EquipmentView, act}
 use Rattle.equipment_node.specs.Laws.{DidOf}
@@ -117,21 +116,6 @@ mark_in (Some g) = g.spool.mark
 abbrev pub view_of :
     {D : Type 0} → disk.Ghosts D → Node OwnView Kind → Option (GemSpool D) → EquipmentView
 view_of members node spool = record { node = node; list = list_in members spool; mark = mark_in spool }
-
--- the spool in hand is that of its state, of which the disk tells, and no call of the disk is to fail
-pub record HasSeat {D : Type 0} (members : disk.Ghosts D) (node : Node OwnView Kind) (g : GemSpool D) : Type 0 where
-  pub on : IsOn members g.spool (view_of members node (Some g))
-  pub told : IsTold (members.told g.spool.disk)
-  pub sure : IsSureDisk (members.health g.spool.disk)
-
-abbrev pub IsSeated : {D : Type 0} → disk.Ghosts D → Node OwnView Kind → Option (GemSpool D) → Type 0
-IsSeated members node None = Unit {0}
-IsSeated members node (Some g) = HasSeat members node g
-
--- the disk has room for so much; one that has stopped asks nothing of it any more
-abbrev pub room_over : {D : Type 0} → disk.Ghosts D → Option (GemSpool D) → Asked
-room_over members None = none_asked
-room_over members (Some g) = room_by (members.health g.spool.disk)
 
 -- why it has stopped
 abbrev pub stop_by : {D : Type 0} → Ended D → Stop

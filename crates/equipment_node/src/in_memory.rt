@@ -1,22 +1,20 @@
 //! The equipment as an end of a world, with its spool on a disk in memory.
 
-ghost use Rattle.std.specs.Prelude.{◌≡◌, ◌+◌, ◌*◌, ◌/◌, ◌<◌, ◌≤◌, ◌^◌, ℕ, [], ◌∷◌, IfSome, Some, None, is_some};
+ghost use Rattle.std.specs.Prelude.{◌≡◌, ◌<◌, ◌^◌, nat_le, ℕ, [], ◌∷◌, IfSome, OnOk, Some, None, is_some, if◌then◌else◌};
 ghost use Rattle.disk_base.specs.Cut.{image_of};
 ghost use Rattle.disk_base.specs.Images.{IsImage};
-ghost use Rattle.disk_base.specs.MemDisk.{DiskState};
 ghost use Rattle.disk_base.specs.declared.cut.CutChoice.{CutChoice};
-ghost use Rattle.gem_spool.specs.declared.spool.GemSpool.{GemSpool};
 ghost use Rattle.equipment_tables.specs.Plan.{EquipmentPlanFits};
 ghost use Rattle.trace_log.specs.Commands.{ToolCommandFits};
-ghost use Rattle.message_end.specs.Ends.{EndsBy, IsEmpty, Leaves, MayTake, Uses, input_of};
+ghost use Rattle.message_end.specs.Ends.{EndsBy, IsEmpty, IsNotStopped, Leaves, MayTake, input_of};
 ghost use Rattle.equipment_node.specs.Breaking.{KeepsMarked};
-ghost use Rattle.equipment_node.specs.Disk.{asks, reserve_asks, stops};
+ghost use Rattle.equipment_node.specs.Disk.{stops};
 ghost use Rattle.equipment_node.specs.End.{machine as equipment_machine};
 ghost use Rattle.equipment_node.specs.Equipment.{act};
-ghost use Rattle.equipment_node.specs.InMemory.{HasPower, IsFileOf, IsIdle, IsLost, IsRoomy, IsWhole, anew_over, armed_in, disk_of, fresh_for, lost_by, most_calls, room_with, starts_over, stop_told};
+ghost use Rattle.equipment_node.specs.InMemory.{HasPower, IsArmed, IsFileOf, IsLost, IsWhole, Restarts, anew_over, disk_of};
+ghost use Rattle.equipment_node.specs.InMemory.{left_behind, lost_by, planned_in, starts_over, stop_told, with_stop};
 ghost use Rattle.equipment_node.specs.Losses.{losses};
 ghost use Rattle.equipment_node.specs.Node.{node_of};
-ghost use Rattle.equipment_node.specs.StartOver.{Restarts};
 ghost use Rattle.equipment_node.specs.Stepping.{stop_by, view_of};
 
 use crate::disk_step::Ended;
@@ -32,20 +30,18 @@ use spool_slots::Raw;
 use std::alloc::Global;
 use trace_log::ToolCommand;
 
-/// For how many calls there is room on the disk of a world's spool.
-pub const MOST_CALLS: u32 = 65_536;
+/// For how many calls there is room in the list of a disk in memory: for 65,536, and for a few more, so that a disk
+/// comes to the first call too many, at which it stops, before its list is full.
+pub const LISTED_CALLS: u32 = 65_536 + 16;
 
-/// And for how many bytes that they write.
-pub const MOST_WRITTEN: u64 = 64 << 20;
+/// And for how many bytes that they write: 64 MiB, and some more.
+pub const LISTED_BYTES: u64 = (64 << 20) + (16 << 10);
 
 // The most that a work of a step asks of the disk. Where as much room is left behind a stop, the call was made at which
 // it stopped.
 const WORK_CALLS: u32 = 5;
 
 const WORK_BYTES: u64 = 4_096;
-
-// The size of a slot, and of what stands before the first one.
-const PAGE: u64 = 4_096;
 
 /// The equipment over a disk in memory. One that has stopped makes no step any more; where a planned call has stopped
 /// its disk it may start anew.
@@ -58,8 +54,6 @@ pub struct EquipmentEnd {
     spool: Option<GemSpool<MemDisk>>,
     // the disk that a planned call has stopped
     lost: Option<MemDisk>,
-    // the call at which its disk was last planned to stop
-    planned: u32,
 }
 
 impl End for EquipmentEnd {
@@ -72,7 +66,7 @@ impl End for EquipmentEnd {
     ghost use Rattle.equipment_node.specs.End.{machine};
     ghost use Rattle.equipment_node.specs.Equipment.{EquipmentView, starts};
     ghost use Rattle.equipment_node.specs.LeftAnew.{settled_over};
-    ghost use Rattle.equipment_node.specs.InMemory.{Holds, IsWhole, anew_over, armed_in, fresh_for, fresh_in, room_in, room_with};
+    ghost use Rattle.equipment_node.specs.InMemory.{Holds, IsWhole, anew_over, planned_in};
     ghost use Rattle.equipment_node.specs.Laws.{DidOf};
     ghost use Rattle.equipment_node.specs.LawfulLosses.{equipment_lawful};
     ghost use Rattle.std.specs.Prelude.{is_some};
@@ -87,8 +81,7 @@ impl End for EquipmentEnd {
 
     ghost means = { λ end. view_of ⟦<MemDisk as Disk>⟧ (node_of end.tool.value) end.spool };
 
-    ghost sound = { λ end. IsWhole ⟦<MemDisk as Disk>⟧ end.plan end.slots end.planned (node_of end.tool.value) end.spool
-        end.lost };
+    ghost sound = { λ end. IsWhole ⟦<MemDisk as Disk>⟧ end.plan end.slots (node_of end.tool.value) end.spool end.lost };
 
     ghost fits = { EquipmentPlanFits };
 
@@ -96,17 +89,9 @@ impl End for EquipmentEnd {
 
     ghost holds = { Holds };
 
-    ghost room = { λ end. room_with end.spool };
-
-    ghost store_room = { room_in };
-
-    ghost fresh = { λ end. fresh_for end.slots };
-
-    ghost store_fresh = { fresh_in };
-
     ghost loses = { Unit {0} };
 
-    ghost armed = { λ end. armed_in end.spool end.planned };
+    ghost planned = { λ end. planned_in end.spool };
 
     ghost stopped = { λ end. is_some end.lost };
 
@@ -146,26 +131,21 @@ impl End for EquipmentEnd {
                     tool,
                     plan: Planned::of(kept),
                     slots,
-                    spool: Some(spool),
+                    spool: Some(armed(spool, slots)),
                     lost: None,
-                    planned: 0,
                 })
             }
-            Err(ended) => Err(stop_of(&ended)),
+            Err(ended) => Err(stop_as(stop_of(&ended), false)),
         }
     }
 
-    fn arm(&mut self, call: u32) {
+    fn arm(&mut self, call: u32) -> bool {
         self.lost = None;
-        self.planned = call;
         match &mut self.spool {
-            Some(spool) => spool.arm(call),
-            None => {}
+            Some(spool) => arm_within(spool, call),
+            // (it makes no call that could be the one)
+            None => call == 0,
         }
-    }
-
-    fn is_stopped(&self) -> bool {
-        self.lost.is_some()
     }
 
     fn restart(
@@ -176,7 +156,6 @@ impl End for EquipmentEnd {
         out: &mut StepOut,
     ) -> Result<(), Stop> {
         let _ = now;
-        self.planned = 0;
         let lost = self.lost.take();
         let spool = self.spool.take();
         match disk_in(lost, spool) {
@@ -197,7 +176,6 @@ impl End for EquipmentEnd {
             ⟦<MemDisk as Disk>⟧
             self.old.plan
             self.old.slots
-            self.old.planned
             (node_of self.old.tool.value)
             self.old.spool
             self.old.lost }
@@ -218,8 +196,8 @@ impl End for EquipmentEnd {
             (view_of ⟦<MemDisk as Disk>⟧ (node_of self.old.tool.value) self.old.spool)
             (input_of input.entry)
             now)
-            (armed_in self.old.spool self.old.planned)
-            (armed_in self.new.spool self.new.planned)
+            (planned_in self.old.spool)
+            (planned_in self.new.spool)
             (is_some self.new.lost)
             (λ choice now. anew_over
             ⟦<MemDisk as Disk>⟧
@@ -229,18 +207,12 @@ impl End for EquipmentEnd {
             self.new.lost
             choice
             now)
-            (room_with self.old.spool)
-            (asks (view_of ⟦<MemDisk as Disk>⟧ (node_of self.old.tool.value) self.old.spool) (input_of input.entry) now)
-            (room_with self.new.spool)
             out.new
             result }
-        ensures calm { armed_in self.old.spool self.old.planned ≡ 0 → armed_in self.new.spool self.new.planned ≡ 0 }
-        ensures fresh { fresh_for self.new.slots ≡ fresh_for self.old.slots }
         ensures sound { IsWhole
             ⟦<MemDisk as Disk>⟧
             self.new.plan
             self.new.slots
-            self.new.planned
             (node_of self.new.tool.value)
             self.new.spool
             self.new.lost }
@@ -282,7 +254,6 @@ impl EquipmentEnd {
             ⟦<MemDisk as Disk>⟧
             self.old.plan
             self.old.slots
-            self.old.planned
             (node_of self.old.tool.value)
             spool }
         requires gone { self.old.spool ≡ None }
@@ -299,7 +270,7 @@ impl EquipmentEnd {
             equipment_machine
             (losses (view_of ⟦<MemDisk as Disk>⟧ (node_of self.old.tool.value) (Some spool)) (input_of input.entry) now)
             spool.spool.disk.plan.stop_in
-            (armed_in self.new.spool self.new.planned)
+            (planned_in self.new.spool)
             (is_some self.new.lost)
             (λ choice now. anew_over
             ⟦<MemDisk as Disk>⟧
@@ -309,18 +280,12 @@ impl EquipmentEnd {
             self.new.lost
             choice
             now)
-            (room_with (Some spool))
-            (asks (view_of ⟦<MemDisk as Disk>⟧ (node_of self.old.tool.value) (Some spool)) (input_of input.entry) now)
-            (room_with self.new.spool)
             out.new
             result }
-        ensures calm { spool.spool.disk.plan.stop_in ≡ 0 → armed_in self.new.spool self.new.planned ≡ 0 }
-        ensures slots { self.new.slots ≡ self.old.slots }
         ensures sound { IsWhole
             ⟦<MemDisk as Disk>⟧
             self.new.plan
             self.new.slots
-            self.new.planned
             (node_of self.new.tool.value)
             self.new.spool
             self.new.lost }
@@ -332,10 +297,8 @@ impl EquipmentEnd {
             }
             Err(ended) => {
                 let stop = stop_of(&ended);
-                let is_planned = self.planned > 0;
-                self.planned = 0;
                 self.lost = lost_in(ended);
-                Err(stop_as(stop, is_planned, self.lost.is_some()))
+                Err(stop_as(stop, self.lost.is_some()))
             }
         }
     }
@@ -350,7 +313,6 @@ impl EquipmentEnd {
     ) -> Result<(), Stop>
         requires gone { self.old.spool ≡ None }
         requires none { self.old.lost ≡ None }
-        requires planned { self.old.planned ≡ 0 }
         requires out { IsEmpty out.old }
         ensures start { (now : ℕ) → IsLost self.old.slots disk.now → Leaves
             ([] ∷ [])
@@ -358,28 +320,18 @@ impl EquipmentEnd {
             (view_of ⟦<MemDisk as Disk>⟧ (node_of self.new.tool.value) self.new.spool)
             out.new
             result }
-        ensures room { IsLost self.old.slots disk.now → Uses
-            (fresh_for self.old.slots)
-            reserve_asks
-            (room_with self.new.spool)
-            result }
+        ensures whole { IsNotStopped result }
+        ensures armed { OnOk result (IsArmed self.new.slots self.new.spool) }
         ensures sound { IsLost self.old.slots disk.now → IsWhole
             ⟦<MemDisk as Disk>⟧
             self.new.plan
             self.new.slots
-            self.new.planned
             (node_of self.new.tool.value)
             self.new.spool
             None }
-        ensures calm { IsLost self.old.slots disk.now → IsIdle self.new.spool }
-        ensures slots { self.new.slots ≡ self.old.slots }
         ensures lost { self.new.lost ≡ None }
-        ensures planned { self.new.planned ≡ 0 }
     {
-        let Some(calls) = calls_for(disk.size(), self.slots) else {
-            return Err(Stop::NoMemory);
-        };
-        match disk.cut(alloc, choice, calls, MOST_WRITTEN) {
+        match disk.cut(alloc, choice, LISTED_CALLS, LISTED_BYTES) {
             Ok(disk) => self.take_up(alloc, disk, out),
             Err(_none) => Err(Stop::NoMemory),
         }
@@ -395,27 +347,21 @@ impl EquipmentEnd {
             (view_of ⟦<MemDisk as Disk>⟧ (node_of self.new.tool.value) self.new.spool)
             out.new
             result }
-        ensures room { IsFileOf self.old.slots disk → IsRoomy self.old.slots disk → Uses
-            (fresh_for self.old.slots)
-            reserve_asks
-            (room_with self.new.spool)
-            result }
+        ensures whole { IsNotStopped result }
+        ensures armed { OnOk result (IsArmed self.new.slots self.new.spool) }
         ensures sound { IsFileOf self.old.slots disk → IsWhole
             ⟦<MemDisk as Disk>⟧
             self.new.plan
             self.new.slots
-            self.new.planned
             (node_of self.new.tool.value)
             self.new.spool
             None }
-        ensures calm { IsFileOf self.old.slots disk → IsIdle self.new.spool }
-        ensures slots { self.new.slots ≡ self.old.slots }
         ensures lost { self.new.lost ≡ self.old.lost }
-        ensures planned { self.new.planned ≡ self.old.planned }
     {
         match Raw::new(disk).recover() {
             Ok(spool) => self.start_anew(alloc, GemSpool::new(spool), out),
-            Err(_unknown) => Err(Stop::DiskFailed),
+            // (the list of its calls has no memory for reading it)
+            Err(_unknown) => Err(Stop::NoMemory),
         }
     }
 
@@ -431,6 +377,7 @@ impl EquipmentEnd {
         ensures restarts { Restarts
             ⟦<MemDisk as Disk>⟧
             self.old.plan
+            self.old.slots
             spool
             self.new.tool.value
             self.new.spool
@@ -445,17 +392,44 @@ impl EquipmentEnd {
             (Some g.spool.disk.story)
             g.spool.mark) }
         ensures lost { self.new.lost ≡ self.old.lost }
-        ensures planned { self.new.planned ≡ self.old.planned }
     {
         match start_over(alloc, self.plan.get(), spool, out) {
             Ok(Seat { tool, spool }) => {
                 self.tool = tool;
-                self.spool = Some(spool);
+                self.spool = Some(armed(spool, self.slots));
                 Ok(())
             }
-            Err(ended) => Err(stop_of(&ended)),
+            Err(ended) => Err(stop_as(stop_of(&ended), false)),
         }
     }
+}
+
+// A spool of so many slots behind a start, the disk of which stops at the first call too many.
+fn armed(spool: GemSpool<MemDisk>, slots: u32) -> GemSpool<MemDisk>
+    ensures { result ≡ with_stop (left_behind slots) spool }
+{
+    let mut spool = spool;
+    spool.arm(left_for(slots));
+    spool
+}
+
+// How many calls are left to the disk of so many slots behind a start, up to the first one too many, itself counted.
+fn left_for(slots: u32) -> u32
+    ensures { result ≡ left_behind slots }
+{
+    65_530_u32.saturating_sub(slots)
+}
+
+// Plans the call where there is room for so many, and answers whether there is.
+fn arm_within(spool: &mut GemSpool<MemDisk>, call: u32) -> bool
+    ensures within { result ≡ nat_le call spool.old.spool.disk.plan.stop_in }
+    ensures spool { spool.new ≡ (if result then with_stop call spool.old else spool.old) }
+{
+    if call > spool.stops_in() {
+        return false;
+    }
+    spool.arm(call);
+    true
 }
 
 // The disk that there is.
@@ -468,25 +442,6 @@ fn disk_in(lost: Option<MemDisk>, spool: Option<GemSpool<MemDisk>>) -> Option<Me
             Some(spool) => Some(spool.retire().into_disk()),
             None => None,
         },
-    }
-}
-
-// For how many calls there is room on a disk of this size that starts anew, with a spool of so many slots on it. A disk
-// that is larger than its spool may take as many reads more to be taken up.
-fn calls_for(size: u64, slots: u32) -> Option<u32>
-    ensures least { IfSome result (λ calls. most_calls ≤ calls) }
-    ensures reads { IfSome result (λ calls. most_calls + 2 * (size / 4096) ≤ calls + (2 * slots + 2)) }
-{
-    let pages = size / PAGE;
-    let used = u64::from(slots) + 1;
-    if pages <= used {
-        return Some(MOST_CALLS);
-    }
-    let calls = u64::from(MOST_CALLS) + 2 * (pages - used);
-    if calls <= u64::from(u32::MAX) {
-        Some(calls as u32)
-    } else {
-        None
     }
 }
 
@@ -510,19 +465,19 @@ fn lost_in(ended: Ended<MemDisk>) -> Option<MemDisk>
     }
 }
 
-// Why it stops, where a call was planned that stops its disk, or none.
-fn stop_as(stop: Stop, is_planned: bool, is_lost: bool) -> Stop
-    ensures { result ≡ stop_told is_planned is_lost stop }
+// Why it stops, where a planned call has stopped its disk, or not.
+fn stop_as(stop: Stop, is_lost: bool) -> Stop
+    ensures { result ≡ stop_told is_lost stop }
 {
     match stop {
         Stop::NoMemory => Stop::NoMemory,
         Stop::NumbersSpent => Stop::NumbersSpent,
         Stop::DiskFailed => {
-            if is_planned && !is_lost {
+            if is_lost {
+                Stop::DiskFailed
+            } else {
                 // (the list of its calls has no memory for them)
                 Stop::NoMemory
-            } else {
-                Stop::DiskFailed
             }
         }
     }

@@ -7,6 +7,7 @@ ghost use Rattle.equipment_node.specs.Losses.{LossesAreCounted, LossesAreFound};
 ghost use Rattle.equipment_node.specs.WorkedLosses.{LosesAtCalls};
 ghost use Rattle.equipment_node.specs.WorkedReports.{LaterSettingsAreNotReported};
 ghost use Rattle.equipment_node.specs.WorkedSpent.{NumbersEnd};
+ghost use Rattle.equipment_node.specs.WritesFew.{NoneWritesMore, StepsWriteFew};
 ghost use Rattle.equipment_node.specs.WorkedSpool.{FullSpools, LosesInOrder, PutsTheLast, SpoolingBegins, UnloadsInOrder};
 
 use equipment_tables::tables_are_looked_back_for;
@@ -43,6 +44,13 @@ pub fn spool_is_kept()
 /// The disk's calls in a step are as many, and write as many bytes, as is counted of its works.
 pub fn calls_are_counted()
     ensures { CallsAreCounted }
+{}
+
+/// A step writes no more than 1,024 bytes for each call of its disk, and never 3,072 more by one of them. So behind a
+/// start that writes so much less, 65,536 calls write no more than 64 MiB.
+pub fn steps_write_few()
+    ensures steps { StepsWriteFew }
+    ensures more { NoneWritesMore }
 {}
 
 /// An example of what is said of reports: where a variable is set between an event and its S6F11, the old value goes

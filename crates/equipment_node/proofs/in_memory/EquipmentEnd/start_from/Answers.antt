@@ -5,7 +5,7 @@ use Rattle.message_end.specs.Ends.{Leaves}
 use Rattle.equipment_node.specs.InMemory.{IsFileOf, starts_over}
 use Rattle.equipment_node.specs.Node.{node_of}
 use Rattle.equipment_node.specs.Stepping.{view_of}
-use Rattle.equipment_node.proofs.FromDisk.{cut-file, cut-roomy}
+use Rattle.equipment_node.proofs.FromDisk.{cut-file}
 use Rattle.equipment_node.proofs.in_memory.EquipmentEnd.start_from.Goals as goal
 
 pub returns-in-Ok-clause-start : goal.returns-in-Ok-clause-start
@@ -16,22 +16,9 @@ returns-in-Ok-clause-start c now lost =
     (view_of ghosts (node_of c.take_up.new.self.tool.value) c.take_up.new.self.spool) c.take_up.new.out
     c.take_up.result) c.in-Ok.ensures.state
     (c.take_up.ensures.start (subst (IsFileOf c.args.self.now.slots) (sym c.in-Ok.ensures.state)
-    (cut-file c.args.self.now.slots c.args.disk.now lost c.args.choice c.in-Some.calls 67108864)))
+    (cut-file c.args.self.now.slots c.args.disk.now lost c.args.choice 65552 67125248)))
 
 pub returns-in-Ok-clause-sound : goal.returns-in-Ok-clause-sound
 returns-in-Ok-clause-sound c lost =
     c.take_up.ensures.sound (subst (IsFileOf c.args.self.now.slots) (sym c.in-Ok.ensures.state)
-    (cut-file c.args.self.now.slots c.args.disk.now lost c.args.choice c.in-Some.calls 67108864))
-
-pub returns-in-Ok-clause-calm : goal.returns-in-Ok-clause-calm
-returns-in-Ok-clause-calm c lost =
-    c.take_up.ensures.calm (subst (IsFileOf c.args.self.now.slots) (sym c.in-Ok.ensures.state)
-    (cut-file c.args.self.now.slots c.args.disk.now lost c.args.choice c.in-Some.calls 67108864))
-
-pub returns-in-Ok-clause-room : goal.returns-in-Ok-clause-room
-returns-in-Ok-clause-room c lost =
-    c.take_up.ensures.room
-    (subst (IsFileOf c.args.self.now.slots) (sym c.in-Ok.ensures.state)
-    (cut-file c.args.self.now.slots c.args.disk.now lost c.args.choice c.in-Some.calls 67108864))
-    (cut-roomy c.args.self.now.slots c.args.disk.now c.in-Ok.disk c.args.choice c.in-Some.calls c.size.result
-    c.in-Ok.ensures.state c.in-Ok.ensures.image c.size.ensures c.in-Some.ensures.least c.in-Some.ensures.reads)
+    (cut-file c.args.self.now.slots c.args.disk.now lost c.args.choice 65552 67125248))

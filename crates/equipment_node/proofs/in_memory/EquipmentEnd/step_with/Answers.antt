@@ -1,4 +1,4 @@
-use Rattle.std.proofs.Common.{Bool, nat_lt, ap, refl, subst, sym, ◌∙◌, [], Some}
+use Rattle.std.proofs.Common.{Bool, ap, refl, subst, sym, ◌∙◌, [], Some}
 use Rattle.std.specs.Prelude.{Err}
 use Rattle.disk_base.specs.contracts.mem_disk.MemDiskDisk.TheImpl.{ghosts}
 use Rattle.message_end.specs.declared.end.Stop.{Stop}
@@ -6,11 +6,11 @@ use Rattle.message_end.specs.Ends.{Leaves, input_of}
 use Rattle.equipment_node.specs.declared.own.Tool.{Tool}
 use Rattle.equipment_node.specs.Disk.{stops}
 use Rattle.equipment_node.specs.Equipment.{EquipmentView, act}
-use Rattle.equipment_node.specs.InMemory.{armed_in, room_with, stop_told}
+use Rattle.equipment_node.specs.InMemory.{planned_in, stop_told}
 use Rattle.equipment_node.specs.Node.{node_of}
 use Rattle.equipment_node.specs.Stepping.{view_of}
 use Rattle.equipment_node.proofs.Seated.{step-gone, stops-by}
-use Rattle.equipment_node.proofs.StepEnds.{err-ends, err-whole, gone-idle, ok-calm, ok-ends, ok-whole, told-leaves}
+use Rattle.equipment_node.proofs.StepEnds.{err-ends, err-whole, ok-ends, ok-whole, told-leaves}
 use Rattle.equipment_node.proofs.Readying.{on-ready}
 use Rattle.equipment_node.proofs.in_memory.EquipmentEnd.step_with.Goals as goal
 
@@ -38,7 +38,7 @@ returns-in-Err-clause-step c =
     let fronts = stops was (input_of c.args.input) c.args.now in
     let went = act was (input_of c.args.input) c.args.now in
     subst (λ (e : Stop). Leaves fronts went next c.step_on.new.out (Err e)) (sym c.stop_as.ensures)
-    (told-leaves fronts went next c.step_on.new.out _ _ c.stop_of-stop.result
+    (told-leaves fronts went next c.step_on.new.out _ c.stop_of-stop.result
     (subst (λ (e : Stop). Leaves fronts went next c.step_on.new.out (Err e)) (sym c.stop_of-stop.ensures)
     (stops-by ghosts was (input_of c.args.input) c.args.now (node_of c.step_on.new.self) next c.step_on.new.out
     c.in-Err.ended
@@ -49,34 +49,21 @@ pub returns-in-Ok-clause-ends : goal.returns-in-Ok-clause-ends
 returns-in-Ok-clause-ends c =
     let was = view_of ghosts (node_of c.args.self.now.tool.value) (Some c.args.spool) in
     let same = ap (λ (t : Tool). node_of t) c.deref_mut.ensures.value in
-    ok-ends c.args.self.now.plan c.args.self.now.slots c.args.self.now.planned (node_of c.args.self.now.tool.value)
+    ok-ends c.args.self.now.plan c.args.self.now.slots (node_of c.args.self.now.tool.value)
     c.args.spool
     c.requires.power (input_of c.args.input) c.args.now c.step_on.new.out (node_of c.step_on.new.self) c.in-Ok.spool
-    (c.in-Ok.ensures.steps was same c.requires.power.on (c.args.spool.spool.disk.story, refl)) (c.in-Ok.ensures.asks
-    was same c.requires.power.on (c.args.spool.spool.disk.story, refl))
+    (c.in-Ok.ensures.steps was same c.requires.power.on (c.args.spool.spool.disk.story, refl))
     (c.in-Ok.ensures.breaks was same c.requires.power.on (c.args.spool.spool.disk.story, refl))
     c.args.self.now.lost c.requires.none
-
-pub returns-in-Ok-clause-calm : goal.returns-in-Ok-clause-calm
-returns-in-Ok-clause-calm c =
-    let was = view_of ghosts (node_of c.args.self.now.tool.value) (Some c.args.spool) in
-    let same = ap (λ (t : Tool). node_of t) c.deref_mut.ensures.value in
-    ok-calm c.args.self.now.plan c.args.self.now.slots c.args.self.now.planned (node_of c.args.self.now.tool.value)
-    c.args.spool
-    c.requires.power (input_of c.args.input) c.args.now c.step_on.new.out (node_of c.step_on.new.self) c.in-Ok.spool
-    (c.in-Ok.ensures.steps was same c.requires.power.on (c.args.spool.spool.disk.story, refl)) (c.in-Ok.ensures.asks
-    was same c.requires.power.on (c.args.spool.spool.disk.story, refl))
-    (c.in-Ok.ensures.breaks was same c.requires.power.on (c.args.spool.spool.disk.story, refl))
 
 pub returns-in-Ok-clause-sound : goal.returns-in-Ok-clause-sound
 returns-in-Ok-clause-sound c =
     let was = view_of ghosts (node_of c.args.self.now.tool.value) (Some c.args.spool) in
     let same = ap (λ (t : Tool). node_of t) c.deref_mut.ensures.value in
-    ok-whole c.args.self.now.plan c.args.self.now.slots c.args.self.now.planned (node_of c.args.self.now.tool.value)
+    ok-whole c.args.self.now.plan c.args.self.now.slots (node_of c.args.self.now.tool.value)
     c.args.spool
     c.requires.power (input_of c.args.input) c.args.now c.step_on.new.out (node_of c.step_on.new.self) c.in-Ok.spool
-    (c.in-Ok.ensures.steps was same c.requires.power.on (c.args.spool.spool.disk.story, refl)) (c.in-Ok.ensures.asks
-    was same c.requires.power.on (c.args.spool.spool.disk.story, refl))
+    (c.in-Ok.ensures.steps was same c.requires.power.on (c.args.spool.spool.disk.story, refl))
     (c.in-Ok.ensures.breaks was same c.requires.power.on (c.args.spool.spool.disk.story, refl))
     c.args.self.now.lost c.requires.none
 
@@ -84,28 +71,20 @@ pub returns-in-Err-clause-ends : goal.returns-in-Err-clause-ends
 returns-in-Err-clause-ends c =
     let was = view_of ghosts (node_of c.args.self.now.tool.value) (Some c.args.spool) in
     let same = ap (λ (t : Tool). node_of t) c.deref_mut.ensures.value in
-    err-ends c.args.self.now.plan c.args.self.now.slots c.args.self.now.planned (node_of c.args.self.now.tool.value)
+    err-ends c.args.self.now.plan c.args.self.now.slots (node_of c.args.self.now.tool.value)
     c.args.spool
     c.requires.power (input_of c.args.input) c.args.now c.step_on.new.out (node_of c.step_on.new.self) c.in-Err.ended
     c.lost_in.result c.lost_in.ensures.is c.lost_in.ensures.images c.args.self.now.spool c.requires.gone
-    (c.in-Err.ensures.asks was same c.requires.power.on (c.args.spool.spool.disk.story, refl))
     (c.in-Err.ensures.breaks was same c.requires.power.on (c.args.spool.spool.disk.story, refl))
-    (armed_in c.args.self.now.spool 0) (room_with c.args.self.now.spool) c.stop_as.result c.stop_of-stop.result
-    (c.stop_as.ensures
-    ∙ ap (λ (b : Bool). stop_told (nat_lt 0 c.args.self.now.planned) b c.stop_of-stop.result) c.is_some.ensures)
-    c.stop_of-stop.ensures
-
-pub returns-in-Err-clause-calm : goal.returns-in-Err-clause-calm
-returns-in-Err-clause-calm c none = gone-idle c.args.self.now.spool c.requires.gone
+    (planned_in c.args.self.now.spool) c.stop_as.result c.stop_of-stop.result
+    (c.stop_as.ensures ∙ ap (λ (b : Bool). stop_told b c.stop_of-stop.result) c.is_some.ensures) c.stop_of-stop.ensures
 
 pub returns-in-Err-clause-sound : goal.returns-in-Err-clause-sound
 returns-in-Err-clause-sound c =
     let was = view_of ghosts (node_of c.args.self.now.tool.value) (Some c.args.spool) in
     let same = ap (λ (t : Tool). node_of t) c.deref_mut.ensures.value in
-    err-whole c.args.self.now.plan c.args.self.now.slots c.args.self.now.planned (node_of c.args.self.now.tool.value)
+    err-whole c.args.self.now.plan c.args.self.now.slots (node_of c.args.self.now.tool.value)
     c.args.spool
     c.requires.power (input_of c.args.input) c.args.now c.step_on.new.out (node_of c.step_on.new.self) c.in-Err.ended
     c.lost_in.result c.lost_in.ensures.is c.lost_in.ensures.images c.args.self.now.spool c.requires.gone
-    (c.in-Err.ensures.asks was same c.requires.power.on (c.args.spool.spool.disk.story, refl))
     (c.in-Err.ensures.breaks was same c.requires.power.on (c.args.spool.spool.disk.story, refl))
-    0

@@ -1,4 +1,4 @@
-use Rattle.std.proofs.Common.{ap, sym, ◌∙◌, [], ◌∷◌, Option, subst}
+use Rattle.std.proofs.Common.{ap, sym, ◌∙◌, [], ◌∷◌, None, Option, subst}
 use Rattle.disk_base.specs.MemDisk.{DiskState}
 use Rattle.disk_base.specs.contracts.mem_disk.MemDiskDisk.TheImpl.{ghosts}
 use Rattle.gem_spool.specs.declared.spool.GemSpool.{GemSpool}
@@ -9,7 +9,7 @@ use Rattle.equipment_node.specs.Equipment.{EquipmentView}
 use Rattle.equipment_node.specs.InMemory.{IsWhole, disk_of}
 use Rattle.equipment_node.specs.Node.{node_of}
 use Rattle.equipment_node.specs.Stepping.{view_of}
-use Rattle.equipment_node.proofs.FromDisk.{anew-of, armed-idle, ok-so}
+use Rattle.equipment_node.proofs.FromDisk.{anew-of, planned-left}
 use Rattle.equipment_node.proofs.in_memory.EquipmentEndEnd.restart.Goals as goal
 
 pub returns-in-Some-clause-start : goal.returns-in-Some-clause-start
@@ -20,7 +20,7 @@ returns-in-Some-clause-start c =
     ∙ ap (λ (o : Option (GemSpool DiskState)). disk_of c.args.self.now.lost o) c.take-spool.ensures.value)
     ∙ c.in-Some.is in
     let both =
-    anew-of c.args.self.now.plan c.args.self.now.slots c.args.self.now.planned (node_of c.args.self.now.tool.value)
+    anew-of c.args.self.now.plan c.args.self.now.slots (node_of c.args.self.now.tool.value)
     c.args.self.now.spool c.args.self.now.lost c.in-Some.disk
     c.requires.sound same in
     subst
@@ -28,6 +28,20 @@ returns-in-Some-clause-start c =
     Leaves ([] ∷ []) went (view_of ghosts (node_of c.start_from.new.self.tool.value) c.start_from.new.self.spool)
     c.start_from.new.out c.start_from.result) (both.1 c.args.choice c.args.now)
     (c.start_from.ensures.start c.args.now both.0)
+
+pub returns-in-Some-clause-planned : goal.returns-in-Some-clause-planned
+returns-in-Some-clause-planned c =
+    let same =
+    sym
+    (c.disk_in.ensures ∙ ap (λ (o : Option DiskState). disk_of o c.take-spool.result) c.take-lost.ensures.value
+    ∙ ap (λ (o : Option (GemSpool DiskState)). disk_of c.args.self.now.lost o) c.take-spool.ensures.value)
+    ∙ c.in-Some.is in
+    let both =
+    anew-of c.args.self.now.plan c.args.self.now.slots (node_of c.args.self.now.tool.value)
+    c.args.self.now.spool c.args.self.now.lost c.in-Some.disk
+    c.requires.sound same in
+    planned-left c.start_from.new.self.plan c.start_from.new.self.slots (node_of c.start_from.new.self.tool.value)
+    c.start_from.new.self.spool None c.start_from.result (c.start_from.ensures.sound both.0) c.start_from.ensures.armed
 
 pub returns-in-Some-clause-sound : goal.returns-in-Some-clause-sound
 returns-in-Some-clause-sound c =
@@ -37,39 +51,11 @@ returns-in-Some-clause-sound c =
     ∙ ap (λ (o : Option (GemSpool DiskState)). disk_of c.args.self.now.lost o) c.take-spool.ensures.value)
     ∙ c.in-Some.is in
     let both =
-    anew-of c.args.self.now.plan c.args.self.now.slots c.args.self.now.planned (node_of c.args.self.now.tool.value)
+    anew-of c.args.self.now.plan c.args.self.now.slots (node_of c.args.self.now.tool.value)
     c.args.self.now.spool c.args.self.now.lost c.in-Some.disk
     c.requires.sound same in
     subst
     (λ (o : Option DiskState).
-    IsWhole ghosts c.start_from.new.self.plan c.start_from.new.self.slots c.start_from.new.self.planned
-    (node_of c.start_from.new.self.tool.value) c.start_from.new.self.spool o)
+    IsWhole ghosts c.start_from.new.self.plan c.start_from.new.self.slots (node_of c.start_from.new.self.tool.value)
+    c.start_from.new.self.spool o)
     (sym c.start_from.ensures.lost) (c.start_from.ensures.sound both.0)
-
-pub returns-in-Some-clause-armed : goal.returns-in-Some-clause-armed
-returns-in-Some-clause-armed c =
-    let same =
-    sym
-    (c.disk_in.ensures ∙ ap (λ (o : Option DiskState). disk_of o c.take-spool.result) c.take-lost.ensures.value
-    ∙ ap (λ (o : Option (GemSpool DiskState)). disk_of c.args.self.now.lost o) c.take-spool.ensures.value)
-    ∙ c.in-Some.is in
-    let both =
-    anew-of c.args.self.now.plan c.args.self.now.slots c.args.self.now.planned (node_of c.args.self.now.tool.value)
-    c.args.self.now.spool c.args.self.now.lost c.in-Some.disk
-    c.requires.sound same in
-    ok-so c.start_from.result _
-    (armed-idle c.start_from.new.self.spool c.start_from.new.self.planned (c.start_from.ensures.calm both.0)
-    c.start_from.ensures.planned)
-
-pub returns-in-Some-clause-room : goal.returns-in-Some-clause-room
-returns-in-Some-clause-room c =
-    let same =
-    sym
-    (c.disk_in.ensures ∙ ap (λ (o : Option DiskState). disk_of o c.take-spool.result) c.take-lost.ensures.value
-    ∙ ap (λ (o : Option (GemSpool DiskState)). disk_of c.args.self.now.lost o) c.take-spool.ensures.value)
-    ∙ c.in-Some.is in
-    let both =
-    anew-of c.args.self.now.plan c.args.self.now.slots c.args.self.now.planned (node_of c.args.self.now.tool.value)
-    c.args.self.now.spool
-    c.args.self.now.lost c.in-Some.disk c.requires.sound same in
-    c.start_from.ensures.room both.0
