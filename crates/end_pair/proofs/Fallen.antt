@@ -1,7 +1,8 @@
--- A step in which the equipment loses its power: what it has done by then, as moves, and the line behind that.
-use Rattle.std.proofs.Common.{◌≡◌, ◌⊎◌, inl, inr, ℕ, false, List, [], ◌∷◌, ◌++◌, sym, ap, subst, ◌∙◌}
+-- A step that a disk stops: what its end has done by then, as moves; and the line behind a loss of power.
+use Rattle.std.proofs.Common.{◌≡◌, ◌⊎◌, inl, inr, ℕ, Bool, false, List, [], ◌∷◌, ◌++◌, sym, ap, subst, ◌∙◌}
 use Rattle.std.proofs.lemmas.List.{append_cancel_left}
 use Rattle.disk_base.specs.declared.cut.CutChoice.{CutChoice}
+use Rattle.gl_base.specs.declared.side.Side.{Side}
 use Rattle.gl_base.specs.declared.side.Side.TheVariants.{Equipment}
 use Rattle.line_end.specs.declared.event.Phase.{Phase}
 use Rattle.line_end.specs.Step.{LineCall}
@@ -28,9 +29,9 @@ use Rattle.message_end.specs.Own.{Has, whole_in}
 use Rattle.message_end.proofs.Fronts.{noted-behind}
 use Rattle.trace_log.specs.Laws.{log_with}
 use Rattle.trace_log.specs.Log.{Happening}
-use Rattle.end_pair.specs.Steps.{gives, lost_at, slips}
+use Rattle.end_pair.specs.Steps.{gives, slips, stopped_at}
 use Rattle.end_pair.proofs.Doing.{AreDone, AreOnWay, IsNext, NoSlipIn, are-done, deeds_by, no-slip, no-slip-first, on-way-first, step-deeds}
-use Rattle.end_pair.proofs.Moved.{HasFallen, IsAt, calls-on, calls-quiet, deeds-moves, keep-done, like-no-slip, line-moves, log-done, log_with-behind, moves_with, own-base, own-doings, timely-done}
+use Rattle.end_pair.proofs.Moved.{HasFallen, HasStopped, IsAt, calls-on, calls-quiet, deeds-moves, keep-done, like-no-slip, line-moves, log-done, log_with-behind, moves_with, own-base, own-doings, timely-done}
 use Rattle.end_pair.proofs.Renamed.{IsLike, dark-like, renamed, renamed-dark}
 
 -- ---- the first calls of a step are none, the timer alone, or those of a step
@@ -150,100 +151,133 @@ dark-few {C} input now calls ways line like run (inr (inr of)) = dark-behind {C 
 -- ---- the step
 
 module _ {S C : Type 0} (did : ℕ → List Doing → S → Type 0) (takes : C → Type 0) (first : Step S Happening)
-    (machine : Machine S C)
-    (plans : LinePlans) (law : KeepsLaw (plan_at Equipment plans) did takes (Goes first) machine) where
-  pub has-fallen :
-      (now : ℕ) (choice : CutChoice) (moves : List Move) (s : S) (input : Input C) (ways : Ways) → MayTake takes input
-      → KeepLaws plans moves → AreTimely moves
-      → HasNoSlip (new_line plans.equipment.times plans.host.times) (deeds_of moves)
-      → IsAt did Equipment plans moves s → IsNext (seen_at Equipment plans moves).there.under_way input
-      → IsLike ways (line_of_moves plans moves) → slips machine Equipment now input s ways ≡ false
-      → (loss : Loss S) → Has (machine.losses s input now) loss
-      → HasFallen did machine plans now moves (lost_at machine Equipment now choice input s ways loss)
-  has-fallen now choice moves s input ways may keep timely clean at next like none loss has = record {
+    (machine : Machine S C) (side : Side) (plans : LinePlans)
+    (law : KeepsLaw (plan_at side plans) did takes (Goes first) machine) (now : ℕ) (choice : CutChoice)
+    (moves : List Move) (s : S) (input : Input C) (ways : Ways) (may : MayTake takes input) (keep : KeepLaws plans moves)
+    (timely : AreTimely moves) (clean : HasNoSlip (new_line plans.equipment.times plans.host.times) (deeds_of moves))
+    (at : IsAt did side plans moves s) (next : IsNext (seen_at side plans moves).there.under_way input)
+    (like : IsLike ways (line_of_moves plans moves)) (none : slips machine side now input s ways ≡ false)
+    (loss : Loss S) (has : Has (machine.losses s input now) loss) where
+  abbrev run : Run
+  run = run_at side plans moves
+
+  abbrev line : Line
+  line = line_of_moves plans moves
+
+  abbrev pub loses : LosesAt (plan_at side plans) did run.base run.doings input now loss.front
+      (machine.restart (loss.left choice) now)
+  loses = law.loses run.base run.doings s input now at.is may loss has choice
+
+  abbrev so_far : GoesSoFar (plan_at side plans) did run.base run.doings input now loss.front
+  so_far = loses.so_far
+
+  abbrev done : List Doing
+  done = so_far.done
+
+  abbrev after : List Move
+  after = moves_with side now done moves
+
+  abbrev all : List Move
+  all = moves_with side now so_far.later after
+
+  pub quiet : NoSlipIn side now line input
+  quiet = like-no-slip did takes first machine side plans law now moves s input ways at like none
+
+  pub on : AreOnWay side line (calls_in done)
+  on =
+      on-way-first side line so_far.calls.later (calls_in done)
+      (calls-on did takes first machine side plans law now line input (so_far.calls.later ++ calls_in done)
+      so_far.calls.whole next)
+
+  pub are : AreDone (plan_at side plans) side line run.doings done
+  are = are-done (plan_at side plans) run.base side line run.doings done at.state so_far.lawful on
+
+  pub noted : noted_in done ≡ loss.front
+  noted =
+      append_cancel_left (noted_in run.doings) (noted_in done) loss.front
+      (sym (noted-behind done run.doings) ∙ so_far.notes)
+
+  abbrev pub has-stopped : (call : ℕ) (is_cut : Bool)
+      → HasStopped did side plans now moves (stopped_at machine side now call is_cut choice input s ways loss)
+  has-stopped call is_cut = record {
     done = done;
     later = so_far.later;
     next = so_far.next;
-    keep = keep-done Equipment plans now done moves so_far.lawful on keep;
-    timely = timely-done Equipment now done moves so_far.drops timely;
+    keep = keep-done side plans now done moves so_far.lawful on keep;
+    timely = timely-done side now done moves so_far.drops timely;
     no_slip =
         subst (λ (ds : List Deed). HasNoSlip (new_line plans.equipment.times plans.host.times) ds)
-        (sym (deeds-moves Equipment now done moves))
-        (no-slip Equipment (calls_in done) (new_line plans.equipment.times plans.host.times) (deeds_of moves)
-        (no-slip-first Equipment line so_far.calls.later (calls_in done)
-        (calls-quiet did takes first machine Equipment plans law now line input (so_far.calls.later ++ calls_in done)
+        (sym (deeds-moves side now done moves))
+        (no-slip side (calls_in done) (new_line plans.equipment.times plans.host.times) (deeds_of moves)
+        (no-slip-first side line so_far.calls.later (calls_in done)
+        (calls-quiet did takes first machine side plans law now line input (so_far.calls.later ++ calls_in done)
         so_far.calls.whole quiet))
         clean);
     could =
-        subst (λ (b : ℕ). did b (run_at Equipment plans all).doings so_far.next)
-        (sym (own-base Equipment plans now so_far.later after ∙ own-base Equipment plans now done moves))
+        subst (λ (b : ℕ). did b (run_at side plans all).doings so_far.next)
+        (sym (own-base side plans now so_far.later after ∙ own-base side plans now done moves))
         (subst (λ (ds : List Doing). did run.base ds so_far.next)
-        (sym (own-doings Equipment plans now so_far.later after
-        ∙ ap (λ (ds : List Doing). so_far.later ++ ds) (own-doings Equipment plans now done moves)))
+        (sym (own-doings side plans now so_far.later after
+        ∙ ap (λ (ds : List Doing). so_far.later ++ ds) (own-doings side plans now done moves)))
         so_far.could);
     entries =
-        sym (log-done Equipment now done moves
-        ∙ ap (λ (ns : List Happening). log_with now Equipment ns (log_of moves)) noted
-        ∙ log_with-behind now Equipment loss.front [] (log_of moves));
+        sym (log-done side now done moves
+        ∙ ap (λ (ns : List Happening). log_with now side ns (log_of moves)) noted
+        ∙ log_with-behind now side loss.front [] (log_of moves));
+  }
+
+-- of the equipment, where its power is lost
+module _ {S C : Type 0} (did : ℕ → List Doing → S → Type 0) (takes : C → Type 0) (first : Step S Happening)
+    (machine : Machine S C) (plans : LinePlans)
+    (law : KeepsLaw (plan_at Equipment plans) did takes (Goes first) machine) (now : ℕ) (choice : CutChoice)
+    (moves : List Move) (s : S) (input : Input C) (ways : Ways) (may : MayTake takes input) (keep : KeepLaws plans moves)
+    (timely : AreTimely moves) (clean : HasNoSlip (new_line plans.equipment.times plans.host.times) (deeds_of moves))
+    (at : IsAt did Equipment plans moves s) (next : IsNext (seen_at Equipment plans moves).there.under_way input)
+    (like : IsLike ways (line_of_moves plans moves)) (none : slips machine Equipment now input s ways ≡ false)
+    (loss : Loss S) (has : Has (machine.losses s input now) loss) where
+  abbrev lost : LosesAt (plan_at Equipment plans) did (run_at Equipment plans moves).base
+      (run_at Equipment plans moves).doings input now loss.front (machine.restart (loss.left choice) now)
+  lost =
+      loses did takes first machine Equipment plans law now choice moves s input ways may keep timely clean at next like
+      none loss has
+
+  abbrev by_then : List Doing
+  by_then = lost.so_far.done
+
+  there : AreDone (plan_at Equipment plans) Equipment (line_of_moves plans moves) (run_at Equipment plans moves).doings
+      by_then
+  there =
+      are did takes first machine Equipment plans law now choice moves s input ways may keep timely clean at next like
+      none loss has
+
+  pub has-fallen : (call : ℕ) (is_cut : Bool)
+      → HasFallen did machine plans now moves (stopped_at machine Equipment now call is_cut choice input s ways loss)
+  has-fallen call is_cut = record {
+    stopped =
+        has-stopped did takes first machine Equipment plans law now choice moves s input ways may keep timely clean at
+        next like none loss has call is_cut;
     lost = record {
       state =
-          ap (λ (l : Line). (seen_from Equipment l).here.state) (line-moves plans Equipment now done moves) ∙ are.state
-          ∙ ap (line_of (plan_at Equipment plans)) (sym (own-doings Equipment plans now done moves));
+          ap (λ (l : Line). (seen_from Equipment l).here.state) (line-moves plans Equipment now by_then moves)
+          ∙ there.state ∙ ap (line_of (plan_at Equipment plans)) (sym (own-doings Equipment plans now by_then moves));
       received =
           ap (λ (ds : List Doing). whole_in (own_of (plan_at Equipment plans) ds))
-          (own-doings Equipment plans now done moves)
-          ∙ so_far.received;
+          (own-doings Equipment plans now by_then moves)
+          ∙ lost.so_far.received;
       starts =
           subst (λ (b : ℕ).
           OnStart
-          (HasRestarted (plan_at Equipment plans) did b (run_at Equipment plans after).doings)
-          (machine.restart (loss.left choice) now)) (sym (own-base Equipment plans now done moves))
+          (HasRestarted (plan_at Equipment plans) did b
+          (run_at Equipment plans (moves_with Equipment now by_then moves)).doings)
+          (machine.restart (loss.left choice) now)) (sym (own-base Equipment plans now by_then moves))
           (subst (λ (ds : List Doing).
-          OnStart (HasRestarted (plan_at Equipment plans) did run.base ds) (machine.restart (loss.left choice) now))
-          (sym (own-doings Equipment plans now done moves)) loses.starts);
+          OnStart (HasRestarted (plan_at Equipment plans) did (run_at Equipment plans moves).base ds)
+          (machine.restart (loss.left choice) now))
+          (sym (own-doings Equipment plans now by_then moves)) lost.starts);
       dark =
           subst (λ (l : Line). IsLike (without_power Equipment ways) (dark l))
-          (sym (line-moves plans Equipment now done moves))
-          (dark-few input now (calls_in done) ways line like are.run
-          (begun input now so_far.calls.later (calls_in done) so_far.calls.whole));
+          (sym (line-moves plans Equipment now by_then moves))
+          (dark-few input now (calls_in by_then) ways (line_of_moves plans moves) like there.run
+          (begun input now lost.so_far.calls.later (calls_in by_then) lost.so_far.calls.whole));
     };
   }
-    where
-      run : Run
-      run = run_at Equipment plans moves
-
-      line : Line
-      line = line_of_moves plans moves
-
-      loses : LosesAt (plan_at Equipment plans) did run.base run.doings input now loss.front
-          (machine.restart (loss.left choice) now)
-      loses = law.loses run.base run.doings s input now at.is may loss has choice
-
-      so_far : GoesSoFar (plan_at Equipment plans) did run.base run.doings input now loss.front
-      so_far = loses.so_far
-
-      done : List Doing
-      done = so_far.done
-
-      after : List Move
-      after = moves_with Equipment now done moves
-
-      all : List Move
-      all = moves_with Equipment now so_far.later after
-
-      quiet : NoSlipIn Equipment now line input
-      quiet = like-no-slip did takes first machine Equipment plans law now moves s input ways at like none
-
-      on : AreOnWay Equipment line (calls_in done)
-      on =
-          on-way-first Equipment line so_far.calls.later (calls_in done)
-          (calls-on did takes first machine Equipment plans law now line input (so_far.calls.later ++ calls_in done)
-          so_far.calls.whole next)
-
-      are : AreDone (plan_at Equipment plans) Equipment line run.doings done
-      are = are-done (plan_at Equipment plans) run.base Equipment line run.doings done at.state so_far.lawful on
-
-      noted : noted_in done ≡ loss.front
-      noted =
-          append_cancel_left (noted_in run.doings) (noted_in done) loss.front
-          (sym (noted-behind done run.doings) ∙ so_far.notes)

@@ -20,7 +20,7 @@ use Rattle.end_pair.specs.declared.answers.WorldStep.{WorldStep}
 use Rattle.end_pair.specs.declared.answers.WorldStep.TheVariants as answer
 use Rattle.end_pair.specs.Laws.{AreNotes, AreNotesBefore, EndsOneWay, IsEnd, IsSlip, OnNewest}
 use Rattle.end_pair.specs.Run.{closing, piece_of, whole_log}
-use Rattle.end_pair.specs.Steps.{Stepped, entries_of, made, made_by, slipped, slips, stepped, wrote}
+use Rattle.end_pair.specs.Steps.{Stepped, entries_of, made, made_by, slipped, slips, stepped, stopped_for, wrote}
 use Rattle.end_pair.specs.World.{Piece, World, after_event, after_events, again, and_more, and_on, armed, at_start, begun, both_stepped, darkened, ended_by, equipment_stepped, given, given_next, given_times, happened, host_stepped, later, met, most_steps, settled, settled_times, started_anew, still, turned_out, way_to, with_equipment, with_host, without}
 use Rattle.end_pair.proofs.Powered.{IsPoweredPiece, run-powered}
 
@@ -91,49 +91,48 @@ carried-out went log ends no_slip no_turns no_numbers = go ends.how
 pub record IsSo (entries : List Entry) (went : WorldStep) : Type 0 where
   pub slip : went ≡ answer.Slip → HasSlipped entries
   pub notes : went ≢ answer.Slip → AreNotes entries
-  pub no_fault : (went ≢ answer.DiskFailed) × (went ≢ answer.NoMemory)
+  pub no_fault : went ≢ answer.NoMemory
 
--- only notes are made, and no disk fails
-only-notes : (entries : List Entry) (how : WorldStep) → AreNotes entries → how ≢ answer.Slip
-    → how ≢ answer.DiskFailed → how ≢ answer.NoMemory → IsSo entries how
-only-notes entries how are no_slip no_disk no_memory = record {
-  slip = λ is. absurd (no_slip is);
-  notes = λ other. are;
-  no_fault = (no_disk, no_memory);
-}
+-- only notes are made
+only-notes : (entries : List Entry) (how : WorldStep) → AreNotes entries → how ≢ answer.Slip → how ≢ answer.NoMemory
+    → IsSo entries how
+only-notes entries how are no_slip no_memory =
+    record { slip = λ is. absurd (no_slip is); notes = λ other. are; no_fault = no_memory }
 
 abbrev pub IsSoStep : {S : Type 0} → Stepped S → Type 0
 IsSoStep step = IsSo step.entries step.went
 
-module _ {S C : Type 0} (machine : Machine S C) (side : Side) (now call : ℕ) (choice : CutChoice) (input : Input C)
-    (s : S)
-    (ways : Ways) where
+module _ {S C : Type 0} (machine : Machine S C) (side : Side) (now call : ℕ) (is_cut : Bool) (choice : CutChoice)
+    (input : Input C) (s : S) (ways : Ways) where
   made-so : (went : Went S Happening) → IsSoStep (made machine side now input s ways went)
   made-so (Goes step) =
       only-notes (entries_of side now (step.notes ++ wrote step.written)) answer.Went
-      (noted-notes now side (step.notes ++ wrote step.written) [] tt) (λ is. cc) (λ is. cc) (λ is. cc)
+      (noted-notes now side (step.notes ++ wrote step.written) [] tt) (λ is. cc) (λ is. cc)
   made-so (Spent step) =
       only-notes (entries_of side now step.notes) answer.NumbersSpent (noted-notes now side step.notes [] tt)
-      (λ is. cc) (λ is. cc) (λ is. cc)
+      (λ is. cc) (λ is. cc)
 
-  lost-so : (lost : Option (Loss S)) → IsSoStep (made_by machine side now choice input s ways lost)
-  lost-so None = made-so (machine.act s input now)
-  lost-so (Some loss) =
-      only-notes (entries_of side now loss.front) answer.PowerLost (noted-notes now side loss.front [] tt)
-      (λ is. cc) (λ is. cc) (λ is. cc)
+  stopped-so : (entries : List Entry) → AreNotes entries → (is_cut : Bool) → IsSo entries (stopped_for is_cut)
+  stopped-so entries are true = only-notes entries answer.PowerLost are (λ is. cc) (λ is. cc)
+  stopped-so entries are false = only-notes entries answer.Turns are (λ is. cc) (λ is. cc)
 
-  step-so : IsSoStep (stepped machine side now call choice input s ways)
+  by-so : (lost : Option (Loss S)) → IsSoStep (made_by machine side now call is_cut choice input s ways lost)
+  by-so None = made-so (machine.act s input now)
+  by-so (Some loss) =
+      stopped-so (entries_of side now loss.front) (noted-notes now side loss.front [] tt) is_cut
+
+  step-so : IsSoStep (stepped machine side now call is_cut choice input s ways)
   step-so = go (slips machine side now input s ways)
     where
       go : (b : Bool)
           → IsSoStep (if b then slipped side now s ways
-          else made_by machine side now choice input s ways (call_of call (machine.losses s input now)))
+          else made_by machine side now call is_cut choice input s ways (call_of call (machine.losses s input now)))
       go true = record {
         slip = λ is. record { newest = tt; before = tt };
         notes = λ other. absurd (other refl);
-        no_fault = (λ is. cc, λ is. cc);
+        no_fault = λ is. cc;
       }
-      go false = lost-so (call_of call (machine.losses s input now))
+      go false = by-so (call_of call (machine.losses s input now))
 
 -- ---- a run
 
@@ -145,10 +144,10 @@ module _ {S T : Type 0} (e : Machine S ToolCommand) (h : Machine T HostCommand) 
   Keeps more = (world : World S T) → IsSoPiece (more world)
 
   still-keeps : Keeps still
-  still-keeps world = only-notes [] answer.Went tt (λ is. cc) (λ is. cc) (λ is. cc)
+  still-keeps world = only-notes [] answer.Went tt (λ is. cc) (λ is. cc)
 
   out-keeps : Keeps turned_out
-  out-keeps world = only-notes [] answer.Turns tt (λ is. cc) (λ is. cc) (λ is. cc)
+  out-keeps world = only-notes [] answer.Turns tt (λ is. cc) (λ is. cc)
 
   -- behind what has noted no slip
   kept-on : (piece : Piece S T) (more : World S T → Piece S T) → AreNotes piece.entries → Keeps more
@@ -174,7 +173,6 @@ module _ {S T : Type 0} (e : Machine S ToolCommand) (h : Machine T HostCommand) 
       go answer.Turns is = so
       go answer.NumbersSpent is = so
       go answer.PowerLost is = so
-      go answer.DiskFailed is = so
       go answer.NoMemory is = so
 
   keeps-then : (first more : World S T → Piece S T) → Keeps first → Keeps more
@@ -185,21 +183,21 @@ module _ {S T : Type 0} (e : Machine S ToolCommand) (h : Machine T HostCommand) 
   equipment-keeps input world = go (world.steps == most_steps)
     where
       step : Stepped S
-      step = stepped e Equipment world.moment world.call world.choice input world.equipment world.ways
+      step = stepped e Equipment world.moment world.left world.is_cut world.choice input world.equipment world.ways
 
       go : (b : Bool) → IsSoPiece (if b then turned_out world else with_equipment e h world step)
       go true = out-keeps world
-      go false = step-so e Equipment world.moment world.call world.choice input world.equipment world.ways
+      go false = step-so e Equipment world.moment world.left world.is_cut world.choice input world.equipment world.ways
 
   host-keeps : (input : Input HostCommand) → Keeps (host_stepped e h input)
   host-keeps input world = go (world.steps == most_steps)
     where
       step : Stepped T
-      step = stepped h Host world.moment 0 world.choice input world.host world.ways
+      step = stepped h Host world.moment world.host_left false world.choice input world.host world.ways
 
       go : (b : Bool) → IsSoPiece (if b then turned_out world else with_host e h world step)
       go true = out-keeps world
-      go false = step-so h Host world.moment 0 world.choice input world.host world.ways
+      go false = step-so h Host world.moment world.host_left false world.choice input world.host world.ways
 
   given-keeps : (side : Side) → Keeps (given e h side)
   given-keeps side world = go side (next_byte (characters_of (way_to side world).under_way))
@@ -232,7 +230,7 @@ module _ {S T : Type 0} (e : Machine S ToolCommand) (h : Machine T HostCommand) 
 
   -- nothing is noted
   quiet-keeps : IsSo [] answer.Went
-  quiet-keeps = only-notes [] answer.Went tt (λ is. cc) (λ is. cc) (λ is. cc)
+  quiet-keeps = only-notes [] answer.Went tt (λ is. cc) (λ is. cc)
 
   happens-keeps : (event : Event) → Keeps (happened e h event)
   happens-keeps (event.To side n) = times-keep n side
@@ -248,10 +246,10 @@ module _ {S T : Type 0} (e : Machine S ToolCommand) (h : Machine T HostCommand) 
   started-so : (world : World S T) (went : Went S Happening) → IsSoPiece (started_anew e h world went)
   started-so world (Goes step) =
       only-notes (entries_of Equipment world.moment (Power ∷ step.notes)) answer.Went
-      (noted-notes world.moment Equipment (Power ∷ step.notes) [] tt) (λ is. cc) (λ is. cc) (λ is. cc)
+      (noted-notes world.moment Equipment (Power ∷ step.notes) [] tt) (λ is. cc) (λ is. cc)
   started-so world (Spent step) =
       only-notes (entries_of Equipment world.moment (Power ∷ step.notes)) answer.NumbersSpent
-      (noted-notes world.moment Equipment (Power ∷ step.notes) [] tt) (λ is. cc) (λ is. cc) (λ is. cc)
+      (noted-notes world.moment Equipment (Power ∷ step.notes) [] tt) (λ is. cc) (λ is. cc)
 
   without-keeps : Keeps (without e h)
   without-keeps world =
@@ -271,7 +269,6 @@ module _ {S T : Type 0} (e : Machine S ToolCommand) (h : Machine T HostCommand) 
       go is_cut answer.Slip is = so
       go is_cut answer.Turns is = so
       go is_cut answer.NumbersSpent is = so
-      go is_cut answer.DiskFailed is = so
       go is_cut answer.NoMemory is = so
 
   met-keeps : (event : Event) (cut : Option ℕ) → Keeps (met e h event cut)
@@ -301,7 +298,7 @@ module _ {S T : Type 0} (e : Machine S ToolCommand) (h : Machine T HostCommand) 
       only-notes (log_with 0 Host host.notes (log_with 0 Equipment equipment.notes [])) answer.Went
       (noted-notes 0 Host host.notes (log_with 0 Equipment equipment.notes [])
       (noted-notes 0 Equipment equipment.notes [] tt))
-      (λ is. cc) (λ is. cc) (λ is. cc)
+      (λ is. cc) (λ is. cc)
 
   run-so : (equipment : Step S Happening) (host : Step T Happening) (events : List Event)
       → IsSoPiece (piece_of e h equipment host events)
@@ -344,8 +341,7 @@ module _ {S T : Type 0} (e : Machine S ToolCommand) (h : Machine T HostCommand) 
       go answer.NumbersSpent is =
           unlogged answer.NumbersSpent (so.notes (λ slip. cc)) (λ is. cc) (λ is. cc) (inr refl)
       go answer.PowerLost is = absurd (powered is)
-      go answer.DiskFailed is = absurd (so.no_fault.0 is)
-      go answer.NoMemory is = absurd (so.no_fault.1 is)
+      go answer.NoMemory is = absurd (so.no_fault is)
 
   pub four-ways : (equipment : Step S Happening) (host : Step T Happening) (events : List Event)
       → let piece = piece_of e h equipment host events in EndsOneWay piece.went (whole_log piece)

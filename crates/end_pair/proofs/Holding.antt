@@ -37,14 +37,15 @@ use Rattle.end_pair.specs.Kept.{MayHappen}
 use Rattle.end_pair.specs.Laws.{AreAtStates, AreNoNotes, AreSteps, HasBytes, HasNoStart, IsNoStart, IsOfMoves}
 use Rattle.end_pair.specs.Laws.AreSteps.{cut_short, ends_start, no_moves, one_step, world_says}
 use Rattle.end_pair.specs.Run.{piece_of}
-use Rattle.end_pair.specs.Steps.{Stepped, entries_of, lost_at, made, made_by, slipped, slips}
-use Rattle.end_pair.specs.World.{AskedOf, Halt, Piece, World, added_to, after_event, after_events, again, and_more, and_on, armed, at_start, begun, both_stepped, changed_at, darkened, ended_by, equipment_stepped, given, given_next, given_times, happened, host_stepped, later, lost, lost_from, met, most_steps, settled, settled_times, started_anew, still, turned_out, way_to, with_equipment, with_host, without}
+use Rattle.end_pair.specs.Steps.{Stepped, entries_of, made, made_by, slipped, slips, stopped_at}
+use Rattle.end_pair.specs.World.{Piece, World, added_to, after_event, after_events, again, and_more, and_on, armed, at_start, begun, both_stepped, changed_at, darkened, ended_by, equipment_stepped, given, given_next, given_times, happened, host_stepped, later, lost, lost_from, met, most_steps, settled, settled_times, started_anew, still, turned_out, way_to, with_equipment, with_host, without}
 use Rattle.end_pair.proofs.ByteWays.{AreByteCharacters, AreByteWays, bytes-to, bytes-with, dropped, with-byte}
+use Rattle.end_pair.proofs.Causes.{never-on}
 use Rattle.end_pair.proofs.Doing.{IsNext}
 use Rattle.end_pair.proofs.LineDeeds.{lost-more, lost-none, new-stands}
-use Rattle.end_pair.proofs.Fallen.{dark-now, has-fallen}
+use Rattle.end_pair.proofs.Fallen.{dark-now, has-fallen, has-stopped}
 use Rattle.end_pair.proofs.LineKept.{side-kept, times-kept}
-use Rattle.end_pair.proofs.Moved.{HasFallen, HasLostAll, HasStepped, IsAt, has-made, has-slipped, moves-split, moves_with, other-is}
+use Rattle.end_pair.proofs.Moved.{HasFallen, HasLostAll, HasStepped, HasStopped, IsAt, has-made, has-slipped, moves-split, moves_with, other-is}
 use Rattle.end_pair.proofs.Renamed.{IsLike, like-change, like-lost, like-noise, renamed_all}
 
 module _ {S T : Type 0}
@@ -172,7 +173,6 @@ module _ {S T : Type 0}
       go answer.Turns is = good
       go answer.NumbersSpent is = good
       go answer.PowerLost is = good
-      go answer.DiskFailed is = good
       go answer.NoMemory is = good
 
   keeps-then :
@@ -193,8 +193,8 @@ module _ {S T : Type 0}
   -- a step of either end
   step-good :
       {X : Type 0} (did : ℕ → List Doing → X → Type 0) (side : Side) (step : Stepped X) (world : World S T)
-      (moves : List Move) (s : S) (t : T) (n : ℕ) (cut : Option ℕ) (call : ℕ) (choice : CutChoice) (asked : AskedOf)
-      (halts : List Halt)
+      (moves : List Move) (s : S) (t : T) (n : ℕ) (cut : Option ℕ) (left host_left : ℕ) (is_cut : Bool)
+      (choice : CutChoice)
       → Holds world moves → (is : HasStepped did side plans world.moment moves step)
       → IsAt did_e Equipment plans (moves_with side world.moment is.done moves) s
       → IsAt did_h Host plans (moves_with side world.moment is.done moves) t → (step.went ≡ answer.PowerLost → ⊥)
@@ -208,17 +208,16 @@ module _ {S T : Type 0}
               moment = world.moment;
               steps = n;
               cut = cut;
-              call = call;
+              left = left;
+              host_left = host_left;
+              is_cut = is_cut;
               choice = choice;
             };
         entries = step.entries;
         went = step.went;
-        anew = false;
-        asked = asked;
-        halts = halts;
       })
       (log_of moves)
-  step-good did side step world moves s t n cut call choice asked halts holds is equipment host powered = record {
+  step-good did side step world moves s t n cut left host_left is_cut choice holds is equipment host powered = record {
     of = with_last later s t is.last (step.entries ++ log_of moves) made_so is.few is.no_notes log;
     on = λ went. let on = is.on went in (on.0, record { made = made_so; stands = on.1; bytes = on.2 });
     fallen = λ lost. absurd (powered lost);
@@ -251,93 +250,98 @@ module _ {S T : Type 0}
   has-no-start side now [] done = did-no-start side now done
   has-no-start side now (doing ∷ later) done = (tt, has-no-start side now later done)
 
-  -- in which the equipment loses its power
+  -- in which its disk has stopped it
+  stopped-steps :
+      {X : Type 0} (did : ℕ → List Doing → X → Type 0) (side : Side) (step : Stepped X) (now : ℕ) (moves : List Move)
+      (is : HasStopped did side plans now moves step)
+      → AreAtStates did_e did_h plans (moves_with side now is.later (moves_with side now is.done moves))
+      → AreSteps did_e did_h plans moves → AreSteps did_e did_h plans (moves_with side now is.done moves)
+  stopped-steps did side step now moves is states steps =
+      let after = moves_with side now is.done moves in
+      cut_short after (moves_with side now is.later []) (moves_with side now is.done []) moves
+      (moves-split side now is.done moves) (has-no-start side now is.later is.done)
+      (subst (λ (ms : List Move). AreAtStates did_e did_h plans ms) (moves-split side now is.later after) states) steps
+
+  abbrev stopped_log :
+      {X : Type 0} (did : ℕ → List Doing → X → Type 0) (side : Side) (step : Stepped X) (now : ℕ) (moves : List Move)
+      (is : HasStopped did side plans now moves step) → AreSteps did_e did_h plans (moves_with side now is.done moves)
+      → IsOfMoves did_e did_h plans (step.entries ++ log_of moves)
+  stopped_log did side step now moves is steps = record {
+    moves = moves_with side now is.done moves;
+    keep = is.keep;
+    timely = is.timely;
+    no_slip = is.no_slip;
+    steps = steps;
+    last = [];
+    at_most_one = omega arith;
+    no_notes = tt;
+    is = is.entries;
+  }
+
+  -- the equipment's, whether its power is lost or a run ends there
   fallen-good :
-      (step : Stepped S) (world : World S T) (moves : List Move) (n : ℕ) (cut : Option ℕ) (call : ℕ)
-      (choice : CutChoice) (asked : AskedOf) (halts : List Halt)
-      → Holds world moves → HasFallen did_e e plans world.moment moves step → step.went ≡ answer.PowerLost
-      → Good
-      (record {
-        world =
-            record {
-              equipment = step.end;
-              host = world.host;
-              ways = step.ways;
-              moment = world.moment;
-              steps = n;
-              cut = cut;
-              call = call;
-              choice = choice;
-            };
-        entries = step.entries;
-        went = step.went;
-        anew = false;
-        asked = asked;
-        halts = halts;
-      })
-      (log_of moves)
-  fallen-good step world moves n cut call choice asked halts holds is lost = record {
-    of = record {
-      moves = after;
-      keep = is.keep;
-      timely = is.timely;
-      no_slip = is.no_slip;
-      steps = steps;
-      last = [];
-      at_most_one = omega arith;
-      no_notes = tt;
-      is = is.entries;
-    };
-    on = λ went. absurd (apart went lost);
+      (step : Stepped S) (world : World S T) (moves : List Move) → Holds world moves
+      → HasFallen did_e e plans world.moment moves step → (step.went ≡ answer.Went → ⊥)
+      → Good (with_equipment e h world step) (log_of moves)
+  fallen-good step world moves holds is stops = record {
+    of = stopped_log did_e Equipment step world.moment moves is.stopped steps;
+    on = λ went. absurd (stops went);
     fallen = λ went. (
       refl,
       record {
-        keep = is.keep;
-        timely = is.timely;
-        clean = is.no_slip;
-        host = other-is did_h Equipment plans world.moment is.done moves world.host holds.made.host;
+        keep = is.stopped.keep;
+        timely = is.stopped.timely;
+        clean = is.stopped.no_slip;
+        host = host;
         steps = steps;
         lost = is.lost;
       },
     );
   }
     where
-      apart : step.went ≡ answer.Went → step.went ≡ answer.PowerLost → ⊥
-      apart went lost = let same : answer.Went ≡ answer.PowerLost = sym went ∙ lost in cc
+      now : ℕ
+      now = world.moment
 
-      front : List Move
-      front = moves_with Equipment world.moment is.done []
+      host : IsAt did_h Host plans (moves_with Equipment now is.stopped.done moves) world.host
+      host = other-is did_h Equipment plans now is.stopped.done moves world.host holds.made.host
 
-      after : List Move
-      after = moves_with Equipment world.moment is.done moves
-
-      more : List Move
-      more = moves_with Equipment world.moment is.later []
-
-      all : List Move
-      all = moves_with Equipment world.moment is.later after
-
-      whole : more ++ after ≡ all
-      whole = sym (moves-split Equipment world.moment is.later after)
-
-      host_at : IsAt did_h Host plans all world.host
-      host_at =
-          other-is did_h Equipment plans world.moment is.later after world.host
-          (other-is did_h Equipment plans world.moment is.done moves world.host holds.made.host)
-
-      states : AreAtStates did_e did_h plans all
-      states = record {
-        state_of_equipment = is.next;
-        state_of_host = world.host;
-        equipment_did = is.could;
-        host_did = host_at.is;
-      }
-
-      steps : AreSteps did_e did_h plans after
+      steps : AreSteps did_e did_h plans (moves_with Equipment now is.stopped.done moves)
       steps =
-          cut_short after more front moves (moves-split Equipment world.moment is.done moves)
-          (has-no-start Equipment world.moment is.later is.done)
-          (subst (λ (ms : List Move). AreAtStates did_e did_h plans ms) (sym whole) states) holds.made.steps
+          stopped-steps did_e Equipment step now moves is.stopped
+          (record {
+            state_of_equipment = is.stopped.next;
+            state_of_host = world.host;
+            equipment_did = is.stopped.could;
+            host_did =
+                (other-is did_h Equipment plans now is.stopped.later (moves_with Equipment now is.stopped.done moves)
+                world.host host).is;
+          }) holds.made.steps
+
+  -- the host's
+  stopped-good :
+      (step : Stepped T) (world : World S T) (moves : List Move) → Holds world moves
+      → HasStopped did_h Host plans world.moment moves step → step.went ≡ answer.Turns
+      → Good (with_host e h world step) (log_of moves)
+  stopped-good step world moves holds is turns = record {
+    of = stopped_log did_h Host step world.moment moves is steps;
+    on = λ went. let same = sym went ∙ turns in cc;
+    fallen = λ lost. let same = sym lost ∙ turns in cc;
+  }
+    where
+      now : ℕ
+      now = world.moment
+
+      steps : AreSteps did_e did_h plans (moves_with Host now is.done moves)
+      steps =
+          stopped-steps did_h Host step now moves is
+          (record {
+            state_of_equipment = world.equipment;
+            state_of_host = is.next;
+            equipment_did =
+                (other-is did_e Host plans now is.later (moves_with Host now is.done moves) world.equipment
+                (other-is did_e Host plans now is.done moves world.equipment holds.made.equipment)).is;
+            host_did = is.could;
+          }) holds.made.steps
 
   some-same : {X : Type 0} (y x : X) → Some y ≡ Some x → x ≡ y
   some-same y x is = cc
@@ -356,12 +360,12 @@ module _ {S T : Type 0}
   abbrev tool_step : Input ToolCommand → World S T → Bool → Option (Loss S) → Stepped S
   tool_step input world slip lost =
       if slip then slipped Equipment world.moment world.equipment world.ways
-      else made_by e Equipment world.moment world.choice input world.equipment world.ways lost
+      else made_by e Equipment world.moment world.left world.is_cut world.choice input world.equipment world.ways lost
 
-  abbrev user_step : Input HostCommand → World S T → Bool → Stepped T
-  user_step input world slip =
+  abbrev user_step : Input HostCommand → World S T → Bool → Option (Loss T) → Stepped T
+  user_step input world slip lost =
       if slip then slipped Host world.moment world.host world.ways
-      else made h Host world.moment input world.host world.ways (h.act world.host input world.moment)
+      else made_by h Host world.moment world.host_left false world.choice input world.host world.ways lost
 
   equipment-keeps :
       (input : Input ToolCommand) → MayTake tool input → (world : World S T) (moves : List Move) → Holds world moves
@@ -369,7 +373,7 @@ module _ {S T : Type 0}
       → Good (equipment_stepped e h input world) (log_of moves)
   equipment-keeps input may world moves holds next =
       by_turn (world.steps == most_steps) (slips e Equipment world.moment input world.equipment world.ways)
-      (call_of world.call (e.losses world.equipment input world.moment)) refl refl
+      (call_of world.left (e.losses world.equipment input world.moment)) refl refl
     where
       whole : (step : Stepped S) → (is : HasStepped did_e Equipment plans world.moment moves step)
           → (step.went ≡ answer.PowerLost → ⊥) → Good (with_equipment e h world step) (log_of moves)
@@ -379,8 +383,9 @@ module _ {S T : Type 0}
 
       by_turn : (turn slip : Bool) (lost : Option (Loss S))
           → slips e Equipment world.moment input world.equipment world.ways ≡ slip
-          → call_of world.call (e.losses world.equipment input world.moment) ≡ lost
-          → Good (if turn then turned_out world else with_equipment e h world (tool_step input world slip lost)) (log_of moves)
+          → call_of world.left (e.losses world.equipment input world.moment) ≡ lost
+          → Good (if turn then turned_out world else with_equipment e h world (tool_step input world slip lost))
+          (log_of moves)
       by_turn true slip lost slip_is lost_is = goes-out world moves holds
       by_turn false true lost slip_is lost_is =
           whole (slipped Equipment world.moment world.equipment world.ways)
@@ -394,18 +399,21 @@ module _ {S T : Type 0}
           (made-powered e Equipment world.moment input world.equipment world.ways
           (e.act world.equipment input world.moment))
       by_turn false false (Some loss) slip_is lost_is =
-          fallen-good (lost_at e Equipment world.moment world.choice input world.equipment world.ways loss) world moves
-          _ _ _ _ _ _ holds
+          fallen-good
+          (stopped_at e Equipment world.moment world.left world.is_cut world.choice input world.equipment world.ways
+          loss) world moves holds
           (has-fallen did_e tool first_e e plans law_e world.moment world.choice moves world.equipment input world.ways
           may holds.made.keep holds.made.timely holds.made.clean holds.made.equipment next holds.stands slip_is loss
-          (has-loss world.call (e.losses world.equipment input world.moment) loss lost_is)) refl
+          (has-loss world.left (e.losses world.equipment input world.moment) loss lost_is) world.left world.is_cut)
+          (never-on world.is_cut)
 
   host-keeps :
       (input : Input HostCommand) → MayTake user input → (world : World S T) (moves : List Move) → Holds world moves
       → IsNext (seen_at Host plans moves).there.under_way input
       → Good (host_stepped e h input world) (log_of moves)
   host-keeps input may world moves holds next =
-      by_turn (world.steps == most_steps) (slips h Host world.moment input world.host world.ways) refl
+      by_turn (world.steps == most_steps) (slips h Host world.moment input world.host world.ways)
+      (call_of world.host_left (h.losses world.host input world.moment)) refl refl
     where
       whole : (step : Stepped T) → (is : HasStepped did_h Host plans world.moment moves step)
           → (step.went ≡ answer.PowerLost → ⊥) → Good (with_host e h world step) (log_of moves)
@@ -413,18 +421,28 @@ module _ {S T : Type 0}
           step-good did_h Host step world moves world.equipment step.end _ _ _ _ _ _ holds is
           (other-is did_e Host plans world.moment is.done moves world.equipment holds.made.equipment) is.are.at powered
 
-      by_turn : (turn slip : Bool) → slips h Host world.moment input world.host world.ways ≡ slip
-          → Good (if turn then turned_out world else with_host e h world (user_step input world slip)) (log_of moves)
-      by_turn true slip slip_is = goes-out world moves holds
-      by_turn false true slip_is =
+      by_turn : (turn slip : Bool) (lost : Option (Loss T))
+          → slips h Host world.moment input world.host world.ways ≡ slip
+          → call_of world.host_left (h.losses world.host input world.moment) ≡ lost
+          → Good (if turn then turned_out world else with_host e h world (user_step input world slip lost))
+          (log_of moves)
+      by_turn true slip lost slip_is lost_is = goes-out world moves holds
+      by_turn false true lost slip_is lost_is =
           whole (slipped Host world.moment world.host world.ways)
           (has-slipped did_h user first_h h Host plans law_h world.moment moves world.host world.ways holds.made.keep
           holds.made.timely holds.made.clean holds.made.host) (λ is. cc)
-      by_turn false false slip_is =
+      by_turn false false None slip_is lost_is =
           whole (made h Host world.moment input world.host world.ways (h.act world.host input world.moment))
           (has-made did_h user first_h h Host plans law_h world.moment moves world.host input world.ways may
           holds.made.keep holds.made.timely holds.made.clean holds.made.host next holds.stands holds.bytes slip_is)
           (made-powered h Host world.moment input world.host world.ways (h.act world.host input world.moment))
+      by_turn false false (Some loss) slip_is lost_is =
+          stopped-good
+          (stopped_at h Host world.moment world.host_left false world.choice input world.host world.ways loss) world
+          moves holds
+          (has-stopped did_h user first_h h Host plans law_h world.moment world.choice moves world.host input world.ways
+          may holds.made.keep holds.made.timely holds.made.clean holds.made.host next holds.stands slip_is loss
+          (has-loss world.host_left (h.losses world.host input world.moment) loss lost_is) world.host_left false) refl
 
   -- ---- characters
 
@@ -727,7 +745,6 @@ module _ {S T : Type 0}
       go is_cut answer.Slip is = good
       go is_cut answer.Turns is = good
       go is_cut answer.NumbersSpent is = good
-      go is_cut answer.DiskFailed is = good
       go is_cut answer.NoMemory is = good
 
   -- ---- events
@@ -745,9 +762,7 @@ module _ {S T : Type 0}
 
   armed-keeps : (call : ℕ) → Keeps (armed call)
   armed-keeps call world moves holds =
-      let here = goes-still (record world { cut = None; call = call }) moves
-      (same-holds world (record world { cut = None; call = call }) moves refl refl refl holds) in
-      record { of = here.of; on = here.on; fallen = here.fallen }
+      goes-still (armed call world).world moves (same-holds world (armed call world).world moves refl refl refl holds)
 
   happened-keeps : (event : Event) → MayHappen tool user loses event → HasBytes event → Keeps (happened e h event)
   happened-keeps (event.To side n) may bytes = times-keeps n side

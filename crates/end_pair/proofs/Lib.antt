@@ -6,14 +6,12 @@ pub mod Doing
 pub mod Ending
 pub mod Fallen
 pub mod FourWays
-pub mod Halts
 pub mod Holding
 pub mod LineDeeds
 pub mod LineKept
 pub mod LogText
 pub mod Moved
 pub mod Noting
-pub mod OneDisk
 pub mod Opening
 pub mod Outcomes
 pub mod Pieces

@@ -301,23 +301,31 @@ pub record HasLostAll {S : Type 0}
       IsLike (without_power Equipment ways)
       (line_after_deed (line_of_moves plans moves) (record { side = Equipment; act = PowerLoss }))
 
--- what a step has left in which it was lost is what its first moves have made, and could have gone on to a state
-pub record HasFallen {S C : Type 0}
-    (did : ℕ → List Doing → S → Type 0) (machine : Machine S C) (plans : LinePlans) (now : ℕ) (moves : List Move)
+-- what a step has left in which a disk has stopped it is what its first moves have made, and could have gone on to a
+-- state
+pub record HasStopped {S : Type 0}
+    (did : ℕ → List Doing → S → Type 0) (side : Side) (plans : LinePlans) (now : ℕ) (moves : List Move)
     (step : Stepped S)
     : Type 0 where
   pub done : List Doing
   pub later : List Doing
   pub next : S
-  pub keep : KeepLaws plans (moves_with Equipment now done moves)
-  pub timely : AreTimely (moves_with Equipment now done moves)
-  pub no_slip :
-      HasNoSlip (new_line plans.equipment.times plans.host.times) (deeds_of (moves_with Equipment now done moves))
+  pub keep : KeepLaws plans (moves_with side now done moves)
+  pub timely : AreTimely (moves_with side now done moves)
+  pub no_slip : HasNoSlip (new_line plans.equipment.times plans.host.times) (deeds_of (moves_with side now done moves))
   pub could :
-      did (run_at Equipment plans (moves_with Equipment now later (moves_with Equipment now done moves))).base
-      (run_at Equipment plans (moves_with Equipment now later (moves_with Equipment now done moves))).doings next
-  pub entries : step.entries ++ log_of moves ≡ log_of (moves_with Equipment now done moves)
-  pub lost : HasLostAll did plans (machine.restart step.end now) step.ways (moves_with Equipment now done moves)
+      did (run_at side plans (moves_with side now later (moves_with side now done moves))).base
+      (run_at side plans (moves_with side now later (moves_with side now done moves))).doings next
+  pub entries : step.entries ++ log_of moves ≡ log_of (moves_with side now done moves)
+
+-- so is what a step has left in which the equipment's power was lost
+pub record HasFallen {S C : Type 0}
+    (did : ℕ → List Doing → S → Type 0) (machine : Machine S C) (plans : LinePlans) (now : ℕ) (moves : List Move)
+    (step : Stepped S)
+    : Type 0 where
+  pub stopped : HasStopped did Equipment plans now moves step
+  pub lost :
+      HasLostAll did plans (machine.restart step.end now) step.ways (moves_with Equipment now stopped.done moves)
 
 module _ {S C : Type 0} (did : ℕ → List Doing → S → Type 0) (takes : C → Type 0) (first : Step S Happening)
     (machine : Machine S C)

@@ -9,9 +9,9 @@ use Rattle.line_schedule.specs.declared.event.Event.TheVariants as event
 use Rattle.line_way.specs.Ways.{Ways, characters_of, is_under_way, next_byte}
 use Rattle.message_end.specs.Core.{Step, Went}
 use Rattle.message_end.specs.Core.Went.{Goes, Spent}
-use Rattle.message_end.specs.Course.{Course, Meeting, broken_at, course_of, noted_behind, notes_of, went_on, with_meeting}
+use Rattle.message_end.specs.Course.{Course, Meeting, broken_at, course_of, filled_at, noted_behind, notes_of, went_on, with_meeting}
 use Rattle.message_end.specs.Course.Course.{Reached}
-use Rattle.message_end.specs.Course.Meeting.{Acts, Breaks, LosesPower, Restarts, Writes}
+use Rattle.message_end.specs.Course.Meeting.{Acts, Breaks, Fills, LosesPower, Restarts, Writes}
 use Rattle.message_end.specs.Ends.{Input, Loss, Machine, call_of}
 use Rattle.message_end.specs.Ends.Input.{Char, Command, Time}
 use Rattle.trace_log.specs.Laws.{log_with}
@@ -24,8 +24,9 @@ use Rattle.end_pair.specs.declared.answers.WorldStep.{WorldStep}
 use Rattle.end_pair.specs.declared.answers.WorldStep.TheVariants as answer
 use Rattle.end_pair.specs.Noted.{AreOfCourses, noted_by}
 use Rattle.end_pair.specs.Run.{closing, log_of, piece_of}
-use Rattle.end_pair.specs.Steps.{Stepped, entries_of, lost_at, made, made_by, slipped, slips, stepped, wrote}
+use Rattle.end_pair.specs.Steps.{Stepped, entries_of, made, made_by, slipped, slips, stepped, stopped_at, wrote}
 use Rattle.end_pair.specs.World.{Piece, World, added_to, after_event, after_events, again, and_more, and_on, armed, at_start, begun, both_stepped, changed_at, darkened, ended_by, equipment_stepped, given, given_next, given_times, happened, host_stepped, later, lost_from, met, most_steps, settled, settled_times, started_anew, still, turned_out, way_to, with_equipment, with_host, without}
+use Rattle.end_pair.proofs.Causes.{never-on}
 use Rattle.end_pair.proofs.Powered.{run-powered, unplanned}
 
 -- ---- notes as entries
@@ -163,13 +164,21 @@ module _ {S C : Type 0} (start : Step S Happening) (machine : Machine S C) (side
         broken = λ dark. absurd (cc);
       }
 
-  lost-noted :
-      (now call : ℕ) (choice : CutChoice) (input : Input C) (s : S) (ways : Ways) (log : List Entry) (loss : Loss S)
-      → call_of call (machine.losses s input now) ≡ Some loss → IsReached s log
-      → HasNoted (lost_at machine side now choice input s ways loss) now choice log
-  lost-noted now call choice input s ways log loss lost at = record {
-    noted = λ other. absurd (other refl);
-    on = λ on. absurd (cc);
+  -- a disk stops it, which ends all or loses the power
+  stopped-noted :
+      (now call : ℕ) (is_cut : Bool) (choice : CutChoice) (input : Input C) (s : S) (ways : Ways) (log : List Entry)
+      (loss : Loss S) → call_of call (machine.losses s input now) ≡ Some loss → IsReached s log
+      → HasNoted (stopped_at machine side now call is_cut choice input s ways loss) now choice log
+  stopped-noted now call is_cut choice input s ways log loss lost at = record {
+    noted = λ other. record {
+      met = Fills input now call ∷ at.met;
+      is =
+          own-entries now loss.front log
+          ∙ sym
+          (ap (λ (c : Course S). notes_of (with_meeting machine (Fills input now call) c)) at.is
+          ∙ ap (λ (found : Option (Loss S)). notes_of (filled_at s (noted_by side log) found)) lost);
+    };
+    on = λ on. absurd (never-on is_cut on);
     broken = λ dark. record {
       s = s;
       notes = noted_by side log;
@@ -185,19 +194,20 @@ module _ {S C : Type 0} (start : Step S Happening) (machine : Machine S C) (side
   }
 
   pub step-noted :
-      (now call : ℕ) (choice : CutChoice) (input : Input C) (s : S) (ways : Ways) (log : List Entry) → IsReached s log
-      → HasNoted (stepped machine side now call choice input s ways) now choice log
-  step-noted now call choice input s ways log at = go (slips machine side now input s ways)
+      (now call : ℕ) (is_cut : Bool) (choice : CutChoice) (input : Input C) (s : S) (ways : Ways) (log : List Entry)
+      → IsReached s log → HasNoted (stepped machine side now call is_cut choice input s ways) now choice log
+  step-noted now call is_cut choice input s ways log at = go (slips machine side now input s ways)
     where
       by_lost : (lost : Option (Loss S)) → call_of call (machine.losses s input now) ≡ lost
-          → HasNoted (made_by machine side now choice input s ways lost) now choice log
+          → HasNoted (made_by machine side now call is_cut choice input s ways lost) now choice log
       by_lost None is = made-noted now choice input s ways log at
-      by_lost (Some loss) is = lost-noted now call choice input s ways log loss is at
+      by_lost (Some loss) is = stopped-noted now call is_cut choice input s ways log loss is at
 
       go : (b : Bool)
           → HasNoted
           (if b then slipped side now s ways
-          else made_by machine side now choice input s ways (call_of call (machine.losses s input now))) now choice log
+          else made_by machine side now call is_cut choice input s ways (call_of call (machine.losses s input now)))
+          now choice log
       go true =
           let noted = reached-noted s log at in
           record {
@@ -240,9 +250,9 @@ stays-reached start machine side s one two same at =
 -- the entries of a step are its end's, or no end's
 pub other-entries :
     {S C : Type 0} (machine : Machine S C) (side other : Side) → is_same_side other side ≡ false
-    → (now call : ℕ) (choice : CutChoice) (input : Input C) (s : S) (ways : Ways) (log : List Entry)
-    → noted_by other ((stepped machine side now call choice input s ways).entries ++ log) ≡ noted_by other log
-other-entries {S} {C} machine side other apart now call choice input s ways log =
+    → (now call : ℕ) (is_cut : Bool) (choice : CutChoice) (input : Input C) (s : S) (ways : Ways) (log : List Entry)
+    → noted_by other ((stepped machine side now call is_cut choice input s ways).entries ++ log) ≡ noted_by other log
+other-entries {S} {C} machine side other apart now call is_cut choice input s ways log =
     go (slips machine side now input s ways)
   where
     by_went : (went : Went S Happening)
@@ -255,7 +265,8 @@ other-entries {S} {C} machine side other apart now call choice input s ways log 
         ∙ noted-other now side other apart step.notes log
 
     by_lost : (lost : Option (Loss S))
-        → noted_by other ((made_by machine side now choice input s ways lost).entries ++ log) ≡ noted_by other log
+        → noted_by other ((made_by machine side now call is_cut choice input s ways lost).entries ++ log)
+        ≡ noted_by other log
     by_lost None = by_went (machine.act s input now)
     by_lost (Some loss) =
         ap (λ (l : List Entry). noted_by other l) (with-behind now side loss.front [] log)
@@ -264,7 +275,7 @@ other-entries {S} {C} machine side other apart now call choice input s ways log 
     go : (b : Bool)
         → noted_by other
         ((if b then slipped side now s ways
-        else made_by machine side now choice input s ways (call_of call (machine.losses s input now))).entries
+        else made_by machine side now call is_cut choice input s ways (call_of call (machine.losses s input now))).entries
         ++ log) ≡ noted_by other log
     go true = refl
     go false = by_lost (call_of call (machine.losses s input now))
@@ -337,7 +348,6 @@ module _ {E H : Type 0}
         go answer.Turns is = good
         go answer.NumbersSpent is = good
         go answer.PowerLost is = good
-        go answer.DiskFailed is = good
         go answer.NoMemory is = good
 
     keeps-then : (first rest : World E H → Piece E H) → Keeps first → Keeps rest
@@ -348,17 +358,17 @@ module _ {E H : Type 0}
     equipment-keeps input world log at = go (world.steps == most_steps)
       where
         step : Stepped E
-        step = stepped e Equipment world.moment world.call world.choice input world.equipment world.ways
+        step = stepped e Equipment world.moment world.left world.is_cut world.choice input world.equipment world.ways
 
         is : HasNoted equipment e Equipment step world.moment world.choice log
         is =
-            step-noted equipment e Equipment world.moment world.call world.choice input world.equipment world.ways log
-            at.equipment_is
+            step-noted equipment e Equipment world.moment world.left world.is_cut world.choice input world.equipment
+            world.ways log at.equipment_is
 
         other : noted_by Host (step.entries ++ log) ≡ noted_by Host log
         other =
-            other-entries e Equipment Host refl world.moment world.call world.choice input world.equipment world.ways
-            log
+            other-entries e Equipment Host refl world.moment world.left world.is_cut world.choice input world.equipment
+            world.ways log
 
         host_at : IsReached host h Host world.host (step.entries ++ log)
         host_at = stays-reached host h Host world.host log (step.entries ++ log) other at.host_is
@@ -382,16 +392,20 @@ module _ {E H : Type 0}
     host-keeps input world log at = go (world.steps == most_steps)
       where
         step : Stepped H
-        step = stepped h Host world.moment 0 world.choice input world.host world.ways
+        step = stepped h Host world.moment world.host_left false world.choice input world.host world.ways
 
         is : HasNoted host h Host step world.moment world.choice log
-        is = step-noted host h Host world.moment 0 world.choice input world.host world.ways log at.host_is
+        is =
+            step-noted host h Host world.moment world.host_left false world.choice input world.host world.ways log
+            at.host_is
 
         never : step.went ≡ answer.PowerLost → ⊥
-        never = unplanned h Host world.moment world.choice input world.host world.ways
+        never = unplanned h Host world.moment world.host_left world.choice input world.host world.ways
 
         other : noted_by Equipment (step.entries ++ log) ≡ noted_by Equipment log
-        other = other-entries h Host Equipment refl world.moment 0 world.choice input world.host world.ways log
+        other =
+            other-entries h Host Equipment refl world.moment world.host_left false world.choice input world.host
+            world.ways log
 
         equipment_at : IsReached equipment e Equipment world.equipment (step.entries ++ log)
         equipment_at =
@@ -559,7 +573,6 @@ module _ {E H : Type 0}
         go is_cut answer.Slip is = good
         go is_cut answer.Turns is = good
         go is_cut answer.NumbersSpent is = good
-        go is_cut answer.DiskFailed is = good
         go is_cut answer.NoMemory is = good
 
     armed-keeps : (call : ℕ) → Keeps (armed call)
@@ -661,5 +674,4 @@ module _ {E H : Type 0}
         go answer.Turns now noted = of_noted (piece_of e h equipment host events).entries noted
         go answer.PowerLost now noted = of_noted (piece_of e h equipment host events).entries noted
         go answer.NumbersSpent now noted = of_noted (piece_of e h equipment host events).entries noted
-        go answer.DiskFailed now noted = of_noted (piece_of e h equipment host events).entries noted
         go answer.NoMemory now noted = of_noted (piece_of e h equipment host events).entries noted

@@ -1,5 +1,5 @@
 -- The log of a run as that of moves; and how many steps a run makes.
-use Rattle.std.proofs.Common.{◌≡◌, ◌≢◌, ◌≤◌, zero, suc, ℕ, ◌+◌, ◌==◌, Bool, true, false, List, [], ◌∷◌, ◌++◌, Option, Some, None, if◌then◌else◌, refl, sym, ap, ◌∙◌, append-nil, arith}
+use Rattle.std.proofs.Common.{◌≡◌, ◌⊎◌, ◌≤◌, zero, suc, ℕ, ◌+◌, ◌==◌, Bool, true, false, List, [], ◌∷◌, ◌++◌, inl, inr, Option, Some, None, if◌then◌else◌, refl, sym, ap, ◌∙◌, append-nil, arith}
 use Rattle.std.specs.List.{All}
 use Rattle.std.proofs.lemmas.Bool.Decides.{nat_tests}
 use Rattle.gl_base.specs.declared.side.Side.{Side}
@@ -21,12 +21,12 @@ use Rattle.trace_log.specs.declared.commands.ToolCommand.{ToolCommand}
 use Rattle.end_pair.specs.declared.answers.WorldStep.{WorldStep}
 use Rattle.end_pair.specs.declared.answers.WorldStep.TheVariants as answer
 use Rattle.end_pair.specs.Kept.{MayHappen}
-use Rattle.end_pair.specs.Laws.{HasBytes, IsOfMoves, RunsAreBounded}
+use Rattle.end_pair.specs.Laws.{HasBytes, HasNoCall, IsOfMoves, RunsAreBounded}
 use Rattle.end_pair.specs.Run.{closing, piece_of, whole_log}
 use Rattle.end_pair.specs.Run as run
 use Rattle.end_pair.specs.Steps.{stepped}
 use Rattle.end_pair.specs.World.{Piece, World, after_event, after_events, again, and_more, and_on, armed, at_start, begun, both_stepped, darkened, ended_by, equipment_stepped, given, given_next, given_times, happened, host_stepped, later, met, most_steps, settled, settled_times, started_anew, still, turned_out, way_to, with_equipment, with_host, without}
-use Rattle.end_pair.proofs.Causes.{by-cause}
+use Rattle.end_pair.proofs.Causes.{no-call}
 use Rattle.end_pair.proofs.Holding.{Good, run-is, same_moves}
 
 -- ---- the whole log
@@ -83,14 +83,13 @@ log-is {S} {T} did_e did_h tool user loses first_e first_h e h plans law_e law_h
     go answer.Turns is = some (same answer.Turns is refl)
     go answer.NumbersSpent is = some (same answer.NumbersSpent is refl)
     go answer.PowerLost is = some (same answer.PowerLost is refl)
-    go answer.DiskFailed is = some (same answer.DiskFailed is refl)
     go answer.NoMemory is = some (same answer.NoMemory is refl)
 
 -- ---- how many steps it makes
 
 pub record IsBounded {S T : Type 0} (piece : Piece S T) : Type 0 where
   pub steps : piece.world.steps ≤ 4000000
-  pub turns : piece.went ≡ answer.Turns → piece.world.steps ≡ 4000000
+  pub turns : piece.went ≡ answer.Turns → (piece.world.steps ≡ 4000000) ⊎ HasNoCall piece.world
 
 module _ {S T : Type 0} (e : Machine S ToolCommand) (h : Machine T HostCommand) where
   abbrev Bounds : (World S T → Piece S T) → Type 0
@@ -109,7 +108,6 @@ module _ {S T : Type 0} (e : Machine S ToolCommand) (h : Machine T HostCommand) 
       go answer.Turns = is
       go answer.NumbersSpent = is
       go answer.PowerLost = is
-      go answer.DiskFailed = is
       go answer.NoMemory = is
 
   bounds-then : (first more : World S T → Piece S T) → Bounds first → Bounds more
@@ -119,27 +117,31 @@ module _ {S T : Type 0} (e : Machine S ToolCommand) (h : Machine T HostCommand) 
   -- a step of either end is one of all steps, and is made where one is left
   turn-bounds :
       (world : World S T) (piece : Piece S T) → world.steps ≤ 4000000 → piece.world.steps ≡ world.steps + 1
-      → piece.went ≢ answer.Turns → IsBounded (if world.steps == most_steps then turned_out world else piece)
-  turn-bounds world piece few counts other = go (world.steps == most_steps) refl
+      → (piece.went ≡ answer.Turns → HasNoCall piece.world)
+      → IsBounded (if world.steps == most_steps then turned_out world else piece)
+  turn-bounds world piece few counts full = go (world.steps == most_steps) refl
     where
       go : (b : Bool) → (world.steps == most_steps) ≡ b → IsBounded (if b then turned_out world else piece)
-      go true is = record { steps = few; turns = λ turns. grind (arith, nat_tests) }
+      go true is =
+          let all : world.steps ≡ 4000000 = grind (arith, nat_tests) in
+          record { steps = few; turns = λ turns. inl all }
       go false is =
           let fits : world.steps + 1 ≤ 4000000 = grind (arith, nat_tests) in
-          record { steps = omega (arith, fits, counts); turns = λ turns. absurd (other turns) }
+          record { steps = omega (arith, fits, counts); turns = λ turns. inr (full turns) }
 
   equipment-bounds : (input : Input ToolCommand) → Bounds (equipment_stepped e h input)
   equipment-bounds input world few =
-      turn-bounds world (with_equipment e h world (stepped e Equipment world.moment world.call world.choice input
-      world.equipment world.ways))
-      few refl
-      (by-cause e Equipment world.moment world.call world.choice input world.equipment world.ways).no_other.0
+      turn-bounds world (with_equipment e h world
+      (stepped e Equipment world.moment world.left world.is_cut world.choice input world.equipment world.ways)) few refl
+      (λ full.
+      inl (no-call e Equipment world.moment world.left world.is_cut world.choice input world.equipment world.ways full))
 
   host-bounds : (input : Input HostCommand) → Bounds (host_stepped e h input)
   host-bounds input world few =
-      turn-bounds world (with_host e h world (stepped h Host world.moment 0 world.choice input world.host world.ways))
-      few refl
-      (by-cause h Host world.moment 0 world.choice input world.host world.ways).no_other.0
+      turn-bounds world (with_host e h world
+      (stepped h Host world.moment world.host_left false world.choice input world.host world.ways)) few refl
+      (λ full.
+      inr (no-call h Host world.moment world.host_left false world.choice input world.host world.ways full))
 
   given-bounds : (side : Side) → Bounds (given e h side)
   given-bounds side world few = go side (next_byte (characters_of (way_to side world).under_way))
@@ -206,7 +208,6 @@ module _ {S T : Type 0} (e : Machine S ToolCommand) (h : Machine T HostCommand) 
       go is_cut answer.Slip = is
       go is_cut answer.Turns = is
       go is_cut answer.NumbersSpent = is
-      go is_cut answer.DiskFailed = is
       go is_cut answer.NoMemory = is
 
   met-bounds : (event : Event) (cut : Option ℕ) → Bounds (met e h event cut)

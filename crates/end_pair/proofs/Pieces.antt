@@ -2,10 +2,9 @@
 use Rattle.std.proofs.Common.{◌≡◌, ◌≢◌, ℕ, List, [], ◌++◌, refl, sym, ap, subst, ◌∙◌, append_assoc, append-nil}
 use Rattle.trace_log.specs.Text.{text_of}
 use Rattle.end_pair.specs.declared.answers.WorldStep.{WorldStep}
-use Rattle.end_pair.specs.declared.answers.WorldStep.TheVariants.{Went, Slip, Turns, NumbersSpent, PowerLost, DiskFailed, NoMemory}
-use Rattle.end_pair.specs.Kept.{AreLeft, Comes, IfLeft, IfWent, IsPowered, PutPart, Puts, Rooms, StopsFor}
+use Rattle.end_pair.specs.declared.answers.WorldStep.TheVariants.{Went, Slip, Turns, NumbersSpent, PowerLost, NoMemory}
+use Rattle.end_pair.specs.Kept.{Comes, IfLeft, IfWent, IsPowered, PutPart, Puts}
 use Rattle.end_pair.specs.World.{Piece, World, and_more, and_on, still}
-use Rattle.end_pair.proofs.Halts.{halted_first, halted_more, halted_shift, left_all, left_both, lost_both}
 use Rattle.end_pair.proofs.LogText.{text_of-append}
 
 -- ---- a text that was put, or a part of it
@@ -56,7 +55,6 @@ puts_behind how NumbersSpent first second old between lines one two =
     (two.0, two.1 ∙ ap (λ (t : List ℕ). t ++ second) one ∙ append_assoc old first second)
 puts_behind how PowerLost first second old between lines one two =
     (two.0, two.1 ∙ ap (λ (t : List ℕ). t ++ second) one ∙ append_assoc old first second)
-puts_behind how DiskFailed first second old between lines one two = put_behind first second old between lines one two
 puts_behind how NoMemory first second old between lines one two = put_behind first second old between lines one two
 
 -- ---- pieces
@@ -66,16 +64,6 @@ and_more-went :
     → and_more first more ≡ and_on Went first more
 and_more-went first more went = ap (λ (w : WorldStep). and_on w first more) went
 
-pub if_left :
-    {P Q R S : Type 0} → (P → Q) → (R → S) → (answer : WorldStep) → IfLeft answer P R → IfLeft answer Q S
-if_left more other Went is = more is
-if_left more other PowerLost is = other is
-if_left more other Slip is = tt
-if_left more other Turns is = tt
-if_left more other NumbersSpent is = tt
-if_left more other DiskFailed is = tt
-if_left more other NoMemory is = tt
-
 -- where there is power
 pub left_of : (P Q : Type 0) (answer : WorldStep) → IsPowered answer → IfWent answer P → IfLeft answer P Q
 left_of P Q Went powered is = is
@@ -83,8 +71,16 @@ left_of P Q PowerLost powered is = absurd powered
 left_of P Q Slip powered is = tt
 left_of P Q Turns powered is = tt
 left_of P Q NumbersSpent powered is = tt
-left_of P Q DiskFailed powered is = tt
 left_of P Q NoMemory powered is = tt
+
+-- where it goes on no further
+pub left_none : (P Q : Type 0) (answer : WorldStep) → answer ≢ Went → IsPowered answer → IfLeft answer P Q
+left_none P Q Went stops powered = absurd (stops refl)
+left_none P Q PowerLost stops powered = absurd powered
+left_none P Q Slip stops powered = tt
+left_none P Q Turns stops powered = tt
+left_none P Q NumbersSpent stops powered = tt
+left_none P Q NoMemory stops powered = tt
 
 pub went_of : (P Q : Type 0) (answer : WorldStep) → IfLeft answer P Q → IfWent answer P
 went_of P Q Went is = is
@@ -92,17 +88,7 @@ went_of P Q PowerLost is = tt
 went_of P Q Slip is = tt
 went_of P Q Turns is = tt
 went_of P Q NumbersSpent is = tt
-went_of P Q DiskFailed is = tt
 went_of P Q NoMemory is = tt
-
-pub stops_for : {P Q : Type 0} → (P → Q) → (answer : WorldStep) → StopsFor P answer → StopsFor Q answer
-stops_for more Went is = tt
-stops_for more Slip is = tt
-stops_for more Turns is = tt
-stops_for more NumbersSpent is = tt
-stops_for more PowerLost is = tt
-stops_for more DiskFailed is = more is
-stops_for more NoMemory is = tt
 
 -- a text of a piece has that of its first part in front
 pub more_text :
@@ -114,88 +100,59 @@ more_text Slip first more = ([], sym (append-nil (text_of first.entries)))
 more_text Turns first more = ([], sym (append-nil (text_of first.entries)))
 more_text NumbersSpent first more = ([], sym (append-nil (text_of first.entries)))
 more_text PowerLost first more = ([], sym (append-nil (text_of first.entries)))
-more_text DiskFailed first more = ([], sym (append-nil (text_of first.entries)))
 more_text NoMemory first more = ([], sym (append-nil (text_of first.entries)))
 
 -- what a value means as a world, and when it is a dark one
 module _ {V S T : Type 0} (see : V → World S T) (Dark : V → World S T → Type 0) where
-  pub comes_still : (now : V) (room : Rooms) (lines : List ℕ)
-      → Comes see Dark (still (see now)) now room room lines lines Went
-  comes_still now room lines =
-      record { puts = (refl, sym (append-nil lines)); world = refl; room = left_all room; stops = tt }
+  pub comes_still : (now : V) (lines : List ℕ) → Comes see Dark (still (see now)) now lines lines Went
+  comes_still now lines = record { puts = (refl, sym (append-nil lines)); world = refl }
 
   -- behind a piece that went on
   pub comes_on :
-      (first : Piece S T) (more : World S T → Piece S T) (new : V) (had between_room has : Rooms)
-      (old between lines : List ℕ) (answer : WorldStep)
-      → between ≡ old ++ text_of first.entries → AreLeft had first.anew first.asked between_room
-      → Comes see Dark (more first.world) new between_room has between lines answer
-      → Comes see Dark (and_on Went first more) new had has old lines answer
-  comes_on first more new had between_room has old between lines answer put left here = record {
+      (first : Piece S T) (more : World S T → Piece S T) (new : V) (old between lines : List ℕ) (answer : WorldStep)
+      → between ≡ old ++ text_of first.entries → Comes see Dark (more first.world) new between lines answer
+      → Comes see Dark (and_on Went first more) new old lines answer
+  comes_on first more new old between lines answer put here = record {
     puts =
         subst (λ (t : List ℕ). Puts (more first.world).went t old lines answer)
         (sym (text_of-append (more first.world).entries first.entries))
         (puts_behind (more first.world).went answer (text_of first.entries) (text_of (more first.world).entries) old
         between lines put here.puts);
     world = here.world;
-    room =
-        if_left
-        (λ more_left. left_both had between_room has first.anew (more first.world).anew first.asked
-        (more first.world).asked left more_left)
-        (λ lost. lost_both had between_room has first.anew (more first.world).anew first.asked (more first.world).asked
-        left lost) answer here.room;
-    stops =
-        stops_for (λ halted. halted_more first more had between_room old between lines put left halted) answer
-        here.stops;
   }
 
   pub comes_more :
-      (first : Piece S T) (more : World S T → Piece S T) (mid new : V) (had between_room has : Rooms)
-      (old between lines : List ℕ) (answer : WorldStep)
-      → Comes see Dark first mid had between_room old between Went
-      → Comes see Dark (more (see mid)) new between_room has between lines answer
-      → Comes see Dark (and_more first more) new had has old lines answer
-  comes_more first more mid new had between_room has old between lines answer one two =
-      subst (λ (p : Piece S T). Comes see Dark p new had has old lines answer)
-      (sym (and_more-went first more one.puts.0))
-      (comes_on first more new had between_room has old between lines answer one.puts.1 one.room
-      (subst (λ (w : World S T). Comes see Dark (more w) new between_room has between lines answer) one.world two))
+      (first : Piece S T) (more : World S T → Piece S T) (mid new : V) (old between lines : List ℕ)
+      (answer : WorldStep)
+      → Comes see Dark first mid old between Went → Comes see Dark (more (see mid)) new between lines answer
+      → Comes see Dark (and_more first more) new old lines answer
+  comes_more first more mid new old between lines answer one two =
+      subst (λ (p : Piece S T). Comes see Dark p new old lines answer) (sym (and_more-went first more one.puts.0))
+      (comes_on first more new old between lines answer one.puts.1
+      (subst (λ (w : World S T). Comes see Dark (more w) new between lines answer) one.world two))
 
   -- it goes on no further
   pub comes_stop :
-      (first : Piece S T) (more : World S T → Piece S T) (now : V) (had has : Rooms) (old lines : List ℕ)
-      (answer : WorldStep)
-      → answer ≢ Went → Comes see Dark first now had has old lines answer
-      → Comes see Dark (and_more first more) now had has old lines answer
-  comes_stop first more now had has old lines answer stops one = go answer stops one
+      (first : Piece S T) (more : World S T → Piece S T) (now : V) (old lines : List ℕ) (answer : WorldStep)
+      → answer ≢ Went → Comes see Dark first now old lines answer
+      → Comes see Dark (and_more first more) now old lines answer
+  comes_stop first more now old lines answer stops one = go answer stops one
     where
       same : (w : WorldStep) → first.went ≡ w → and_on w first more ≡ first → and_more first more ≡ first
       same w is stays = ap (λ (v : WorldStep). and_on v first more) is ∙ stays
 
-      go : (answer : WorldStep) → answer ≢ Went → Comes see Dark first now had has old lines answer
-          → Comes see Dark (and_more first more) now had has old lines answer
+      go : (answer : WorldStep) → answer ≢ Went → Comes see Dark first now old lines answer
+          → Comes see Dark (and_more first more) now old lines answer
       go Went stops one = absurd (stops refl)
       go Slip stops one =
-          subst (λ (p : Piece S T). Comes see Dark p now had has old lines Slip) (sym (same Slip one.puts.0 refl)) one
+          subst (λ (p : Piece S T). Comes see Dark p now old lines Slip) (sym (same Slip one.puts.0 refl)) one
       go Turns stops one =
-          subst (λ (p : Piece S T). Comes see Dark p now had has old lines Turns) (sym (same Turns one.puts.0 refl))
-          one
+          subst (λ (p : Piece S T). Comes see Dark p now old lines Turns) (sym (same Turns one.puts.0 refl)) one
       go NumbersSpent stops one =
-          subst (λ (p : Piece S T). Comes see Dark p now had has old lines NumbersSpent)
+          subst (λ (p : Piece S T). Comes see Dark p now old lines NumbersSpent)
           (sym (same NumbersSpent one.puts.0 refl)) one
       go PowerLost stops one =
-          subst (λ (p : Piece S T). Comes see Dark p now had has old lines PowerLost)
-          (sym (same PowerLost one.puts.0 refl)) one
-      go DiskFailed stops one =
-          let text = more_text first.went first more in
-          record {
-            puts =
-                subst (λ (t : List ℕ). PutPart t old lines) (sym text.1)
-                (put_before (text_of first.entries) text.0 old lines one.puts);
-            world = tt;
-            room = tt;
-            stops = halted_first first more had old lines one.stops;
-          }
+          subst (λ (p : Piece S T). Comes see Dark p now old lines PowerLost) (sym (same PowerLost one.puts.0 refl)) one
       go NoMemory stops one =
           let text = more_text first.went first more in
           record {
@@ -203,40 +160,34 @@ module _ {V S T : Type 0} (see : V → World S T) (Dark : V → World S T → Ty
                 subst (λ (t : List ℕ). PutPart t old lines) (sym text.1)
                 (put_before (text_of first.entries) text.0 old lines one.puts);
             world = tt;
-            room = tt;
-            stops = tt;
           }
 
   -- whatever comes of what is left, comes of the whole
-  abbrev pub Leads : Piece S T → Rooms → List ℕ → Piece S T → Rooms → List ℕ → Type 0
-  Leads left mid between whole had old =
-      (new : V) (has : Rooms) (lines : List ℕ) (answer : WorldStep) → Comes see Dark left new mid has between lines
-      answer
-      → Comes see Dark whole new had has old lines answer
-
-  pub leads_first : (whole : Piece S T) (had : Rooms) (lines : List ℕ) → Leads whole had lines whole had lines
-  leads_first whole had lines new has after answer comes = comes
+  abbrev pub Leads : Piece S T → List ℕ → Piece S T → List ℕ → Type 0
+  Leads left between whole old =
+      (new : V) (lines : List ℕ) (answer : WorldStep) → Comes see Dark left new between lines answer
+      → Comes see Dark whole new old lines answer
 
   pub leads_on :
-      (first : Piece S T) (more : World S T → Piece S T) (mid : V) (before now : Rooms) (between lines : List ℕ)
-      (whole : Piece S T) (had : Rooms) (old : List ℕ)
-      → Comes see Dark first mid before now between lines Went
-      → Leads (and_more first more) before between whole had old → Leads (more (see mid)) now lines whole had old
-  leads_on first more mid before now between lines whole had old one leads new has after answer comes =
-      leads new has after answer (comes_more first more mid new before now has between lines after answer one comes)
+      (first : Piece S T) (more : World S T → Piece S T) (mid : V) (between lines : List ℕ) (whole : Piece S T)
+      (old : List ℕ)
+      → Comes see Dark first mid between lines Went → Leads (and_more first more) between whole old
+      → Leads (more (see mid)) lines whole old
+  leads_on first more mid between lines whole old one leads new after answer comes =
+      leads new after answer (comes_more first more mid new between lines after answer one comes)
 
   pub leads_stop :
-      (first : Piece S T) (more : World S T → Piece S T) (mid : V) (before now : Rooms) (between lines : List ℕ)
-      (answer : WorldStep) (whole : Piece S T) (had : Rooms) (old : List ℕ)
-      → answer ≢ Went → Comes see Dark first mid before now between lines answer
-      → Leads (and_more first more) before between whole had old → Comes see Dark whole mid had now old lines answer
-  leads_stop first more mid before now between lines answer whole had old stops one leads =
-      leads mid now lines answer (comes_stop first more mid before now between lines answer stops one)
+      (first : Piece S T) (more : World S T → Piece S T) (mid : V) (between lines : List ℕ) (answer : WorldStep)
+      (whole : Piece S T) (old : List ℕ)
+      → answer ≢ Went → Comes see Dark first mid between lines answer → Leads (and_more first more) between whole old
+      → Comes see Dark whole mid old lines answer
+  leads_stop first more mid between lines answer whole old stops one leads =
+      leads mid lines answer (comes_stop first more mid between lines answer stops one)
 
   pub leads_done :
-      (now : V) (room : Rooms) (lines : List ℕ) (whole : Piece S T) (had : Rooms) (old : List ℕ)
-      → Leads (still (see now)) room lines whole had old → Comes see Dark whole now had room old lines Went
-  leads_done now room lines whole had old leads = leads now room lines Went (comes_still now room lines)
+      (now : V) (lines : List ℕ) (whole : Piece S T) (old : List ℕ) → Leads (still (see now)) lines whole old
+      → Comes see Dark whole now old lines Went
+  leads_done now lines whole old leads = leads now lines Went (comes_still now lines)
 
 -- all of it behind a text
 pub puts_shift : (how : WorldStep) (put text old lines : List ℕ) (answer : WorldStep) → Puts how put old lines answer
@@ -252,13 +203,6 @@ puts_shift how put text old lines answer puts = go answer puts
     go Turns puts = (puts.0, shift put puts.1)
     go NumbersSpent puts = (puts.0, shift put puts.1)
     go PowerLost puts = (puts.0, shift put puts.1)
-    go DiskFailed puts = record {
-      front = puts.front;
-      rest = puts.rest;
-      whole = puts.whole;
-      lines = shift puts.front
-          puts.lines;
-    }
     go NoMemory puts = record {
       front = puts.front;
       rest = puts.rest;
@@ -269,23 +213,9 @@ puts_shift how put text old lines answer puts = go answer puts
 
 pub comes_behind :
     {V S T : Type 0} (see : V → World S T) (Dark : V → World S T → Type 0) (piece : Piece S T) (new : V)
-    (had has : Rooms) (text old lines : List ℕ) (answer : WorldStep)
-    → Comes see Dark piece new had has old lines answer
-    → Comes see Dark piece new had has (text ++ old) (text ++ lines) answer
-comes_behind see Dark piece new had has text old lines answer one = record {
+    (text old lines : List ℕ) (answer : WorldStep)
+    → Comes see Dark piece new old lines answer → Comes see Dark piece new (text ++ old) (text ++ lines) answer
+comes_behind see Dark piece new text old lines answer one = record {
   puts = puts_shift piece.went (text_of piece.entries) text old lines answer one.puts;
   world = one.world;
-  room = one.room;
-  stops = stops_for (halted_shift piece.halts had text old lines) answer one.stops;
 }
-
--- all of it, or a part
-pub part_of : (how : WorldStep) (text old lines : List ℕ) (answer : WorldStep) → Puts how text old lines answer
-    → PutPart text old lines
-part_of how text old lines Went puts = put_all text old lines puts.1
-part_of how text old lines Slip puts = put_all text old lines puts.1
-part_of how text old lines Turns puts = put_all text old lines puts.1
-part_of how text old lines NumbersSpent puts = put_all text old lines puts.1
-part_of how text old lines PowerLost puts = put_all text old lines puts.1
-part_of how text old lines DiskFailed part = part
-part_of how text old lines NoMemory part = part

@@ -16,24 +16,18 @@ use Rattle.trace_log.specs.declared.commands.ToolCommand.{ToolCommand}
 use Rattle.end_pair.specs.declared.answers.WorldStep.{WorldStep}
 use Rattle.end_pair.specs.declared.answers.WorldStep.TheVariants as answer
 use Rattle.end_pair.specs.Run.{piece_of}
-use Rattle.end_pair.specs.Steps.{made, slipped, slips, stepped}
+use Rattle.end_pair.specs.Steps.{Stepped, stepped}
 use Rattle.end_pair.specs.World.{Piece, World, after_event, after_events, and_more, and_on, armed, at_start, begun, both_stepped, darkened, ended_by, equipment_stepped, happened, host_stepped, met, most_steps, started_anew, turned_out, with_equipment, with_host, without}
+use Rattle.end_pair.proofs.Causes.{by-cause}
 
--- where no call is planned no power is lost
+-- where no power is to go none is lost
 pub unplanned :
-    {S C : Type 0} (machine : Machine S C) (side : Side) (now : ℕ) (choice : CutChoice) (input : Input C) (s : S)
-    (ways : Ways) → (stepped machine side now 0 choice input s ways).went ≡ answer.PowerLost → ⊥
-unplanned {S} machine side now choice input s ways = go (slips machine side now input s ways)
-  where
-    by_went : (went : Went S Happening) → (made machine side now input s ways went).went ≡ answer.PowerLost → ⊥
-    by_went (Goes step) is = absurd (cc)
-    by_went (Spent step) is = absurd (cc)
-
-    go : (b : Bool)
-        → (if b then slipped side now s ways
-        else made machine side now input s ways (machine.act s input now)).went ≡ answer.PowerLost → ⊥
-    go true is = absurd (cc)
-    go false is = by_went (machine.act s input now) is
+    {S C : Type 0} (machine : Machine S C) (side : Side) (now call : ℕ) (choice : CutChoice) (input : Input C) (s : S)
+    (ways : Ways) → (stepped machine side now call false choice input s ways).went ≡ answer.PowerLost → ⊥
+unplanned machine side now call choice input s ways is =
+    let cause = (by-cause machine side now call false choice input s ways).lost.0 is in
+    let not = cause.0 in
+    absurd (cc)
 
 abbrev pub IsPoweredPiece : {E H : Type 0} → Piece E H → Type 0
 IsPoweredPiece piece = piece.went ≡ answer.PowerLost → ⊥
@@ -49,46 +43,36 @@ powered-then piece rest one two = go piece.went refl
     go answer.Turns is = one
     go answer.NumbersSpent is = one
     go answer.PowerLost is = one
-    go answer.DiskFailed is = one
     go answer.NoMemory is = one
 
 module _ {E H : Type 0} (e : Machine E ToolCommand) (h : Machine H HostCommand) where
-  -- a step of an equipment whose disk no call is to stop
+  -- a step of an equipment whose power isn't to go
   step-powered :
-      (input : Input ToolCommand) (world : World E H) → world.call ≡ 0
+      (input : Input ToolCommand) (world : World E H) → world.is_cut ≡ false
       → IsPoweredPiece (equipment_stepped e h input world)
-  step-powered input world none is =
-      go (world.steps == most_steps)
-      (by_call world.call none (world.steps == most_steps) is)
+  step-powered input world none is = go (world.steps == most_steps) is
     where
-      by_call : (call : ℕ) → call ≡ 0 → (b : Bool)
-          → (if b then turned_out world
-          else with_equipment e h world
-          (stepped e Equipment world.moment call world.choice input world.equipment world.ways)).went ≡ answer.PowerLost
-          → (if b then turned_out world
-          else with_equipment e h world
-          (stepped e Equipment world.moment 0 world.choice input world.equipment world.ways)).went ≡ answer.PowerLost
-      by_call call none b is =
-          ap (λ (n : ℕ). (if b then turned_out world
-          else with_equipment e h world
-          (stepped e Equipment world.moment n world.choice input world.equipment world.ways)).went) (sym none) ∙ is
+      step-with : Bool → Stepped E
+      step-with b = stepped e Equipment world.moment world.left b world.choice input world.equipment world.ways
 
       go : (b : Bool)
-          → (if b then turned_out world
-          else with_equipment e h world
-          (stepped e Equipment world.moment 0 world.choice input world.equipment world.ways)).went ≡ answer.PowerLost
-          → ⊥
+          → (if b then turned_out world else with_equipment e h world (step-with world.is_cut)).went
+          ≡ answer.PowerLost → ⊥
       go true is = absurd (cc)
-      go false is = unplanned e Equipment world.moment world.choice input world.equipment world.ways is
+      go false is =
+          unplanned e Equipment world.moment world.left world.choice input world.equipment world.ways
+          (ap (λ (b : Bool). (step-with b).went) (sym none) ∙ is)
 
   host-powered : (input : Input HostCommand) (world : World E H) → IsPoweredPiece (host_stepped e h input world)
   host-powered input world = go (world.steps == most_steps)
     where
       go : (b : Bool)
           → IsPoweredPiece (if b then turned_out world
-          else with_host e h world (stepped h Host world.moment 0 world.choice input world.host world.ways))
+          else with_host e h world
+          (stepped h Host world.moment world.host_left false world.choice input world.host world.ways))
       go true is = absurd (cc)
-      go false is = unplanned h Host world.moment world.choice input world.host world.ways is
+      go false is =
+          unplanned h Host world.moment world.host_left world.choice input world.host world.ways is
 
   pub without-powered : (world : World E H) → IsPoweredPiece (without e h world)
   without-powered world = go (e.restart world.equipment world.moment)
@@ -108,7 +92,6 @@ module _ {E H : Type 0} (e : Machine E ToolCommand) (h : Machine H HostCommand) 
       go is_cut answer.Slip is dark = absurd (cc)
       go is_cut answer.Turns is dark = absurd (cc)
       go is_cut answer.NumbersSpent is dark = absurd (cc)
-      go is_cut answer.DiskFailed is dark = absurd (cc)
       go is_cut answer.NoMemory is dark = absurd (cc)
 
   met-powered : (event : Event) (cut : Option ℕ) (world : World E H) → IsPoweredPiece (met e h event cut world)
@@ -132,12 +115,16 @@ module _ {E H : Type 0} (e : Machine E ToolCommand) (h : Machine H HostCommand) 
       powered-then (after_event e h event world) (after_events e h events) (event-powered event world)
       (events-powered events (after_event e h event world).world)
 
+  pub first-powered : (equipment : Step E Happening) (host : Step H Happening)
+      → IsPoweredPiece (both_stepped e h (at_start e h equipment host).world)
+  first-powered equipment host =
+      powered-then (equipment_stepped e h Time (at_start e h equipment host).world) (host_stepped e h Time)
+      (step-powered Time (at_start e h equipment host).world refl)
+      (host-powered Time (equipment_stepped e h Time (at_start e h equipment host).world).world)
+
   pub run-powered : (equipment : Step E Happening) (host : Step H Happening) (events : List Event)
       → IsPoweredPiece (piece_of e h equipment host events)
   run-powered equipment host events =
       powered-then (begun e h equipment host) (after_events e h events)
-      (powered-then (at_start e h equipment host) (both_stepped e h) (λ is. cc)
-      (powered-then (equipment_stepped e h Time (at_start e h equipment host).world) (host_stepped e h Time)
-      (step-powered Time (at_start e h equipment host).world refl)
-      (host-powered Time (equipment_stepped e h Time (at_start e h equipment host).world).world)))
+      (powered-then (at_start e h equipment host) (both_stepped e h) (λ is. cc) (first-powered equipment host))
       (events-powered events (begun e h equipment host).world)

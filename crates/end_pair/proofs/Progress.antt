@@ -13,12 +13,12 @@ use Rattle.trace_log.specs.Text.{entry_text, text_of}
 use Rattle.end_pair.specs.declared.answers.RunEnd.{RunEnd}
 use Rattle.end_pair.specs.declared.answers.RunEnd.TheVariants as end
 use Rattle.end_pair.specs.declared.answers.WorldStep.{WorldStep}
-use Rattle.end_pair.specs.declared.answers.WorldStep.TheVariants.{Went, Slip, Turns, NumbersSpent, PowerLost, DiskFailed, NoMemory}
-use Rattle.end_pair.specs.Kept.{AreLeft, AreLost, Comes, HasHalted, IfWent, IsPowered, PutPart, Puts, Rooms, StopsFor}
-use Rattle.end_pair.specs.Run.{Ends, EndsAtHalt, EndsFor, HandsBack, Runs, closing, whole_log}
+use Rattle.end_pair.specs.declared.answers.WorldStep.TheVariants.{Went, Slip, Turns, NumbersSpent, PowerLost, NoMemory}
+use Rattle.end_pair.specs.Kept.{Comes, IfWent, IsPowered, Puts}
+use Rattle.end_pair.specs.Run.{Ends, HandsBack, Runs, closing, whole_log}
 use Rattle.end_pair.specs.World.{Piece, World, and_more, still}
 use Rattle.end_pair.proofs.LogText.{text_of-append}
-use Rattle.end_pair.proofs.Pieces.{Leads, comes_behind, comes_stop, leads_done, leads_on, leads_stop, left_of, put_none, puts_shift}
+use Rattle.end_pair.proofs.Pieces.{Leads, comes_behind, comes_stop, leads_done, leads_on, leads_stop, left_none, left_of, put_none, puts_shift}
 
 -- a world is what it means, and none is dark
 abbrev pub as_seen : (S T : Type 0) → World S T → World S T
@@ -29,53 +29,40 @@ NoDark S T now left = Unit {0}
 
 -- what an event comes to, at the end of which there is power
 pub of_event :
-    {S T : Type 0} (piece : Piece S T) (world : World S T) (had has : Rooms) (old lines : List ℕ) (answer : WorldStep)
+    {S T : Type 0} (piece : Piece S T) (world : World S T) (old lines : List ℕ) (answer : WorldStep)
     → IsPowered answer → Puts piece.went (text_of piece.entries) old lines answer
-    → IfWent answer (world ≡ piece.world) → IfWent answer (AreLeft had piece.anew piece.asked has)
-    → StopsFor (HasHalted piece.halts had old lines) answer
-    → Comes (as_seen S T) (NoDark S T) piece world had has old lines answer
-of_event {S} {T} piece world had has old lines answer powered puts is room stops = record {
+    → IfWent answer (world ≡ piece.world) → Comes (as_seen S T) (NoDark S T) piece world old lines answer
+of_event {S} {T} piece world old lines answer powered puts is = record {
   puts = puts;
   world = left_of (world ≡ piece.world) (NoDark S T world piece.world) answer powered is;
-  room = left_of (AreLeft had piece.anew piece.asked has) (AreLost had piece.asked has) answer powered room;
-  stops = stops;
 }
 
--- what was sent and what the page holds, the lines behind it, and what is left of the run; and the room that the disks
--- had, and have
-pub record IsAt {S T : Type 0} (whole left : Piece S T) (had has : Rooms) (lines page : List ℕ)
-    (out : SinkTold) : Type 0 where
+-- what was sent and what the page holds, the lines behind it, and what is left of the run
+pub record IsAt {S T : Type 0} (whole left : Piece S T) (lines page : List ℕ) (out : SinkTold) : Type 0 where
   pub text : List ℕ
   pub under : IsUnderWay out text page
-  pub leads : Leads (as_seen S T) (NoDark S T) left has (text ++ lines) whole had []
+  pub leads : Leads (as_seen S T) (NoDark S T) left (text ++ lines) whole []
 
 -- at the start
 pub at_first :
     {was : Option (List ℕ)} {a : SinkHealth} {S T : Type 0} (first : Piece S T) (more : World S T → Piece S T)
-    (world : World S T)
-    (had has : Rooms) (empty lines page : List ℕ)
-    → page ≡ [] → empty ≡ [] → world ≡ first.world → first.went ≡ Went → lines ≡ empty ++ text_of first.entries
-    → AreLeft had first.anew first.asked has
-    → IsAt (and_more first more) (more world) had has lines page (told was was a a)
-at_first {was} {a} {S} {T} first more world had has empty lines page no_page none is_world went is_lines left = record {
+    (world : World S T) (empty lines page : List ℕ)
+    → page ≡ [] → empty ≡ [] → world ≡ first.world → Puts first.went (text_of first.entries) empty lines Went
+    → IsAt (and_more first more) (more world) lines page (told was was a a)
+at_first {was} {a} {S} {T} first more world empty lines page no_page none is_world puts = record {
   text = [];
   under = under_way_first page no_page;
   leads =
-      leads_on (as_seen S T) (NoDark S T) first more world had has [] lines (and_more first more) had []
+      leads_on (as_seen S T) (NoDark S T) first more world [] lines (and_more first more) []
       (record {
-        puts = (went, is_lines ∙ ap (λ (t : List ℕ). t ++ text_of first.entries) none);
+        puts = (puts.0, puts.1 ∙ ap (λ (t : List ℕ). t ++ text_of first.entries) none);
         world = is_world;
-        room =
-            left;
-        stops = tt;
       })
-      (λ new any after answer comes. comes);
+      (λ new after answer comes. comes);
 }
 
 module _ {was mid : Option (List ℕ)} {a b : SinkHealth} (now : Option (List ℕ)) (c : SinkHealth) {S T : Type 0}
-    (whole left : Piece S T)
-    (had has : Rooms) (lines page : List ℕ)
-    (here : IsAt whole left had has lines page (told was mid a b)) where
+    (whole left : Piece S T) (lines page : List ℕ) (here : IsAt whole left lines page (told was mid a b)) where
   -- the lines are put to the page
   put : (slice page' : List ℕ) (answer : SinkAnswer) → slice ≡ lines
       → Passes (told mid now b c) (page ++ slice) page' answer → Passes (told was now a c) (here.text ++ lines) page'
@@ -87,22 +74,19 @@ module _ {was mid : Option (List ℕ)} {a b : SinkHealth} (now : Option (List �
   -- the next event is carried out
   pub past_event :
       (slice page' empty lines' : List ℕ) (first : Piece S T) (more : World S T → Piece S T) (world' : World S T)
-      (after : Rooms)
       → slice ≡ lines → IsUnderWay (told mid now b c) (page ++ slice) page' → empty ≡ [] → left ≡ and_more first more
-      → Comes (as_seen S T) (NoDark S T) first world' has after empty lines' Went → IsAt whole (more world') had after
-      lines' page'
-      (told was now a c)
-  past_event slice page' empty lines' first more world' after is_slice passes none is_left comes = record {
+      → Comes (as_seen S T) (NoDark S T) first world' empty lines' Went
+      → IsAt whole (more world') lines' page' (told was now a c)
+  past_event slice page' empty lines' first more world' is_slice passes none is_left comes = record {
     text = here.text ++ lines;
     under = put slice page' Done is_slice passes;
     leads =
-        leads_on (as_seen S T) (NoDark S T) first more world' has after (here.text ++ lines)
-        ((here.text ++ lines) ++ lines') whole had []
-        (subst (λ (t : List ℕ). Comes (as_seen S T) (NoDark S T) first world' has after t
-        ((here.text ++ lines) ++ lines') Went)
+        leads_on (as_seen S T) (NoDark S T) first more world' (here.text ++ lines)
+        ((here.text ++ lines) ++ lines') whole []
+        (subst (λ (t : List ℕ). Comes (as_seen S T) (NoDark S T) first world' t ((here.text ++ lines) ++ lines') Went)
         (ap (λ (t : List ℕ). (here.text ++ lines) ++ t) none ∙ append-nil (here.text ++ lines))
-        (comes_behind (as_seen S T) (NoDark S T) first world' has after (here.text ++ lines) empty lines' Went comes))
-        (subst (λ (p : Piece S T). Leads (as_seen S T) (NoDark S T) p has (here.text ++ lines) whole had []) is_left
+        (comes_behind (as_seen S T) (NoDark S T) first world' (here.text ++ lines) empty lines' Went comes))
+        (subst (λ (p : Piece S T). Leads (as_seen S T) (NoDark S T) p (here.text ++ lines) whole []) is_left
         here.leads);
   }
 
@@ -130,7 +114,6 @@ ends_behind {was} {mid} {a} {b} now c text page lines how result under ends = go
     go end.Slip ends = (ends.0, wrote ends.1)
     go end.Turns ends = (ends.0, wrote ends.1)
     go end.NumbersSpent ends = (ends.0, wrote ends.1)
-    go end.DiskFailed ends = (ends.0, wrote ends.1)
     go end.NoMemory ends = (ends.0, wrote ends.1)
     go end.WriteFailed short =
         subst (λ (t : List ℕ). WroteShort (told was now a c) t) same
@@ -167,11 +150,6 @@ module _ {S T : Type 0} (whole : Piece S T) where
       go Turns puts = (tail, all puts.1)
       go NumbersSpent puts = (tail, all puts.1)
       go PowerLost puts = (tail, all puts.1)
-      go DiskFailed part = (
-        part.rest ++ tail,
-        whole_text ∙ ap (λ (t : List ℕ). t ++ tail) (part.whole ∙ ap (λ (t : List ℕ). t ++ part.rest) (sym part.lines))
-            ∙ append_assoc sofar part.rest tail,
-      )
       go NoMemory part = (
         part.rest ++ tail,
         whole_text ∙ ap (λ (t : List ℕ). t ++ tail) (part.whole ∙ ap (λ (t : List ℕ). t ++ part.rest) (sym part.lines))
@@ -180,12 +158,12 @@ module _ {S T : Type 0} (whole : Piece S T) where
 
   -- it went on no further
   pub runs_stop :
-      (out : SinkTold) (world : World S T) (had has : Rooms) (sofar : List ℕ) (answer : WorldStep)
+      (out : SinkTold) (world : World S T) (sofar : List ℕ) (answer : WorldStep)
       (result : RunEnd)
-      → answer ≢ Went → Comes (as_seen S T) (NoDark S T) whole world had has [] sofar answer → Ends out sofar answer
+      → answer ≢ Went → Comes (as_seen S T) (NoDark S T) whole world [] sofar answer → Ends out sofar answer
       result
       → Runs out (text_of (whole_log whole)) whole.went result
-  runs_stop out world had has sofar answer result stops comes ends = go result ends
+  runs_stop out world sofar answer result stops comes ends = go result ends
     where
       puts_as : (w : WorldStep) → answer ≡ w → Puts whole.went (text_of whole.entries) [] sofar w
       puts_as w is = subst (λ (v : WorldStep). Puts whole.went (text_of whole.entries) [] sofar v) is comes.puts
@@ -204,9 +182,6 @@ module _ {S T : Type 0} (whole : Piece S T) where
         text NumbersSpent puts.0 refl puts.1
             ends.1,
       )
-      go end.DiskFailed ends =
-          let more = front sofar answer comes.puts in
-          subst (λ (t : List ℕ). WrotePart out t) (sym more.1) (part_before sofar more.0 ends.1)
       go end.NoMemory ends =
           let more = front sofar answer comes.puts in
           subst (λ (t : List ℕ). WrotePart out t) (sym more.1) (part_before sofar more.0 ends.1)
@@ -214,39 +189,14 @@ module _ {S T : Type 0} (whole : Piece S T) where
           let more = front sofar answer comes.puts in
           subst (λ (t : List ℕ). WroteShort out t) (sym more.1) (cut_before sofar more.0 short)
 
-  -- where a disk failed, all that was put so far is the text of a halt
-  pub stops_at : (out : SinkTold) (world : World S T) (had has : Rooms) (sofar : List ℕ) (answer : WorldStep)
-      (result : RunEnd)
-      → Comes (as_seen S T) (NoDark S T) whole world had has [] sofar answer → Ends out sofar answer result
-      → EndsFor (EndsAtHalt out whole.halts had) result
-  stops_at out world had has sofar answer result comes ends = go result ends
-    where
-      at_halt : HasHalted whole.halts had [] sofar → WroteText out sofar → EndsAtHalt out whole.halts had
-      at_halt halted wrote = record {
-        halt = halted.halt;
-        is = halted.is;
-        wrote = subst (λ (t : List ℕ). WroteText out t) halted.lines wrote;
-        short = halted.short;
-      }
-
-      go : (result : RunEnd) → Ends out sofar answer result → EndsFor (EndsAtHalt out whole.halts had) result
-      go end.Whole ends = tt
-      go end.Slip ends = tt
-      go end.Turns ends = tt
-      go end.NumbersSpent ends = tt
-      go end.DiskFailed ends =
-          at_halt (subst (λ (w : WorldStep). StopsFor (HasHalted whole.halts had [] sofar) w) ends.0 comes.stops) ends.1
-      go end.NoMemory ends = tt
-      go end.WriteFailed ends = tt
-
   -- the schedule is carried out: with the line of the end, or some of it
-  pub runs_closed : (out : SinkTold) (world : World S T) (had has : Rooms) (sofar all : List ℕ)
+  pub runs_closed : (out : SinkTold) (world : World S T) (sofar all : List ℕ)
       (answer : WorldStep) (result : RunEnd)
-      → Comes (as_seen S T) (NoDark S T) whole world had has [] sofar Went → Puts Went
+      → Comes (as_seen S T) (NoDark S T) whole world [] sofar Went → Puts Went
       (entry_text (Ended whole.world.moment)) sofar all answer
       → Ends out all answer result
       → Runs out (text_of (whole_log whole)) whole.went result
-  runs_closed out world had has sofar all answer result comes puts ends = go result ends
+  runs_closed out world sofar all answer result comes puts ends = go result ends
     where
       line : List ℕ
       line = entry_text (Ended whole.world.moment)
@@ -270,11 +220,6 @@ module _ {S T : Type 0} (whole : Piece S T) where
           parts Turns puts = ([], trace_is ∙ sym puts.1 ∙ sym (append-nil all))
           parts NumbersSpent puts = ([], trace_is ∙ sym puts.1 ∙ sym (append-nil all))
           parts PowerLost puts = ([], trace_is ∙ sym puts.1 ∙ sym (append-nil all))
-          parts DiskFailed part = (
-            part.rest,
-            trace_is ∙ ap (λ (t : List ℕ). sofar ++ t) part.whole ∙ sym (append_assoc sofar part.front part.rest)
-                ∙ ap (λ (t : List ℕ). t ++ part.rest) (sym part.lines),
-          )
           parts NoMemory part = (
             part.rest,
             trace_is ∙ ap (λ (t : List ℕ). sofar ++ t) part.whole ∙ sym (append_assoc sofar part.front part.rest)
@@ -287,116 +232,81 @@ module _ {S T : Type 0} (whole : Piece S T) where
       go end.Slip ends = let puts = puts_as Slip ends.0 in cc
       go end.Turns ends = let puts = puts_as Turns ends.0 in cc
       go end.NumbersSpent ends = let puts = puts_as NumbersSpent ends.0 in cc
-      go end.DiskFailed ends = subst (λ (t : List ℕ). WrotePart out t) (sym more.1) (part_before all more.0 ends.1)
       go end.NoMemory ends = subst (λ (t : List ℕ). WrotePart out t) (sym more.1) (part_before all more.0 ends.1)
       go end.WriteFailed short = subst (λ (t : List ℕ). WroteShort out t) (sym more.1) (cut_before all more.0 short)
 
 module _ {was mid : Option (List ℕ)} {a b : SinkHealth} (now after : Option (List ℕ)) (c d : SinkHealth) {S T : Type 0}
-    (whole left : Piece S T)
-    (had has : Rooms) (lines page : List ℕ)
-    (here : IsAt whole left had has lines page (told was mid a b)) where
+    (whole left : Piece S T) (lines page : List ℕ) (here : IsAt whole left lines page (told was mid a b)) where
   -- an event went on no further
   pub stopped :
       (slice page' empty lines' slice' : List ℕ) (first : Piece S T) (more : World S T → Piece S T) (world' : World S T)
-      (has' : Rooms)
       (answer : WorldStep) (result : RunEnd)
       → slice ≡ lines → IsUnderWay (told mid now b c) (page ++ slice) page' → empty ≡ [] → left ≡ and_more first more
-      → answer ≢ Went → Comes (as_seen S T) (NoDark S T) first world' has has' empty lines' answer → slice' ≡ lines'
+      → answer ≢ Went → Comes (as_seen S T) (NoDark S T) first world' empty lines' answer → slice' ≡ lines'
       → Ends (told now after c d) (page' ++ slice') answer result
       → Runs (told was after a d) (text_of (whole_log whole)) whole.went result
-      × EndsFor (EndsAtHalt (told was after a d) whole.halts had) result
-  stopped slice page' empty lines' slice' first more world' has' answer result is_slice passes none is_left stops comes
-      is_slice' ends = (
-        runs_stop whole (told was after a d) world' had has' (text ++ lines') answer result stops comes_whole
-            ends_whole,
-        stops_at whole (told was after a d) world' had has' (text ++ lines') answer result comes_whole
-            ends_whole,
-      )
+  stopped slice page' empty lines' slice' first more world' answer result is_slice passes none is_left stops comes
+      is_slice' ends =
+      runs_stop whole (told was after a d) world' (text ++ lines') answer result stops comes_whole ends_whole
     where
       text : List ℕ
       text = here.text ++ lines
 
-      comes_whole : Comes (as_seen S T) (NoDark S T) whole world' had has' [] (text ++ lines') answer
+      comes_whole : Comes (as_seen S T) (NoDark S T) whole world' [] (text ++ lines') answer
       comes_whole =
-          leads_stop (as_seen S T) (NoDark S T) first more world' has has' text (text ++ lines') answer whole had []
-          stops
-          (subst (λ (t : List ℕ). Comes (as_seen S T) (NoDark S T) first world' has has' t (text ++ lines') answer)
+          leads_stop (as_seen S T) (NoDark S T) first more world' text (text ++ lines') answer whole [] stops
+          (subst (λ (t : List ℕ). Comes (as_seen S T) (NoDark S T) first world' t (text ++ lines') answer)
           (ap (λ (t : List ℕ). text ++ t) none ∙ append-nil text)
-          (comes_behind (as_seen S T) (NoDark S T) first world' has has' text empty lines' answer comes))
-          (subst (λ (p : Piece S T). Leads (as_seen S T) (NoDark S T) p has text whole had []) is_left here.leads)
+          (comes_behind (as_seen S T) (NoDark S T) first world' text empty lines' answer comes))
+          (subst (λ (p : Piece S T). Leads (as_seen S T) (NoDark S T) p text whole []) is_left here.leads)
 
       ends_whole : Ends (told was after a d) (text ++ lines') answer result
       ends_whole =
-          ends_behind after d text page' lines' answer result (put now c whole left had has lines page here slice page'
-          Done is_slice passes)
+          ends_behind after d text page' lines' answer result
+          (put now c whole left lines page here slice page' Done is_slice passes)
           (subst (λ (s : List ℕ). Ends (told now after c d) (page' ++ s) answer result) is_slice' ends)
 
--- a disk failed before the first event
+-- the run went on no further before the first event
 pub never_began :
-    {S T : Type 0} (out : SinkTold) (first : Piece S T) (more : World S T → Piece S T) (had : Rooms)
-    (empty page lines slice : List ℕ) (result : RunEnd)
-    → empty ≡ [] → page ≡ [] → slice ≡ lines → PutPart (text_of first.entries) empty lines
-    → HasHalted first.halts had empty lines → Ends out (page ++ slice) DiskFailed result
+    {S T : Type 0} (out : SinkTold) (first : Piece S T) (more : World S T → Piece S T)
+    (empty page lines slice : List ℕ) (how : WorldStep) (result : RunEnd)
+    → empty ≡ [] → page ≡ [] → slice ≡ lines → Puts first.went (text_of first.entries) empty lines how → how ≢ Went
+    → IsPowered how → Ends out (page ++ slice) how result
     → Runs out (text_of (whole_log (and_more first more))) (and_more first more).went result
-    × EndsFor (EndsAtHalt out (and_more first more).halts had) result
-never_began {S} {T} out first more had empty page lines slice result no_lines no_page is_slice part halted ends = (
-  runs_stop whole out first.world had had lines DiskFailed result (λ other. cc) comes ends_whole,
-  stops_at whole out first.world had had lines DiskFailed result comes ends_whole,
-)
-  where
-    whole : Piece S T
-    whole = and_more first more
-
-    comes : Comes (as_seen S T) (NoDark S T) whole first.world had had [] lines DiskFailed
-    comes =
-        comes_stop (as_seen S T) (NoDark S T) first more first.world had had [] lines DiskFailed (λ other. cc) (record {
-          puts = subst (λ (t : List ℕ). PutPart (text_of first.entries) t lines) no_lines part;
-          world = tt;
-          room = tt;
-          stops = subst (λ (t : List ℕ). HasHalted first.halts had t lines) no_lines halted;
-        })
-
-    ends_whole : Ends out lines DiskFailed result
-    ends_whole =
-        subst (λ (t : List ℕ). Ends out t DiskFailed result) (ap (λ (t : List ℕ). t ++ slice) no_page ∙ is_slice) ends
+never_began {S} {T} out first more empty page lines slice how result no_lines no_page is_slice puts stops powered ends =
+    runs_stop (and_more first more) out first.world lines how result stops
+    (comes_stop (as_seen S T) (NoDark S T) first more first.world [] lines how stops (record {
+      puts = subst (λ (t : List ℕ). Puts first.went (text_of first.entries) t lines how) no_lines puts;
+      world = left_none (first.world ≡ first.world) (NoDark S T first.world first.world) how stops powered;
+    }))
+    (subst (λ (t : List ℕ). Ends out t how result) (ap (λ (t : List ℕ). t ++ slice) no_page ∙ is_slice) ends)
 
 -- a write failed before the next event
 pub put_failed :
     {was mid : Option (List ℕ)} {a b : SinkHealth} (now : Option (List ℕ)) (c : SinkHealth) {S T : Type 0}
-    (whole left : Piece S T)
-    (had has : Rooms) (lines page slice page' : List ℕ)
-    (here : IsAt whole left had has lines page (told was mid a b)) → slice ≡ lines
+    (whole left : Piece S T) (lines page slice page' : List ℕ)
+    (here : IsAt whole left lines page (told was mid a b)) → slice ≡ lines
     → Passes (told mid now b c) (page ++ slice) page' Failed
     → Runs (told was now a c) (text_of (whole_log whole)) whole.went end.WriteFailed
-put_failed {was} {mid} {a} {b} now c whole left had has lines page slice page' here is_slice passes =
+put_failed {was} {mid} {a} {b} now c whole left lines page slice page' here is_slice passes =
     let text = here.text ++ lines in
     let more =
     front whole text NoMemory
-    (here.leads left.world has text NoMemory (record {
-      puts = put_none (text_of left.entries) text;
-      world = tt;
-      room =
-          tt;
-      stops = tt;
-    })).puts in
+    (here.leads left.world text NoMemory (record { puts = put_none (text_of left.entries) text; world = tt })).puts in
     subst (λ (t : List ℕ). WroteShort (told was now a c) t) (sym more.1)
-    (cut_before (here.text ++ lines) more.0 (put now c whole left had has lines page here slice page' Failed is_slice
-    passes))
+    (cut_before (here.text ++ lines) more.0 (put now c whole left lines page here slice page' Failed is_slice passes))
 
 -- the schedule is carried out, and the line of the end was put
 pub closed :
     {was mid : Option (List ℕ)} {a b : SinkHealth} (now : Option (List ℕ)) (c : SinkHealth) {S T : Type 0}
-    (whole left : Piece S T)
-    (had has : Rooms) (lines page : List ℕ) (here : IsAt whole left had has lines page (told was mid a b))
-    (world : World S T) (lines' slice : List ℕ) (moment : ℕ)
-    (answer : WorldStep) (result : RunEnd)
+    (whole left : Piece S T) (lines page : List ℕ) (here : IsAt whole left lines page (told was mid a b))
+    (world : World S T) (lines' slice : List ℕ) (moment : ℕ) (answer : WorldStep) (result : RunEnd)
     → left ≡ still world → moment ≡ world.moment → Puts Went (entry_text (Ended moment)) lines lines' answer
-    → slice ≡ lines'
-    → Ends (told mid now b c) (page ++ slice) answer result
+    → slice ≡ lines' → Ends (told mid now b c) (page ++ slice) answer result
     → Runs (told was now a c) (text_of (whole_log whole)) whole.went result × (world ≡ whole.world)
-closed {was} {mid} {a} {b} now c {S} {T} whole left had has lines page here world lines' slice moment answer result
-    is_left is_moment puts is_slice ends = (
-      runs_closed whole (told was now a c) world had has (here.text ++ lines) (here.text ++ lines') answer result comes
+closed {was} {mid} {a} {b} now c {S} {T} whole left lines page here world lines' slice moment answer result is_left
+    is_moment puts is_slice ends = (
+      runs_closed whole (told was now a c) world (here.text ++ lines) (here.text ++ lines') answer result comes
           (subst (λ (m : ℕ). Puts Went (entry_text (Ended m)) (here.text ++ lines) (here.text ++ lines') answer)
           (is_moment ∙ ap (λ (w : World S T). w.moment) comes.world)
           (puts_shift Went (entry_text (Ended moment)) here.text lines lines' answer puts))
@@ -405,11 +315,10 @@ closed {was} {mid} {a} {b} now c {S} {T} whole left had has lines page here worl
       comes.world,
     )
   where
-    comes : Comes (as_seen S T) (NoDark S T) whole world had has [] (here.text ++ lines) Went
+    comes : Comes (as_seen S T) (NoDark S T) whole world [] (here.text ++ lines) Went
     comes =
-        leads_done (as_seen S T) (NoDark S T) world has (here.text ++ lines) whole had []
-        (subst (λ (p : Piece S T). Leads (as_seen S T) (NoDark S T) p has (here.text ++ lines) whole had []) is_left
-        here.leads)
+        leads_done (as_seen S T) (NoDark S T) world (here.text ++ lines) whole []
+        (subst (λ (p : Piece S T). Leads (as_seen S T) (NoDark S T) p (here.text ++ lines) whole []) is_left here.leads)
 
 pub next_event : (items events : List Event) (i : ℕ) (item : Event) → items ≡ events → i < length items
     → item ≡ get_or items i item → drop i events ≡ item ∷ drop (i + 1) events
@@ -426,7 +335,6 @@ kept_back show world out text how end.Whole stops ends = absurd (stops ends.0)
 kept_back show world out text how end.Slip stops ends = tt
 kept_back show world out text how end.Turns stops ends = tt
 kept_back show world out text how end.NumbersSpent stops ends = tt
-kept_back show world out text how end.DiskFailed stops ends = tt
 kept_back show world out text how end.NoMemory stops ends = tt
 kept_back show world out text how end.WriteFailed stops ends = tt
 
@@ -436,6 +344,5 @@ kept show world end.Whole other = absurd (other refl)
 kept show world end.Slip other = tt
 kept show world end.Turns other = tt
 kept show world end.NumbersSpent other = tt
-kept show world end.DiskFailed other = tt
 kept show world end.NoMemory other = tt
 kept show world end.WriteFailed other = tt

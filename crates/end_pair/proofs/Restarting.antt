@@ -1,9 +1,9 @@
 -- The text of a start anew, behind the line of the loss.
-use Rattle.std.proofs.Common.{◌≡◌, ℕ, List, [], ◌∷◌, ◌++◌, refl, sym, ap, subst, ◌∙◌, append-nil}
+use Rattle.std.proofs.Common.{◌≡◌, ℕ, List, ◌∷◌, ◌++◌, refl, sym, subst}
 use Rattle.std.specs.List.{flat_map}
 use Rattle.gl_base.specs.declared.side.Side.TheVariants.{Equipment}
 use Rattle.message_end.specs.Core.{Went as WentTo, step_in}
-use Rattle.message_end.specs.Ends.{Asked, HasGone, HasSpent, HasStopped, IsShort, Machine, printed}
+use Rattle.message_end.specs.Ends.{HasGone, HasSpent, printed}
 use Rattle.message_flow.specs.declared.step.Note.{Note}
 use Rattle.message_flow.specs.declared.step.StepOut.{StepOut}
 use Rattle.trace_log.specs.Laws.{NotesAreLines}
@@ -12,7 +12,7 @@ use Rattle.trace_log.specs.Log.Happening.{Power}
 use Rattle.trace_log.specs.Text.{note_line, note_of, text_of}
 use Rattle.end_pair.specs.declared.answers.WorldStep.{WorldStep}
 use Rattle.end_pair.specs.declared.answers.WorldStep.TheVariants as answer
-use Rattle.end_pair.specs.Kept.{IsNotAgain, PutPart, Puts, gone}
+use Rattle.end_pair.specs.Kept.{PutPart, Puts, gone}
 use Rattle.end_pair.specs.Steps.{entries_of}
 use Rattle.end_pair.proofs.Pieces.{put_all, put_before, put_none, puts_behind}
 use Rattle.end_pair.proofs.Texts.{noted_text}
@@ -31,9 +31,6 @@ module _ (law : NotesAreLines) (now : ℕ) where
 
   power_text : (notes : List Happening) → again_text notes ≡ power_line now ++ lines_of now (printed notes)
   power_text notes = noted_text law Equipment now (Power ∷ notes)
-
-  pub power_alone : again_text [] ≡ power_line now
-  power_alone = power_text [] ∙ append-nil (power_line now)
 
   pub power_none : (notes : List Happening) (old lines : List ℕ) → lines ≡ old → PutPart (again_text notes) old lines
   power_none notes old lines same =
@@ -81,16 +78,3 @@ module _ (law : NotesAreLines) (now : ℕ) where
     pub again_part : (next : S) → HasGone went next out → PutPart (lines_of now out.notes) between lines
         → PutPart (again_text (step_in went).notes) old lines
     again_part next has part = again_gone next has answer.NoMemory part
-
-  -- its disk has no room for a start
-  pub again_stopped :
-      {S C : Type 0} (machine : Machine S C) (went : WentTo S Happening) (out : StepOut) (room : Asked)
-      (old lines : List ℕ)
-      → lines ≡ old ++ power_line now → HasStopped machine.start_stops went out → IsShort room machine.start_asks
-      → IsNotAgain machine now room old lines
-  again_stopped machine went out room old lines one stop short = record {
-    front = stop.front;
-    may = stop.may;
-    lines = one ∙ ap (λ (t : List ℕ). old ++ t) (sym power_alone);
-    short = short;
-  }

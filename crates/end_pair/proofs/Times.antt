@@ -1,5 +1,5 @@
 -- Characters given one by one.
-use Rattle.std.proofs.Common.{◌≡◌, ◌≢◌, zero, suc, ℕ, ◌+◌, not, ◌&&◌, ◌||◌, Bool, true, false, List, [], ◌∷◌, ◌++◌, map, Option, None, if◌then◌else◌, refl, ap, subst, ◌∙◌, add-one}
+use Rattle.std.proofs.Common.{◌≡◌, ◌≢◌, zero, suc, ℕ, ◌+◌, not, ◌&&◌, Bool, true, false, List, [], ◌∷◌, ◌++◌, Option, None, if◌then◌else◌, refl, ap, subst, ◌∙◌, add-one}
 use Rattle.gl_base.specs.declared.side.Side.{Side}
 use Rattle.gl_base.specs.declared.side.Side.TheVariants.{Equipment, Host}
 use Rattle.line_way.specs.declared.character.Character.{Character}
@@ -9,8 +9,8 @@ use Rattle.trace_log.specs.declared.commands.HostCommand.{HostCommand}
 use Rattle.trace_log.specs.declared.commands.ToolCommand.{ToolCommand}
 use Rattle.end_pair.specs.declared.answers.WorldStep.{WorldStep}
 use Rattle.end_pair.specs.declared.answers.WorldStep.TheVariants.{Went}
-use Rattle.end_pair.specs.Kept.{Comes, Rooms}
-use Rattle.end_pair.specs.World.{Piece, World, and_more, asked_of_none, asked_on, given, given_next, given_times, halt_behind, settled, settled_times, still, way_to}
+use Rattle.end_pair.specs.Kept.{Comes}
+use Rattle.end_pair.specs.World.{Piece, World, and_more, given, given_next, given_times, settled, settled_times, still, way_to}
 use Rattle.end_pair.proofs.Pieces.{Leads, leads_done, leads_on, leads_stop}
 
 abbrev pub IsEmptyTo : {S T : Type 0} → Side → World S T → Type 0
@@ -39,40 +39,35 @@ module _ {V S T : Type 0} (see : V → World S T) (Dark : V → World S T → Ty
     {once : World S T → Piece S T} {times : ℕ → World S T → Piece S T} {Empty : World S T → Type 0}
     (is : Repeats once times Empty) where
   pub times_done :
-      (n : ℕ) (now : V) (room : Rooms) (lines : List ℕ) (whole : Piece S T) (had : Rooms) (old : List ℕ)
-      → Empty (see now) → Leads see Dark (times n (see now)) room lines whole had old
-      → Comes see Dark whole now had room old lines Went
-  times_done n now room lines whole had old none leads =
-      leads_done see Dark now room lines whole had old
-      (subst (λ (p : Piece S T). Leads see Dark p room lines whole had old) (is.none n (see now) none) leads)
+      (n : ℕ) (now : V) (lines : List ℕ) (whole : Piece S T) (old : List ℕ) → Empty (see now)
+      → Leads see Dark (times n (see now)) lines whole old → Comes see Dark whole now old lines Went
+  times_done n now lines whole old none leads =
+      leads_done see Dark now lines whole old
+      (subst (λ (p : Piece S T). Leads see Dark p lines whole old) (is.none n (see now) none) leads)
 
   pub times_over :
-      (n : ℕ) (now : V) (room : Rooms) (lines : List ℕ) (whole : Piece S T) (had : Rooms) (old : List ℕ) → n ≡ 0
-      → Leads see Dark (times n (see now)) room lines whole had old → Comes see Dark whole now had room old lines Went
-  times_over n now room lines whole had old over leads =
-      leads_done see Dark now room lines whole had old
-      (subst (λ (p : Piece S T). Leads see Dark p room lines whole had old)
+      (n : ℕ) (now : V) (lines : List ℕ) (whole : Piece S T) (old : List ℕ) → n ≡ 0
+      → Leads see Dark (times n (see now)) lines whole old → Comes see Dark whole now old lines Went
+  times_over n now lines whole old over leads =
+      leads_done see Dark now lines whole old
+      (subst (λ (p : Piece S T). Leads see Dark p lines whole old)
       (ap (λ (k : ℕ). times k (see now)) over ∙ is.over (see now)) leads)
 
   pub times_on :
-      (n m : ℕ) (now after : V) (before behind : Rooms) (between lines : List ℕ) (whole : Piece S T) (had : Rooms)
-      (old : List ℕ)
-      → n ≡ m + 1 → Comes see Dark (once (see now)) after before behind between lines Went
-      → Leads see Dark (times n (see now)) before between whole had old
-      → Leads see Dark (times m (see after)) behind lines whole had old
-  times_on n m now after before behind between lines whole had old is_n comes leads =
-      leads_on see Dark (once (see now)) (times m) after before behind between lines whole had old comes
-      (subst (λ (p : Piece S T). Leads see Dark p before between whole had old) (is.more n m (see now) is_n) leads)
+      (n m : ℕ) (now after : V) (between lines : List ℕ) (whole : Piece S T) (old : List ℕ) → n ≡ m + 1
+      → Comes see Dark (once (see now)) after between lines Went
+      → Leads see Dark (times n (see now)) between whole old → Leads see Dark (times m (see after)) lines whole old
+  times_on n m now after between lines whole old is_n comes leads =
+      leads_on see Dark (once (see now)) (times m) after between lines whole old comes
+      (subst (λ (p : Piece S T). Leads see Dark p between whole old) (is.more n m (see now) is_n) leads)
 
   pub times_stop :
-      (n m : ℕ) (now after : V) (before behind : Rooms) (between lines : List ℕ) (answer : WorldStep)
-      (whole : Piece S T) (had : Rooms) (old : List ℕ)
-      → n ≡ m + 1 → answer ≢ Went → Comes see Dark (once (see now)) after before behind between lines answer
-      → Leads see Dark (times n (see now)) before between whole had old
-      → Comes see Dark whole after had behind old lines answer
-  times_stop n m now after before behind between lines answer whole had old is_n stops comes leads =
-      leads_stop see Dark (once (see now)) (times m) after before behind between lines answer whole had old stops comes
-      (subst (λ (p : Piece S T). Leads see Dark p before between whole had old) (is.more n m (see now) is_n) leads)
+      (n m : ℕ) (now after : V) (between lines : List ℕ) (answer : WorldStep) (whole : Piece S T) (old : List ℕ)
+      → n ≡ m + 1 → answer ≢ Went → Comes see Dark (once (see now)) after between lines answer
+      → Leads see Dark (times n (see now)) between whole old → Comes see Dark whole after old lines answer
+  times_stop n m now after between lines answer whole old is_n stops comes leads =
+      leads_stop see Dark (once (see now)) (times m) after between lines answer whole old stops comes
+      (subst (λ (p : Piece S T). Leads see Dark p between whole old) (is.more n m (see now) is_n) leads)
 
 -- ---- to one end
 
@@ -90,14 +85,7 @@ module _ {S T : Type 0} (e : Machine S ToolCommand) (h : Machine T HostCommand) 
   times-none zero side world none = refl
   times-none (suc n) side world none =
       ap (λ (first : Piece S T). and_more first (given_times e h n side)) (given-none side world none)
-      ∙ ap (λ (next : Piece S T). record {
-        world = next.world;
-        entries = next.entries ++ [];
-        went = next.went;
-        anew = false || next.anew;
-        asked = asked_on asked_of_none next.anew next.asked;
-        halts = [] ++ map (halt_behind [] false asked_of_none) next.halts;
-      })
+      ∙ ap (λ (next : Piece S T). record { world = next.world; entries = next.entries ++ []; went = next.went })
       (times-none n side world none)
 
   pub gives_times : (side : Side) → Repeats (given e h side) (λ n. given_times e h n side) (IsEmptyTo side)
@@ -126,14 +114,7 @@ module _ {S T : Type 0} (e : Machine S ToolCommand) (h : Machine T HostCommand) 
   settles-none zero world none empty = refl
   settles-none (suc n) world none empty =
       ap (λ (first : Piece S T). and_more first (settled_times e h n)) (settled-none world none empty)
-      ∙ ap (λ (next : Piece S T). record {
-        world = next.world;
-        entries = next.entries ++ [];
-        went = next.went;
-        anew = false || next.anew;
-        asked = asked_on asked_of_none next.anew next.asked;
-        halts = [] ++ map (halt_behind [] false asked_of_none) next.halts;
-      })
+      ∙ ap (λ (next : Piece S T). record { world = next.world; entries = next.entries ++ []; went = next.went })
       (settles-none n world none empty)
 
   settles-zero : (world : World S T) → settled_times e h 0 world ≡ still world

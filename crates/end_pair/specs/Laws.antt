@@ -1,5 +1,5 @@
 -- What holds of every run.
-use Rattle.std.specs.Prelude.{◌≡◌, ◌≢◌, ◌↔◌, ◌⊎◌, ◌≤◌, ◌<◌, ℕ, true, false, List, [], ◌∷◌, ◌++◌, length, None, Some}
+use Rattle.std.specs.Prelude.{◌≡◌, ◌≢◌, ◌↔◌, ◌⊎◌, ◌≤◌, ◌<◌, ℕ, Bool, true, false, List, [], ◌∷◌, ◌++◌, length, None, Some}
 use Rattle.disk_base.specs.declared.cut.CutChoice.{CutChoice}
 use Rattle.gl_base.specs.declared.side.Side.{Side}
 use Rattle.gl_base.specs.declared.side.Side.TheVariants.{Equipment, Host}
@@ -22,18 +22,24 @@ use Rattle.trace_log.specs.Log.Entry.{Ended, Noted, Slipped}
 use Rattle.trace_log.specs.declared.commands.HostCommand.{HostCommand}
 use Rattle.trace_log.specs.declared.commands.ToolCommand.{ToolCommand}
 use Rattle.end_pair.specs.declared.answers.WorldStep.{WorldStep}
-use Rattle.end_pair.specs.declared.answers.WorldStep.TheVariants.{DiskFailed, NoMemory, NumbersSpent, PowerLost, Slip, Turns, Went}
+use Rattle.end_pair.specs.declared.answers.WorldStep.TheVariants.{NoMemory, NumbersSpent, PowerLost, Slip, Turns, Went}
 use Rattle.end_pair.specs.Run.{piece_of, whole_log}
 use Rattle.end_pair.specs.Steps.{slips, stepped}
-use Rattle.end_pair.specs.World.{most_steps}
+use Rattle.end_pair.specs.World.{World, most_steps}
 
--- a run's steps never pass the most of them, and it ends for want of steps only with all of them made
+-- no call of the disk of an end is left
+abbrev pub HasNoCall : {E H : Type 0} → World E H → Type 0
+HasNoCall world = (world.left ≡ 0) ⊎ (world.host_left ≡ 0)
+
+-- a run's steps never pass the most of them; and it has no turn left only with all of them made, or with no call left
+-- of the disk of an end
 abbrev pub RunsAreBounded : Type 0 → Type 0 → Type 0
 RunsAreBounded E H =
     (e : Machine E ToolCommand) (h : Machine H HostCommand) (equipment : Step E Happening)
     (host : Step H Happening) (events : List Event)
     → let piece = piece_of e h equipment host events in
-    (piece.world.steps ≤ most_steps) × (piece.went ≡ Turns → piece.world.steps ≡ most_steps)
+    (piece.world.steps ≤ most_steps)
+    × (piece.went ≡ Turns → (piece.world.steps ≡ most_steps) ⊎ HasNoCall piece.world)
 
 -- what an end has noted, a slip, and the end of a run
 abbrev pub IsNote : Entry → Type 0
@@ -65,7 +71,7 @@ abbrev pub AreNotesBefore : List Entry → Type 0
 AreNotesBefore [] = Unit {0}
 AreNotesBefore (newest ∷ before) = AreNotes before
 
--- a run is carried out to the end of its schedule, or it ends for a slip, for want of steps or for spent numbers, and
+-- a run is carried out to the end of its schedule, or it ends for a slip, for want of turns or for spent numbers, and
 -- for nothing else; and the newest entry of its log tells whether it was carried out, and whether a slip has ended it
 pub record EndsOneWay (went : WorldStep) (log : List Entry) : Type 0 where
   pub how : (went ≡ Went) ⊎ ((went ≡ Slip) ⊎ ((went ≡ Turns) ⊎ (went ≡ NumbersSpent)))
@@ -81,31 +87,38 @@ RunsEndFourWays E H =
     → let piece = piece_of e h equipment host events in
     EndsOneWay piece.went (whole_log piece)
 
--- a step ends a run for a slip and for spent numbers, where there is such a one, or an event for a loss of power at the
--- call that is planned, and never else: a slip goes first, and the loss before spent numbers
+-- it makes the call of its disk at which that stops
+abbrev pub StopsAt : {S C : Type 0} → Machine S C → Side → ℕ → ℕ → Input C → S → Ways → Type 0
+StopsAt {S} machine side now call input s ways =
+    (slips machine side now input s ways ≡ false)
+    × ((loss : Loss S) × (call_of call (machine.losses s input now) ≡ Some loss))
+
+-- a step ends a run for a slip, for spent numbers, and for a call that its disk has no room for, where there is such a
+-- one, or an event for a loss of power at the call that is planned, and never else: a slip goes first, and the disk's
+-- call before spent numbers
 pub record EndsByCause {S C : Type 0}
-    (machine : Machine S C) (side : Side) (now call : ℕ) (choice : CutChoice) (input : Input C) (s : S) (ways : Ways)
-    : Type 0 where
+    (machine : Machine S C) (side : Side) (now call : ℕ) (is_cut : Bool) (choice : CutChoice) (input : Input C) (s : S)
+    (ways : Ways) : Type 0 where
   pub slip :
-      (stepped machine side now call choice input s ways).went ≡ Slip ↔ slips machine side now input s ways ≡ true
+      (stepped machine side now call is_cut choice input s ways).went ≡ Slip
+      ↔ slips machine side now input s ways ≡ true
   pub lost :
-      (stepped machine side now call choice input s ways).went ≡ PowerLost
-      ↔ ((slips machine side now input s ways ≡ false)
-      × ((loss : Loss S) × (call_of call (machine.losses s input now) ≡ Some loss)))
+      (stepped machine side now call is_cut choice input s ways).went ≡ PowerLost
+      ↔ ((is_cut ≡ true) × StopsAt machine side now call input s ways)
+  pub full :
+      (stepped machine side now call is_cut choice input s ways).went ≡ Turns
+      ↔ ((is_cut ≡ false) × StopsAt machine side now call input s ways)
   pub spent :
-      (stepped machine side now call choice input s ways).went ≡ NumbersSpent
+      (stepped machine side now call is_cut choice input s ways).went ≡ NumbersSpent
       ↔ ((slips machine side now input s ways ≡ false)
       × ((call_of call (machine.losses s input now) ≡ None)
       × ((step : Step S Happening) × (machine.act s input now ≡ Spent step))))
-  pub no_other :
-      ((stepped machine side now call choice input s ways).went ≢ Turns)
-      × ((stepped machine side now call choice input s ways).went ≢ DiskFailed)
-      × ((stepped machine side now call choice input s ways).went ≢ NoMemory)
+  pub no_other : (stepped machine side now call is_cut choice input s ways).went ≢ NoMemory
 
 abbrev pub StepsEndByCause : Type 0 → Type 0 → Type 0
 StepsEndByCause S C =
-    (machine : Machine S C) (side : Side) (now call : ℕ) (choice : CutChoice) (input : Input C) (s : S) (ways : Ways)
-    → EndsByCause machine side now call choice input s ways
+    (machine : Machine S C) (side : Side) (now call : ℕ) (is_cut : Bool) (choice : CutChoice) (input : Input C) (s : S)
+    (ways : Ways) → EndsByCause machine side now call is_cut choice input s ways
 
 -- an entry that no end has noted
 abbrev pub IsNoNote : Entry → Type 0
@@ -145,7 +158,7 @@ HasNoStart [] = Unit {0}
 HasNoStart (move ∷ before) = IsNoStart move.kind × HasNoStart before
 
 -- the moves come step by step, behind each of which both ends are in states that their doings have made: ends start; a
--- step has no start in it; power ends a step early, whose first moves these are, and which could have gone on to such
+-- step has no start in it; a disk ends a step early, whose first moves these are, and which could have gone on to such
 -- states; or the world notes something of an end. So what doings keep between two steps they keep at each move
 pub data AreSteps {S T : Type 0}
     (equipment : ℕ → List Doing → S → Type 0) (host : ℕ → List Doing → T → Type 0) (plans : LinePlans)

@@ -4,8 +4,7 @@ use Rattle.gl_base.specs.Sending.{WrotePart, WroteShort, WroteText}
 use Rattle.gl_base.specs.Told.{SinkTold}
 use Rattle.line_schedule.specs.declared.event.Event.{Event}
 use Rattle.message_end.specs.Core.{Step}
-use Rattle.message_end.specs.Ends.{IsShort, Machine}
-use Rattle.message_end.specs.Own.{Has}
+use Rattle.message_end.specs.Ends.{Machine}
 use Rattle.trace_log.specs.Log.{Entry, Happening}
 use Rattle.trace_log.specs.Log.Entry.{Ended}
 use Rattle.trace_log.specs.Text.{text_of}
@@ -14,9 +13,8 @@ use Rattle.trace_log.specs.declared.commands.ToolCommand.{ToolCommand}
 use Rattle.end_pair.specs.declared.answers.RunEnd.{RunEnd}
 use Rattle.end_pair.specs.declared.answers.RunEnd.TheVariants as end
 use Rattle.end_pair.specs.declared.answers.WorldStep.{WorldStep}
-use Rattle.end_pair.specs.declared.answers.WorldStep.TheVariants.{Went, Slip, Turns, NumbersSpent, PowerLost, DiskFailed, NoMemory}
-use Rattle.end_pair.specs.Kept.{Rooms, room_from}
-use Rattle.end_pair.specs.World.{Halt, Piece, after_events, and_more, begun}
+use Rattle.end_pair.specs.declared.answers.WorldStep.TheVariants.{Went, Slip, Turns, NumbersSpent, PowerLost, NoMemory}
+use Rattle.end_pair.specs.World.{Piece, after_events, and_more, begun}
 
 -- a log that nothing has cut short ends with the end
 abbrev pub closing : WorldStep → ℕ → List Entry
@@ -25,7 +23,6 @@ closing Slip now = []
 closing Turns now = []
 closing NumbersSpent now = []
 closing PowerLost now = []
-closing DiskFailed now = []
 closing NoMemory now = []
 
 abbrev pub whole_log : {E H : Type 0} → Piece E H → List Entry
@@ -37,7 +34,6 @@ Runs out text how end.Whole = (how ≡ Went) × WroteText out text
 Runs out text how end.Slip = (how ≡ Slip) × WroteText out text
 Runs out text how end.Turns = (how ≡ Turns) × WroteText out text
 Runs out text how end.NumbersSpent = (how ≡ NumbersSpent) × WroteText out text
-Runs out text how end.DiskFailed = WrotePart out text
 Runs out text how end.NoMemory = WrotePart out text
 Runs out text how end.WriteFailed = WroteShort out text
 
@@ -47,7 +43,6 @@ Ends out text how end.Whole = (how ≡ Went) × WroteText out text
 Ends out text how end.Slip = (how ≡ Slip) × WroteText out text
 Ends out text how end.Turns = (how ≡ Turns) × WroteText out text
 Ends out text how end.NumbersSpent = (how ≡ NumbersSpent) × WroteText out text
-Ends out text how end.DiskFailed = (how ≡ DiskFailed) × WroteText out text
 Ends out text how end.NoMemory = (how ≡ NoMemory) × WroteText out text
 Ends out text how end.WriteFailed = WroteShort out text
 
@@ -58,25 +53,7 @@ end_of PowerLost = end.NoMemory
 end_of Slip = end.Slip
 end_of Turns = end.Turns
 end_of NumbersSpent = end.NumbersSpent
-end_of DiskFailed = end.DiskFailed
 end_of NoMemory = end.NoMemory
-
--- all of the text of a halt is written, where its end's disk had no room for what it was asked by then
-pub record EndsAtHalt (out : SinkTold) (halts : List Halt) (had : Rooms) : Type 0 where
-  pub halt : Halt
-  pub is : Has halts halt
-  pub wrote : WroteText out (text_of halt.entries)
-  pub short : IsShort (room_from halt.anew had halt.side) halt.asked
-
--- where a run ends for a disk
-abbrev pub EndsFor : Type 0 → RunEnd → Type 0
-EndsFor P end.DiskFailed = P
-EndsFor P end.Whole = Unit {0}
-EndsFor P end.Slip = Unit {0}
-EndsFor P end.Turns = Unit {0}
-EndsFor P end.NumbersSpent = Unit {0}
-EndsFor P end.NoMemory = Unit {0}
-EndsFor P end.WriteFailed = Unit {0}
 
 -- the world is handed back exactly where the run was whole, and is this one
 abbrev pub HandsBack : {W V : Type 0} → (W → V) → V → RunEnd → Option W → Type 0

@@ -1,5 +1,5 @@
 -- One step of an end on the line (this profile).
-use Rattle.std.specs.Prelude.{◌&&◌, ℕ, Bool, true, false, List, [], ◌∷◌, ◌++◌, Option, Some, None, if◌then◌else◌}
+use Rattle.std.specs.Prelude.{◌&&◌, ℕ, Bool, true, false, List, [], ◌∷◌, ◌++◌, length, Option, Some, None, if◌then◌else◌}
 use Rattle.disk_base.specs.declared.cut.CutChoice.{CutChoice}
 use Rattle.gl_base.specs.declared.side.Side.{Side}
 use Rattle.line_end.specs.Step.{is_due}
@@ -8,7 +8,7 @@ use Rattle.line_way.specs.Slip.{first_frame}
 use Rattle.line_way.specs.Ways.{Ways, bytes_of, characters_of}
 use Rattle.message_end.specs.Core.{Went}
 use Rattle.message_end.specs.Core.Went.{Goes, Spent}
-use Rattle.message_end.specs.Ends.{Asked, Input, Loss, Machine, call_of, none_asked}
+use Rattle.message_end.specs.Ends.{Input, Loss, Machine, call_of}
 use Rattle.message_end.specs.Ends.Input.{Char, Command, Time}
 use Rattle.trace_log.specs.Laws.{log_with}
 use Rattle.trace_log.specs.Log.{Entry, Happening}
@@ -18,14 +18,13 @@ use Rattle.end_pair.specs.declared.answers.WorldStep.{WorldStep}
 use Rattle.end_pair.specs.declared.answers.WorldStep.TheVariants as answer
 
 -- what a step leaves: the end, both directions of the line, the entries that were made, the newest first, and how it
--- went; the notes at which its disk may stop it, and what it asks of the disk
+-- went; and how many calls its disk has made
 pub record Stepped (S : Type 0) : Type 0 where
   pub end : S
   pub ways : Ways
   pub entries : List Entry
   pub went : WorldStep
-  pub fronts : List (List Happening)
-  pub asked : Asked
+  pub calls : ℕ
 
 -- the end is given the next character on its way
 abbrev pub gives : {C : Type 0} → Input C → Bool
@@ -63,16 +62,14 @@ made machine side now input s ways (Goes step) = record {
   ways = ways_after side (gives input) (machine.line step.next).phase step.written ways;
   entries = entries_of side now (step.notes ++ wrote step.written);
   went = answer.Went;
-  fronts = machine.stops s input now;
-  asked = machine.asks s input now;
+  calls = length (machine.losses s input now);
 }
 made machine side now input s ways (Spent step) = record {
   end = step.next;
   ways = ways;
   entries = entries_of side now step.notes;
   went = answer.NumbersSpent;
-  fronts = machine.stops s input now;
-  asked = machine.asks s input now;
+  calls = length (machine.losses s input now);
 }
 
 -- a slip's entry stands for the whole step, and the disk isn't asked
@@ -82,32 +79,36 @@ slipped side now s ways = record {
   ways = ways;
   entries = slip_of side now ways ∷ [];
   went = answer.Slip;
-  fronts = [];
-  asked = none_asked;
+  calls = 0;
 }
 
--- or its power is lost at a call of its disk: what was noted by then stands, and nothing is sent. Such a step isn't
--- stopped for want of room
-abbrev pub lost_at :
-    {S C : Type 0} → Machine S C → Side → ℕ → CutChoice → Input C → S → Ways → Loss S → Stepped S
-lost_at machine side now choice input s ways loss = record {
+-- what ends a step whose disk stops: its power is lost there, or there is no room for the call
+abbrev pub stopped_for : Bool → WorldStep
+stopped_for true = answer.PowerLost
+stopped_for false = answer.Turns
+
+-- or its disk stops at a call: what was noted by then stands, and nothing is sent
+abbrev pub stopped_at :
+    {S C : Type 0} → Machine S C → Side → ℕ → ℕ → Bool → CutChoice → Input C → S → Ways → Loss S → Stepped S
+stopped_at machine side now call is_cut choice input s ways loss = record {
   end = loss.left choice;
   ways = ways;
   entries = entries_of side now loss.front;
-  went = answer.PowerLost;
-  fronts = [];
-  asked = machine.asks s input now;
+  went = stopped_for is_cut;
+  calls = call;
 }
 
 abbrev pub made_by :
-    {S C : Type 0} → Machine S C → Side → ℕ → CutChoice → Input C → S → Ways → Option (Loss S) → Stepped S
-made_by machine side now choice input s ways None =
+    {S C : Type 0} → Machine S C → Side → ℕ → ℕ → Bool → CutChoice → Input C → S → Ways → Option (Loss S) → Stepped S
+made_by machine side now call is_cut choice input s ways None =
     made machine side now input s ways (machine.act s input now)
-made_by machine side now choice input s ways (Some loss) = lost_at machine side now choice input s ways loss
+made_by machine side now call is_cut choice input s ways (Some loss) =
+    stopped_at machine side now call is_cut choice input s ways loss
 
--- the power is to go at this call, counted from 1, of those of the disk that are to come
+-- its disk stops at this call, counted from 1, of those that are to come: there its power goes, or there is no room for
+-- one more
 abbrev pub stepped :
-    {S C : Type 0} → Machine S C → Side → ℕ → ℕ → CutChoice → Input C → S → Ways → Stepped S
-stepped machine side now call choice input s ways =
+    {S C : Type 0} → Machine S C → Side → ℕ → ℕ → Bool → CutChoice → Input C → S → Ways → Stepped S
+stepped machine side now call is_cut choice input s ways =
     if slips machine side now input s ways then slipped side now s ways
-    else made_by machine side now choice input s ways (call_of call (machine.losses s input now))
+    else made_by machine side now call is_cut choice input s ways (call_of call (machine.losses s input now))

@@ -58,6 +58,7 @@ sender = record {
   asks = λ s input now. none_asked;
   start_asks = none_asked;
   losses = λ s input now. [];
+  start_calls = λ s. 0;
 }
 
 abbrev pub begins : Side → Option BlockView → Happening → Step Sender Happening
@@ -132,6 +133,8 @@ counter side = record {
   asks = λ s input now. counter_asks s.awake;
   start_asks = none_asked;
   losses = λ s input now. counter_losses s.count s.awake;
+  -- so there is room for one more
+  start_calls = λ s. 65535;
 }
 
 abbrev pub counts_from : Happening → Step Counter Happening
@@ -159,3 +162,17 @@ pub record WorkedLosses : Type 0 where
   pub last : (counters_after (event.Cut 1 New ∷ [])).entries ≡ []
   pub steps : (counters_after (event.Cut 1 New ∷ event.Wait 5 ∷ [])).world.steps ≡ 2
   pub went_on : (counters_after (event.Cut 1 New ∷ event.Wait 5 ∷ [])).went ≡ answer.Went
+  -- a cut behind the last call that there is room for comes at the event's end
+  pub too_far :
+      (counters_after (event.Cut 3 New ∷ event.Wait 5 ∷ [])).entries
+      ≡ Noted 5 Equipment (EquipmentStarted [] 1) ∷ Noted 5 Equipment Power ∷ Noted 5 Host (Stored 0)
+      ∷ Noted 5 Equipment (Stored 0) ∷ []
+  -- without one the run has no turn left at the call behind it, a cut at that call loses power
+  pub full :
+      (counters_after (event.Wait 5 ∷ event.Wait 5 ∷ event.Wait 5 ∷ [])).entries
+      ≡ Noted 10 Equipment (Gone 1) ∷ Noted 5 Host (Stored 0) ∷ Noted 5 Equipment (Stored 0) ∷ []
+  pub turns : (counters_after (event.Wait 5 ∷ event.Wait 5 ∷ event.Wait 5 ∷ [])).went ≡ answer.Turns
+  pub lost :
+      (counters_after (event.Wait 5 ∷ event.Cut 1 New ∷ event.Wait 5 ∷ [])).entries
+      ≡ Noted 10 Equipment (EquipmentStarted [] 2) ∷ Noted 10 Equipment Power ∷ Noted 10 Equipment (Gone 1)
+      ∷ Noted 5 Host (Stored 0) ∷ Noted 5 Equipment (Stored 0) ∷ []

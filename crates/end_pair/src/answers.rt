@@ -5,12 +5,11 @@ pub enum RunEnd {
     Whole,
     /// The trace was written up to the first block whose characters are no frame's.
     Slip,
-    /// The trace was written up to the last of 4,000,000 steps, and a step was left.
+    /// The trace was written up to the last of 4,000,000 steps, and a step was left; or up to a call of an end's disk
+    /// that would be more than 65,536 since that was made or lost its power.
     Turns,
     /// The trace was written up to the step in which an end was to draw a number and had none.
     NumbersSpent,
-    /// The disk of an end failed. A part of the trace from the front was written.
-    DiskFailed,
     /// Memory ran out. A part of the trace from the front was written.
     NoMemory,
     /// The output failed. A part of the trace from the front was written.
@@ -24,23 +23,12 @@ pub enum WorldStep {
     Went,
     /// A block arrived whose characters are no frame's.
     Slip,
-    /// A step was left after the last of 4,000,000.
+    /// A step was left after the last of 4,000,000, or the disk of an end has no room for a call.
     Turns,
     /// An end was to draw a number, and had none.
     NumbersSpent,
     /// The equipment has lost its power at a call of its disk. No event ends so.
     PowerLost,
-    /// The disk of an end failed.
-    DiskFailed,
     /// Memory ran out.
     NoMemory,
-}
-
-/// Why a world doesn't start.
-#[derive(Clone, Copy, Debug, PartialEq, Eq)]
-pub enum WorldFault {
-    /// Memory ran out.
-    NoMemory,
-    /// The disk of an end failed.
-    DiskFailed,
 }

@@ -12,20 +12,22 @@ ghost use Rattle.end_pair.specs.Worked.{WorkedLosses, WorkedRuns};
 use message_end::End;
 use trace_log::{HostCommand, ToolCommand};
 
-/// A run makes 4,000,000 steps at most, and ends for want of steps only with all of them made.
+/// A run makes 4,000,000 steps at most, and has no turn left only with all of them made, or with no call left of the
+/// disk of an end.
 pub fn runs_are_bounded<E: End<Command = ToolCommand>, H: End<Command = HostCommand>>()
     ensures { RunsAreBounded E.State H.State }
 {}
 
-/// A run is carried out to the end of its schedule, or it ends for a slip, for want of steps or for spent numbers, and
+/// A run is carried out to the end of its schedule, or it ends for a slip, for want of turns or for spent numbers, and
 /// for nothing else. Its log ends with the end exactly where it is carried out, and with a slip exactly where one has
 /// ended it; all entries before are notes.
 pub fn runs_end_four_ways<E: End<Command = ToolCommand>, H: End<Command = HostCommand>>()
     ensures { RunsEndFourWays E.State H.State }
 {}
 
-/// A step of an end ends a run exactly where a slip is found before it, or where the end was to draw a number and had
-/// none; and it loses its power exactly where it comes to the call of its disk that is planned.
+/// A step of an end ends a run exactly where a slip is found before it, where it comes to a call that its disk has no
+/// room for, or where the end was to draw a number and had none; and it loses its power exactly where it comes to the
+/// call of its disk that is planned.
 pub fn steps_end_by_cause<E: End>()
     ensures { StepsEndByCause E.State E.Command }
 {}

@@ -9,7 +9,7 @@ mod running;
 mod step;
 mod world;
 
-pub use answers::{RunEnd, WorldFault, WorldStep};
+pub use answers::{RunEnd, WorldStep};
 pub use laws::{
     entries_are_of_courses, runs_are_bounded, runs_are_moves, runs_end_four_ways,
     steps_end_by_cause, worked_losses, worked_runs,

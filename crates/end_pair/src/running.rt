@@ -6,10 +6,10 @@ ghost use Rattle.trace_log.specs.Log.Entry.{Ended};
 ghost use Rattle.trace_log.specs.Text.{entry_text};
 ghost use Rattle.message_end.specs.Core.{step_in};
 ghost use Rattle.message_end.specs.Ends.{Opens};
-ghost use Rattle.end_pair.specs.Kept.{IsPowered, MayHappen, Puts, StopsFor, rooms_before, seen};
-ghost use Rattle.end_pair.specs.Run.{Ends, EndsAtHalt, EndsFor, HandsBack, Runs, end_of, piece_of, trace_text, went_of};
+ghost use Rattle.end_pair.specs.Kept.{IsPowered, MayHappen, Puts, seen};
+ghost use Rattle.end_pair.specs.Run.{Ends, HandsBack, Runs, end_of, piece_of, trace_text, went_of};
 
-use crate::answers::{RunEnd, WorldFault, WorldStep};
+use crate::answers::{RunEnd, WorldStep};
 use crate::world::World;
 use gl_base::{NoMemory, Page, Row, Sink, SinkAnswer};
 use line_schedule::Schedule;
@@ -21,8 +21,7 @@ use trace_log::{HostCommand, ToolCommand, put_end};
 /// exactly where it answers `Whole`.
 ///
 /// The plans must fit, the stores hold, there must be numbers to start with, and each event must be one that may
-/// happen: power is lost only with an equipment that has a disk. For want of its disk a run ends only where that had no
-/// room for what the end's steps asked of it by then; what is written are the lines up to that work.
+/// happen: power is lost only with an equipment that has a disk.
 pub fn run<E: End<Command = ToolCommand>, H: End<Command = HostCommand>, W: Sink>(
     alloc: Global,
     equipment: &E::Plan,
@@ -55,13 +54,6 @@ pub fn run<E: End<Command = ToolCommand>, H: End<Command = HostCommand>, W: Sink
         schedule.now.events).world
         result.0
         result.1 }
-    ensures stops { EndsFor (EndsAtHalt
-        (sink_told W.Sink out.old out.new)
-        (piece_of E.machine H.machine
-        (step_in (E.start equipment.now equipment_store)) (step_in (H.start host.now host_store))
-        schedule.now.events).halts
-        (rooms_before (E.store_room equipment_store) (H.store_room host_store) (E.store_fresh equipment_store)))
-        result.0 }
 {
     let mut page = Page::new();
     let mut lines = Row::new(alloc);
@@ -74,13 +66,7 @@ pub fn run<E: End<Command = ToolCommand>, H: End<Command = HostCommand>, W: Sink
         &mut lines,
     ) {
         Ok(world) => world,
-        Err(WorldFault::NoMemory) => return (RunEnd::NoMemory, None),
-        Err(WorldFault::DiskFailed) => {
-            return (
-                stop(WorldStep::DiskFailed, lines.as_slice(), &mut page, out),
-                None,
-            );
-        }
+        Err(how) => return (stop(how, lines.as_slice(), &mut page, out), None),
     };
     'events: for event in schedule.events.as_slice() {
         let SinkAnswer::Done = page.put(out, lines.as_slice()) else {
@@ -102,7 +88,6 @@ pub fn run<E: End<Command = ToolCommand>, H: End<Command = HostCommand>, W: Sink
 // Puts the line of the end.
 fn close(now: u64, lines: &mut Row<u8>) -> WorldStep
     ensures puts { Puts answer.Went (entry_text (Ended now)) lines.old lines.new result }
-    ensures no_disk { StopsFor ⊥ result }
     ensures powered { IsPowered result }
 {
     match put_end(now, lines) {
@@ -131,7 +116,6 @@ fn end_of(went: WorldStep) -> RunEnd
         WorldStep::Turns => RunEnd::Turns,
         WorldStep::NumbersSpent => RunEnd::NumbersSpent,
         WorldStep::PowerLost => RunEnd::NoMemory,
-        WorldStep::DiskFailed => RunEnd::DiskFailed,
         WorldStep::NoMemory => RunEnd::NoMemory,
     }
 }

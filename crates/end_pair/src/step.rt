@@ -1,21 +1,20 @@
 //! One step of an end on the line.
 
-ghost use Rattle.std.specs.Prelude.{◌≡◌, ◌<◌, ◌≤◌, ◌+◌, ◌-◌, ◌^◌, ◌++◌, ◌∷◌, ◌&&◌, ℕ, false, OnErr, OnOk, map};
+ghost use Rattle.std.specs.Prelude.{◌≡◌, ◌<◌, ◌≤◌, ◌+◌, ◌-◌, ◌^◌, ◌++◌, ◌∷◌, ◌&&◌, ℕ, false, OnErr, OnOk};
 ghost use Rattle.disk_base.specs.declared.cut.CutChoice.{CutChoice};
 ghost use Rattle.gl_base.specs.declared.side.Side.{Side};
 ghost use Rattle.gl_base.specs.declared.side.Side.TheVariants as side;
 ghost use Rattle.line_end.specs.Step.{is_due};
 ghost use Rattle.line_way.specs.Kept.{IsSlipOf, direction_to, gathered_with_next, makes_slip_in};
-ghost use Rattle.message_end.specs.Ends.{IsLeft, MayTake, input_of};
+ghost use Rattle.message_end.specs.Ends.{MayTake, calls_left, input_of};
 ghost use Rattle.std.specs.List.{flat_map};
 ghost use Rattle.message_end.specs.Core.{step_in};
 ghost use Rattle.trace_log.specs.Log.Entry.{Slipped};
 ghost use Rattle.trace_log.specs.Log.Happening.{Power};
 ghost use Rattle.trace_log.specs.Text.{entry_text, note_line, note_of, text_of};
 ghost use Rattle.end_pair.specs.declared.answers.WorldStep.TheVariants as answer;
-ghost use Rattle.end_pair.specs.Kept.{HasHalted, IfLeft, IfWent, IsNotAgain, IsPowered, Puts, PutsStopped, Rooms, StopsFor, gone, why_stopped};
-ghost use Rattle.end_pair.specs.Steps.{entries_of, gives, slip_of, stepped};
-ghost use Rattle.end_pair.specs.World.{halt_at};
+ghost use Rattle.end_pair.specs.Kept.{IfLeft, IfWent, IsPowered, Puts, gone};
+ghost use Rattle.end_pair.specs.Steps.{entries_of, gives, slip_of, stepped, stopped_for};
 
 use crate::answers::WorldStep;
 use crate::putting::{put_notes, put_step};
@@ -33,6 +32,7 @@ pub(crate) fn step_end<E: End>(
     alloc: Global,
     now: u64,
     side: Side,
+    is_cut: bool,
     input: NodeInput<'_, E::Command>,
     end: &mut E,
     ways: &mut Ways,
@@ -44,34 +44,24 @@ pub(crate) fn step_end<E: End>(
     requires count { ways.old.written < 2 ^ 62 }
     ensures lines { (choice : CutChoice) →
         let step = stepped
-        E.machine side now (E.armed end.old) choice (input_of input.entry) (E.means end.old) ways.old in
+        E.machine side now (E.planned end.old) is_cut choice (input_of input.entry) (E.means end.old) ways.old in
         Puts step.went (text_of step.entries) lines.old lines.new result }
     ensures end { (choice : CutChoice) →
         let step = stepped
-        E.machine side now (E.armed end.old) choice (input_of input.entry) (E.means end.old) ways.old in
+        E.machine side now (E.planned end.old) is_cut choice (input_of input.entry) (E.means end.old) ways.old in
         IfLeft result
         (E.means end.new ≡ step.end)
         ((later : ℕ) → E.anew end.new choice later ≡ E.machine.restart step.end later) }
     ensures ways { (choice : CutChoice) →
         let step = stepped
-        E.machine side now (E.armed end.old) choice (input_of input.entry) (E.means end.old) ways.old in
+        E.machine side now (E.planned end.old) is_cut choice (input_of input.entry) (E.means end.old) ways.old in
         IfLeft result (ways.new ≡ step.ways) (ways.new ≡ step.ways) }
-    ensures near { (choice : CutChoice) →
+    ensures planned { (choice : CutChoice) →
         let step = stepped
-        E.machine side now (E.armed end.old) choice (input_of input.entry) (E.means end.old) ways.old in
-        IfWent result (E.armed end.new ≡ E.armed end.old - step.asked.calls) }
-    ensures room { (choice : CutChoice) →
-        let step = stepped
-        E.machine side now (E.armed end.old) choice (input_of input.entry) (E.means end.old) ways.old in
-        IfWent result (IsLeft (E.room end.old) step.asked (E.room end.new)) }
-    ensures stops { (choice : CutChoice) (had : Rooms) → had.had side ≡ E.room end.old →
-        let step = stepped
-        E.machine side now (E.armed end.old) choice (input_of input.entry) (E.means end.old) ways.old in
-        StopsFor (HasHalted (map (halt_at side now step.asked) step.fronts) had lines.old lines.new) result }
+        E.machine side now (E.planned end.old) is_cut choice (input_of input.entry) (E.means end.old) ways.old in
+        IfWent result (E.planned end.new ≡ E.planned end.old - step.calls) }
     ensures going { IfWent result (E.stopped end.new ≡ false) }
-    ensures powered { E.armed end.old ≡ 0 → IsPowered result }
-    ensures calm { E.armed end.old ≡ 0 → E.armed end.new ≡ 0 }
-    ensures fresh { E.fresh end.new ≡ E.fresh end.old }
+    ensures powered { is_cut ≡ false → IsPowered result }
     ensures sound { E.sound end.new }
     ensures count { ways.new.written ≤ ways.old.written + 1 }
 {
@@ -89,8 +79,7 @@ pub(crate) fn step_end<E: End>(
         Ok(()) => {}
         Err(Stop::NumbersSpent) => return put_spent(now, side, out.notes.as_slice(), lines),
         Err(Stop::DiskFailed) => {
-            let why = why_stopped(end);
-            return put_stopped(now, side, why, out.notes.as_slice(), lines);
+            return put_stopped(now, side, is_cut, out.notes.as_slice(), lines);
         }
         Err(Stop::NoMemory) => return WorldStep::NoMemory,
     }
@@ -117,11 +106,8 @@ pub(crate) fn restart_end<E: End>(
         Puts (gone went) (text_of (entries_of side.Equipment now (Power ∷ (step_in went).notes)))
         lines.old lines.new result }
     ensures end { IfWent result (E.means end.new ≡ (step_in (E.anew end.old choice now)).next) }
-    ensures armed { IfWent result (E.armed end.new ≡ 0) }
+    ensures planned { IfWent result (E.planned end.new ≡ calls_left E.machine (E.means end.new)) }
     ensures going { IfWent result (E.stopped end.new ≡ false) }
-    ensures room { IfWent result (IsLeft (E.fresh end.old) E.machine.start_asks (E.room end.new)) }
-    ensures stops { StopsFor (IsNotAgain E.machine now (E.fresh end.old) lines.old lines.new) result }
-    ensures fresh { E.fresh end.new ≡ E.fresh end.old }
     ensures sound { E.sound end.new }
     ensures powered { IsPowered result }
 {
@@ -141,7 +127,7 @@ pub(crate) fn restart_end<E: End>(
             out.notes.as_slice(),
             lines,
         ),
-        Err(Stop::DiskFailed) => return WorldStep::DiskFailed,
+        Err(Stop::DiskFailed) => unreachable!("no start is stopped by its disk"),
         Err(Stop::NoMemory) => return WorldStep::NoMemory,
     }
     let Ok(()) = put_notes(now, Side::Equipment, out.notes.as_slice(), lines) else {
@@ -189,7 +175,6 @@ fn put_slipped(now: u64, side: Side, slip: &Slip, lines: &mut Row<u8>) -> WorldS
         lines.old
         lines.new
         result }
-    ensures no_disk { StopsFor ⊥ result }
 {
     match put_slip(now, side, slip.frame, slip.characters.as_slice(), lines) {
         Ok(()) => WorldStep::Slip,
@@ -200,7 +185,6 @@ fn put_slipped(now: u64, side: Side, slip: &Slip, lines: &mut Row<u8>) -> WorldS
 // Puts the lines of a step in which the numbers were spent.
 fn put_spent(now: u64, side: Side, notes: &[Note], lines: &mut Row<u8>) -> WorldStep
     ensures puts { Puts answer.NumbersSpent (flat_map (note_line now side) notes.now) lines.old lines.new result }
-    ensures no_disk { StopsFor ⊥ result }
 {
     match put_notes(now, side, notes, lines) {
         Ok(()) => WorldStep::NumbersSpent,
@@ -208,29 +192,14 @@ fn put_spent(now: u64, side: Side, notes: &[Note], lines: &mut Row<u8>) -> World
     }
 }
 
-// What a disk that has failed makes of a step.
-fn why_stopped<E: End>(end: &E) -> WorldStep
-    ensures { result ≡ why_stopped (E.stopped end.now) }
-{
-    if end.is_stopped() {
-        WorldStep::PowerLost
-    } else {
-        WorldStep::DiskFailed
-    }
-}
-
-// Puts the lines of a step that a disk has stopped for this cause.
-fn put_stopped(
-    now: u64,
-    side: Side,
-    why: WorldStep,
-    notes: &[Note],
-    lines: &mut Row<u8>,
-) -> WorldStep
-    ensures { PutsStopped why (flat_map (note_line now side) notes.now) lines.old lines.new result }
+// Puts the lines of a step whose disk has stopped: its power is lost, or there is no room for a call.
+fn put_stopped(now: u64, side: Side, is_cut: bool, notes: &[Note], lines: &mut Row<u8>) -> WorldStep
+    ensures puts { Puts (stopped_for is_cut) (flat_map (note_line now side) notes.now) lines.old lines.new result }
+    ensures powered { is_cut ≡ false → IsPowered result }
 {
     match put_notes(now, side, notes, lines) {
-        Ok(()) => why,
+        Ok(()) if is_cut => WorldStep::PowerLost,
+        Ok(()) => WorldStep::Turns,
         Err(NoMemory) => WorldStep::NoMemory,
     }
 }

@@ -1,16 +1,16 @@
-ghost use Rattle.std.specs.Prelude.{◌≡◌, ◌<◌, ◌≤◌, ◌+◌, ◌*◌, ◌^◌, ◌++◌, ◌&&◌, false, not, None, Some, IfErr, IfOk, OnErr, OnOk};
+ghost use Rattle.std.specs.Prelude.{◌≡◌, ◌≢◌, ◌<◌, ◌≤◌, ◌+◌, ◌*◌, ◌^◌, ◌++◌, ◌&&◌, false, not, None, Some, IfErr, IfOk, OnErr, OnOk};
 ghost use Rattle.gl_base.specs.declared.side.Side.TheVariants as sides;
 ghost use Rattle.message_end.specs.Core.{step_in};
-ghost use Rattle.message_end.specs.Ends.{IsLeft, MayTake, Opens, input_of};
+ghost use Rattle.message_end.specs.Ends.{MayTake, Opens, calls_left, input_of};
 ghost use Rattle.trace_log.specs.Text.{text_of};
-ghost use Rattle.end_pair.specs.Kept.{AreLeft, Comes, FaultsFor, HasHalted, IfWent, IsDark, IsNotStarted, IsPowered, MayHappen, PutPart, Puts, StopsFor, rooms, rooms_before, seen};
+ghost use Rattle.end_pair.specs.Kept.{Comes, IfWent, IsDark, IsPowered, MayHappen, PutPart, Puts, begun_by, seen};
 ghost use Rattle.line_way.specs.Kept.{direction_to, with_direction, without_power};
 ghost use Rattle.line_way.specs.Ways.{characters_of, is_under_way};
 ghost use Rattle.end_pair.specs.Steps.{entries_of};
-ghost use Rattle.end_pair.specs.World.{World as WorldOf, added_to, after_event, again, armed, asked_of_none, at_start, begun, both_stepped, changed_at, equipment_stepped, given, given_times, happened, host_stepped, later, lost, lost_from, met, settled, settled_times, way_to, without};
+ghost use Rattle.end_pair.specs.World.{World as WorldOf, added_to, after_event, again, armed, at_start, begun, both_stepped, changed_at, equipment_stepped, given, given_times, happened, host_stepped, later, lost, lost_from, met, settled, settled_times, way_to, without};
 ghost use Rattle.end_pair.specs.declared.answers.WorldStep.TheVariants as answer;
 
-use crate::answers::{WorldFault, WorldStep};
+use crate::answers::WorldStep;
 use crate::putting::put_notes;
 use crate::step::{restart_end, step_end};
 use arrayvec::ArrayVec;
@@ -40,8 +40,10 @@ pub struct World<E: End, H: End> {
     ways: Ways,
     moment: u64,
     steps: u32,
-    // at which call of the equipment's disk the next event ends the power, and what that leaves of the disk
+    // at which call of the equipment's disk the next event ends the power, whether it goes at the one at which the disk
+    // is to stop, and what that leaves of the disk
     cut: Option<u32>,
+    is_cut: bool,
     choice: CutChoice,
 }
 
@@ -58,13 +60,14 @@ impl<E: End, H: End> Model for World<E, H> {
       moment = w.moment;
       steps = w.steps;
       cut = w.cut;
-      call = E.armed w.equipment;
+      left = E.planned w.equipment;
+      host_left = H.planned w.host;
+      is_cut = w.is_cut;
       choice = w.choice;
     } };
 
     ghost invariant = { λ w. (E.sound w.equipment)
         × (H.sound w.host)
-        × (H.armed w.host ≡ 0)
         × IfSome w.cut (λ call. E.loses)
         × (w.steps ≤ 4000000)
         × (w.moment ≤ 1000000 * w.steps)
@@ -72,7 +75,8 @@ impl<E: End, H: End> Model for World<E, H> {
 }
 
 impl<E: End<Command = ToolCommand>, H: End<Command = HostCommand>> World<E, H> {
-    /// Both ends at their starts, each of which has made its first step; the lines of that are put at the end.
+    /// Both ends at their starts, each of which has made its first step; the lines of that are put at the end. Where
+    /// that goes on no further, it answers how.
     pub fn start(
         alloc: Global,
         equipment: &E::Plan,
@@ -80,7 +84,7 @@ impl<E: End<Command = ToolCommand>, H: End<Command = HostCommand>> World<E, H> {
         host: &H::Plan,
         host_store: H::Store,
         lines: &mut Row<u8>,
-    ) -> Result<World<E, H>, WorldFault>
+    ) -> Result<World<E, H>, WorldStep>
         requires equipment { E.fits equipment.now }
         requires host { H.fits host.now }
         requires equipment_store { E.holds equipment_store }
@@ -91,36 +95,11 @@ impl<E: End<Command = ToolCommand>, H: End<Command = HostCommand>> World<E, H> {
             ≡ (begun E.machine H.machine
             (step_in (E.start equipment.now equipment_store))
             (step_in (H.start host.now host_store))).world) }
-        ensures went { OnOk result
-            ((begun E.machine H.machine
-            (step_in (E.start equipment.now equipment_store))
-            (step_in (H.start host.now host_store))).went ≡ answer.Went) }
-        ensures lines { OnOk result (lines.new
-            ≡ lines.old ++ text_of (begun E.machine H.machine
-            (step_in (E.start equipment.now equipment_store))
-            (step_in (H.start host.now host_store))).entries) }
-        ensures part { OnErr result (PutPart
-            (text_of (begun E.machine H.machine
-            (step_in (E.start equipment.now equipment_store))
-            (step_in (H.start host.now host_store))).entries)
-            lines.old
-            lines.new) }
-        ensures room { IfOk result (λ world. AreLeft
-            (rooms_before (E.store_room equipment_store) (H.store_room host_store) (E.store_fresh equipment_store))
-            (begun E.machine H.machine
-            (step_in (E.start equipment.now equipment_store))
-            (step_in (H.start host.now host_store))).anew
-            (begun E.machine H.machine
-            (step_in (E.start equipment.now equipment_store))
-            (step_in (H.start host.now host_store))).asked
-            (rooms E.room H.room E.fresh E.stopped world)) }
-        ensures stops { IfErr result (FaultsFor (HasHalted
-            (begun E.machine H.machine
-            (step_in (E.start equipment.now equipment_store))
-            (step_in (H.start host.now host_store))).halts
-            (rooms_before (E.store_room equipment_store) (H.store_room host_store) (E.store_fresh equipment_store))
-            lines.old
-            lines.new)) }
+        ensures lines { let piece = begun E.machine H.machine
+            (step_in (E.start equipment.now equipment_store)) (step_in (H.start host.now host_store)) in
+            Puts piece.went (text_of piece.entries) lines.old lines.new (begun_by result) }
+        ensures stops { IfErr result (λ stop. stop ≢ answer.Went) }
+        ensures powered { IfErr result IsPowered }
     {
         let mut world = match World::at_start(
             alloc,
@@ -131,12 +110,11 @@ impl<E: End<Command = ToolCommand>, H: End<Command = HostCommand>> World<E, H> {
             lines,
         ) {
             Ok(world) => world,
-            Err(fault) => return Err(fault),
+            Err(NoMemory) => return Err(WorldStep::NoMemory),
         };
         match world.step_both(alloc, 0, lines) {
             WorldStep::Went => Ok(world),
-            WorldStep::DiskFailed => Err(WorldFault::DiskFailed),
-            _ => Err(WorldFault::NoMemory),
+            stop => Err(stop),
         }
     }
 
@@ -148,7 +126,7 @@ impl<E: End<Command = ToolCommand>, H: End<Command = HostCommand>> World<E, H> {
         host: &H::Plan,
         host_store: H::Store,
         lines: &mut Row<u8>,
-    ) -> Result<World<E, H>, WorldFault>
+    ) -> Result<World<E, H>, NoMemory>
         requires equipment { E.fits equipment.now }
         requires host { H.fits host.now }
         requires equipment_store { E.holds equipment_store }
@@ -169,28 +147,14 @@ impl<E: End<Command = ToolCommand>, H: End<Command = HostCommand>> World<E, H> {
             (step_in (H.start host.now host_store))).entries)
             lines.old
             lines.new) }
-        ensures room { IfOk result (λ world. AreLeft
-            (rooms_before (E.store_room equipment_store) (H.store_room host_store) (E.store_fresh equipment_store))
-            false
-            (at_start E.machine H.machine
-            (step_in (E.start equipment.now equipment_store))
-            (step_in (H.start host.now host_store))).asked
-            (rooms E.room H.room E.fresh E.stopped world)) }
-        ensures stops { IfErr result (FaultsFor (HasHalted
-            (at_start E.machine H.machine
-            (step_in (E.start equipment.now equipment_store))
-            (step_in (H.start host.now host_store))).halts
-            (rooms_before (E.store_room equipment_store) (H.store_room host_store) (E.store_fresh equipment_store))
-            lines.old
-            lines.new)) }
     {
         let tool = match start_end::<E>(alloc, Side::Equipment, equipment, equipment_store, lines) {
             Ok(tool) => tool,
-            Err(fault) => return Err(fault),
+            Err(NoMemory) => return Err(NoMemory),
         };
         let user = match start_end::<H>(alloc, Side::Host, host, host_store, lines) {
             Ok(user) => user,
-            Err(fault) => return Err(fault),
+            Err(NoMemory) => return Err(NoMemory),
         };
         Ok(World {
             equipment: tool,
@@ -199,6 +163,7 @@ impl<E: End<Command = ToolCommand>, H: End<Command = HostCommand>> World<E, H> {
             moment: 0,
             steps: 0,
             cut: None,
+            is_cut: false,
             choice: CutChoice::Old,
         })
     }
@@ -235,13 +200,6 @@ impl<E: End<Command = ToolCommand>, H: End<Command = HostCommand>> World<E, H> {
             Puts piece.went (text_of piece.entries) lines.old lines.new result }
         ensures world { IfWent result (seen E.means H.means self.new
             ≡ (after_event E.machine H.machine event.now (seen E.means H.means self.old)).world) }
-        ensures room { let piece = after_event E.machine H.machine event.now (seen E.means H.means self.old) in
-            let had = rooms E.room H.room E.fresh E.stopped self.old in
-            let has = rooms E.room H.room E.fresh E.stopped self.new in
-            IfWent result (AreLeft had piece.anew piece.asked has) }
-        ensures stops { let piece = after_event E.machine H.machine event.now (seen E.means H.means self.old) in
-            let had = rooms E.room H.room E.fresh E.stopped self.old in
-            StopsFor (HasHalted piece.halts had lines.old lines.new) result }
         ensures powered { IsPowered result }
     {
         match event {
@@ -256,9 +214,8 @@ impl<E: End<Command = ToolCommand>, H: End<Command = HostCommand>> World<E, H> {
     // The next event ends the power.
     fn plan(&mut self, call: u32, choice: CutChoice)
         requires { E.loses }
-        ensures world { seen E.means H.means self.new
+        ensures { seen E.means H.means self.new
             ≡ record (seen E.means H.means self.old) { cut = Some call; choice = choice } }
-        ensures room { rooms E.room H.room E.fresh E.stopped self.new ≡ rooms E.room H.room E.fresh E.stopped self.old }
     {
         self.cut = Some(call);
         self.choice = choice;
@@ -272,8 +229,6 @@ impl<E: End<Command = ToolCommand>, H: End<Command = HostCommand>> World<E, H> {
             (IsDark E.anew E.machine.restart H.means)
             (met E.machine H.machine event.now self.old.cut (seen E.means H.means self.old))
             self.new
-            (rooms E.room H.room E.fresh E.stopped self.old)
-            (rooms E.room H.room E.fresh E.stopped self.new)
             lines.old lines.new result }
     {
         match self.cut {
@@ -297,14 +252,12 @@ impl<E: End<Command = ToolCommand>, H: End<Command = HostCommand>> World<E, H> {
             (IsDark E.anew E.machine.restart H.means)
             (met E.machine H.machine event.now (Some call) (seen E.means H.means self.old))
             self.new
-            (rooms E.room H.room E.fresh E.stopped self.old)
-            (rooms E.room H.room E.fresh E.stopped self.new)
             lines.old lines.new result }
     {
         self.arm(call);
         match self.carry(alloc, event, lines) {
             WorldStep::Went => {
-                self.tell_whole();
+                self.disarm();
                 self.start_over(alloc, lines)
             }
             WorldStep::PowerLost => self.start_over(alloc, lines),
@@ -312,12 +265,11 @@ impl<E: End<Command = ToolCommand>, H: End<Command = HostCommand>> World<E, H> {
         }
     }
 
-    // While its disk isn't stopped, the equipment would start anew from what it is.
-    fn tell_whole(&self)
-        ensures { E.stopped self.now.equipment ≡ false
-            → IsDark E.anew E.machine.restart H.means self.now (seen E.means H.means self.now) }
+    // Its disk hasn't come to that call, and comes to none any more: it would start anew from what it is.
+    fn disarm(&mut self)
+        ensures { IsDark E.anew E.machine.restart H.means self.new (seen E.means H.means self.old) }
     {
-        let _ = &self.equipment;
+        self.equipment.arm(0);
     }
 
     // The power goes in it only where a call of the disk is planned still.
@@ -328,8 +280,6 @@ impl<E: End<Command = ToolCommand>, H: End<Command = HostCommand>> World<E, H> {
             (IsDark E.anew E.machine.restart H.means)
             (met E.machine H.machine event.now None (seen E.means H.means self.old))
             self.new
-            (rooms E.room H.room E.fresh E.stopped self.old)
-            (rooms E.room H.room E.fresh E.stopped self.new)
             lines.old lines.new result }
     {
         match self.carry(alloc, event, lines) {
@@ -341,16 +291,10 @@ impl<E: End<Command = ToolCommand>, H: End<Command = HostCommand>> World<E, H> {
     // It is to go at this call of the equipment's disk.
     fn arm(&mut self, call: u32)
         requires { E.loses }
-        ensures world { seen E.means H.means self.new ≡ (armed call (seen E.means H.means self.old)).world }
-        ensures room { AreLeft
-            (rooms E.room H.room E.fresh E.stopped self.old)
-            false
-            asked_of_none
-            (rooms E.room H.room E.fresh E.stopped self.new) }
-        ensures going { E.stopped self.new.equipment ≡ false }
+        ensures { seen E.means H.means self.new ≡ (armed call (seen E.means H.means self.old)).world }
     {
         self.cut = None;
-        self.equipment.arm(call);
+        self.is_cut = self.equipment.arm(call);
     }
 
     // The equipment has no power: it starts anew, and makes a step.
@@ -362,8 +306,6 @@ impl<E: End<Command = ToolCommand>, H: End<Command = HostCommand>> World<E, H> {
             (IsDark E.anew E.machine.restart H.means)
             (without E.machine H.machine left)
             self.new
-            (rooms E.room H.room E.fresh E.stopped self.old)
-            (rooms E.room H.room E.fresh E.stopped self.new)
             lines.old lines.new result }
     {
         match self.start_anew(alloc, lines) {
@@ -382,11 +324,10 @@ impl<E: End<Command = ToolCommand>, H: End<Command = HostCommand>> World<E, H> {
             (IsDark E.anew E.machine.restart H.means)
             (again E.machine H.machine left)
             self.new
-            (rooms E.room H.room E.fresh E.stopped self.old)
-            (rooms E.room H.room E.fresh E.stopped self.new)
             lines.old lines.new result }
     {
         empty_line(&mut self.ways);
+        self.is_cut = false;
         restart_end(alloc, self.moment, self.choice, &mut self.equipment, lines)
     }
 
@@ -398,8 +339,6 @@ impl<E: End<Command = ToolCommand>, H: End<Command = HostCommand>> World<E, H> {
             (IsDark E.anew E.machine.restart H.means)
             (happened E.machine H.machine event.now (seen E.means H.means self.old))
             self.new
-            (rooms E.room H.room E.fresh E.stopped self.old)
-            (rooms E.room H.room E.fresh E.stopped self.new)
             lines.old lines.new result }
     {
         match event {
@@ -436,8 +375,6 @@ impl<E: End<Command = ToolCommand>, H: End<Command = HostCommand>> World<E, H> {
             (IsDark E.anew E.machine.restart H.means)
             (given_times E.machine H.machine n side (seen E.means H.means self.old))
             self.new
-            (rooms E.room H.room E.fresh E.stopped self.old)
-            (rooms E.room H.room E.fresh E.stopped self.new)
             lines.old lines.new result }
     {
         let mut left = n;
@@ -461,8 +398,6 @@ impl<E: End<Command = ToolCommand>, H: End<Command = HostCommand>> World<E, H> {
             (IsDark E.anew E.machine.restart H.means)
             (settled_times E.machine H.machine n (seen E.means H.means self.old))
             self.new
-            (rooms E.room H.room E.fresh E.stopped self.old)
-            (rooms E.room H.room E.fresh E.stopped self.new)
             lines.old lines.new result }
     {
         let mut left = n;
@@ -486,8 +421,6 @@ impl<E: End<Command = ToolCommand>, H: End<Command = HostCommand>> World<E, H> {
             (IsDark E.anew E.machine.restart H.means)
             (settled E.machine H.machine (seen E.means H.means self.old))
             self.new
-            (rooms E.room H.room E.fresh E.stopped self.old)
-            (rooms E.room H.room E.fresh E.stopped self.new)
             lines.old lines.new result }
     {
         if self.is_under_way(Side::Equipment) {
@@ -519,8 +452,6 @@ impl<E: End<Command = ToolCommand>, H: End<Command = HostCommand>> World<E, H> {
             (IsDark E.anew E.machine.restart H.means)
             (given E.machine H.machine side (seen E.means H.means self.old))
             self.new
-            (rooms E.room H.room E.fresh E.stopped self.old)
-            (rooms E.room H.room E.fresh E.stopped self.new)
             lines.old lines.new result }
     {
         let Some(byte) = self.ways.next(side) else {
@@ -540,8 +471,6 @@ impl<E: End<Command = ToolCommand>, H: End<Command = HostCommand>> World<E, H> {
             (IsDark E.anew E.machine.restart H.means)
             (both_stepped E.machine H.machine (later milliseconds (seen E.means H.means self.old)))
             self.new
-            (rooms E.room H.room E.fresh E.stopped self.old)
-            (rooms E.room H.room E.fresh E.stopped self.new)
             lines.old lines.new result }
     {
         match self.step_equipment(alloc, milliseconds, NodeInput::Time, lines) {
@@ -566,8 +495,6 @@ impl<E: End<Command = ToolCommand>, H: End<Command = HostCommand>> World<E, H> {
             (equipment_stepped E.machine H.machine (input_of input.entry)
             (later milliseconds (seen E.means H.means self.old)))
             self.new
-            (rooms E.room H.room E.fresh E.stopped self.old)
-            (rooms E.room H.room E.fresh E.stopped self.new)
             lines.old lines.new result }
     {
         if self.steps == MOST_STEPS {
@@ -579,6 +506,7 @@ impl<E: End<Command = ToolCommand>, H: End<Command = HostCommand>> World<E, H> {
             alloc,
             self.moment,
             Side::Equipment,
+            self.is_cut,
             input,
             &mut self.equipment,
             &mut self.ways,
@@ -599,8 +527,6 @@ impl<E: End<Command = ToolCommand>, H: End<Command = HostCommand>> World<E, H> {
             (IsDark E.anew E.machine.restart H.means)
             (host_stepped E.machine H.machine (input_of input.entry) (seen E.means H.means self.old))
             self.new
-            (rooms E.room H.room E.fresh E.stopped self.old)
-            (rooms E.room H.room E.fresh E.stopped self.new)
             lines.old lines.new result }
     {
         if self.steps == MOST_STEPS {
@@ -611,6 +537,7 @@ impl<E: End<Command = ToolCommand>, H: End<Command = HostCommand>> World<E, H> {
             alloc,
             self.moment,
             Side::Host,
+            false,
             input,
             &mut self.host,
             &mut self.ways,
@@ -665,23 +592,20 @@ fn start_end<E: End>(
     plan: &E::Plan,
     store: E::Store,
     lines: &mut Row<u8>,
-) -> Result<E, WorldFault>
+) -> Result<E, NoMemory>
     requires fits { E.fits plan.now }
     requires store { E.holds store }
     requires opens { Opens (E.start plan.now store) }
     ensures end { IfOk result (λ end. E.means end ≡ (step_in (E.start plan.now store)).next) }
     ensures sound { IfOk result (λ end. E.sound end) }
-    ensures armed { IfOk result (λ end. E.armed end ≡ 0) }
+    ensures planned { IfOk result (λ end. E.planned end ≡ calls_left E.machine (E.means end)) }
     ensures going { IfOk result (λ end. E.stopped end ≡ false) }
-    ensures fresh { IfOk result (λ end. E.fresh end ≡ E.store_fresh store) }
     ensures lines { OnOk result (lines.new
         ≡ lines.old ++ text_of (entries_of side 0 (step_in (E.start plan.now store)).notes)) }
     ensures part { OnErr result (PutPart
         (text_of (entries_of side 0 (step_in (E.start plan.now store)).notes))
         lines.old
         lines.new) }
-    ensures room { IfOk result (λ end. IsLeft (E.store_room store) E.machine.start_asks (E.room end)) }
-    ensures stops { IfErr result (FaultsFor (IsNotStarted E.machine (E.store_room store) lines.old lines.new)) }
 {
     notes_are_lines();
     let mut out = StepOut {
@@ -690,12 +614,12 @@ fn start_end<E: End>(
     };
     let end = match E::start(alloc, plan, store, &mut out) {
         Ok(end) => end,
-        Err(Stop::NoMemory) => return Err(WorldFault::NoMemory),
-        Err(Stop::DiskFailed) => return Err(WorldFault::DiskFailed),
+        Err(Stop::NoMemory) => return Err(NoMemory),
+        Err(Stop::DiskFailed) => unreachable!("no start is stopped by its disk"),
         Err(Stop::NumbersSpent) => unreachable!("there are numbers to start with"),
     };
     let Ok(()) = put_notes(0, side, out.notes.as_slice(), lines) else {
-        return Err(WorldFault::NoMemory);
+        return Err(NoMemory);
     };
     Ok(end)
 }

@@ -1,7 +1,7 @@
 use Rattle.std.proofs.Common.{drop}
 use Rattle.gl_base.specs.Told.{sink_told}
 use Rattle.message_end.specs.Core.{step_in}
-use Rattle.end_pair.specs.Kept.{rooms, rooms_before, seen}
+use Rattle.end_pair.specs.Kept.{seen}
 use Rattle.end_pair.specs.Run.{piece_of}
 use Rattle.end_pair.specs.World.{after_events}
 use Rattle.end_pair.proofs.Progress.{IsAt}
@@ -14,6 +14,4 @@ invariant-events g l =
     IsAt (piece_of e.machine h.machine (step_in (e.start l.equipment l.fn.equipment_store))
     (step_in (h.start l.host l.fn.host_store)) l.schedule.events)
     (after_events e.machine h.machine (drop l.event-index l.schedule.events) (seen e.means h.means l.world))
-    (rooms_before (e.store_room l.fn.equipment_store) (h.store_room l.fn.host_store)
-    (e.store_fresh l.fn.equipment_store)) (rooms e.room h.room e.fresh e.stopped l.world)
     l.lines l.page.bytes.items (sink_told g.W.Sink l.fn.out l.out)

@@ -2,13 +2,13 @@ use Rattle.std.proofs.Common.{◌≡◌, ◌++◌, List, Err, subst}
 use Rattle.std.specs.List.{flat_map}
 use Rattle.gl_base.specs.declared.side.Side.TheVariants.{Equipment}
 use Rattle.message_end.specs.Core.{step_in}
-use Rattle.message_end.specs.Ends.{Leaves, Uses}
+use Rattle.message_end.specs.Ends.{Leaves}
 use Rattle.message_end.specs.declared.end.Stop.{Stop}
 use Rattle.message_flow.specs.declared.step.Note.{Note}
 use Rattle.trace_log.specs.Text.{note_line}
 use Rattle.end_pair.specs.Kept.{PutPart, Puts}
 use Rattle.end_pair.specs.declared.answers.WorldStep.TheVariants as answer
-use Rattle.end_pair.proofs.Restarting.{again_goes, again_part, again_spent, again_stopped, power_first, power_none}
+use Rattle.end_pair.proofs.Restarting.{again_goes, again_part, again_spent, power_first, power_none}
 use Rattle.end_pair.proofs.step.restart_end.Goals as goal
 
 pub returns-in_default-clause-lines : goal.returns-in_default-clause-lines
@@ -30,23 +30,6 @@ returns-in-Err-NumbersSpent-clause-lines g c =
     Puts answer.NumbersSpent (flat_map (note_line c.args.now Equipment) notes) c.put_power.new.lines
     c.put_spent.new.lines c.put_spent.result)
     c.as_slice.ensures c.put_spent.ensures.puts)
-
-pub returns-in-Err-DiskFailed-clause-lines : goal.returns-in-Err-DiskFailed-clause-lines
-returns-in-Err-DiskFailed-clause-lines g c =
-    power_first c.notes_are_lines.ensures c.args.now
-    (step_in (g.E.End.anew c.args.end.now c.args.choice c.args.now)).notes c.args.lines.now c.put_power.new.lines
-    c.in-Ok.ensures.ok
-
-pub returns-in-Err-DiskFailed-clause-stops : goal.returns-in-Err-DiskFailed-clause-stops
-returns-in-Err-DiskFailed-clause-stops g c =
-    let e = g.E.End in
-    let went = e.anew c.args.end.now c.args.choice c.args.now in
-    again_stopped c.notes_are_lines.ensures c.args.now e.machine went c.restart.new.out (e.fresh c.args.end.now)
-    c.args.lines.now c.put_power.new.lines c.in-Ok.ensures.ok
-    (subst (λ (why : Stop). Leaves e.machine.start_stops went (e.means c.restart.new.self) c.restart.new.out (Err why))
-    c.in-Err-DiskFailed.field-0-is c.in-Err-DiskFailed.ensures.start)
-    (subst (λ (why : Stop). Uses (e.fresh c.args.end.now) e.machine.start_asks (e.room c.restart.new.self) (Err why))
-    c.in-Err-DiskFailed.field-0-is c.in-Err-DiskFailed.ensures.room)
 
 pub returns-in-Err-NoMemory-clause-lines : goal.returns-in-Err-NoMemory-clause-lines
 returns-in-Err-NoMemory-clause-lines g c =

@@ -2,10 +2,8 @@ use Rattle.std.proofs.Common.{◌++◌, List, ℕ, ap, append_assoc, subst, sym,
 use Rattle.gl_base.specs.declared.side.Side.TheVariants.{Equipment, Host}
 use Rattle.message_end.specs.Core.{step_in}
 use Rattle.trace_log.specs.Text.{text_of}
-use Rattle.end_pair.specs.Kept.{PutPart, rooms_before}
+use Rattle.end_pair.specs.Kept.{PutPart}
 use Rattle.end_pair.specs.Steps.{entries_of}
-use Rattle.end_pair.proofs.Halts.{start_first, start_second}
-use Rattle.end_pair.proofs.Opening.{faults_more}
 use Rattle.end_pair.proofs.Pieces.{put_before, put_behind}
 use Rattle.end_pair.proofs.Texts.{start_text}
 use Rattle.end_pair.proofs.world.World.at_start.Goals as goal
@@ -18,17 +16,6 @@ returns-in-Err-clause-part g c =
     (put_before (text_of (entries_of Equipment 0 e)) (text_of (entries_of Host 0 h)) c.args.lines.now
     c.start_end.new.lines c.in-Err.ensures.part)
 
-pub returns-in-Err-clause-stops : goal.returns-in-Err-clause-stops
-returns-in-Err-clause-stops g c =
-    let e = g.E.End in
-    let h = g.H.End in
-    faults_more
-    (start_first e.machine h.machine (step_in (e.start c.args.equipment.now c.args.equipment_store))
-    (step_in (h.start c.args.host.now c.args.host_store))
-    (rooms_before (e.store_room c.args.equipment_store) (h.store_room c.args.host_store)
-    (e.store_fresh c.args.equipment_store)) c.args.lines.now c.start_end.new.lines)
-    c.in-Err.fault c.in-Err.ensures.stops
-
 pub returns-in-Err-start_end-clause-part : goal.returns-in-Err-start_end-clause-part
 returns-in-Err-start_end-clause-part g c =
     let e = (step_in (g.E.End.start c.args.equipment.now c.args.equipment_store)).notes in
@@ -37,19 +24,6 @@ returns-in-Err-start_end-clause-part g c =
     (put_behind (text_of (entries_of Equipment 0 e)) (text_of (entries_of Host 0 h)) c.args.lines.now
     c.start_end.new.lines c.start_end-2.new.lines
     c.in-Ok.ensures.lines c.in-Err-start_end.ensures.part)
-
-pub returns-in-Err-start_end-clause-stops : goal.returns-in-Err-start_end-clause-stops
-returns-in-Err-start_end-clause-stops g c =
-    let e = g.E.End in
-    let h = g.H.End in
-    faults_more
-    (start_second e.machine h.machine (step_in (e.start c.args.equipment.now c.args.equipment_store))
-    (step_in (h.start c.args.host.now c.args.host_store))
-    (rooms_before (e.store_room c.args.equipment_store) (h.store_room c.args.host_store)
-    (e.store_fresh c.args.equipment_store)) c.args.lines.now c.start_end.new.lines
-    c.start_end-2.new.lines
-    c.in-Ok.ensures.lines)
-    c.in-Err-start_end.fault c.in-Err-start_end.ensures.stops
 
 pub returns-clause-lines : goal.returns-clause-lines
 returns-clause-lines g c =

@@ -1,5 +1,5 @@
 use Rattle.std.proofs.Common.{◌≡◌, ◌+◌, ◌-◌, sym, ◌∙◌, arith}
-use Rattle.end_pair.specs.Kept.{IsDark, rooms, seen}
+use Rattle.end_pair.specs.Kept.{IsDark, seen}
 use Rattle.end_pair.specs.World.{given_times}
 use Rattle.end_pair.proofs.Times.{gives_times, times_done, times_on, times_over, times_stop}
 use Rattle.end_pair.proofs.world.World.give.Goals as goal
@@ -8,11 +8,8 @@ pub returns-then-not-is_under_way : goal.returns-then-not-is_under_way
 returns-then-not-is_under_way g c =
     let e = g.E.End in
     let h = g.H.End in
-    times_done (seen e.means h.means) (IsDark e.anew e.machine.restart h.means)
-    (gives_times e.machine h.machine c.args.side) c.characters.left c.characters.self
-    (rooms e.room h.room e.fresh e.stopped c.characters.self) c.characters.lines
-    (given_times e.machine h.machine c.args.n c.args.side (seen e.means h.means c.args.self.now))
-    (rooms e.room h.room e.fresh e.stopped c.args.self.now) c.args.lines.now
+    times_done (seen e.means h.means) (IsDark e.anew e.machine.restart h.means) (gives_times e.machine h.machine c.args.side) c.characters.left
+    c.characters.self c.characters.lines (given_times e.machine h.machine c.args.n c.args.side (seen e.means h.means c.args.self.now)) c.args.lines.now
     (sym c.is_under_way.ensures ∙ c.if-not-is_under_way.true) c.characters.invariant
 
 pub returns-in_default : goal.returns-in_default
@@ -20,13 +17,9 @@ returns-in_default g c =
     let e = g.E.End in
     let h = g.H.End in
     let left : c.characters.left ≡ (c.characters.left - 1) + 1 = omega (arith, c.characters-test.true) in
-    times_stop (seen e.means h.means) (IsDark e.anew e.machine.restart h.means)
-    (gives_times e.machine h.machine c.args.side) c.characters.left (c.characters.left - 1) c.characters.self
-    c.hand.new.self
-    (rooms e.room h.room e.fresh e.stopped c.characters.self) (rooms e.room h.room e.fresh e.stopped c.hand.new.self)
-    c.characters.lines c.hand.new.lines c.hand.result
-    (given_times e.machine h.machine c.args.n c.args.side (seen e.means h.means c.args.self.now))
-    (rooms e.room h.room e.fresh e.stopped c.args.self.now) c.args.lines.now left
+    times_stop (seen e.means h.means) (IsDark e.anew e.machine.restart h.means) (gives_times e.machine h.machine c.args.side) c.characters.left
+    (c.characters.left - 1) c.characters.self c.hand.new.self c.characters.lines c.hand.new.lines c.hand.result
+    (given_times e.machine h.machine c.args.n c.args.side (seen e.means h.means c.args.self.now)) c.args.lines.now left
     c.in_default.not-Went c.hand.ensures c.characters.invariant
 
 pub characters-preserved : goal.characters-preserved
@@ -34,23 +27,16 @@ characters-preserved g c =
     let e = g.E.End in
     let h = g.H.End in
     let left : c.characters.left ≡ (c.characters.left - 1) + 1 = omega (arith, c.characters-test.true) in
-    times_on (seen e.means h.means) (IsDark e.anew e.machine.restart h.means)
-    (gives_times e.machine h.machine c.args.side) c.characters.left (c.characters.left - 1) c.characters.self
-    c.hand.new.self
-    (rooms e.room h.room e.fresh e.stopped c.characters.self) (rooms e.room h.room e.fresh e.stopped c.hand.new.self)
-    c.characters.lines c.hand.new.lines
-    (given_times e.machine h.machine c.args.n c.args.side (seen e.means h.means c.args.self.now))
-    (rooms e.room h.room e.fresh e.stopped c.args.self.now) c.args.lines.now left c.in-Went.ensures
-    c.characters.invariant
+    times_on (seen e.means h.means) (IsDark e.anew e.machine.restart h.means) (gives_times e.machine h.machine c.args.side) c.characters.left
+    (c.characters.left - 1) c.characters.self c.hand.new.self c.characters.lines c.hand.new.lines
+    (given_times e.machine h.machine c.args.n c.args.side (seen e.means h.means c.args.self.now)) c.args.lines.now left
+    c.in-Went.ensures c.characters.invariant
 
 pub returns : goal.returns
 returns g c =
     let e = g.E.End in
     let h = g.H.End in
     let over : c.characters.left ≡ 0 = omega (arith, c.characters-test.false) in
-    times_over (seen e.means h.means) (IsDark e.anew e.machine.restart h.means)
-    (gives_times e.machine h.machine c.args.side) c.characters.left c.characters.self
-    (rooms e.room h.room e.fresh e.stopped c.characters.self) c.characters.lines
-    (given_times e.machine h.machine c.args.n c.args.side (seen e.means h.means c.args.self.now))
-    (rooms e.room h.room e.fresh e.stopped c.args.self.now) c.args.lines.now over
+    times_over (seen e.means h.means) (IsDark e.anew e.machine.restart h.means) (gives_times e.machine h.machine c.args.side) c.characters.left
+    c.characters.self c.characters.lines (given_times e.machine h.machine c.args.n c.args.side (seen e.means h.means c.args.self.now)) c.args.lines.now over
     c.characters.invariant

@@ -1,5 +1,5 @@
-use Rattle.std.proofs.Common.{refl, subst}
-use Rattle.end_pair.specs.Kept.{Comes, IsDark, rooms, seen}
+use Rattle.std.proofs.Common.{false, subst}
+use Rattle.end_pair.specs.Kept.{Comes, IsDark, seen}
 use Rattle.end_pair.specs.World.{World, again}
 use Rattle.end_pair.proofs.Anew.{again_comes}
 use Rattle.end_pair.proofs.world.World.start_anew.Goals as goal
@@ -15,7 +15,9 @@ returns g c =
       moment = c.self.inside.moment;
       steps = c.self.inside.steps;
       cut = c.self.inside.cut;
-      call = e.armed c.self.inside.equipment;
+      left = e.planned c.self.inside.equipment;
+      host_left = h.planned c.self.inside.host;
+      is_cut = c.self.inside.is_cut;
       choice = c.self.inside.choice;
     }
     in
@@ -26,18 +28,17 @@ returns g c =
       moment = c.self.inside.moment;
       steps = c.self.inside.steps;
       cut = c.self.inside.cut;
-      call = e.armed c.restart_end.new.end;
+      left = e.planned c.restart_end.new.end;
+      host_left = h.planned c.self.inside.host;
+      is_cut = false;
       choice = c.self.inside.choice;
     }
     in
     subst (λ (w : World _ _).
     (left : World e.State h.State) → IsDark e.anew e.machine.restart h.means w left
     → Comes (seen e.means h.means) (IsDark e.anew e.machine.restart h.means) (again e.machine h.machine left) now
-    (rooms e.room h.room e.fresh e.stopped w) (rooms e.room h.room e.fresh e.stopped now) c.args.lines.now
-    c.restart_end.new.lines c.restart_end.result) c.self.view_is
+    c.args.lines.now c.restart_end.new.lines c.restart_end.result) c.self.view_is
     (λ left dark.
     again_comes e.means h.means e.anew e.machine h.machine was left dark c.restart_end.new.end c.empty_line.new.ways
-    (e.armed c.restart_end.new.end) c.empty_line.ensures.ways (rooms e.room h.room e.fresh e.stopped was)
-    (rooms e.room h.room e.fresh e.stopped now) c.args.lines.now c.restart_end.new.lines c.restart_end.result
-    c.restart_end.ensures.lines c.restart_end.ensures.end c.restart_end.ensures.armed c.restart_end.ensures.going
-    c.restart_end.ensures.room c.restart_end.ensures.stops c.restart_end.ensures.fresh refl)
+    (e.planned c.restart_end.new.end) c.empty_line.ensures.ways c.args.lines.now c.restart_end.new.lines
+    c.restart_end.result c.restart_end.ensures.lines c.restart_end.ensures.end c.restart_end.ensures.planned)

@@ -1,6 +1,6 @@
 use Rattle.std.proofs.Common.{◌≡◌, ◌+◌, ℕ, ap, arith, subst}
 use Rattle.message_end.specs.Ends.Input.{Time}
-use Rattle.end_pair.specs.Kept.{Comes, IsDark, rooms, seen}
+use Rattle.end_pair.specs.Kept.{Comes, IsDark, seen}
 use Rattle.end_pair.specs.World.{World, again, equipment_stepped, later}
 use Rattle.end_pair.proofs.Pieces.{comes_more, comes_stop}
 use Rattle.end_pair.proofs.world.World.start_over.Goals as goal
@@ -10,9 +10,7 @@ returns-in_default g c = λ left dark.
     let e = g.E.End in
     let h = g.H.End in
     comes_stop (seen e.means h.means) (IsDark e.anew e.machine.restart h.means) (again e.machine h.machine left)
-    (equipment_stepped e.machine h.machine Time) c.start_anew.new.self
-    (rooms e.room h.room e.fresh e.stopped c.args.self.now)
-    (rooms e.room h.room e.fresh e.stopped c.start_anew.new.self) c.args.lines.now c.start_anew.new.lines
+    (equipment_stepped e.machine h.machine Time) c.start_anew.new.self c.args.lines.now c.start_anew.new.lines
     c.start_anew.result c.in_default.not-Went (c.start_anew.ensures left dark)
 
 pub returns : goal.returns
@@ -23,15 +21,10 @@ returns g c = λ left dark.
     let zero_more : now.moment + 0 ≡ now.moment = omega arith in
     let same : later 0 now ≡ now = ap (λ (m : ℕ). record now { moment = m }) zero_more in
     comes_more (seen e.means h.means) (IsDark e.anew e.machine.restart h.means) (again e.machine h.machine left)
-    (equipment_stepped e.machine h.machine Time) c.start_anew.new.self c.step_equipment.new.self
-    (rooms e.room h.room e.fresh e.stopped c.args.self.now)
-    (rooms e.room h.room e.fresh e.stopped c.start_anew.new.self)
-    (rooms e.room h.room e.fresh e.stopped c.step_equipment.new.self) c.args.lines.now c.start_anew.new.lines
-    c.step_equipment.new.lines c.step_equipment.result (c.in-Went.ensures left dark)
+    (equipment_stepped e.machine h.machine Time) c.start_anew.new.self c.step_equipment.new.self c.args.lines.now
+    c.start_anew.new.lines c.step_equipment.new.lines c.step_equipment.result (c.in-Went.ensures left dark)
     (subst (λ (w : World e.State h.State).
     Comes (seen e.means h.means) (IsDark e.anew e.machine.restart h.means)
     (equipment_stepped e.machine h.machine Time w)
-    c.step_equipment.new.self (rooms e.room h.room e.fresh e.stopped c.start_anew.new.self)
-    (rooms e.room h.room e.fresh e.stopped c.step_equipment.new.self) c.start_anew.new.lines
-    c.step_equipment.new.lines c.step_equipment.result)
+    c.step_equipment.new.self c.start_anew.new.lines c.step_equipment.new.lines c.step_equipment.result)
     same c.step_equipment.ensures)

@@ -1,39 +1,23 @@
-use Rattle.std.proofs.Common.{◌≡◌, false, sym, subst}
-use Rattle.line_schedule.specs.declared.event.Event.{Event}
+use Rattle.std.proofs.Common.{◌≡◌, sym, subst}
 use Rattle.trace_log.specs.Text.{text_of}
-use Rattle.end_pair.specs.Kept.{AreLeft, AreLost, Comes, IsDark, Rooms, rooms, seen}
-use Rattle.end_pair.specs.World.{Piece, after_event, asked_of_none}
+use Rattle.end_pair.specs.Kept.{Comes, IsDark, seen}
+use Rattle.end_pair.specs.World.{Piece, after_event}
 use Rattle.end_pair.proofs.Ending.{meets, powered_by}
-use Rattle.end_pair.proofs.Halts.{left_all}
 use Rattle.end_pair.proofs.Pieces.{went_of}
 use Rattle.end_pair.proofs.Powered.{event-powered}
 use Rattle.end_pair.proofs.world.World.step.Goals as goal
-
-pub returns-in-Cut-clause-room : goal.returns-in-Cut-clause-room
-returns-in-Cut-clause-room g c =
-    let e = g.E.End in
-    let h = g.H.End in
-    let was = seen e.means h.means c.args.self.now in
-    let had = rooms e.room h.room e.fresh e.stopped c.args.self.now in
-    let has = rooms e.room h.room e.fresh e.stopped c.plan.new.self in
-    subst (λ (event : Event).
-    AreLeft had (after_event e.machine h.machine event was).anew (after_event e.machine h.machine event was).asked has)
-    (sym c.in-Cut.is)
-    (subst (λ (room : Rooms). AreLeft had false asked_of_none room) (sym c.plan.ensures.room) (left_all had))
 
 pub returns-in_default : goal.returns-in_default
 returns-in_default g c =
     let e = g.E.End in
     let h = g.H.End in
     let was = seen e.means h.means c.args.self.now in
-    let had = rooms e.room h.room e.fresh e.stopped c.args.self.now in
-    let has = rooms e.room h.room e.fresh e.stopped c.meet.new.self in
     let piece = after_event e.machine h.machine c.args.event.now was in
-    let comes : Comes (seen e.means h.means) (IsDark e.anew e.machine.restart h.means) piece c.meet.new.self had has
+    let comes : Comes (seen e.means h.means) (IsDark e.anew e.machine.restart h.means) piece c.meet.new.self
     c.args.lines.now c.meet.new.lines c.meet.result =
     subst (λ (p : Piece e.State h.State).
-    Comes (seen e.means h.means) (IsDark e.anew e.machine.restart h.means) p c.meet.new.self had has
-    c.args.lines.now c.meet.new.lines c.meet.result)
+    Comes (seen e.means h.means) (IsDark e.anew e.machine.restart h.means) p c.meet.new.self c.args.lines.now
+    c.meet.new.lines c.meet.result)
     (sym (meets e.means h.means e.anew e.machine h.machine c.args.event.now was c.in_default.not-Cut)) c.meet.ensures
     in
     record {
@@ -41,9 +25,6 @@ returns-in_default g c =
       world =
           went_of (seen e.means h.means c.meet.new.self ≡ piece.world)
           (IsDark e.anew e.machine.restart h.means c.meet.new.self piece.world) c.meet.result comes.world;
-      room =
-          went_of (AreLeft had piece.anew piece.asked has) (AreLost had piece.asked has) c.meet.result comes.room;
-      stops = comes.stops;
       powered =
           powered_by piece.went (text_of piece.entries) c.args.lines.now c.meet.new.lines c.meet.result
           (event-powered e.machine h.machine c.args.event.now was) comes.puts;

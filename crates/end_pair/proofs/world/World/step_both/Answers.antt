@@ -1,5 +1,5 @@
 use Rattle.message_end.specs.Ends.Input.{Time}
-use Rattle.end_pair.specs.Kept.{IsDark, rooms, seen}
+use Rattle.end_pair.specs.Kept.{IsDark, seen}
 use Rattle.end_pair.specs.World.{equipment_stepped, host_stepped, later}
 use Rattle.end_pair.proofs.Pieces.{comes_more, comes_stop}
 use Rattle.end_pair.proofs.world.World.step_both.Goals as goal
@@ -10,11 +10,8 @@ returns-in-Went g c =
     let h = g.H.End in
     comes_more (seen e.means h.means) (IsDark e.anew e.machine.restart h.means)
     (equipment_stepped e.machine h.machine Time (later c.args.milliseconds (seen e.means h.means c.args.self.now)))
-    (host_stepped e.machine h.machine Time) c.step_equipment.new.self c.step_host.new.self
-    (rooms e.room h.room e.fresh e.stopped c.args.self.now)
-    (rooms e.room h.room e.fresh e.stopped c.step_equipment.new.self)
-    (rooms e.room h.room e.fresh e.stopped c.step_host.new.self) c.args.lines.now c.step_equipment.new.lines
-    c.step_host.new.lines c.step_host.result c.in-Went.ensures c.step_host.ensures
+    (host_stepped e.machine h.machine Time) c.step_equipment.new.self c.step_host.new.self c.args.lines.now
+    c.step_equipment.new.lines c.step_host.new.lines c.step_host.result c.in-Went.ensures c.step_host.ensures
 
 pub returns-in_default : goal.returns-in_default
 returns-in_default g c =
@@ -22,7 +19,5 @@ returns-in_default g c =
     let h = g.H.End in
     comes_stop (seen e.means h.means) (IsDark e.anew e.machine.restart h.means)
     (equipment_stepped e.machine h.machine Time (later c.args.milliseconds (seen e.means h.means c.args.self.now)))
-    (host_stepped e.machine h.machine Time) c.step_equipment.new.self
-    (rooms e.room h.room e.fresh e.stopped c.args.self.now)
-    (rooms e.room h.room e.fresh e.stopped c.step_equipment.new.self) c.args.lines.now c.step_equipment.new.lines
+    (host_stepped e.machine h.machine Time) c.step_equipment.new.self c.args.lines.now c.step_equipment.new.lines
     c.step_equipment.result c.in_default.not-Went c.step_equipment.ensures

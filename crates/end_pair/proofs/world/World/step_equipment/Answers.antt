@@ -1,6 +1,6 @@
-use Rattle.std.proofs.Common.{◌+◌, ℕ, refl, sym, ap, subst, ◌∙◌}
+use Rattle.std.proofs.Common.{◌+◌, ℕ, sym, ap, subst, ◌∙◌}
 use Rattle.message_end.specs.Ends.{input_of}
-use Rattle.end_pair.specs.Kept.{Comes, IsDark, rooms, seen}
+use Rattle.end_pair.specs.Kept.{Comes, IsDark, seen}
 use Rattle.end_pair.specs.World.{World, equipment_stepped, later}
 use Rattle.end_pair.proofs.Turning.{equipment_comes, equipment_out}
 use Rattle.end_pair.proofs.world.World.step_equipment.Goals as goal
@@ -11,7 +11,6 @@ returns-then-self-eq-MOST_STEPS g c =
     let h = g.H.End in
     equipment_out (seen e.means h.means) (IsDark e.anew e.machine.restart h.means) e.machine h.machine
     (input_of c.args.input) (later c.args.milliseconds (seen e.means h.means c.args.self.now)) c.args.self.now
-    (rooms e.room h.room e.fresh e.stopped c.args.self.now) (rooms e.room h.room e.fresh e.stopped c.args.self.now)
     c.args.lines.now
     (ap (λ (w : World _ _). w.steps) (sym c.self.view_is) ∙ c.if-self-eq-MOST_STEPS.true)
 
@@ -26,7 +25,9 @@ returns g c =
       moment = c.self.inside.moment;
       steps = c.self.inside.steps;
       cut = c.self.inside.cut;
-      call = e.armed c.self.inside.equipment;
+      left = e.planned c.self.inside.equipment;
+      host_left = h.planned c.self.inside.host;
+      is_cut = c.self.inside.is_cut;
       choice = c.self.inside.choice;
     }
     in
@@ -37,7 +38,9 @@ returns g c =
       moment = c.self.inside.moment + c.from.result;
       steps = c.self.inside.steps + 1;
       cut = c.self.inside.cut;
-      call = e.armed c.step_end.new.end;
+      left = e.planned c.step_end.new.end;
+      host_left = h.planned c.self.inside.host;
+      is_cut = c.self.inside.is_cut;
       choice = c.self.inside.choice;
     }
     in
@@ -45,18 +48,13 @@ returns g c =
     Comes (seen e.means h.means) (IsDark e.anew e.machine.restart h.means)
     (equipment_stepped e.machine h.machine (input_of c.args.input)
     (later c.args.milliseconds (seen e.means h.means w)))
-    now (rooms e.room h.room e.fresh e.stopped w) (rooms e.room h.room e.fresh e.stopped now) c.args.lines.now
-    c.step_end.new.lines c.step_end.result) c.self.view_is
+    now c.args.lines.now c.step_end.new.lines c.step_end.result) c.self.view_is
     (subst (λ (ms : ℕ).
     Comes (seen e.means h.means) (IsDark e.anew e.machine.restart h.means)
     (equipment_stepped e.machine h.machine (input_of c.args.input) (later ms (seen e.means h.means was)))
-    now (rooms e.room h.room e.fresh e.stopped was) (rooms e.room h.room e.fresh e.stopped now) c.args.lines.now
-    c.step_end.new.lines c.step_end.result) c.from.ensures
+    now c.args.lines.now c.step_end.new.lines c.step_end.result) c.from.ensures
     (equipment_comes e.means h.means e.anew e.machine h.machine (input_of c.args.input) was
-    (c.self.inside.moment + c.from.result) c.step_end.new.end c.step_end.new.ways (e.armed c.step_end.new.end)
-    (rooms e.room h.room e.fresh e.stopped was) (rooms e.room h.room e.fresh e.stopped now) c.args.lines.now
-    c.step_end.new.lines c.step_end.result c.if-self-eq-MOST_STEPS.false
-    (c.step_end.ensures.lines was.choice) (c.step_end.ensures.end was.choice) (c.step_end.ensures.ways was.choice)
-    (c.step_end.ensures.near was.choice) (c.step_end.ensures.room was.choice) c.step_end.ensures.going refl
-    c.step_end.ensures.fresh
-    (c.step_end.ensures.stops was.choice (rooms e.room h.room e.fresh e.stopped was) refl)))
+    (c.self.inside.moment + c.from.result) c.step_end.new.end c.step_end.new.ways (e.planned c.step_end.new.end)
+    c.args.lines.now c.step_end.new.lines c.step_end.result c.if-self-eq-MOST_STEPS.false
+    (c.step_end.ensures.lines was.choice)
+    (c.step_end.ensures.end was.choice, c.step_end.ensures.ways was.choice, c.step_end.ensures.planned was.choice)))
