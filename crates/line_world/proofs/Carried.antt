@@ -1,21 +1,17 @@
 -- Events that are carried out one after the other, as their lines are counted.
 use Rattle.std.proofs.Common.{◌≡◌, ◌≢◌, ◌++◌, ℕ, List, [], ◌∷◌, refl, sym, ap, subst, ◌∙◌, append-nil, Result, Ok, Err}
-use Rattle.end_pair.specs.Kept.{AreLeft, Comes, FaultsFor, HasHalted, IfWent, IsPowered, Puts, Rooms, StopsFor}
+use Rattle.end_pair.specs.Kept.{Comes, IfWent, IsPowered, Puts}
 use Rattle.end_pair.specs.Run.{whole_log}
 use Rattle.end_pair.specs.World.{Piece, World, and_more, and_on, still}
-use Rattle.end_pair.specs.declared.answers.WorldFault.{WorldFault}
-use Rattle.end_pair.specs.declared.answers.WorldFault.TheVariants as fault
 use Rattle.end_pair.specs.declared.answers.WorldStep.{WorldStep}
 use Rattle.end_pair.specs.declared.answers.WorldStep.TheVariants as went
-use Rattle.end_pair.proofs.Halts.{has-front}
 use Rattle.end_pair.proofs.Pieces.{comes_behind, comes_more, comes_still, comes_stop, left_of}
 use Rattle.line_schedule.specs.Lines.{lines_of}
-use Rattle.message_end.specs.Own.{Has}
 use Rattle.trace_log.specs.Log.{Entry}
 use Rattle.trace_log.specs.Log.Entry.{Ended}
 use Rattle.trace_log.specs.Text.{entry_text, text_of}
 use Rattle.line_world.specs.Counting.{counts_of, no_lines, with_lines}
-use Rattle.line_world.specs.Making.{Begins, CarriesOn, Closes, Counted, IsHaltedAt, Leads, Makes}
+use Rattle.line_world.specs.Making.{CarriesOn, Closes, Counted, Leads, Makes}
 use Rattle.line_world.specs.declared.counting.Counts.{Counts}
 use Rattle.line_world.proofs.Lines.{counts-on}
 
@@ -25,7 +21,6 @@ if-went more went.Slip is = tt
 if-went more went.Turns is = tt
 if-went more went.NumbersSpent is = tt
 if-went more went.PowerLost is = tt
-if-went more went.DiskFailed is = tt
 if-went more went.NoMemory is = tt
 
 not-went : (P : Type 0) (answer : WorldStep) → answer ≢ went.Went → IfWent answer P
@@ -34,7 +29,6 @@ not-went P went.Slip stops = tt
 not-went P went.Turns stops = tt
 not-went P went.NumbersSpent stops = tt
 not-went P went.PowerLost stops = tt
-not-went P went.DiskFailed stops = tt
 not-went P went.NoMemory stops = tt
 
 module _ {S T : Type 0} where
@@ -44,32 +38,30 @@ module _ {S T : Type 0} where
   abbrev None : World S T → World S T → Type 0
   None now left = Unit {0}
 
-  abbrev ComesTo : Piece S T → World S T → Rooms → Rooms → List ℕ → List ℕ → WorldStep → Type 0
-  ComesTo piece now had has old lines answer = Comes same None piece now had has old lines answer
+  abbrev ComesTo : Piece S T → World S T → List ℕ → List ℕ → WorldStep → Type 0
+  ComesTo piece now old lines answer = Comes same None piece now old lines answer
 
   -- nothing is to happen
-  pub makes-still : (world : World S T) (room : Rooms) (counts : Counts)
-      → Makes (still world) world room room counts counts went.Went
-  makes-still world room counts = record {
+  pub makes-still : (world : World S T) (counts : Counts) → Makes (still world) world counts counts went.Went
+  makes-still world counts = record {
     text = [];
-    comes = comes_still same None world room [];
+    comes = comes_still same None world [];
     counted = refl;
     powered = tt;
   }
 
   -- what comes behind what went on
   pub makes-more :
-      (first : Piece S T) (more : World S T → Piece S T) (mid new : World S T) (had between has : Rooms)
-      (before counted after : Counts) (answer : WorldStep)
-      → Makes first mid had between before counted went.Went → Makes (more mid) new between has counted after answer
-      → Makes (and_more first more) new had has before after answer
-  makes-more first more mid new had between has before counted after answer one two = record {
+      (first : Piece S T) (more : World S T → Piece S T) (mid new : World S T) (before counted after : Counts)
+      (answer : WorldStep)
+      → Makes first mid before counted went.Went → Makes (more mid) new counted after answer
+      → Makes (and_more first more) new before after answer
+  makes-more first more mid new before counted after answer one two = record {
     text = one.text ++ two.text;
     comes =
-        comes_more same None first more mid new had between has [] one.text (one.text ++ two.text) answer one.comes
-        (subst (λ (old : List ℕ). ComesTo (more mid) new between has old (one.text ++ two.text) answer)
-        (append-nil one.text)
-        (comes_behind same None (more mid) new between has one.text [] two.text answer two.comes));
+        comes_more same None first more mid new [] one.text (one.text ++ two.text) answer one.comes
+        (subst (λ (old : List ℕ). ComesTo (more mid) new old (one.text ++ two.text) answer) (append-nil one.text)
+        (comes_behind same None (more mid) new one.text [] two.text answer two.comes));
     counted =
         if-went
         (λ is.
@@ -86,28 +78,24 @@ module _ {S T : Type 0} where
 
   -- it went on no further
   pub makes-stop :
-      (first : Piece S T) (more : World S T → Piece S T) (now : World S T) (had has : Rooms) (before after : Counts)
-      (answer : WorldStep)
-      → answer ≢ went.Went → Makes first now had has before after answer
-      → Makes (and_more first more) now had has before after answer
-  makes-stop first more now had has before after answer stops one = record {
+      (first : Piece S T) (more : World S T → Piece S T) (now : World S T) (before after : Counts) (answer : WorldStep)
+      → answer ≢ went.Went → Makes first now before after answer → Makes (and_more first more) now before after answer
+  makes-stop first more now before after answer stops one = record {
     text = one.text;
-    comes = comes_stop same None first more now had has [] one.text answer stops one.comes;
+    comes = comes_stop same None first more now [] one.text answer stops one.comes;
     counted = one.counted;
     powered = one.powered;
   }
 
   -- memory ran out before anything was done
-  pub makes-nothing : (piece : Piece S T) (now : World S T) (had has : Rooms) (before after : Counts)
-      → Makes piece now had has before after went.NoMemory
-  makes-nothing piece now had has before after = record {
+  pub makes-nothing : (piece : Piece S T) (now : World S T) (before after : Counts)
+      → Makes piece now before after went.NoMemory
+  makes-nothing piece now before after = record {
     text = [];
     comes =
         record {
           puts = record { front = []; rest = text_of piece.entries; whole = refl; lines = refl };
           world = tt;
-          room = tt;
-          stops = tt;
         };
     counted = tt;
     powered = tt;
@@ -115,109 +103,92 @@ module _ {S T : Type 0} where
 
   -- an event whose lines were put and counted
   pub makes-event :
-      (piece : Piece S T) (now : World S T) (had has : Rooms) (before after : Counts) (empty lines : List ℕ)
-      (answer : WorldStep)
+      (piece : Piece S T) (now : World S T) (before after : Counts) (empty lines : List ℕ) (answer : WorldStep)
       → empty ≡ [] → IsPowered answer → Puts piece.went (text_of piece.entries) empty lines answer
-      → IfWent answer (now ≡ piece.world) → IfWent answer (AreLeft had piece.anew piece.asked has)
-      → StopsFor (HasHalted piece.halts had empty lines) answer
-      → IfWent answer (after ≡ with_lines before (lines_of lines))
-      → Makes piece now had has before after answer
-  makes-event piece now had has before after empty lines answer none powered puts is room stops counts = record {
+      → IfWent answer (now ≡ piece.world) → IfWent answer (after ≡ with_lines before (lines_of lines))
+      → Makes piece now before after answer
+  makes-event piece now before after empty lines answer none powered puts is counts = record {
     text = lines;
     comes =
-        subst (λ (old : List ℕ). ComesTo piece now had has old lines answer) none
-        (record {
-          puts = puts;
-          world = left_of _ _ answer powered is;
-          room = left_of _ _ answer powered room;
-          stops = stops;
-        });
+        subst (λ (old : List ℕ). ComesTo piece now old lines answer) none
+        (record { puts = puts; world = left_of _ _ answer powered is });
     counted = counts;
     powered = powered;
   }
 
   -- an event that has ended the run
   pub makes-end :
-      (piece : Piece S T) (now : World S T) (had has : Rooms) (before after : Counts) (empty lines : List ℕ)
-      (answer : WorldStep)
+      (piece : Piece S T) (now : World S T) (before after : Counts) (empty lines : List ℕ) (answer : WorldStep)
       → empty ≡ [] → answer ≢ went.Went → IsPowered answer → Puts piece.went (text_of piece.entries) empty lines answer
-      → IfWent answer (now ≡ piece.world) → IfWent answer (AreLeft had piece.anew piece.asked has)
-      → StopsFor (HasHalted piece.halts had empty lines) answer
-      → Makes piece now had has before after answer
-  makes-end piece now had has before after empty lines answer none stops powered puts is room halts =
-      makes-event piece now had has before after empty lines answer none powered puts is room halts
+      → IfWent answer (now ≡ piece.world) → Makes piece now before after answer
+  makes-end piece now before after empty lines answer none stops powered puts is =
+      makes-event piece now before after empty lines answer none powered puts is
       (not-went (after ≡ with_lines before (lines_of lines)) answer stops)
 
   -- ---- what is left of a run
 
-  pub leads-first : (whole : Piece S T) (had : Rooms) (before : Counts) → Leads whole had before whole had before
-  leads-first whole had before new has after answer makes = makes
+  pub leads-first : (whole : Piece S T) (before : Counts) → Leads whole before whole before
+  leads-first whole before new after answer makes = makes
 
   pub leads-on :
-      (first : Piece S T) (more : World S T → Piece S T) (mid : World S T) (between now : Rooms)
-      (counted after : Counts)
-      (whole : Piece S T) (had : Rooms) (before : Counts)
-      → Makes first mid between now counted after went.Went
-      → Leads (and_more first more) between counted whole had before → Leads (more mid) now after whole had before
-  leads-on first more mid between now counted after whole had before one leads new has last answer makes =
-      leads new has last answer (makes-more first more mid new between now has counted after last answer one makes)
+      (first : Piece S T) (more : World S T → Piece S T) (mid : World S T) (counted after : Counts)
+      (whole : Piece S T) (before : Counts)
+      → Makes first mid counted after went.Went → Leads (and_more first more) counted whole before
+      → Leads (more mid) after whole before
+  leads-on first more mid counted after whole before one leads new last answer makes =
+      leads new last answer (makes-more first more mid new counted after last answer one makes)
 
   pub leads-stop :
-      (first : Piece S T) (more : World S T → Piece S T) (mid : World S T) (between now : Rooms)
-      (counted after : Counts)
-      (answer : WorldStep) (whole : Piece S T) (had : Rooms) (before : Counts)
-      → answer ≢ went.Went → Makes first mid between now counted after answer
-      → Leads (and_more first more) between counted whole had before → Makes whole mid had now before after answer
-  leads-stop first more mid between now counted after answer whole had before stops one leads =
-      leads mid now after answer (makes-stop first more mid between now counted after answer stops one)
+      (first : Piece S T) (more : World S T → Piece S T) (mid : World S T) (counted after : Counts)
+      (answer : WorldStep) (whole : Piece S T) (before : Counts)
+      → answer ≢ went.Went → Makes first mid counted after answer → Leads (and_more first more) counted whole before
+      → Makes whole mid before after answer
+  leads-stop first more mid counted after answer whole before stops one leads =
+      leads mid after answer (makes-stop first more mid counted after answer stops one)
 
   pub leads-done :
-      (now : World S T) (room : Rooms) (counts : Counts) (whole : Piece S T) (had : Rooms) (before : Counts)
-      → Leads (still now) room counts whole had before → Makes whole now had room before counts went.Went
-  leads-done now room counts whole had before leads = leads now room counts went.Went (makes-still now room counts)
+      (now : World S T) (counts : Counts) (whole : Piece S T) (before : Counts)
+      → Leads (still now) counts whole before → Makes whole now before counts went.Went
+  leads-done now counts whole before leads = leads now counts went.Went (makes-still now counts)
 
   -- what has ended it
   pub carries-stop :
-      (answer : WorldStep) (left whole : Piece S T) (now : World S T) (had has : Rooms) (before after : Counts)
-      → answer ≢ went.Went → Makes whole now had has before after answer
-      → CarriesOn answer left whole now had has before after
-  carries-stop went.Went left whole now had has before after stops makes = absurd (stops refl)
-  carries-stop went.Slip left whole now had has before after stops makes = makes
-  carries-stop went.Turns left whole now had has before after stops makes = makes
-  carries-stop went.NumbersSpent left whole now had has before after stops makes = makes
-  carries-stop went.PowerLost left whole now had has before after stops makes = makes
-  carries-stop went.DiskFailed left whole now had has before after stops makes = makes
-  carries-stop went.NoMemory left whole now had has before after stops makes = makes
+      (answer : WorldStep) (left whole : Piece S T) (now : World S T) (before after : Counts)
+      → answer ≢ went.Went → Makes whole now before after answer → CarriesOn answer left whole now before after
+  carries-stop went.Went left whole now before after stops makes = absurd (stops refl)
+  carries-stop went.Slip left whole now before after stops makes = makes
+  carries-stop went.Turns left whole now before after stops makes = makes
+  carries-stop went.NumbersSpent left whole now before after stops makes = makes
+  carries-stop went.PowerLost left whole now before after stops makes = makes
+  carries-stop went.NoMemory left whole now before after stops makes = makes
 
   pub ends-with :
-      (answer : WorldStep) (left whole : Piece S T) (now : World S T) (had has : Rooms) (before after : Counts)
-      → answer ≢ went.Went → CarriesOn answer left whole now had has before after
-      → Makes whole now had has before after answer
-  ends-with went.Went left whole now had has before after stops carries = absurd (stops refl)
-  ends-with went.Slip left whole now had has before after stops carries = carries
-  ends-with went.Turns left whole now had has before after stops carries = carries
-  ends-with went.NumbersSpent left whole now had has before after stops carries = carries
-  ends-with went.PowerLost left whole now had has before after stops carries = carries
-  ends-with went.DiskFailed left whole now had has before after stops carries = carries
-  ends-with went.NoMemory left whole now had has before after stops carries = carries
+      (answer : WorldStep) (left whole : Piece S T) (now : World S T) (before after : Counts)
+      → answer ≢ went.Went → CarriesOn answer left whole now before after → Makes whole now before after answer
+  ends-with went.Went left whole now before after stops carries = absurd (stops refl)
+  ends-with went.Slip left whole now before after stops carries = carries
+  ends-with went.Turns left whole now before after stops carries = carries
+  ends-with went.NumbersSpent left whole now before after stops carries = carries
+  ends-with went.PowerLost left whole now before after stops carries = carries
+  ends-with went.NoMemory left whole now before after stops carries = carries
 
   -- with another piece left
   pub carries-as :
-      (answer : WorldStep) (left other whole : Piece S T) (now : World S T) (had has : Rooms) (before after : Counts)
-      → answer ≢ went.Went → CarriesOn answer left whole now had has before after
-      → CarriesOn answer other whole now had has before after
-  carries-as answer left other whole now had has before after stops carries =
-      carries-stop answer other whole now had has before after stops
-      (ends-with answer left whole now had has before after stops carries)
+      (answer : WorldStep) (left other whole : Piece S T) (now : World S T) (before after : Counts)
+      → answer ≢ went.Went → CarriesOn answer left whole now before after
+      → CarriesOn answer other whole now before after
+  carries-as answer left other whole now before after stops carries =
+      carries-stop answer other whole now before after stops
+      (ends-with answer left whole now before after stops carries)
 
   -- ---- all of a run
 
   pub counts-whole :
-      (piece : Piece S T) (now : World S T) (had has : Rooms) (counts after : Counts) (moment : ℕ)
-      → Makes piece now had has no_lines counts went.Went → moment ≡ piece.world.moment
+      (piece : Piece S T) (now : World S T) (counts after : Counts) (moment : ℕ)
+      → Makes piece now no_lines counts went.Went → moment ≡ piece.world.moment
       → after ≡ with_lines counts (lines_of (entry_text (Ended moment)))
       → (piece.went ≡ went.Went) × (after ≡ counts_of (text_of (whole_log piece)))
-  counts-whole piece now had has counts after moment makes is closed = (makes.comes.puts.0, all)
+  counts-whole piece now counts after moment makes is closed = (makes.comes.puts.0, all)
     where
       log-is : whole_log piece ≡ Ended piece.world.moment ∷ piece.entries
       log-is =
@@ -234,56 +205,55 @@ module _ {S T : Type 0} where
           ∙ sym (counts-on no_lines piece.entries (entry_text (Ended piece.world.moment)))
           ∙ ap (λ (log : List Entry). with_lines no_lines (lines_of (text_of log))) (sym log-is)
 
-  pub halted-at : (piece : Piece S T) (had : Rooms) (old lines : List ℕ) → HasHalted piece.halts had old lines
-      → IsHaltedAt piece.halts had
-  halted-at piece had old lines halted = record { halt = halted.halt; is = halted.is; short = halted.short }
-
   -- a run that has ended on the way
   pub ended-on-way :
-      (piece : Piece S T) (now : World S T) (had has : Rooms) (before after : Counts) (answer : WorldStep)
-      → answer ≢ went.Went → Makes piece now had has before after answer → Counted piece had (Err answer)
-  ended-on-way piece now had has before after went.Went stops makes = absurd (stops refl)
-  ended-on-way piece now had has before after went.Slip stops makes = makes.comes.puts.0
-  ended-on-way piece now had has before after went.Turns stops makes = makes.comes.puts.0
-  ended-on-way piece now had has before after went.NumbersSpent stops makes = makes.comes.puts.0
-  ended-on-way piece now had has before after went.PowerLost stops makes = absurd makes.powered
-  ended-on-way piece now had has before after went.DiskFailed stops makes =
-      halted-at piece had [] makes.text makes.comes.stops
-  ended-on-way piece now had has before after went.NoMemory stops makes = tt
+      (piece : Piece S T) (now : World S T) (before after : Counts) (answer : WorldStep)
+      → answer ≢ went.Went → Makes piece now before after answer → Counted piece (Err answer)
+  ended-on-way piece now before after went.Went stops makes = absurd (stops refl)
+  ended-on-way piece now before after went.Slip stops makes = makes.comes.puts.0
+  ended-on-way piece now before after went.Turns stops makes = makes.comes.puts.0
+  ended-on-way piece now before after went.NumbersSpent stops makes = makes.comes.puts.0
+  ended-on-way piece now before after went.PowerLost stops makes = absurd makes.powered
+  ended-on-way piece now before after went.NoMemory stops makes = tt
 
-  -- a start that has failed
-  pub begins-not : (piece : Piece S T) (had : Rooms) (old lines : List ℕ) (why : WorldFault)
-      → FaultsFor (HasHalted piece.halts had old lines) why → Begins piece had why
-  begins-not piece had old lines fault.DiskFailed halted = halted-at piece had old lines halted
-  begins-not piece had old lines fault.NoMemory halted = tt
+  -- and that went on no further at its start
+  pub begins-not :
+      (first : Piece S T) (lines old : List ℕ) (stop : WorldStep)
+      → Puts first.went (text_of first.entries) old lines stop → stop ≢ went.Went → IsPowered stop
+      → Counted first (Err stop)
+  begins-not first lines old went.Went puts stops powered = absurd (stops refl)
+  begins-not first lines old went.Slip puts stops powered = puts.0
+  begins-not first lines old went.Turns puts stops powered = puts.0
+  begins-not first lines old went.NumbersSpent puts stops powered = puts.0
+  begins-not first lines old went.PowerLost puts stops powered = absurd powered
+  begins-not first lines old went.NoMemory puts stops powered = tt
 
-  -- so its run has
-  pub begins-first : (first : Piece S T) (more : World S T → Piece S T) (had : Rooms)
-      → Begins first had fault.DiskFailed → Counted (and_more first more) had (Err went.DiskFailed)
-  begins-first first more had stop =
-      record { halt = stop.halt; is = go first.went; short = stop.short }
+  pub counted-first : (first : Piece S T) (more : World S T → Piece S T) (stop : WorldStep) → Counted first (Err stop)
+      → Counted (and_more first more) (Err stop)
+  counted-first first more stop counted = go stop counted
     where
-      go : (how : WorldStep) → Has (and_on how first more).halts stop.halt
-      go went.Went = has-front first.halts _ stop.halt stop.is
-      go went.Slip = stop.is
-      go went.Turns = stop.is
-      go went.NumbersSpent = stop.is
-      go went.PowerLost = stop.is
-      go went.DiskFailed = stop.is
-      go went.NoMemory = stop.is
+      so : (how : WorldStep) → first.went ≡ how → (and_on how first more).went ≡ first.went
+          → (and_more first more).went ≡ how
+      so how is stays = ap (λ (w : WorldStep). (and_on w first more).went) is ∙ stays ∙ is
+
+      go : (stop : WorldStep) → Counted first (Err stop) → Counted (and_more first more) (Err stop)
+      go went.Went counted = counted
+      go went.Slip counted = so went.Slip counted refl
+      go went.Turns counted = so went.Turns counted refl
+      go went.NumbersSpent counted = so went.NumbersSpent counted refl
+      go went.PowerLost counted = counted
+      go went.NoMemory counted = counted
 
   pub closes-all :
-      (piece : Piece S T) (now : World S T) (had has : Rooms) (counts : Counts) (moment : ℕ)
-      (result : Result Counts WorldStep)
-      → Makes piece now had has no_lines counts went.Went → moment ≡ now.moment → Closes moment counts result
-      → Counted piece had result
-  closes-all piece now had has counts moment (Ok after) makes is closed =
-      counts-whole piece now had has counts after moment makes
+      (piece : Piece S T) (now : World S T) (counts : Counts) (moment : ℕ) (result : Result Counts WorldStep)
+      → Makes piece now no_lines counts went.Went → moment ≡ now.moment → Closes moment counts result
+      → Counted piece result
+  closes-all piece now counts moment (Ok after) makes is closed =
+      counts-whole piece now counts after moment makes
       (is ∙ ap (λ (world : World S T). world.moment) makes.comes.world) closed
-  closes-all piece now had has counts moment (Err went.NoMemory) makes is closed = tt
-  closes-all piece now had has counts moment (Err went.Went) makes is closed = absurd closed
-  closes-all piece now had has counts moment (Err went.Slip) makes is closed = absurd closed
-  closes-all piece now had has counts moment (Err went.Turns) makes is closed = absurd closed
-  closes-all piece now had has counts moment (Err went.NumbersSpent) makes is closed = absurd closed
-  closes-all piece now had has counts moment (Err went.PowerLost) makes is closed = absurd closed
-  closes-all piece now had has counts moment (Err went.DiskFailed) makes is closed = absurd closed
+  closes-all piece now counts moment (Err went.NoMemory) makes is closed = tt
+  closes-all piece now counts moment (Err went.Went) makes is closed = absurd closed
+  closes-all piece now counts moment (Err went.Slip) makes is closed = absurd closed
+  closes-all piece now counts moment (Err went.Turns) makes is closed = absurd closed
+  closes-all piece now counts moment (Err went.NumbersSpent) makes is closed = absurd closed
+  closes-all piece now counts moment (Err went.PowerLost) makes is closed = absurd closed

@@ -13,4 +13,3 @@ mod SoFar
 mod Spool
 mod Summed
 mod Tries
-pub mod Within

@@ -1,37 +1,28 @@
--- What the run of made rounds comes to, over the spool's disk.
-use Rattle.std.proofs.Common.{◌≡◌, ℕ, List, [], Ok, Err, Result, inl, inr, subst, sym}
-use Rattle.disk_base.specs.MemDisk.{DiskState}
-use Rattle.end_pair.specs.Kept.{rooms_before}
+-- What the run of made rounds comes to.
+use Rattle.std.proofs.Common.{◌≡◌, ℕ, List, [], Ok, Err, Result, subst, sym}
 use Rattle.end_pair.specs.Run as pair
 use Rattle.end_pair.specs.declared.answers.RunEnd.{RunEnd}
 use Rattle.end_pair.specs.declared.answers.RunEnd.TheVariants as end
 use Rattle.end_pair.specs.declared.answers.WorldStep.{WorldStep}
 use Rattle.end_pair.specs.declared.answers.WorldStep.TheVariants as went
 use Rattle.equipment_node.specs.End as equipment
-use Rattle.equipment_node.specs.InMemory.{fresh_in, room_in}
 use Rattle.equipment_tables.specs.declared.plan.Plans.{Plans}
-use Rattle.gem_spool.specs.declared.spool.GemSpool.{GemSpool}
 use Rattle.gl_base.specs.Sending.{WroteText}
 use Rattle.gl_base.specs.Told.{SinkTold}
 use Rattle.host_node.specs.Host as host
 use Rattle.message_end.specs.Core.{Step}
-use Rattle.message_end.specs.Ends.{none_asked}
 use Rattle.trace_log.specs.Log.{Happening}
-use Rattle.line_world.specs.Disk.{IsEmptySpool}
 use Rattle.line_world.specs.Make.{make_events, make_schedule, summary_of}
 use Rattle.line_world.specs.Making.{Counted, MakesRounds, SummaryEnds, end_made, summary_text}
 use Rattle.line_world.specs.Run.{EquipmentView, equipment_start, host_start, trace_text}
 use Rattle.line_world.specs.declared.counting.Counts.{Counts}
-use Rattle.line_world.proofs.Disks.{stops-at}
 use Rattle.line_world.proofs.Summed.{summary-is}
 
-module _ (plans : Plans) (rounds : ℕ) (out : SinkTold) (spool : GemSpool DiskState)
-    (empty : IsEmptySpool plans.slots spool) where
+module _ (plans : Plans) (rounds : ℕ) (out : SinkTold) where
   abbrev CountedAs : Step EquipmentView Happening → Result Counts WorldStep → Type 0
   CountedAs first result =
       Counted
-      (pair.piece_of equipment.machine host.host_machine first (host_start plans.host) (make_events rounds))
-      (rooms_before (room_in spool) none_asked (fresh_in spool)) result
+      (pair.piece_of equipment.machine host.host_machine first (host_start plans.host) (make_events rounds)) result
 
   -- over the start that the value has
   stops-made :
@@ -44,10 +35,9 @@ module _ (plans : Plans) (rounds : ℕ) (out : SinkTold) (spool : GemSpool DiskS
           → MakesRounds out plans rounds (end_made stop)
       go went.Went counted = absurd counted
       go went.Slip counted = (counted, nothing)
-      go went.Turns counted = (inl counted, nothing)
+      go went.Turns counted = (counted, nothing)
       go went.NumbersSpent counted = (counted, nothing)
       go went.PowerLost counted = absurd counted
-      go went.DiskFailed counted = (inr (stops-at plans (make_schedule rounds) out spool empty counted), nothing)
       go went.NoMemory counted = nothing
 
   pub stops-as :
@@ -76,5 +66,4 @@ module _ (plans : Plans) (rounds : ℕ) (out : SinkTold) (spool : GemSpool DiskS
       go end.Slip ends = absurd ends
       go end.Turns ends = absurd ends
       go end.NumbersSpent ends = absurd ends
-      go end.DiskFailed ends = absurd ends
       go end.NoMemory ends = absurd ends

@@ -1,9 +1,8 @@
 -- Whatever S6F11 the equipment sends or spools, in any start, tells of an event of that start or an earlier one: one
 -- that goes out of the spool is what was put, and what is put tells of an event.
-use Rattle.std.proofs.Common.{◌≡◌, ◌⊎◌, ◌&&◌, ◌||◌, ◌==◌, ◌%◌, nat_eq, not, zero, suc, ℕ, Bool, true, false, List, [], ◌∷◌, drop, length, option_to_list, Option, Some, None, if◌then◌else◌, inl, inr, refl, sym, ap, subst, ◌∙◌, arith}
+use Rattle.std.proofs.Common.{◌≡◌, ◌⊎◌, ◌&&◌, ◌||◌, ◌==◌, ◌%◌, nat_eq, not, zero, suc, ℕ, Bool, true, false, List, [], ◌∷◌, ◌++◌, drop, length, option_to_list, Option, Some, None, if◌then◌else◌, inl, inr, refl, sym, ap, subst, ◌∙◌, arith}
 use Rattle.std.specs.List.{list_any}
 use Rattle.std.proofs.lemmas.Bool.Decides.{nat_tests}
-use Rattle.end_pair.proofs.Halts.{has-either}
 use Rattle.equipment_node.specs.Reported.{Happened, HoldsItsValues, IsOfEvent, Reported, events_in, is_event_report, is_live, is_of, past_in, tries_in}
 use Rattle.equipment_tables.specs.declared.plan.EquipmentPlan.{EquipmentPlan}
 use Rattle.message_end.specs.Own.{Has}
@@ -149,6 +148,14 @@ has-dropped : {X : Type 0} (n : ℕ) (xs : List X) (x : X) → Has (drop n xs) x
 has-dropped zero xs x has = has
 has-dropped (suc n) [] x has = has
 has-dropped (suc n) (y ∷ xs) x has = inr (has-dropped n xs x has)
+
+has-either : {X : Type 0} (one two : List X) (x : X) → Has (one ++ two) x → Has one x ⊎ Has two x
+has-either [] two x has = inr has
+has-either (y ∷ one) two x (inl is) = inl (inl is)
+has-either (y ∷ one) two x (inr has) = elim (has-either one two x has) [
+  | inl there ↦ inl (inr there)
+  | inr there ↦ inr there
+]
 
 has-stored : {X : Type 0} (stored : Bool) (storing : Option X) (x : X) → Has (stored_if stored storing) x
     → storing ≡ Some x

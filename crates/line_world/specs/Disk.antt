@@ -1,7 +1,6 @@
 -- The disk of a world's spool, as it is made (this profile).
-use Rattle.std.specs.Prelude.{◌≡◌, ℕ, ◌+◌, ◌≤◌, false, List, []}
+use Rattle.std.specs.Prelude.{◌≡◌, ℕ, false, List, []}
 use Rattle.disk_base.specs.MemDisk.{DiskState, disk_health}
-use Rattle.equipment_node.specs.InMemory.{most_calls, most_written}
 use Rattle.gem_spool.specs.declared.spool.GemSpool.{GemSpool}
 use Rattle.spool_slots.specs.File.{file_in}
 use Rattle.spool_slots.specs.Losses.{marks_second}
@@ -11,8 +10,7 @@ use Rattle.spool_slots.specs.Slot.{Message}
 abbrev pub list_in : GemSpool DiskState → List Message
 list_in spool = (file_in spool.spool.disk.story.now.bytes).list
 
--- nothing is in it, and no call of its disk is to fail; behind those that have made it there is room for the rest of so
--- many calls, and of so many written bytes
+-- nothing is in it, and no call of its disk is to fail
 pub record IsEmptySpool (slots : ℕ) (spool : GemSpool DiskState) : Type 0 where
   pub slots_are : spool.spool.slots ≡ slots
   pub first : spool.spool.first ≡ 0
@@ -23,5 +21,3 @@ pub record IsEmptySpool (slots : ℕ) (spool : GemSpool DiskState) : Type 0 wher
   pub fails_not : (disk_health spool.spool.disk).fail_in ≡ 0
   pub stops_not : (disk_health spool.spool.disk).stop_in ≡ 0
   pub going : (disk_health spool.spool.disk).stopped ≡ false
-  pub calls : most_calls ≤ (disk_health spool.spool.disk).calls + (slots + 2)
-  pub bytes : most_written ≤ (disk_health spool.spool.disk).room + (slots + 4096)

@@ -1,63 +1,46 @@
 -- The run of made rounds, as its lines are counted.
-use Rattle.std.specs.Prelude.{◌≡◌, ◌⊎◌, ◌++◌, ℕ, List, [], codes, Result, Ok, Err}
-use Rattle.end_pair.specs.Kept.{Comes, IfWent, IsPowered, Rooms, room_from}
+use Rattle.std.specs.Prelude.{◌≡◌, ◌++◌, ℕ, List, [], codes, Result, Ok, Err}
+use Rattle.end_pair.specs.Kept.{Comes, IfWent, IsPowered}
 use Rattle.end_pair.specs.Run.{whole_log}
-use Rattle.end_pair.specs.World.{Halt, Piece, World}
+use Rattle.end_pair.specs.World.{Piece, World}
 use Rattle.end_pair.specs.declared.answers.RunEnd.{RunEnd}
 use Rattle.end_pair.specs.declared.answers.RunEnd.TheVariants as end
-use Rattle.end_pair.specs.declared.answers.WorldFault.{WorldFault}
-use Rattle.end_pair.specs.declared.answers.WorldFault.TheVariants as fault
 use Rattle.end_pair.specs.declared.answers.WorldStep.{WorldStep}
 use Rattle.end_pair.specs.declared.answers.WorldStep.TheVariants as went
 use Rattle.equipment_tables.specs.declared.plan.Plans.{Plans}
 use Rattle.gl_base.specs.Sending.{WroteShort, WroteText}
 use Rattle.gl_base.specs.Told.{SinkTold}
 use Rattle.line_schedule.specs.Lines.{lines_of}
-use Rattle.message_end.specs.Ends.{IsShort}
-use Rattle.message_end.specs.Own.{Has}
 use Rattle.trace_log.specs.Log.Entry.{Ended}
 use Rattle.trace_log.specs.Text.{entry_text, text_of}
 use Rattle.line_world.specs.Counting.{counts_of, with_lines}
 use Rattle.line_world.specs.Make.{counted, make_schedule, summary_of}
-use Rattle.line_world.specs.Run.{StopsAtWork, trace_text, went_of}
+use Rattle.line_world.specs.Run.{trace_text, went_of}
 use Rattle.line_world.specs.declared.counting.Counts.{Counts}
 
--- what a call has made of a world, of the room of its disks and of what was counted is this piece, with this text of
--- its lines
+-- what a call has made of a world and of what was counted is this piece, with this text of its lines
 pub record Makes {S T : Type 0}
-    (piece : Piece S T) (now : World S T) (had has : Rooms) (before after : Counts) (answer : WorldStep) : Type 0 where
+    (piece : Piece S T) (now : World S T) (before after : Counts) (answer : WorldStep) : Type 0 where
   pub text : List ℕ
-  pub comes : Comes (λ (world : World S T). world) (λ now left. Unit {0}) piece now had has [] text answer
+  pub comes : Comes (λ (world : World S T). world) (λ now left. Unit {0}) piece now [] text answer
   pub counted : IfWent answer (after ≡ with_lines before (lines_of text))
   pub powered : IsPowered answer
 
--- a run was stopped at one of these, where the disk of that end had no room for all that it was asked by then
-pub record IsHaltedAt (halts : List Halt) (had : Rooms) : Type 0 where
-  pub halt : Halt
-  pub is : Has halts halt
-  pub short : IsShort (room_from halt.anew had halt.side) halt.asked
-
--- a start, which may fail for a disk
-abbrev pub Begins : {S T : Type 0} → Piece S T → Rooms → WorldFault → Type 0
-Begins piece had fault.DiskFailed = IsHaltedAt piece.halts had
-Begins piece had fault.NoMemory = Unit {0}
-
 -- whatever comes of what is left of a run, comes of the whole
-abbrev pub Leads : {S T : Type 0} → (left : Piece S T) → Rooms → Counts → (whole : Piece S T) → Rooms → Counts → Type 0
-Leads {S} {T} left mid counted whole had before =
-    (new : World S T) (has : Rooms) (after : Counts) (answer : WorldStep) → Makes left new mid has counted after answer
-    → Makes whole new had has before after answer
+abbrev pub Leads : {S T : Type 0} → (left : Piece S T) → Counts → (whole : Piece S T) → Counts → Type 0
+Leads {S} {T} left counted whole before =
+    (new : World S T) (after : Counts) (answer : WorldStep) → Makes left new counted after answer
+    → Makes whole new before after answer
 
 -- what was carried out leads on to what is left of the run, or has ended it
-abbrev pub CarriesOn : {S T : Type 0} → WorldStep → (left whole : Piece S T) → World S T → (had has : Rooms)
-    → (before after : Counts) → Type 0
-CarriesOn went.Went left whole now had has before after = Leads left has after whole had before
-CarriesOn went.Slip left whole now had has before after = Makes whole now had has before after went.Slip
-CarriesOn went.Turns left whole now had has before after = Makes whole now had has before after went.Turns
-CarriesOn went.NumbersSpent left whole now had has before after = Makes whole now had has before after went.NumbersSpent
-CarriesOn went.PowerLost left whole now had has before after = Makes whole now had has before after went.PowerLost
-CarriesOn went.DiskFailed left whole now had has before after = Makes whole now had has before after went.DiskFailed
-CarriesOn went.NoMemory left whole now had has before after = Makes whole now had has before after went.NoMemory
+abbrev pub CarriesOn : {S T : Type 0} → WorldStep → (left whole : Piece S T) → World S T → (before after : Counts)
+    → Type 0
+CarriesOn went.Went left whole now before after = Leads left after whole before
+CarriesOn went.Slip left whole now before after = Makes whole now before after went.Slip
+CarriesOn went.Turns left whole now before after = Makes whole now before after went.Turns
+CarriesOn went.NumbersSpent left whole now before after = Makes whole now before after went.NumbersSpent
+CarriesOn went.PowerLost left whole now before after = Makes whole now before after went.PowerLost
+CarriesOn went.NoMemory left whole now before after = Makes whole now before after went.NoMemory
 
 -- the line of the end was counted, or memory ran out
 abbrev pub Closes : ℕ → Counts → Result Counts WorldStep → Type 0
@@ -66,15 +49,14 @@ Closes moment before (Err went.NoMemory) = Unit {0}
 Closes moment before (Err _) = ⊥
 
 -- all lines of a run are counted, or it has ended on the way
-abbrev pub Counted : {S T : Type 0} → Piece S T → Rooms → Result Counts WorldStep → Type 0
-Counted piece had (Ok counts) = (piece.went ≡ went.Went) × (counts ≡ counts_of (text_of (whole_log piece)))
-Counted piece had (Err went.Went) = ⊥
-Counted piece had (Err went.Slip) = piece.went ≡ went.Slip
-Counted piece had (Err went.Turns) = piece.went ≡ went.Turns
-Counted piece had (Err went.NumbersSpent) = piece.went ≡ went.NumbersSpent
-Counted piece had (Err went.PowerLost) = ⊥
-Counted piece had (Err went.DiskFailed) = IsHaltedAt piece.halts had
-Counted piece had (Err went.NoMemory) = Unit {0}
+abbrev pub Counted : {S T : Type 0} → Piece S T → Result Counts WorldStep → Type 0
+Counted piece (Ok counts) = (piece.went ≡ went.Went) × (counts ≡ counts_of (text_of (whole_log piece)))
+Counted piece (Err went.Went) = ⊥
+Counted piece (Err went.Slip) = piece.went ≡ went.Slip
+Counted piece (Err went.Turns) = piece.went ≡ went.Turns
+Counted piece (Err went.NumbersSpent) = piece.went ≡ went.NumbersSpent
+Counted piece (Err went.PowerLost) = ⊥
+Counted piece (Err went.NoMemory) = Unit {0}
 
 -- the summary of what was counted
 abbrev pub summary_text : ℕ → Counts → List ℕ
@@ -101,7 +83,6 @@ abbrev pub end_made : WorldStep → RunEnd
 end_made went.Slip = end.Slip
 end_made went.Turns = end.Turns
 end_made went.NumbersSpent = end.NumbersSpent
-end_made went.DiskFailed = end.Turns
 end_made went.Went = end.NoMemory
 end_made went.PowerLost = end.NoMemory
 end_made went.NoMemory = end.NoMemory
@@ -112,12 +93,9 @@ MakesRounds out plans rounds end.Whole =
     (went_of plans (make_schedule rounds) ≡ went.Went)
     × WroteText out (summary_of rounds (trace_text plans (make_schedule rounds)))
 MakesRounds out plans rounds end.Slip = (went_of plans (make_schedule rounds) ≡ went.Slip) × WroteText out []
-MakesRounds out plans rounds end.Turns =
-    ((went_of plans (make_schedule rounds) ≡ went.Turns) ⊎ StopsAtWork plans (make_schedule rounds))
-    × WroteText out []
+MakesRounds out plans rounds end.Turns = (went_of plans (make_schedule rounds) ≡ went.Turns) × WroteText out []
 MakesRounds out plans rounds end.NumbersSpent =
     (went_of plans (make_schedule rounds) ≡ went.NumbersSpent) × WroteText out []
-MakesRounds out plans rounds end.DiskFailed = ⊥
 MakesRounds out plans rounds end.NoMemory = WroteText out []
 MakesRounds out plans rounds end.WriteFailed =
     (went_of plans (make_schedule rounds) ≡ went.Went)

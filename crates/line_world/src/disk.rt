@@ -4,7 +4,7 @@ ghost use Rattle.std.specs.Prelude.{◌≤◌, IfOk};
 ghost use Rattle.line_world.specs.Disk.{IsEmptySpool};
 
 use disk_base::MemDisk;
-use equipment_node::{MOST_CALLS, MOST_WRITTEN};
+use equipment_node::{LISTED_BYTES, LISTED_CALLS};
 use gem_spool::GemSpool;
 use gl_base::NoMemory;
 use spool_slots::Raw;
@@ -13,14 +13,15 @@ use std::alloc::Global;
 // The size of a slot, and of what stands before the first one.
 const SLOT_SIZE: u64 = 4_096;
 
-/// An empty spool of so many slots, on a disk in memory that is made for it. Only memory may be wanting.
+/// An empty spool of so many slots, on a disk in memory that is made for it. Only memory may be wanting. The disk has
+/// room to spare, so that its planned stop comes before its list is full.
 pub(crate) fn empty_spool(alloc: Global, slots: u32) -> Result<GemSpool<MemDisk>, NoMemory>
     requires some { 1 ≤ slots }
     requires most { slots ≤ 1024 }
     ensures { IfOk result (λ spool. IsEmptySpool slots spool) }
 {
     let size = SLOT_SIZE * (u64::from(slots) + 1);
-    let Ok(disk) = MemDisk::new(alloc, size, MOST_CALLS, MOST_WRITTEN) else {
+    let Ok(disk) = MemDisk::new(alloc, size, LISTED_CALLS, LISTED_BYTES) else {
         return Err(NoMemory);
     };
     match Raw::new(disk).format(slots) {

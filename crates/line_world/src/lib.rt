@@ -12,8 +12,8 @@ mod summary;
 #[cfg(test)]
 mod tests;
 
-pub use end_pair::{RunEnd, World, WorldFault, WorldStep};
+pub use end_pair::{RunEnd, World, WorldStep};
 pub use equipment_tables::Plans;
-pub use laws::{half_is_within, holds_at_each_entry, runs_within, worked_rounds};
+pub use laws::{holds_at_each_entry, worked_rounds};
 pub use maker::make;
 pub use running::run;

@@ -48,13 +48,13 @@ fn write_summary<W: Sink>(rounds: u32, counts: &Counts, out: &mut W) -> RunEnd
     }
 }
 
-// How a run ends that wasn't carried out whole. A disk in memory fails where it has no room for a call.
+// How a run ends that wasn't carried out whole.
 fn end_made(stop: WorldStep) -> RunEnd
     ensures { result ≡ end_made stop }
 {
     match stop {
         WorldStep::Slip => RunEnd::Slip,
-        WorldStep::Turns | WorldStep::DiskFailed => RunEnd::Turns,
+        WorldStep::Turns => RunEnd::Turns,
         WorldStep::NumbersSpent => RunEnd::NumbersSpent,
         WorldStep::Went | WorldStep::PowerLost | WorldStep::NoMemory => RunEnd::NoMemory,
     }

@@ -1,7 +1,7 @@
 //! A world whose lines are counted as they come, and not kept.
 
-ghost use Rattle.std.specs.Prelude.{◌++◌, ℕ, List, All, IfErr, IfOk};
-ghost use Rattle.end_pair.specs.Kept.{MayHappen, Rooms, rooms, rooms_before, seen};
+ghost use Rattle.std.specs.Prelude.{◌++◌, ℕ, List, All, Err, IfErr, IfOk};
+ghost use Rattle.end_pair.specs.Kept.{MayHappen, seen};
 ghost use Rattle.end_pair.specs.Run.{piece_of};
 ghost use Rattle.end_pair.specs.World.{Piece, after_event, after_events, begun, still};
 ghost use Rattle.end_pair.specs.declared.answers.WorldStep.TheVariants as answer;
@@ -9,11 +9,11 @@ ghost use Rattle.message_end.specs.Core.{step_in};
 ghost use Rattle.message_end.specs.Ends.{Opens};
 ghost use Rattle.line_world.specs.Counting.{no_lines};
 ghost use Rattle.line_world.specs.Make.{first_events, make_events, round_of};
-ghost use Rattle.line_world.specs.Making.{Begins, CarriesOn, Closes, Counted, Leads, Makes};
+ghost use Rattle.line_world.specs.Making.{CarriesOn, Closes, Counted, Leads, Makes};
 
 use crate::counting::{Counts, count_lines, no_lines};
 use crate::rounds::{first_events, next_number, round_events};
-use end_pair::{World, WorldFault, WorldStep};
+use end_pair::{World, WorldStep};
 use gl_base::{NoMemory, Row};
 use line_schedule::Event;
 use message_end::End;
@@ -41,7 +41,6 @@ pub(crate) fn count_rounds<E: End<Command = ToolCommand>, H: End<Command = HostC
         (piece_of E.machine H.machine
         (step_in (E.start equipment.now equipment_store)) (step_in (H.start host.now host_store))
         (make_events rounds))
-        (rooms_before (E.store_room equipment_store) (H.store_room host_store) (E.store_fresh equipment_store))
         result }
 {
     let mut making = match Making::<E, H>::start(
@@ -52,8 +51,7 @@ pub(crate) fn count_rounds<E: End<Command = ToolCommand>, H: End<Command = HostC
         host_store,
     ) {
         Ok(making) => making,
-        Err(WorldFault::NoMemory) => return Err(WorldStep::NoMemory),
-        Err(WorldFault::DiskFailed) => return Err(WorldStep::DiskFailed),
+        Err(stop) => return Err(stop),
     };
     match making.carry_rounds(alloc, rounds) {
         WorldStep::Went => making.close(alloc),
@@ -69,14 +67,14 @@ struct Making<E: End, H: End> {
 }
 
 impl<E: End<Command = ToolCommand>, H: End<Command = HostCommand>> Making<E, H> {
-    // Both ends at their starts, each of which has made its first step.
+    // Both ends at their starts, each of which has made its first step, or how that has ended the run.
     fn start(
         alloc: Global,
         equipment: &E::Plan,
         equipment_store: E::Store,
         host: &H::Plan,
         host_store: H::Store,
-    ) -> Result<Making<E, H>, WorldFault>
+    ) -> Result<Making<E, H>, WorldStep>
         requires equipment { E.fits equipment.now }
         requires host { H.fits host.now }
         requires equipment_store { E.holds equipment_store }
@@ -87,13 +85,11 @@ impl<E: End<Command = ToolCommand>, H: End<Command = HostCommand>> Making<E, H> 
             (begun E.machine H.machine
             (step_in (E.start equipment.now equipment_store)) (step_in (H.start host.now host_store)))
             (seen E.means H.means making.world)
-            (rooms_before (E.store_room equipment_store) (H.store_room host_store) (E.store_fresh equipment_store))
-            (rooms E.room H.room E.fresh E.stopped making.world)
             no_lines making.counts answer.Went) }
-        ensures err { IfErr result (Begins
+        ensures err { IfErr result (λ stop. Counted
             (begun E.machine H.machine
             (step_in (E.start equipment.now equipment_store)) (step_in (H.start host.now host_store)))
-            (rooms_before (E.store_room equipment_store) (H.store_room host_store) (E.store_fresh equipment_store))) }
+            (Err stop)) }
     {
         let mut lines = Row::new(alloc);
         let world = match World::<E, H>::start(
@@ -105,11 +101,11 @@ impl<E: End<Command = ToolCommand>, H: End<Command = HostCommand>> Making<E, H> 
             &mut lines,
         ) {
             Ok(world) => world,
-            Err(fault) => return Err(fault),
+            Err(stop) => return Err(stop),
         };
         match count_lines(no_lines(), lines.as_slice()) {
             Ok(counts) => Ok(Making { world, counts }),
-            Err(NoMemory) => Err(WorldFault::NoMemory),
+            Err(NoMemory) => Err(WorldStep::NoMemory),
         }
     }
 
@@ -117,17 +113,14 @@ impl<E: End<Command = ToolCommand>, H: End<Command = HostCommand>> Making<E, H> 
     fn carry_rounds(&mut self, alloc: Global, rounds: u32) -> WorldStep
         requires first { All (MayHappen E.takes H.takes E.loses) first_events }
         requires each { (x : ℕ) → All (MayHappen E.takes H.takes E.loses) (round_of x) }
-        ensures { (whole : Piece E.State H.State) (had : Rooms) (before : Counts)
+        ensures { (whole : Piece E.State H.State) (before : Counts)
             → Leads
             (after_events E.machine H.machine (make_events rounds) (seen E.means H.means self.old.world))
-            (rooms E.room H.room E.fresh E.stopped self.old.world)
-            self.old.counts whole had before
+            self.old.counts whole before
             → CarriesOn result
             (still (seen E.means H.means self.new.world))
             whole
             (seen E.means H.means self.new.world)
-            had
-            (rooms E.room H.room E.fresh E.stopped self.new.world)
             before self.new.counts }
     {
         match self.carry_first(alloc) {
@@ -149,17 +142,14 @@ impl<E: End<Command = ToolCommand>, H: End<Command = HostCommand>> Making<E, H> 
 
     fn carry_first(&mut self, alloc: Global) -> WorldStep
         requires { All (MayHappen E.takes H.takes E.loses) first_events }
-        ensures { (rest : List Event) (whole : Piece E.State H.State) (had : Rooms) (before : Counts)
+        ensures { (rest : List Event) (whole : Piece E.State H.State) (before : Counts)
             → Leads
             (after_events E.machine H.machine (first_events ++ rest) (seen E.means H.means self.old.world))
-            (rooms E.room H.room E.fresh E.stopped self.old.world)
-            self.old.counts whole had before
+            self.old.counts whole before
             → CarriesOn result
             (after_events E.machine H.machine rest (seen E.means H.means self.new.world))
             whole
             (seen E.means H.means self.new.world)
-            had
-            (rooms E.room H.room E.fresh E.stopped self.new.world)
             before self.new.counts }
     {
         match first_events(alloc) {
@@ -171,17 +161,14 @@ impl<E: End<Command = ToolCommand>, H: End<Command = HostCommand>> Making<E, H> 
     // The round with this number.
     fn carry_round(&mut self, alloc: Global, x: u32) -> WorldStep
         requires { All (MayHappen E.takes H.takes E.loses) (round_of x) }
-        ensures { (rest : List Event) (whole : Piece E.State H.State) (had : Rooms) (before : Counts)
+        ensures { (rest : List Event) (whole : Piece E.State H.State) (before : Counts)
             → Leads
             (after_events E.machine H.machine (round_of x ++ rest) (seen E.means H.means self.old.world))
-            (rooms E.room H.room E.fresh E.stopped self.old.world)
-            self.old.counts whole had before
+            self.old.counts whole before
             → CarriesOn result
             (after_events E.machine H.machine rest (seen E.means H.means self.new.world))
             whole
             (seen E.means H.means self.new.world)
-            had
-            (rooms E.room H.room E.fresh E.stopped self.new.world)
             before self.new.counts }
     {
         match round_events(alloc, x) {
@@ -193,17 +180,14 @@ impl<E: End<Command = ToolCommand>, H: End<Command = HostCommand>> Making<E, H> 
     // These events, one after the other, as long as it goes on.
     fn carry_all(&mut self, alloc: Global, events: &[Event]) -> WorldStep
         requires { All (MayHappen E.takes H.takes E.loses) events.now }
-        ensures { (rest : List Event) (whole : Piece E.State H.State) (had : Rooms) (before : Counts)
+        ensures { (rest : List Event) (whole : Piece E.State H.State) (before : Counts)
             → Leads
             (after_events E.machine H.machine (events.now ++ rest) (seen E.means H.means self.old.world))
-            (rooms E.room H.room E.fresh E.stopped self.old.world)
-            self.old.counts whole had before
+            self.old.counts whole before
             → CarriesOn result
             (after_events E.machine H.machine rest (seen E.means H.means self.new.world))
             whole
             (seen E.means H.means self.new.world)
-            had
-            (rooms E.room H.room E.fresh E.stopped self.new.world)
             before self.new.counts }
     {
         'events: for event in events {
@@ -221,8 +205,6 @@ impl<E: End<Command = ToolCommand>, H: End<Command = HostCommand>> Making<E, H> 
         ensures { Makes
             (after_event E.machine H.machine event.now (seen E.means H.means self.old.world))
             (seen E.means H.means self.new.world)
-            (rooms E.room H.room E.fresh E.stopped self.old.world)
-            (rooms E.room H.room E.fresh E.stopped self.new.world)
             self.old.counts self.new.counts result }
     {
         let mut lines = Row::new(alloc);

@@ -1,10 +1,8 @@
-ghost use Rattle.std.specs.Prelude.{◌≡◌, ◌≢◌};
 ghost use Rattle.end_pair.specs.Run.{HandsBack};
-ghost use Rattle.end_pair.specs.declared.answers.RunEnd.TheVariants as end;
 ghost use Rattle.equipment_tables.specs.Plan.{PlansFit};
 ghost use Rattle.gl_base.specs.Told.{sink_told};
 ghost use Rattle.line_schedule.specs.Schedule.{Fits};
-ghost use Rattle.line_world.specs.Run.{Runs, end_over_disk, log_of, piece_of, seen};
+ghost use Rattle.line_world.specs.Run.{Runs, log_of, piece_of, seen};
 ghost use Rattle.line_world.specs.Safe.{IsSafe};
 
 use crate::disk::empty_spool;
@@ -26,9 +24,10 @@ use std::alloc::Global;
 /// happened, or as it was asked for; what the tool spools is there at each of its starts until it leaves with a cause,
 /// and is taken by the host in order. Hands the world back exactly where it answers `Whole`.
 ///
-/// The disk of the tool's spool is in memory, and new. For its sake a run has no turn left only where there is no room
-/// for a call, in a step in which no power goes; what is written then are the lines up to that work. In an event in
-/// which power is to go, want of room is want of memory.
+/// The disk of the tool's spool is in memory, and new. A run has no turn left exactly where all 4,000,000 steps are
+/// made and one is left, or where a step comes to a call of that disk that would be its 65,537th since it was made or
+/// power was lost, and at which no cut takes the power. The calls count that make the file or take it up again, two and
+/// one a slot, and the five by which a start reserves system bytes. What is written are the lines up to that call.
 ///
 /// The plans and the schedule must fit.
 pub fn run<W: Sink>(
@@ -45,7 +44,6 @@ pub fn run<W: Sink>(
         (piece_of plans.now schedule.now).world
         result.0
         result.1 }
-    ensures disk { result.0 ≢ end.DiskFailed }
     ensures safe { IsSafe plans.now (log_of plans.now schedule.now) }
 {
     ends_deliver();
@@ -66,15 +64,5 @@ pub fn run<W: Sink>(
         schedule,
         out,
     );
-    (end_over_disk(end), world)
-}
-
-// A disk in memory fails where it has no room for a call.
-fn end_over_disk(end: RunEnd) -> RunEnd
-    ensures { result ≡ end_over_disk end }
-{
-    match end {
-        RunEnd::DiskFailed => RunEnd::Turns,
-        end => end,
-    }
+    (end, world)
 }

@@ -23,12 +23,12 @@ count_rounds-requires-clause-each g c = round-may
 
 pub returns-in-Ok-count_rounds : goal.returns-in-Ok-count_rounds
 returns-in-Ok-count_rounds g c =
-    writes-made c.args.plans.now c.args.rounds _ c.in-Ok.spool c.in-Ok.ensures _
+    writes-made c.args.plans.now c.args.rounds _ _
     (first-is c.args.plans.now c.in-Ok.spool c.in-Ok.ensures) c.in-Ok-count_rounds.counts c.write_summary.result
     c.in-Ok-count_rounds.ensures c.write_summary.ensures
 
 pub returns-in-Err : goal.returns-in-Err
 returns-in-Err g c =
-    stops-as c.args.plans.now c.args.rounds _ c.in-Ok.spool c.in-Ok.ensures _
+    stops-as c.args.plans.now c.args.rounds _ _
     (first-is c.args.plans.now c.in-Ok.spool c.in-Ok.ensures) c.in-Err.stop c.end_made.result c.end_made.ensures
     c.in-Err.ensures wrote_nothing

@@ -1,4 +1,4 @@
-use Rattle.std.proofs.Common.{[], refl, subst, sym, ◌∙◌}
+use Rattle.std.proofs.Common.{[], refl, subst}
 use Rattle.end_pair.specs.Laws.{IsOfMoves}
 use Rattle.end_pair.specs.Run as pair
 use Rattle.equipment_node.specs.End as equipment
@@ -10,7 +10,7 @@ use Rattle.trace_log.specs.Log.{Happening}
 use Rattle.line_world.specs.Run.{EquipmentView, equipment_start, host_start, trace_text}
 use Rattle.line_world.specs.Safe.{HostDid, plans_of}
 use Rattle.line_world.proofs.Claims.{LawsHold, safe}
-use Rattle.line_world.proofs.Disks.{blank-first, blank-opens, blank_spool, first-is, hands-over, holds-blank, holds_empty, never-fails, opens_empty, runs-over}
+use Rattle.line_world.proofs.Disks.{blank-first, blank-opens, blank_spool, first-is, hands-over, holds-blank, holds_empty, opens_empty, runs-over}
 use Rattle.line_world.proofs.Events.{all-happen, all-have}
 use Rattle.line_world.proofs.running.run.Goals as goal
 
@@ -44,7 +44,6 @@ returns-in_default g c =
     record {
       text = part_before [] (trace_text plans c.args.schedule.now) wrote_nothing;
       world = tt;
-      disk = λ is. cc;
       safe = safe plans c.args.schedule.now fit laws moved courses;
     }
 
@@ -83,15 +82,10 @@ returns g c =
     c.entries_are_of_courses.ensures equipment.machine host.host_machine (equipment_start plans)
     (host_start plans.host) events
     in
-    let ended = c.run-end.result.0 in
     let is = first-is plans c.in-Ok.spool c.in-Ok.ensures in
     record {
-      text =
-          runs-over plans c.args.schedule.now _ c.in-Ok.spool c.in-Ok.ensures _ is ended c.end_over_disk.result
-          c.end_over_disk.ensures c.run-end.ensures.text c.run-end.ensures.stops;
+      text = runs-over plans c.args.schedule.now _ is _ c.run-end.result.0 c.run-end.ensures.text;
       world =
-          hands-over plans c.args.schedule.now _ _ is ended c.end_over_disk.result c.run-end.result.1
-          c.end_over_disk.ensures c.run-end.ensures.world;
-      disk = λ at. never-fails ended (sym c.end_over_disk.ensures ∙ at);
+          hands-over plans c.args.schedule.now _ is _ c.run-end.result.0 c.run-end.result.1 c.run-end.ensures.world;
       safe = safe plans c.args.schedule.now fit laws moved courses;
     }

@@ -1,5 +1,5 @@
 use Rattle.std.proofs.Common.{◌++◌, List, drop}
-use Rattle.end_pair.specs.Kept.{Rooms, rooms, seen}
+use Rattle.end_pair.specs.Kept.{seen}
 use Rattle.end_pair.specs.World.{Piece, after_events}
 use Rattle.line_schedule.specs.declared.event.Event.{Event}
 use Rattle.line_world.specs.Making.{Leads}
@@ -11,9 +11,9 @@ abbrev pub invariant-events : goal.invariant-events
 invariant-events g l =
     let e = g.E.End in
     let h = g.H.End in
-    (rest : List Event) (whole : Piece e.State h.State) (had : Rooms) (before : Counts)
+    (rest : List Event) (whole : Piece e.State h.State) (before : Counts)
     → Leads (after_events e.machine h.machine (l.events ++ rest) (seen e.means h.means l.fn.self.world))
-    (rooms e.room h.room e.fresh e.stopped l.fn.self.world) l.fn.self.counts whole had before
+    l.fn.self.counts whole before
     → Leads
     (after_events e.machine h.machine (drop l.event-index l.events ++ rest) (seen e.means h.means l.self.world))
-    (rooms e.room h.room e.fresh e.stopped l.self.world) l.self.counts whole had before
+    l.self.counts whole before

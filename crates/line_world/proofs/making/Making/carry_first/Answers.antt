@@ -1,5 +1,5 @@
 use Rattle.std.proofs.Common.{◌++◌, List, subst, sym, ◌∙◌}
-use Rattle.end_pair.specs.Kept.{rooms, seen}
+use Rattle.end_pair.specs.Kept.{seen}
 use Rattle.end_pair.specs.World.{after_events}
 use Rattle.line_schedule.specs.declared.event.Event.{Event}
 use Rattle.line_world.specs.Making.{Leads}
@@ -10,12 +10,12 @@ pub returns-in-Ok : goal.returns-in-Ok
 returns-in-Ok g c =
     let e = g.E.End in
     let h = g.H.End in
-    λ rest whole had before leads.
-    c.carry_all.ensures rest whole had before
+    λ rest whole before leads.
+    c.carry_all.ensures rest whole before
     (subst (λ (events : List Event).
     Leads (after_events e.machine h.machine (events ++ rest) (seen e.means h.means c.args.self.now.world))
-    (rooms e.room h.room e.fresh e.stopped c.args.self.now.world) c.args.self.now.counts whole had before)
+    c.args.self.now.counts whole before)
     (sym (c.as_slice.ensures ∙ c.in-Ok.ensures)) leads)
 
 pub returns-in-Err : goal.returns-in-Err
-returns-in-Err g c = λ rest whole had before leads. makes-nothing _ _ _ _ _ _
+returns-in-Err g c = λ rest whole before leads. makes-nothing _ _ _ _

@@ -1,5 +1,5 @@
 use Rattle.std.proofs.Common.{◌-◌, List, subst}
-use Rattle.end_pair.specs.Kept.{rooms, seen}
+use Rattle.end_pair.specs.Kept.{seen}
 use Rattle.end_pair.specs.World.{after_events}
 use Rattle.line_schedule.specs.declared.event.Event.{Event}
 use Rattle.line_world.specs.Make.{numbers_behind, rounds_of}
@@ -11,14 +11,14 @@ use Rattle.line_world.proofs.making.Making.carry_rounds.Goals as goal
 -- what comes first leads on to the rounds
 pub rounds-init : goal.rounds-init
 rounds-init g c =
-    λ whole had before leads.
-    c.in-Went.ensures (rounds_of (numbers_behind c.args.rounds c.args.rounds)) whole had before leads
+    λ whole before leads.
+    c.in-Went.ensures (rounds_of (numbers_behind c.args.rounds c.args.rounds)) whole before leads
 
 pub returns-in_default : goal.returns-in_default
 returns-in_default g c =
-    λ whole had before leads.
-    carries-as c.carry_first.result _ _ whole _ had _ before _ c.in_default.not-Went
-    (c.carry_first.ensures (rounds_of (numbers_behind c.args.rounds c.args.rounds)) whole had before leads)
+    λ whole before leads.
+    carries-as c.carry_first.result _ _ whole _ before _ c.in_default.not-Went
+    (c.carry_first.ensures (rounds_of (numbers_behind c.args.rounds c.args.rounds)) whole before leads)
 
 pub returns-in_default-carry_round : goal.returns-in_default-carry_round
 returns-in_default-carry_round g c =
@@ -29,13 +29,13 @@ returns-in_default-carry_round g c =
     let next =
     next-round c.rounds.left c.rounds.x x c.rounds-test.true c.next_number-x.ensures
     in
-    λ whole had before leads.
-    carries-as c.carry_round.result _ _ whole _ had _ before _ c.in_default-carry_round.not-Went
-    (c.carry_round.ensures (rounds_of (numbers_behind left x)) whole had before
+    λ whole before leads.
+    carries-as c.carry_round.result _ _ whole _ before _ c.in_default-carry_round.not-Went
+    (c.carry_round.ensures (rounds_of (numbers_behind left x)) whole before
     (subst (λ (events : List Event).
-    Leads (after_events e.machine h.machine events (seen e.means h.means c.rounds.self.world))
-    (rooms e.room h.room e.fresh e.stopped c.rounds.self.world) c.rounds.self.counts whole had before) next
-    (c.rounds.invariant whole had before leads)))
+    Leads (after_events e.machine h.machine events (seen e.means h.means c.rounds.self.world)) c.rounds.self.counts
+    whole before) next
+    (c.rounds.invariant whole before leads)))
 
 pub rounds-preserved : goal.rounds-preserved
 rounds-preserved g c =
@@ -46,19 +46,19 @@ rounds-preserved g c =
     let next =
     next-round c.rounds.left c.rounds.x x c.rounds-test.true c.next_number-x.ensures
     in
-    λ whole had before leads.
-    c.in-Went-carry_round.ensures (rounds_of (numbers_behind left x)) whole had before
+    λ whole before leads.
+    c.in-Went-carry_round.ensures (rounds_of (numbers_behind left x)) whole before
     (subst (λ (events : List Event).
-    Leads (after_events e.machine h.machine events (seen e.means h.means c.rounds.self.world))
-    (rooms e.room h.room e.fresh e.stopped c.rounds.self.world) c.rounds.self.counts whole had before) next
-    (c.rounds.invariant whole had before leads))
+    Leads (after_events e.machine h.machine events (seen e.means h.means c.rounds.self.world)) c.rounds.self.counts
+    whole before) next
+    (c.rounds.invariant whole before leads))
 
 pub returns : goal.returns
 returns g c =
     let e = g.E.End in
     let h = g.H.End in
-    λ whole had before leads.
+    λ whole before leads.
     subst (λ (events : List Event).
-    Leads (after_events e.machine h.machine events (seen e.means h.means c.rounds.self.world))
-    (rooms e.room h.room e.fresh e.stopped c.rounds.self.world) c.rounds.self.counts whole had before)
-    (no-round c.rounds.left c.rounds.x c.rounds-test.false) (c.rounds.invariant whole had before leads)
+    Leads (after_events e.machine h.machine events (seen e.means h.means c.rounds.self.world)) c.rounds.self.counts
+    whole before)
+    (no-round c.rounds.left c.rounds.x c.rounds-test.false) (c.rounds.invariant whole before leads)

@@ -1,5 +1,4 @@
 use Rattle.std.proofs.Common.{ap, ◌∙◌}
-use Rattle.end_pair.specs.Kept.{rooms_before}
 use Rattle.end_pair.specs.World.{begun}
 use Rattle.line_schedule.specs.Lines.{lines_of}
 use Rattle.message_end.specs.Core.{step_in}
@@ -11,8 +10,8 @@ use Rattle.line_world.proofs.making.Making.start.Goals as goal
 pub returns-in-Ok-count_lines : goal.returns-in-Ok-count_lines
 returns-in-Ok-count_lines g c = record {
   ok =
-      makes-event _ _ _ _ _ c.in-Ok-count_lines.counts c.new-lines.result c.start.new.lines _ c.new-lines.ensures tt
-      (c.in-Ok.ensures.went, c.in-Ok.ensures.lines) c.in-Ok.ensures.world c.in-Ok.ensures.room tt
+      makes-event _ _ _ c.in-Ok-count_lines.counts c.new-lines.result c.start.new.lines _ c.new-lines.ensures tt
+      c.in-Ok.ensures.lines c.in-Ok.ensures.world
       (c.in-Ok-count_lines.ensures
       ∙ ap (λ lines. with_lines c.no_lines.result (lines_of lines)) c.as_slice.ensures
       ∙ ap (λ (counts : Counts). with_lines counts (lines_of c.start.new.lines)) c.no_lines.ensures);
@@ -25,9 +24,9 @@ returns-in-Err g c =
     let h = g.H.End in
     let begins = begun e.machine h.machine (step_in (e.start c.args.equipment.now c.args.equipment_store))
     (step_in (h.start c.args.host.now c.args.host_store)) in
-    let had = rooms_before (e.store_room c.args.equipment_store) (h.store_room c.args.host_store)
-    (e.store_fresh c.args.equipment_store) in
     record {
       ok = tt;
-      err = begins-not begins had c.new-lines.result c.start.new.lines c.in-Err.fault c.in-Err.ensures.stops;
+      err =
+          begins-not begins c.start.new.lines c.new-lines.result c.in-Err.stop c.in-Err.ensures.lines
+          c.in-Err.ensures.stops c.in-Err.ensures.powered;
     }
