@@ -287,10 +287,8 @@ by_end : (out : SinkTold) (plans : Plans) (schedule : Schedule) (ended : RunEnd)
     → CountsWrites out (outcome_of_end ended)
 by_end out plans schedule end.Whole (at, wrote) = record { read = refl; file = refl; on_disk = refl; on_link = refl; write = wrote.health.same }
 by_end out plans schedule end.Slip (at, wrote) = record { read = refl; file = refl; on_disk = refl; on_link = refl; write = wrote.health.same }
-by_end out plans schedule end.Turns (inl (at, wrote)) = record { read = refl; file = refl; on_disk = refl; on_link = refl; write = wrote.health.same }
-by_end out plans schedule end.Turns (inr work) = record { read = refl; file = refl; on_disk = refl; on_link = refl; write = work.wrote.health.same }
+by_end out plans schedule end.Turns (at, wrote) = record { read = refl; file = refl; on_disk = refl; on_link = refl; write = wrote.health.same }
 by_end out plans schedule end.NumbersSpent (at, wrote) = record { read = refl; file = refl; on_disk = refl; on_link = refl; write = wrote.health.same }
-by_end out plans schedule end.DiskFailed none = absurd none
 by_end out plans schedule end.NoMemory part = record { read = refl; file = refl; on_disk = refl; on_link = refl; write = part.wrote.health.same }
 by_end out plans schedule end.WriteFailed short = record { read = refl; file = refl; on_disk = refl; on_link = refl; write = short.fault.rose }
 
@@ -547,7 +545,6 @@ rounds_count out rounds end.Turns (at, wrote) =
     record { read = refl; file = refl; on_disk = refl; on_link = refl; write = wrote.health.same }
 rounds_count out rounds end.NumbersSpent (at, wrote) =
     record { read = refl; file = refl; on_disk = refl; on_link = refl; write = wrote.health.same }
-rounds_count out rounds end.DiskFailed none = absurd none
 rounds_count out rounds end.NoMemory wrote =
     record { read = refl; file = refl; on_disk = refl; on_link = refl; write = wrote.health.same }
 rounds_count out rounds end.WriteFailed (at, short) =

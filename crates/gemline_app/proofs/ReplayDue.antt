@@ -10,9 +10,14 @@ use Rattle.spool_show.specs.Told.{DiskTold}
 use Rattle.line_schedule.specs.declared.schedule.Schedule.{Schedule}
 use Rattle.end_pair.specs.declared.answers.RunEnd.{RunEnd}
 use Rattle.end_pair.specs.declared.answers.RunEnd.TheVariants as end
-use Rattle.line_world.proofs.Within.{not-at-work}
-use Rattle.line_world.specs.Run.{Runs, StaysWithin, went_of}
-use Rattle.equipment_tables.specs.Plan.{PlansFit}
+use Rattle.end_pair.specs.declared.answers.WorldStep.{WorldStep}
+use Rattle.end_pair.specs.declared.answers.WorldStep.TheVariants as went
+use Rattle.end_pair.specs.Laws.{EndsOneWay}
+use Rattle.end_pair.proofs.FourWays.{carried-out, four-ways}
+use Rattle.equipment_node.specs.End as equipment
+use Rattle.host_node.specs.Host as host
+use Rattle.line_world.specs.Run.{Runs, equipment_start, host_start, log_of, went_of}
+use Rattle.trace_log.specs.Log.{Entry}
 use Rattle.equipment_tables.specs.declared.plan.Plans.{Plans}
 use Rattle.gem_config.specs.Plans.{IsReadAs}
 use Rattle.gem_config.specs.Reading.{Read, refused as is_refused}
@@ -20,7 +25,7 @@ use Rattle.gem_config.specs.declared.fault.ConfigFault.{ConfigFault}
 use Rattle.gem_config.specs.declared.fault.ConfigFault.TheVariants as plan_fault
 use Rattle.gem_config.specs.declared.fault.ConfigWhat.{ConfigWhat}
 use Rattle.gemline_app.specs.LinkTold.{LinkTold}
-use Rattle.gemline_app.specs.Laws.{Hinders, IsPlanDue, IsScheduleDue, PlanAsks, ScheduleAsks, outcome_of_run}
+use Rattle.gemline_app.specs.Laws.{Hinders, IsPlanDue, IsRunDue, IsScheduleDue, PlanAsks, ScheduleAsks}
 use Rattle.gemline_app.specs.Files.{FileRefuses, WasFile, plan_refusal}
 use Rattle.gemline_app.specs.Replay.{ReplayComes, ScheduleComes, TextRuns, files_since, files_until, outcome_of_end}
 use Rattle.gemline_app.specs.Words.{file_limit}
@@ -94,38 +99,58 @@ failed source files disk link out outcome found is rose = subst (Hinders source 
 
 -- ---- a schedule that was carried out
 
+-- the outcome of how a run goes, which it does in the first four of these ways alone
+abbrev pub outcome_of_run : WorldStep → Outcome
+outcome_of_run went.Went = Done
+outcome_of_run went.Slip = Slip
+outcome_of_run went.Turns = TurnsSpent
+outcome_of_run went.NumbersSpent = NumbersSpent
+outcome_of_run went.PowerLost = NoMemory
+outcome_of_run went.NoMemory = NoMemory
+
+run-due : (how : WorldStep) (log : List Entry) (due : Outcome) → EndsOneWay how log → IsRunDue how log due
+    → due ≡ outcome_of_run how
+run-due how log due ends (inl (slip, is)) = is ∙ sym (ap outcome_of_run (ends.slip.1 slip))
+run-due how log due ends (inr (inl (turns, is))) = is ∙ sym (ap outcome_of_run turns)
+run-due how log due ends (inr (inr (inl (spent, is)))) = is ∙ sym (ap outcome_of_run spent)
+run-due how log due ends (inr (inr (inr (no_slip, no_turns, no_numbers, is)))) =
+    is ∙ sym (ap outcome_of_run (carried-out how log ends no_slip no_turns no_numbers))
+
+pub schedule-due : (plans : Plans) (schedule : Schedule) (due : Outcome)
+    → IsRunDue (went_of plans schedule) (log_of plans schedule) due → due ≡ outcome_of_run (went_of plans schedule)
+schedule-due plans schedule due =
+    run-due (went_of plans schedule) (log_of plans schedule) due
+    (four-ways equipment.machine host.host_machine (equipment_start plans) (host_start plans.host) schedule.events)
+
 ended_due :
     (source : SourceTold) (files : FilesTold) (disk : DiskTold) (link : LinkTold) (out : SinkTold) (plans : Plans)
     (schedule : Schedule) (ended : RunEnd) (outcome due : Outcome)
-    → PlansFit plans → outcome ≡ outcome_of_end ended → Runs out plans schedule ended → StaysWithin plans schedule
-    → due ≡ outcome_of_run (went_of plans schedule) → Comes source files disk link out outcome due
-ended_due source files disk link out plans schedule end.Whole outcome due fit is (at, wrote) within is_due =
+    → outcome ≡ outcome_of_end ended → Runs out plans schedule ended → due ≡ outcome_of_run (went_of plans schedule)
+    → Comes source files disk link out outcome due
+ended_due source files disk link out plans schedule end.Whole outcome due is (at, wrote) is_due =
     inl (is ∙ sym (is_due ∙ ap outcome_of_run at))
-ended_due source files disk link out plans schedule end.Slip outcome due fit is (at, wrote) within is_due =
+ended_due source files disk link out plans schedule end.Slip outcome due is (at, wrote) is_due =
     inl (is ∙ sym (is_due ∙ ap outcome_of_run at))
-ended_due source files disk link out plans schedule end.Turns outcome due fit is (inl (at, wrote)) within is_due =
+ended_due source files disk link out plans schedule end.Turns outcome due is (at, wrote) is_due =
     inl (is ∙ sym (is_due ∙ ap outcome_of_run at))
-ended_due source files disk link out plans schedule end.Turns outcome due fit is (inr work) within is_due =
-    absurd (not-at-work out plans schedule fit work within)
-ended_due source files disk link out plans schedule end.NumbersSpent outcome due fit is (at, wrote) within is_due =
+ended_due source files disk link out plans schedule end.NumbersSpent outcome due is (at, wrote) is_due =
     inl (is ∙ sym (is_due ∙ ap outcome_of_run at))
-ended_due source files disk link out plans schedule end.DiskFailed outcome due fit is none within is_due = absurd none
-ended_due source files disk link out plans schedule end.NoMemory outcome due fit is part within is_due =
+ended_due source files disk link out plans schedule end.NoMemory outcome due is part is_due =
     inr (hindered source files disk link out outcome is)
-ended_due source files disk link out plans schedule end.WriteFailed outcome due fit is short within is_due =
+ended_due source files disk link out plans schedule end.WriteFailed outcome due is short is_due =
     inr (subst (Hinders source files disk link out) (sym is) short.fault.rose)
 
 text_due :
     (source : SourceTold) (files : FilesTold) (disk : DiskTold) (link : LinkTold) (out : SinkTold) (plans : Plans) (text : List ℕ)
     (outcome due : Outcome)
-    → PlansFit plans → TextRuns plans text out outcome → ScheduleAsks plans text due
-    → Comes source files disk link out outcome due
-text_due source files disk link out plans text outcome due fit runs (inl (schedule, is, within, is_due)) = elim (runs.only schedule is) [
+    → TextRuns plans text out outcome → ScheduleAsks plans text due → Comes source files disk link out outcome due
+text_due source files disk link out plans text outcome due runs (inl (schedule, is, is_due)) = elim (runs.only schedule is) [
   | inl was ↦
-      ended_due source files disk link out plans schedule was.ended outcome due fit was.outcome_is was.wrote within is_due
+      ended_due source files disk link out plans schedule was.ended outcome due was.outcome_is was.wrote
+      (schedule-due plans schedule due is_due)
   | inr memory ↦ inr (hindered source files disk link out outcome memory.0)
 ]
-text_due source files disk link out plans text outcome due fit runs (inr (n, at, is_due)) = elim (runs.outside n at).0 [
+text_due source files disk link out plans text outcome due runs (inr (n, at, is_due)) = elim (runs.outside n at).0 [
   | inl named ↦ inl (named ∙ sym is_due)
   | inr memory ↦ inr (hindered source files disk link out outcome memory)
 ]
@@ -135,10 +160,10 @@ text_due source files disk link out plans text outcome due fit runs (inr (n, at,
 schedule_due :
     (source : SourceTold) (files later : FilesTold) (disk : DiskTold) (link : LinkTold) (out : SinkTold) (plans : Plans)
     (name text : List ℕ) (outcome due : Outcome)
-    → PlansFit plans → later.health.faults ≡ files.health.faults → later.health_after ≡ files.health_after
+    → later.health.faults ≡ files.health.faults → later.health_after ≡ files.health_after
     → told_file name later.before ≡ Some text → ScheduleComes plans name later out outcome
     → IsScheduleDue plans text due → Comes source files disk link out outcome due
-schedule_due source files later disk link out plans name text outcome due fit since same told (inl (refuses, untouched)) is_due =
+schedule_due source files later disk link out plans name text outcome due since same told (inl (refuses, untouched)) is_due =
     go (refused role.Schedule name text later outcome told refuses) is_due
   where
     go : Refused role.Schedule text later outcome → IsScheduleDue plans text due
@@ -150,7 +175,7 @@ schedule_due source files later disk link out plans name text outcome due fit si
         (subst (λ (n : ℕ). Rose n files.health_after.faults) since
         (subst (λ h. Rose later.health.faults h.faults) same rose)))
     go (inr (inr memory)) due_is = inr (hindered source files disk link out outcome memory)
-schedule_due source files later disk link out plans name text outcome due fit since same told (inr (whole, was, runs)) is_due =
+schedule_due source files later disk link out plans name text outcome due since same told (inr (whole, was, runs)) is_due =
     go is_due
   where
     read : (text ≡ whole) × (length text ≤ file_limit role.Schedule)
@@ -159,7 +184,7 @@ schedule_due source files later disk link out plans name text outcome due fit si
     go : IsScheduleDue plans text due → Comes source files disk link out outcome due
     go (inl (past, is)) = let within = read.1 in absurd (omega arith)
     go (inr (within, asks)) =
-        text_due source files disk link out plans text outcome due fit
+        text_due source files disk link out plans text outcome due
         (subst (λ (t : List ℕ). TextRuns plans t out outcome) (sym read.0) runs) asks
 
 -- what a plan was read as
@@ -205,7 +230,7 @@ module _ (source : SourceTold) (files later : FilesTold) (disk : DiskTold) (link
   plans_due plans since same before read comes (inl (key, what, means, is_due)) =
       absurd (no_fault plans _ (read.only (is_refused key what) means))
   plans_due plans since same before read comes (inr (meant, text, means, told, rest)) =
-      schedule_due source files later disk link out plans schedule text outcome due read.fits since same
+      schedule_due source files later disk link out plans schedule text outcome due since same
       (ap (told_file schedule) before ∙ told) comes
       (subst (λ (p : Plans). IsScheduleDue p text due) (one_plan meant plans (read.only (Ok meant) means)) rest)
 

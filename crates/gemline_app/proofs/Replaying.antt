@@ -1,5 +1,5 @@
 -- A schedule's text that was read, and what came of it.
-use Rattle.std.proofs.Common.{◌≡◌, ◌≢◌, ℕ, List, Result, Ok, Err, refl, sym, ap, subst, inl, inr}
+use Rattle.std.proofs.Common.{◌≡◌, ℕ, List, Result, Ok, Err, refl, sym, ap, subst, inl, inr}
 use Rattle.line_schedule.specs.Lines.{ReadsOnly, RefusesOnly}
 use Rattle.line_schedule.specs.Schedule.{IsSchedule, OutsideAt}
 use Rattle.line_schedule.specs.declared.event.Event.{Event}
@@ -9,7 +9,6 @@ use Rattle.line_schedule.specs.declared.schedule.ScheduleFault.TheVariants as sc
 use Rattle.equipment_tables.specs.declared.plan.Plans.{Plans}
 use Rattle.gl_base.specs.Told.{SinkTold}
 use Rattle.end_pair.specs.declared.answers.RunEnd.{RunEnd}
-use Rattle.end_pair.specs.declared.answers.RunEnd.TheVariants as end
 use Rattle.line_world.specs.Run.{Runs, log_of}
 use Rattle.line_world.specs.Safe.{IsSafe}
 use Rattle.gemline_app.specs.Replay.{ComesOnly, ScheduleRefuses, TextRuns, WasReplayed, outcome_of_end, schedule_refusal}
@@ -57,12 +56,10 @@ refuses_text plans text out fault outcome reads untouched is =
 -- what was carried out over these plans
 pub replayed_over :
     (plans : Plans) (schedule : Schedule) (out : SinkTold) (ended : RunEnd) (outcome : Outcome)
-    → outcome ≡ outcome_of_end ended → ended ≢ end.DiskFailed
-    → Runs out plans schedule ended → IsSafe plans (log_of plans schedule) → WasReplayed plans schedule out outcome
-replayed_over plans schedule out ended outcome is no_disk wrote safe = record {
+    → outcome ≡ outcome_of_end ended → Runs out plans schedule ended → IsSafe plans (log_of plans schedule) → WasReplayed plans schedule out outcome
+replayed_over plans schedule out ended outcome is wrote safe = record {
   ended = ended;
   outcome_is = is;
-  no_disk = no_disk;
   wrote = wrote;
   safe = safe;
 }

@@ -1,5 +1,5 @@
 -- What holds of all runs.
-use Rattle.std.specs.Prelude.{◌≡◌, ◌<◌, ◌≤◌, ◌⊎◌, ℕ, Bool, true, false, List, [], length, Option, Some, None, Ok}
+use Rattle.std.specs.Prelude.{◌≡◌, ◌≢◌, ◌<◌, ◌≤◌, ◌⊎◌, ℕ, Bool, true, false, List, [], length, Option, Some, None, Ok}
 use Rattle.command_words.specs.Asked.{Asked, Equipment, Format, Host, Make, Replay, Show, Spell, SpellHex, Spool}
 use Rattle.command_words.specs.Words.{asked_of}
 use Rattle.equipment_tables.specs.declared.plan.Plans.{Plans}
@@ -17,7 +17,7 @@ use Rattle.gl_base.specs.declared.side.Side.TheVariants as side
 use Rattle.line_schedule.specs.Schedule.{IsSchedule, OutsideAt}
 use Rattle.line_schedule.specs.Script.{IsScript, OutsideScriptAt}
 use Rattle.line_schedule.specs.declared.schedule.Schedule.{Schedule}
-use Rattle.trace_log.specs.Log.{Happening}
+use Rattle.trace_log.specs.Log.{Entry, Happening}
 use Rattle.message_end.specs.Core.{Step}
 use Rattle.message_end.specs.Core.Went.{Goes}
 use Rattle.equipment_tables.specs.declared.plan.EquipmentPlan.{EquipmentPlan}
@@ -25,10 +25,11 @@ use Rattle.equipment_node.specs.Equipment.{EquipmentView, is_marked_out, starts}
 use Rattle.end_run.specs.Pieces.{Piece as RunPiece}
 use Rattle.end_run.specs.Script.{ScriptLine}
 use Rattle.end_run.specs.declared.ending.Ending.{Ending as RunEnding}
+use Rattle.end_pair.specs.Laws.{IsSlip, OnNewest}
 use Rattle.end_pair.specs.declared.answers.WorldStep.{WorldStep}
 use Rattle.end_pair.specs.declared.answers.WorldStep.TheVariants as went
 use Rattle.line_world.specs.Make.{make_schedule}
-use Rattle.line_world.specs.Run.{StaysWithin, went_of}
+use Rattle.line_world.specs.Run.{log_of, went_of}
 use Rattle.line_show.specs.Capture.{Piece, Reads}
 use Rattle.line_show.specs.Lines.{lines_of}
 use Rattle.line_show.specs.declared.capture.Ending.{Ending}
@@ -86,22 +87,22 @@ IsInputDue limit Asks source due =
     (bytes : List ℕ) × (source.before ≡ Some bytes)
     × (((limit < length bytes) × (due ≡ Longer)) ⊎ ((length bytes ≤ limit) × Asks bytes due))
 
--- the outcome of how a run goes, which it does in the first four of these ways alone (`runs_end_four_ways` of end_pair)
-abbrev pub outcome_of_run : WorldStep → Outcome
-outcome_of_run went.Went = Done
-outcome_of_run went.Slip = Slip
-outcome_of_run went.Turns = TurnsSpent
-outcome_of_run went.NumbersSpent = NumbersSpent
-outcome_of_run went.PowerLost = NoMemory
-outcome_of_run went.DiskFailed = DiskFailed
-outcome_of_run went.NoMemory = NoMemory
+-- what is due of a run, by how it goes and by its log: a slip is the last of its log; or it has no turn left; or
+-- numbers were to be drawn with none left; or none of these, and so it is carried out (`runs_end_four_ways` of
+-- end_pair)
+abbrev pub IsRunDue : WorldStep → List Entry → Outcome → Type 0
+IsRunDue how log due =
+    (OnNewest IsSlip log × (due ≡ Slip))
+    ⊎ (((how ≡ went.Turns) × (due ≡ TurnsSpent))
+    ⊎ (((how ≡ went.NumbersSpent) × (due ≡ NumbersSpent))
+    ⊎ ((OnNewest IsSlip log → ⊥) × (how ≢ went.Turns) × (how ≢ went.NumbersSpent) × (due ≡ Done))))
 
--- what the text of a schedule asks for: its trace, where the works of its run from each start on ask for less than half
--- of the disk's room, or its first line that is outside the grammar
+-- what the text of a schedule asks for: its trace, as far as the run goes, or its first line that is outside the
+-- grammar
 abbrev pub ScheduleAsks : Plans → List ℕ → Outcome → Type 0
 ScheduleAsks plans text due =
-    ((schedule : Schedule) × IsSchedule text schedule.events × StaysWithin plans schedule
-    × (due ≡ outcome_of_run (went_of plans schedule)))
+    ((schedule : Schedule) × IsSchedule text schedule.events
+    × IsRunDue (went_of plans schedule) (log_of plans schedule) due)
     ⊎ ((number : ℕ) × OutsideAt text number × (due ≡ BadLine number))
 
 -- the outcome that is due of a schedule's text
@@ -195,12 +196,10 @@ IsSpoolDue disk due = (s : Story) × (disk.before ≡ Some s) × (due ≡ outcom
 
 -- ---- made rounds
 
--- the outcome that is due of so many: their summary, where the works of their run from each start on ask for less than
--- half of the disk's room
+-- the outcome that is due of so many: their summary, if their run is carried out
 abbrev pub IsMakeDue : ℕ → Outcome → Type 0
 IsMakeDue rounds due =
-    StaysWithin made_plans (make_schedule rounds)
-    × (due ≡ outcome_of_run (went_of made_plans (make_schedule rounds)))
+    IsRunDue (went_of made_plans (make_schedule rounds)) (log_of made_plans (make_schedule rounds)) due
 
 -- the outcome that is due of words: usage where they are no command's, else what the command's input, files or disk ask
 -- for

@@ -1,5 +1,5 @@
 -- What `replay` reads and writes (this profile).
-use Rattle.std.specs.Prelude.{◌≡◌, ◌≢◌, ◌⊎◌, ℕ, List, Option}
+use Rattle.std.specs.Prelude.{◌≡◌, ◌⊎◌, ℕ, List, Option}
 use Rattle.gl_base.specs.Files.{FilesHealth}
 use Rattle.gl_base.specs.declared.files.FileAnswer.TheVariants as file
 use Rattle.gl_base.specs.declared.files.MemFile.{MemFile}
@@ -17,7 +17,7 @@ use Rattle.gemline_app.specs.Files.{FileRefuses, PlanRefuses, PlansAre, WasFile}
 use Rattle.gemline_app.specs.Written.{IsUntouched}
 use Rattle.gemline_app.specs.declared.outcome.FileRole.TheVariants as role
 use Rattle.gemline_app.specs.declared.outcome.Outcome.{Outcome}
-use Rattle.gemline_app.specs.declared.outcome.Outcome.TheVariants.{Done, BadLine, DiskFailed, TurnsSpent, NumbersSpent, Slip, NoMemory, WriteFailed}
+use Rattle.gemline_app.specs.declared.outcome.Outcome.TheVariants.{Done, BadLine, TurnsSpent, NumbersSpent, Slip, NoMemory, WriteFailed}
 
 -- what the end of a run is an outcome of
 abbrev pub outcome_of_end : RunEnd → Outcome
@@ -25,7 +25,6 @@ outcome_of_end end.Whole = Done
 outcome_of_end end.Slip = Slip
 outcome_of_end end.Turns = TurnsSpent
 outcome_of_end end.NumbersSpent = NumbersSpent
-outcome_of_end end.DiskFailed = DiskFailed
 outcome_of_end end.NoMemory = NoMemory
 outcome_of_end end.WriteFailed = WriteFailed
 
@@ -36,8 +35,6 @@ outcome_of_end end.WriteFailed = WriteFailed
 pub record WasReplayed (plans : Plans) (schedule : Schedule) (out : SinkTold) (outcome : Outcome) : Type 0 where
   pub ended : RunEnd
   pub outcome_is : outcome ≡ outcome_of_end ended
-  -- a disk that has no room leaves no turn
-  pub no_disk : ended ≢ end.DiskFailed
   pub wrote : Runs out plans schedule ended
   pub safe : IsSafe plans (log_of plans schedule)
 

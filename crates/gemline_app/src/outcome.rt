@@ -46,7 +46,7 @@ pub enum Outcome {
     NoMemory,
     /// The output failed.
     WriteFailed,
-    /// The schedule takes more steps than a run makes.
+    /// The run has no turn left: no step, no call of the spool's disk, or over a link no poll.
     TurnsSpent,
     /// A slip arrived: a block with right length and sum that isn't one whole frame of the other end.
     Slip,

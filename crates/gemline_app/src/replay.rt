@@ -76,7 +76,6 @@ pub(crate) fn outcome_of_end(end: RunEnd) -> Outcome
         RunEnd::Slip => Outcome::Slip,
         RunEnd::Turns => Outcome::TurnsSpent,
         RunEnd::NumbersSpent => Outcome::NumbersSpent,
-        RunEnd::DiskFailed => Outcome::DiskFailed,
         RunEnd::NoMemory => Outcome::NoMemory,
         RunEnd::WriteFailed => Outcome::WriteFailed,
     }

@@ -12,7 +12,7 @@ returns-in-Ok g c =
       line = reads.line;
       outside = reads.outside;
     }) reads.found
-    (replayed_over _ c.in-Ok.schedule _ c.run-end.result.0 _ c.outcome_of_end.ensures run.disk run.text run.safe)
+    (replayed_over _ c.in-Ok.schedule _ c.run-end.result.0 _ c.outcome_of_end.ensures run.text run.safe)
 
 pub returns-in-Err : goal.returns-in-Err
 returns-in-Err g c =
