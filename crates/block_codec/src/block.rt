@@ -1,3 +1,5 @@
+//! A block as a value. Its parts are private, so that none is made whose header or body fits no frame.
+
 ghost use Rattle.std.specs.Prelude.{◌≡◌, ◌≤◌, ◌↔◌, length, IsSome, IfSome};
 ghost use Rattle.block_codec.specs.Block.{IsBlock};
 ghost use Rattle.block_codec.specs.Header.{Fits};

@@ -1,3 +1,6 @@
+//! The bytes of a block on the line, both ways: `frame_of` writes them, `block_of` reads them or names their first
+//! fault.
+
 ghost use Rattle.std.specs.Prelude.{◌≡◌, ◌≤◌, length, IfOk, IfErr};
 ghost use Rattle.std.specs.Int.{w16, from_be_bytes, to_be_bytes};
 ghost use Rattle.block_codec.specs.Block.{BlockView, IsBlock};

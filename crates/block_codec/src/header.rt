@@ -1,3 +1,5 @@
+//! The header of a block by its fields, and the ten bytes that they take.
+
 ghost use Rattle.std.specs.Prelude.{◌≡◌, ◌<◌, ◌↔◌, IsTrue};
 ghost use Rattle.block_codec.specs.Header.{Fits, IsHeader, flag_byte, header_bytes};
 

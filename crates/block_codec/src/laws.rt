@@ -1,3 +1,6 @@
+//! What holds of all frames and headers: none is the front of another one, and bytes without a fault are the frame of a
+//! block.
+
 ghost use Rattle.block_codec.specs.Laws.{
   FaultlessBytesAreFrames,
   FramesAreDistinct,

@@ -1,3 +1,5 @@
+//! The numbers of SEMI E4 that the layers above need as well: the characters of the handshake, and lengths.
+
 /// The character of the handshake that asks to send a block.
 pub const ENQ: u8 = 0x05;
 /// The one that grants it.

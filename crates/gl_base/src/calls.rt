@@ -1,3 +1,5 @@
+//! What the objects in memory have in common: which of their calls are to fail, and the counts of calls and faults.
+
 ghost use Rattle.std.specs.Prelude.{◌≡◌, ◌≤◌, false, true};
 
 use crate::row::Row;

@@ -1,3 +1,5 @@
+//! All bytes to a sink, by as many writes as it wants.
+
 ghost use Rattle.gl_base.specs.Sending.{Sends};
 ghost use Rattle.gl_base.specs.Told.{sink_told};
 

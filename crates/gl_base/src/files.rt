@@ -1,3 +1,5 @@
+//! Files that are read by name, as the layers above know them.
+
 ghost use Rattle.std.specs.Prelude.{◌≡◌, List, Option};
 ghost use Rattle.gl_base.specs.Files.{FilesHealth, HasFileCause, ReadsFile, told_file};
 ghost use Rattle.gl_base.specs.declared.files.MemFile.{MemFile};

@@ -1,3 +1,5 @@
+//! A source read to its end, up to a limit.
+
 ghost use Rattle.gl_base.specs.Input.{HasInputCause, ReadsAll};
 
 use crate::row::Row;

@@ -1,3 +1,5 @@
+//! A connection to a peer, as the layers above know it.
+
 ghost use Rattle.std.specs.Prelude.{◌≡◌, ℕ, ◌<◌, ◌^◌, Option, length};
 ghost use Rattle.gl_base.specs.Events.{moment_after};
 ghost use Rattle.gl_base.specs.Link.{HasLinkCause, HasPollCause, IsTimely, IsToldAnswer, LinkContents, LinkHealth};

@@ -1,3 +1,5 @@
+//! Files in memory: they tell their bytes, and fail where it was planned.
+
 ghost use Rattle.std.specs.Prelude.{◌≡◌, ◌≢◌, [], Some, bytes_eq};
 ghost use Rattle.std.specs.List.{find};
 ghost use Rattle.std.specs.Option.{option_copied};

@@ -1,3 +1,5 @@
+//! A link in memory: it gives stated events, lists what passes, and fails where it was planned.
+
 ghost use Rattle.std.specs.Prelude.{◌≡◌, ◌≤◌, ◌<◌, ◌+◌, ◌^◌, [], ◌++◌, drop, length, IfOk, Some};
 ghost use Rattle.std.specs.Prelude.{vec_capacity, vec_len};
 ghost use Rattle.gl_base.specs.Events.{AreLinkEvents, moment_after};

@@ -1,3 +1,5 @@
+//! A sink in memory: it tells what it got, and fails where it was planned or has no room.
+
 ghost use Rattle.std.specs.Prelude.{◌≡◌, ◌<◌, [], length, IfOk, Some};
 ghost use Rattle.gl_base.specs.Calls.{no_calls};
 ghost use Rattle.gl_base.specs.Sink.{HasWriteCause, Writes, WritesWithin};

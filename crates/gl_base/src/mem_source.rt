@@ -1,3 +1,5 @@
+//! A source in memory: it tells what is left, and fails where it was planned.
+
 ghost use Rattle.std.specs.Prelude.{◌≡◌, ◌<◌, [], length, Some};
 ghost use Rattle.gl_base.specs.Calls.{no_calls};
 ghost use Rattle.gl_base.specs.Source.{HasReadCause, Reads, TakesWithin};

@@ -1,3 +1,5 @@
+//! The error at want of memory, with its conversions from those of std.
+
 use std::alloc::{AllocError, AllocFailed};
 
 /// Memory ran out. The value that was asked to grow is as it was, unless its call says otherwise.

@@ -1,3 +1,5 @@
+//! Bytes gathered on their way to a sink, so that not every line is a write.
+
 ghost use Rattle.std.specs.Prelude.{◌≡◌, ◌+◌, ◌++◌, ◌≤◌, [], length};
 ghost use Rattle.arrayvec.specs.ArrayVec.{array_vec_len};
 ghost use Rattle.gl_base.specs.Sending.{Passes, Sends, page_size};

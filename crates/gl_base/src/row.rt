@@ -1,3 +1,5 @@
+//! The row that all layers hold their lists in: its value in clauses is the list of its elements.
+
 ghost use Rattle.std.specs.Prelude.{◌≡◌, ◌↔◌, [], ◌∷◌, ◌++◌, length, take, IfOk, IsTrue, OnErr, OnOk};
 
 use crate::no_memory::NoMemory;

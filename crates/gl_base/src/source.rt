@@ -1,3 +1,5 @@
+//! What bytes come from, as the layers above know it.
+
 ghost use Rattle.std.specs.Prelude.{◌<◌, ℕ, List, Option, length};
 ghost use Rattle.gl_base.specs.Source.{HasReadCause, Reads, SourceHealth, TakesWithin};
 

@@ -1,3 +1,5 @@
+//! One end of the line: each call is a step of the table of the block transfer, and each phase has a function.
+
 ghost use Rattle.std.specs.Prelude.{◌≡◌, ◌<◌, ◌≤◌, ◌+◌, ◌^◌, ◌++◌, ◌↔◌, true, false, IsTrue, IfOk, IfErr, IsSome, IsNone, Some, None, [], ◌∷◌, length, slice_index};
 ghost use Rattle.arrayvec.specs.ArrayVec.{array_vec_len};
 ghost use Rattle.std.specs.Option.{option_map};

@@ -1,3 +1,5 @@
+//! The phases of an end, why it refuses a frame, and what its calls tell.
+
 use block_codec::Block;
 
 /// Where an end is in the transfer of a block.

@@ -1,3 +1,6 @@
+//! What holds of all runs of the table: what a clean exchange takes, how often is tried, and which frames go out and
+//! arrive.
+
 ghost use Rattle.line_end.specs.Laws.{
   ArrivedFramesCame,
   CleanExchange,

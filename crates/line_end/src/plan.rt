@@ -1,3 +1,5 @@
+//! The parameters of a line, and of the host's end, which has but one more; and which of them fit.
+
 ghost use Rattle.std.specs.Prelude.{◌↔◌, IsTrue};
 ghost use Rattle.line_end.specs.Plan.{HostPlanFits, LinePlanFits, TimesFit};
 

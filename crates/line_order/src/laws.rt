@@ -1,3 +1,5 @@
+//! The laws of the order of blocks over a line, and runs that meet what they start from.
+
 ghost use Rattle.line_order.specs.Laws.{BlocksArriveInOrder, TellsArrivals};
 ghost use Rattle.line_order.specs.Slips.{ArrivalsAreJudged};
 ghost use Rattle.line_order.specs.Worked.{ArrivesTwice, OutlivesPowerLoss, SlipsAreFound};

@@ -1,3 +1,5 @@
+//! What is shown of a message's text: its item, or the first fault in it.
+
 ghost use Rattle.std.specs.Prelude.{◌≡◌, ◌≢◌, ◌++◌, ◌+◌, ◌≤◌, codes, decimal, length, OnErr, OnOk};
 ghost use Rattle.arrayvec.specs.ArrayVec.{array_vec_len};
 ghost use Rattle.secs_items.specs.declared.item_fault.ItemFault.TheVariants as faults;

@@ -1,3 +1,5 @@
+//! Where the pieces of a capture end, which are frames and characters, and where it breaks.
+
 ghost use Rattle.std.specs.Prelude.{◌≡◌, ◌+◌, ◌<◌, ◌≤◌, ℕ, drop, length, slice_index, take, None, IfSome};
 ghost use Rattle.line_show.specs.Capture.{EndsAs, IsFrontAt, IsRead, break_of, front_frame, is_character, piece_bytes, piece_of};
 ghost use Rattle.line_show.specs.declared.capture.Ending.TheVariants as endings;

@@ -1,3 +1,5 @@
+//! What holds of all captures: each is pieces and an ending, in one way only.
+
 ghost use Rattle.line_show.specs.Laws.{BodiesAreShown, CapturesRead, CapturesReadInOneWay};
 
 /// Each capture is pieces and an ending.

@@ -1,3 +1,5 @@
+//! The lines of a block with its message, up to the text of that, and of a character.
+
 ghost use Rattle.std.specs.Prelude.{◌≡◌, ◌+◌, ◌++◌, ◌≤◌, length, decimal};
 ghost use Rattle.arrayvec.specs.ArrayVec.{array_vec_len};
 ghost use Rattle.line_show.specs.Capture.{is_character};

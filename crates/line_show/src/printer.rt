@@ -1,3 +1,5 @@
+//! The call that shows a capture: piece by piece, with its lines written through a page.
+
 ghost use Rattle.std.specs.Prelude.{◌≡◌, ◌⊎◌, ◌++◌, ◌∷◌, [], Err, List, OnOk};
 ghost use Rattle.block_codec.specs.Block.{BlockView};
 ghost use Rattle.gl_base.specs.Sending.{WroteShort, WroteText};

@@ -1,3 +1,5 @@
+//! The two receivers of a capture's blocks, each of which joins those of the other end to messages.
+
 ghost use Rattle.std.specs.Prelude.{◌≡◌, ◌∷◌, ◌++◌, [], IfOk, List, OnOk};
 ghost use Rattle.block_codec.specs.Block.{BlockView};
 ghost use Rattle.line_show.specs.Messages.{HaveMet, flow_in};

@@ -1,3 +1,5 @@
+//! A character with where it comes from, by which a slip is told from a frame that came whole.
+
 /// A place in a frame that an end has written.
 #[derive(Clone, Copy, Debug, PartialEq, Eq)]
 pub(crate) struct FramePlace {

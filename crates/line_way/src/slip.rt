@@ -1,3 +1,5 @@
+//! Whether the next character makes a slip behind what was gathered, looked at before it is taken.
+
 ghost use Rattle.std.specs.Prelude.{◌≡◌, ℕ, ◌∷◌, [], ◌++◌, ◌+◌, ◌≤◌, ◌==◌, ◌&&◌, true, length, map, not, slice_index};
 ghost use Rattle.arrayvec.specs.ArrayVec.{array_vec_len};
 ghost use Rattle.line_end.specs.Frames.{is_frame};

@@ -1,3 +1,5 @@
+//! One direction of the line, and what the end that it leads to has gathered.
+
 ghost use Rattle.std.specs.Prelude.{◌≡◌, true, [], ◌∷◌, ◌++◌, ◌<◌, ◌≤◌, ◌+◌, ◌^◌, length, map, OnOk, OnErr};
 ghost use Rattle.line_way.specs.Kept.{IsSlipAt, IsSlipOf, control, count_after, framed_from, gathered_with_next, makes_slip_in, way_after, with_change, with_noise, with_written, without_next};
 ghost use Rattle.line_way.specs.Ways.{characters_of, next_byte};

@@ -1,3 +1,5 @@
+//! Both directions as one value, whose calls are deeds of `line_order`'s line.
+
 ghost use Rattle.std.specs.Prelude.{◌≡◌, ◌<◌, ◌≤◌, ◌+◌, ◌++◌, ◌^◌, ℕ, true, [], OnOk, OnErr};
 ghost use Rattle.line_end.specs.Plan.{TimesFit};
 ghost use Rattle.line_end.specs.declared.plan.Times.{Times};

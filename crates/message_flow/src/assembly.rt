@@ -1,3 +1,5 @@
+//! Arriving blocks are joined to messages: what each block is, and when T4 drops what isn't whole.
+
 ghost use Rattle.std.specs.Prelude.{◌≡◌, ◌+◌, ◌^◌, ◌<◌, ◌≤◌, ◌↔◌, ◌++◌, ◌&&◌, [], ◌∷◌, List, Some, None, length, map, min, slice_index_or, IfOk, IfSome, IfNone, OnErr, OnOk};
 ghost use Rattle.std.specs.List.{find, position, position_or_len, reduce, remove};
 ghost use Rattle.std.specs.Option.{option_map, OnSome};

@@ -1,3 +1,5 @@
+//! What an arrived block may be, by all that came before it.
+
 use crate::Message;
 
 /// What an arrived block is.

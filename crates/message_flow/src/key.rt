@@ -1,3 +1,5 @@
+//! When two blocks are of one message, or are the same block: what assembly and queue find messages by.
+
 ghost use Rattle.std.specs.Prelude.{◌≡◌};
 ghost use Rattle.message_flow.specs.Key.{same_header, same_key};
 

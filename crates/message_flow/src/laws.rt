@@ -1,3 +1,5 @@
+//! What holds of messages and their blocks, cut and joined, after all histories.
+
 ghost use Rattle.message_flow.specs.Laws.{BlocksAreNumbered, BlocksCarryText, BlocksMakeMessages, KeptIsLookedBackFor, LeftOutIsMissed, MessagesComeWhole, MessagesGoInBlocks, StandingGoesOn, WholeIsNumbered, WholeMessagesFit};
 ghost use Rattle.message_flow.specs.Worked.{ComesInThree, LacksOne};
 

@@ -1,3 +1,5 @@
+//! A message as a value, and its blocks by their numbers.
+
 ghost use Rattle.std.specs.Prelude.{◌≡◌, ◌+◌, ◌<◌, ◌≤◌, ◌↔◌, length, IsTrue};
 ghost use Rattle.block_codec.specs.Block.{IsBlock};
 ghost use Rattle.block_codec.specs.Protocol.{most_blocks};

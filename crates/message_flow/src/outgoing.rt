@@ -1,3 +1,5 @@
+//! The queue of messages to be sent: whose block goes next, and how a message leaves it.
+
 ghost use Rattle.std.specs.Prelude.{◌≡◌, true, false, slice_get, ◌+◌, ◌<◌, ◌≤◌, ◌↔◌, ◌++◌, [], ◌∷◌, drop, length, IfSome, IsOk, IsTrue, OnOk, OnErr, not};
 ghost use Rattle.std.specs.List.{count_by, find, list_any, position, position_or_len, remove};
 ghost use Rattle.std.specs.Option.{option_map, IsSome};

@@ -1,3 +1,5 @@
+//! An open message of the assembly, which grows block by block until it is whole.
+
 ghost use Rattle.std.specs.Prelude.{◌≡◌, ◌≤◌, ◌<◌, [], OnErr, OnOk, IfOk};
 ghost use Rattle.message_flow.specs.Assembly.{next_partial, message_of, new_partial};
 

@@ -1,3 +1,5 @@
+//! What an end is given in one step, and what it gives. The log and both ends need it, and stand on this crate.
+
 use arrayvec::ArrayVec;
 use gl_base::Row;
 

@@ -1,3 +1,5 @@
+//! One place of the queue: its message, and how many blocks have gone.
+
 ghost use Rattle.std.specs.Prelude.{◌≡◌};
 ghost use Rattle.message_flow.specs.Waiting.{is_named};
 

@@ -1,3 +1,5 @@
+//! The characters that one read has brought, which are handed out one a poll.
+
 ghost use Rattle.std.specs.Prelude.{◌≡◌, []};
 ghost use Rattle.std.specs.Io.KnownBytes.{Keeps, prepend_known};
 ghost use Rattle.tcp_link.specs.Arrived.{IsNextOf};

@@ -1,3 +1,5 @@
+//! A connection to a peer: its polls, by reads that wait or don't, at moments that never go back.
+
 ghost use Rattle.std.specs.Prelude.{◌≡◌, [], IfSome};
 ghost use Rattle.std.specs.Io.KnownBytes.{Keeps, prepend_known};
 ghost use Rattle.gl_base.specs.Events.{IsMomentFrom};

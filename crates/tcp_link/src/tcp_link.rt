@@ -1,3 +1,5 @@
+//! The calls of a link by those of the system, over any system that has connections; its test has a real one.
+
 ghost use Rattle.std.specs.Prelude.{◌≡◌, ◌<◌, ◌^◌, IsSome, None, OnOk, length};
 ghost use Rattle.gl_base.specs.Events.{moment_after};
 ghost use Rattle.gl_base.specs.Faults.{Rose};

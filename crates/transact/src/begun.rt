@@ -1,3 +1,5 @@
+//! One open transaction, and the tests by which it is found.
+
 ghost use Rattle.std.specs.Prelude.{◌≡◌};
 ghost use Rattle.transact.specs.Transactions.{has_system, is_answered_by, is_due};
 

@@ -1,3 +1,5 @@
+//! What holds of transactions and of numbers after all lists of calls.
+
 ghost use Rattle.transact.specs.Laws.{NumbersComeOnce, OpenAreBegunAndNotEnded};
 
 /// After any list of calls the open transactions are those of the primaries that have begun and not ended, in the

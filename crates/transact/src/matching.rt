@@ -1,3 +1,5 @@
+//! When a secondary answers a primary: one test, for the open transactions and for primaries that wait to go out.
+
 ghost use Rattle.std.specs.Prelude.{◌≡◌};
 ghost use Rattle.transact.specs.Matching.{matches};
 

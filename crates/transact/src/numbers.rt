@@ -1,3 +1,5 @@
+//! The numbers of a side, of which each is drawn once.
+
 ghost use Rattle.std.specs.Prelude.{◌≡◌, ◌+◌, ◌-◌, ◌^◌, ◌≤◌};
 ghost use Rattle.transact.specs.Numbers.{IsNumbers, NumbersView, after_draw, next_number, numbers_from, with_more};
 

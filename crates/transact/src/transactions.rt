@@ -1,3 +1,5 @@
+//! The transactions of one side, from the primary that begins one to the reply or the T3 that ends it.
+
 ghost use Rattle.std.specs.Prelude.{false, ◌≡◌, ◌+◌, ◌^◌, ◌<◌, ◌≤◌, [], ◌∷◌, Some, None, length, min, slice_get, IfNone, IfSome, OnErr, OnOk};
 ghost use Rattle.std.specs.List.{filter_map, find, list_any, position, reduce};
 ghost use Rattle.std.specs.Option.{option_map};
