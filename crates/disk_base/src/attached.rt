@@ -1,3 +1,5 @@
+//! The name of the attached file, which clauses need and the code doesn't: a value that takes no memory.
+
 ghost use Rattle.std.specs.Prelude.{◌≡◌, ℕ, List, Option, Some, None};
 ghost use Rattle.std.specs.Borrow.{ftrue};
 

@@ -1,3 +1,5 @@
+//! What a crash leaves: a chosen byte in each range written since the last good sync, and in all others the bytes now.
+
 ghost use Rattle.std.specs.Prelude.{◌≡◌, ℕ, ◌+◌, ◌≤◌, List, [], true, fold, length, replicate, IfOk};
 ghost use Rattle.disk_base.specs.Cut.{byte_left, bytes_left, choice_left, marks_of};
 ghost use Rattle.disk_base.specs.Log.{AreSized, loose_behind, loose_under};

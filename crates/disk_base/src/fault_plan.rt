@@ -1,3 +1,5 @@
+//! Which calls of a disk in memory are to fail, so that a fault or a stop can be tried at each of them.
+
 ghost use Rattle.std.specs.Prelude.{◌≡◌};
 ghost use Rattle.disk_base.specs.Plan.{next_answer, next_plan, no_faults};
 

@@ -1,3 +1,6 @@
+//! What holds of every disk: what a write with its sync leaves of the other bytes, also where it fails; and of one in
+//! memory, what a crash leaves of one byte.
+
 ghost use Rattle.std.specs.Prelude.{◌≡◌, ◌+◌, ◌<◌, ◌≤◌, ℕ, List, [], ◌∷◌, Option, Some, length, slice_index};
 ghost use Rattle.disk_base.specs.Calls.{DiskCall};
 ghost use Rattle.disk_base.specs.Cut.{chosen_byte, image_of};

@@ -1,3 +1,5 @@
+//! The list of calls that a disk in memory keeps, and the bytes that come of them when they are made again.
+
 ghost use Rattle.std.specs.Prelude.{◌≡◌, ◌+◌, ◌≤◌, [], fold, length};
 ghost use Rattle.disk_base.specs.Log.{AreWithin, bytes_after, bytes_under, calls_of, settled_count};
 ghost use Rattle.disk_base.specs.Story.{with_part};

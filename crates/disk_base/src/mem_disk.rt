@@ -1,3 +1,5 @@
+//! A disk in memory, which tells all that a crash may leave, and can be cut there.
+
 ghost use Rattle.std.specs.Prelude.{◌≡◌, ◌+◌, ◌^◌, ◌<◌, ◌≤◌, ◌&&◌, ◌||◌, nat_le, nat_lt, false};
 ghost use Rattle.std.specs.Prelude.{Option, Some, [], length, replicate, refl, All, IfOk};
 ghost use Rattle.disk_base.specs.Calls.{Logs, attach_call, read_call, sync_call, write_call};

@@ -1,3 +1,5 @@
+//! The error at want of memory, with its conversions. This crate stands on no other one, so it has an error of its own.
+
 use std::alloc::{AllocError, AllocFailed};
 
 /// Memory ran out.

@@ -1,3 +1,5 @@
+//! The calls of a disk by those of the system, over any system that has files; its test has a real one.
+
 ghost use Rattle.std.specs.Prelude.{◌≡◌, ◌≤◌, IfOk, None};
 ghost use Rattle.disk_base.specs.Faults.{Rose};
 ghost use Rattle.disk_base.specs.declared.disk.DiskAnswer.{DiskAnswer};

@@ -1,3 +1,5 @@
+//! The bytes of a cell, two copies of a number and a gate that names the one that counts, and the reading of its value.
+
 ghost use Rattle.std.specs.Prelude.{◌≡◌, ◌+◌, ◌≤◌, false, Some, length};
 ghost use Rattle.std.specs.Int.{w64, from_be_bytes};
 ghost use Rattle.disk_base.specs.Calls.{Logs, read_call};

@@ -1,3 +1,5 @@
+//! Places in a cell: that they are numbers of 64 bits, since the disk reaches there, is shown here once.
+
 ghost use Rattle.std.specs.Prelude.{◌≡◌, ◌+◌, ◌≤◌};
 
 use disk_base::Disk;

@@ -1,3 +1,5 @@
+//! The lines about a spool file: its head, a message, and a new file.
+
 ghost use Rattle.std.specs.Prelude.{◌≡◌, ◌+◌, ◌*◌, ◌++◌, ◌≤◌, drop, length, take};
 ghost use Rattle.arrayvec.specs.ArrayVec.{array_vec_len};
 ghost use Rattle.spool_show.specs.Text.{count_text, formatted_line, head_line, line_of};

@@ -1,3 +1,5 @@
+//! The list of a spool file is written, a line a message.
+
 ghost use Rattle.std.specs.Prelude.{◌≡◌, ◌+◌, ◌-◌, ◌<◌, ◌≤◌, drop, take};
 ghost use Rattle.gl_base.specs.Told.{sink_told};
 ghost use Rattle.spool_show.specs.Text.{line_of};

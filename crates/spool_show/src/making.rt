@@ -1,3 +1,5 @@
+//! A new spool file is made, with its line.
+
 ghost use Rattle.std.specs.Prelude.{◌≡◌, ◌≤◌};
 ghost use Rattle.gl_base.specs.Told.{sink_told};
 ghost use Rattle.spool_show.specs.Formatting.{FormatsFile, FormatsSpool, WritesFormatted};

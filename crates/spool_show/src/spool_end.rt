@@ -1,3 +1,5 @@
+//! How a listing and a making end.
+
 use spool_slots::NotSpool;
 
 /// How a word about a spool file ended.

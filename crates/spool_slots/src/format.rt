@@ -1,3 +1,5 @@
+//! A new file: its first page, and its slots, all closed.
+
 ghost use Rattle.std.specs.Prelude.{◌≡◌, ◌+◌, ◌<◌, ◌≤◌, None};
 ghost use Rattle.disk_base.specs.Faults.{HasCause};
 ghost use Rattle.disk_base.specs.SameDisk.{IsSameDisk};

@@ -1,3 +1,5 @@
+//! What stands in front of the slots, tested byte by byte: the name, the number of slots, and the mark.
+
 ghost use Rattle.std.specs.Prelude.{◌≡◌, ℕ, ◌+◌, ◌<◌, ◌≤◌, List, Option, Some, IfSome, length, min};
 ghost use Rattle.std.specs.Int.{w64, from_be_bytes};
 ghost use Rattle.std.specs.List.{slice_get};

@@ -1,3 +1,5 @@
+//! The mark is moved on: it stands in a cell of `gate_cell`, so that a crash leaves the old one or the new one.
+
 ghost use Rattle.std.specs.Prelude.{◌≡◌, ◌<◌, ◌≤◌, false, None, Some, IfErr, IfOk};
 ghost use Rattle.disk_base.specs.Faults.{HasCause, IsCrowded};
 ghost use Rattle.disk_base.specs.Listed.{AsListed};

@@ -1,3 +1,5 @@
+//! What reading a part of a file comes to, with the place at which it breaks.
+
 /// Bytes that aren't a spool file: the first place at which they break, and the byte there.
 #[derive(Clone, Copy, Debug, PartialEq, Eq)]
 pub struct NotSpool {

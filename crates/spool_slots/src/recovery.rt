@@ -1,3 +1,5 @@
+//! What is known of a device with a spool: how a whole file is read for it, and how it changes.
+
 ghost use Rattle.std.specs.Prelude.{◌≡◌, ◌+◌, ◌-◌, ◌*◌, ◌^◌, ◌<◌, ◌≤◌};
 ghost use Rattle.disk_base.specs.SameDisk.{IsSameDisk};
 ghost use Rattle.spool_slots.specs.Reading.{FileFits, FileIs, reading_answer};

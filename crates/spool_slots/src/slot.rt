@@ -1,3 +1,5 @@
+//! The layout of one slot, and where its fields break.
+
 ghost use Rattle.std.specs.Prelude.{◌≡◌, ◌<◌, ◌^◌, ◌%◌, None, IfSome, drop};
 ghost use Rattle.disk_base.specs.Story.{bytes_at};
 ghost use Rattle.spool_slots.specs.Slot.{head_break as break_in, head_of};

@@ -1,3 +1,5 @@
+//! The slots on the disk: where they stand, which are open, and whether the numbers of these are a list's.
+
 ghost use Rattle.std.specs.Prelude.{◌≡◌, ℕ, ◌+◌, ◌*◌, ◌%◌, ◌<◌, ◌≤◌, ◌^◌, true, List, [], ◌∷◌, length, Option, Some, None, IfSome, drop};
 ghost use Rattle.std.specs.List.{slice_get};
 ghost use Rattle.disk_base.specs.SameDisk.{IsSameDisk};

@@ -1,3 +1,5 @@
+//! A spool in hand: a device of which the list is known, and the calls that look at it and change it.
+
 ghost use Rattle.std.specs.Prelude.{◌≡◌, ◌+◌, ◌^◌, ◌<◌, ◌≤◌, ◌%◌, Some};
 ghost use Rattle.disk_base.specs.Story.{Story};
 ghost use Rattle.spool_slots.specs.Changes.{Drops, Looks, Reserves, Stages, parts_of as bytes_of};

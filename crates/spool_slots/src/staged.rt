@@ -1,3 +1,5 @@
+//! A spool between the two writes of a put: the message stands in its slot, whose gate is closed still.
+
 ghost use Rattle.std.specs.Prelude.{◌≡◌, Some};
 ghost use Rattle.spool_slots.specs.Changes.{Seals};
 ghost use Rattle.disk_base.specs.Story.{Story};

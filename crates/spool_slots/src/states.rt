@@ -1,3 +1,5 @@
+//! The states of a device around a spool in hand, with the calls that lead there, and what refused calls hand back.
+
 ghost use Rattle.std.specs.Prelude.{◌≡◌};
 ghost use Rattle.spool_slots.specs.Changes.{Recovers};
 ghost use Rattle.spool_slots.specs.Format.{Formats};

@@ -1,3 +1,5 @@
+//! A message on its way into a slot, and the bytes that it is there.
+
 ghost use Rattle.std.specs.Prelude.{◌≡◌, ◌<◌, ◌≤◌, length};
 ghost use Rattle.spool_slots.specs.Changes.{parts_of as bytes_of};
 
