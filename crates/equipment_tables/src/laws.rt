@@ -1,3 +1,5 @@
+//! The law of the tables as a whole, put together from those of variables, reports, alarms and the spool's rule.
+
 ghost use Rattle.equipment_tables.specs.Laws.{TablesAreLookedBackFor};
 
 use gem_alarms::alarms_are_looked_back_for;

@@ -1,3 +1,5 @@
+//! One alarm as it stands, and the item that shows it in S5F1, S5F6 and S5F8.
+
 ghost use Rattle.std.specs.Prelude.{◌≡◌, ℕ, length, IfOk, None, Some};
 ghost use Rattle.secs_items.specs.Measures.{capped};
 ghost use Rattle.secs_items.specs.Spelling.{shortest_spelling};

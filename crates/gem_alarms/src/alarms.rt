@@ -1,3 +1,5 @@
+//! The table of alarms: the tool sets and clears them, the host enables them and asks for lists.
+
 ghost use Rattle.std.specs.Prelude.{◌≡◌, ◌≢◌, [], ◌∷◌, ◌++◌, List, map, IfOk, OnOk, None, Some};
 ghost use Rattle.gem_tables.specs.Rows.{with_row};
 ghost use Rattle.gem_alarms.specs.declared.alarms.Ackc5.TheVariants as ackc5;

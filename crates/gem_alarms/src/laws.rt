@@ -1,3 +1,5 @@
+//! The law of the alarms: what the table has is what is looked back for in its history.
+
 ghost use Rattle.gem_alarms.specs.Laws.{AlarmsAreLookedBackFor};
 
 /// After each history the table has of every alarm what is looked back for: whether the newest command for it set it,

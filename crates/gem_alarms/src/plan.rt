@@ -1,3 +1,5 @@
+//! The alarms as they are planned, and which plans fit.
+
 ghost use Rattle.std.specs.Prelude.{◌≡◌, ◌↔◌, All, IsTrue, nat_eq};
 ghost use Rattle.std.specs.List.{IsDistinct, list_any};
 ghost use Rattle.gem_alarms.specs.Plan.{AlarmFits, AlarmsFit, IsAscii, alids_of, has_alid};

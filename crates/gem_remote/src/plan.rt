@@ -1,3 +1,5 @@
+//! The remote commands and the terminals as they are planned, and the look-up of commands and parameters by name.
+
 ghost use Rattle.std.specs.Prelude.{◌≡◌, ◌↔◌, IfOk, IsTrue, bytes_eq};
 ghost use Rattle.std.specs.List.{IsDistinct, find, list_any};
 ghost use Rattle.std.specs.Option.{option_copied};

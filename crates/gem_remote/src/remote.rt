@@ -1,3 +1,5 @@
+//! What remote commands and texts for terminals are answered. Nothing changes by it.
+
 ghost use Rattle.std.specs.Prelude.{◌≡◌, ◌↔◌, List, Some, IfOk, IsTrue, OnOk};
 ghost use Rattle.gem_remote.specs.Commands.{Answers, AnswersFor, HasRefusals, IsAllowed, IsCpack, IsCpackOf, Param, PutsRefusal, ackc10_of, param_item, params_item, refusal_item, remoted_with};
 ghost use Rattle.gem_remote.specs.Plan.{RemoteFits};

@@ -1,3 +1,5 @@
+//! The acknowledgements of S2F33, S2F35 and S2F37, with the identifier that is refused where there is one.
+
 ghost use Rattle.std.specs.Prelude.{◌≡◌, ◌↔◌, IsTrue};
 ghost use Rattle.gem_reports.specs.declared.answers.Drack.TheVariants as drack;
 ghost use Rattle.gem_reports.specs.declared.answers.Lrack.TheVariants as lrack;

@@ -1,3 +1,5 @@
+//! One event as it stands: enabled or not, and with the reports that are linked to it.
+
 ghost use Rattle.std.specs.Prelude.{◌≡◌, ℕ, IfOk};
 ghost use Rattle.gem_reports.specs.Events.{without};
 

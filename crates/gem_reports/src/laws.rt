@@ -1,3 +1,5 @@
+//! What holds of the reports after each history, and that their order doesn't matter.
+
 ghost use Rattle.gem_reports.specs.Laws.{ReportsAreCounted, ReportsGoByWhatStands, ReportsHaveVariables};
 
 /// After each history there are as many reports as RPTIDs of which one stands.

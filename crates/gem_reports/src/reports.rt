@@ -1,3 +1,6 @@
+//! The events and reports of a tool, behind S2F33, S2F35 and S2F37. A refused request changes nothing, so definitions
+//! and links are tried on copies.
+
 ghost use Rattle.std.specs.Prelude.{◌≡◌, ◌≢◌, ◌&&◌, List, ℕ, [], ◌∷◌, IfOk, Ok};
 ghost use Rattle.gem_vars.specs.Tables.{value_in};
 ghost use Rattle.gem_reports.specs.declared.answers.Drack.TheVariants as drack;

@@ -1,3 +1,5 @@
+//! That the shapes of messages exclude each other.
+
 ghost use Rattle.gem_shapes.specs.Laws.{AsksOneThing};
 
 /// No message asks for two things.

@@ -1,3 +1,5 @@
+//! All that a message of the host may ask for, with what it carries.
+
 use crate::entries::{Definition, Linking, RuleEntry};
 use crate::part::{Params, Text};
 use gl_base::Row;

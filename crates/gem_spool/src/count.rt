@@ -1,3 +1,6 @@
+//! Whether there is room for a message, by numbers alone, so that who decides ahead of the disk decides as the spool
+//! does.
+
 ghost use Rattle.std.specs.Prelude.{◌≡◌};
 ghost use Rattle.gem_spool.specs.Spool.{room_in};
 

@@ -1,3 +1,5 @@
+//! The oldest message of the spool, read back from its slot.
+
 ghost use Rattle.std.specs.Prelude.{◌≡◌, ◌∷◌, List, Some, IfOk};
 ghost use Rattle.disk_base.specs.Story.{Story};
 ghost use Rattle.gem_spool.specs.Oldest.{KeepsOf, ReadsOldest, message_in};

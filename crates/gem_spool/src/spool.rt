@@ -1,3 +1,5 @@
+//! The spool of the equipment: a list of messages and its calls, over the slots of `spool_slots`.
+
 ghost use Rattle.std.specs.Prelude.{◌≡◌, ◌+◌, ◌^◌, ◌<◌, ◌≤◌, ◌%◌, nat_lt, [], List, length, IfOk, Some};
 ghost use Rattle.disk_base.specs.Story.{Story};
 ghost use Rattle.disk_base.specs.Through.{GoesThrough};

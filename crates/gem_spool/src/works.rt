@@ -1,3 +1,5 @@
+//! Changes of the spool that were decided before the disk has them, carried out one after the other.
+
 ghost use Rattle.std.specs.Prelude.{◌≡◌};
 ghost use Rattle.gem_spool.specs.Standing.{count_of};
 ghost use Rattle.gem_spool.specs.Works.{AreDue, CarriesOut, Does, IsDue};

@@ -1,3 +1,5 @@
+//! The communications state model: its states, what it meets and sends, and its table, a function a state.
+
 ghost use Rattle.std.specs.Prelude.{◌≡◌, ◌<◌, ◌^◌, ◌↔◌, ◌++◌, [], ◌∷◌, List, IsSome};
 ghost use Rattle.gem_states.specs.declared.comms.CommsOut.TheVariants.{Answer, Nothing, SendRequest};
 ghost use Rattle.gem_states.specs.declared.comms.CommsState.TheVariants.{Disabled, WaitCra, WaitDelay, Communicating};

@@ -1,3 +1,5 @@
+//! The control state model with the operator's switch: its states, what it meets and sends, and its table.
+
 ghost use Rattle.std.specs.Prelude.{◌≡◌, ◌++◌, [], ◌∷◌, List};
 ghost use Rattle.gem_states.specs.declared.control.ControlOut.TheVariants.{Nothing};
 ghost use Rattle.gem_states.specs.declared.control.ControlState.TheVariants.{Attempt, EquipmentOffline, HostOffline};

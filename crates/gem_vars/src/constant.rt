@@ -1,3 +1,5 @@
+//! One equipment constant as it stands, and its row of S2F30.
+
 ghost use Rattle.std.specs.Prelude.{◌≡◌, ℕ, length, IfOk, None, Some};
 ghost use Rattle.secs_items.specs.Measures.{capped};
 ghost use Rattle.secs_items.specs.Spelling.{shortest_spelling};

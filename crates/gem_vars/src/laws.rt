@@ -1,3 +1,5 @@
+//! What holds of the variables and constants after each history.
+
 ghost use Rattle.gem_vars.specs.Laws.{ValuesStayAsPlanned, VarsAreLookedBackFor};
 
 /// After each history the tables have of every variable and constant what is looked back for: the value of the newest

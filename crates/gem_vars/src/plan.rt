@@ -1,3 +1,5 @@
+//! The variables and constants as they are planned, and which plans fit.
+
 ghost use Rattle.std.specs.Prelude.{◌≡◌, ◌↔◌, All, IsTrue, nat_eq};
 ghost use Rattle.std.specs.List.{IsDistinct, list_all, list_any};
 ghost use Rattle.gem_vars.specs.Plan.{ConstantFits, ConstantsFit, VariableFits, VariablesFit, VarsFit, built_in_constants, has_ecid, has_vid, is_in_range, planned_ecids, planned_vids};

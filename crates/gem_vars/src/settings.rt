@@ -1,3 +1,5 @@
+//! Why a variable isn't set, and the acknowledgement of S2F15.
+
 ghost use Rattle.std.specs.Prelude.{◌≡◌};
 ghost use Rattle.gem_vars.specs.declared.settings.Setting.TheVariants as setting;
 

@@ -1,3 +1,5 @@
+//! The table of variables and constants: the tool sets the ones, S2F15 the others. Four constants are in every plan.
+
 ghost use Rattle.std.specs.Prelude.{◌≡◌, ◌≢◌, [], ◌++◌, List, map, nat_eq, IfErr, IfOk, None, OnErr, OnOk, Some};
 ghost use Rattle.std.specs.List.{IsDistinct};
 ghost use Rattle.std.specs.Map.{keys_of};

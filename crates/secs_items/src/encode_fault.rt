@@ -1,3 +1,5 @@
+//! Why an item can't be written as bytes.
+
 ghost use Rattle.std.specs.Prelude.{◌≡◌};
 ghost use Rattle.secs_items.specs.declared.encode_fault.EncodeFault.TheVariants as fault;
 

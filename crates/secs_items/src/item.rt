@@ -1,3 +1,5 @@
+//! The item as a value, with its kind and its copy. Its bytes, both ways, stand in `writing` and `reading`.
+
 ghost use Rattle.std.specs.Prelude.{◌≡◌, IfOk};
 ghost use Rattle.secs_items.specs.declared.item.Item.{out-Item};
 ghost use Rattle.secs_items.specs.declared.item.Item.TheVariants as item;

@@ -1,3 +1,5 @@
+//! Why bytes can't be read as an item, each fault with its place.
+
 ghost use Rattle.std.specs.Prelude.{◌≡◌};
 ghost use Rattle.secs_items.specs.declared.item_fault.ItemFault.TheVariants as fault;
 

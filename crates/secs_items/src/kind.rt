@@ -1,3 +1,5 @@
+//! The kinds of items: their codes in the format byte, and the sizes of their elements.
+
 ghost use Rattle.std.specs.Prelude.{◌≡◌};
 ghost use Rattle.secs_items.specs.Kinds.{code_of, is_list, kind_with, unit_of};
 

@@ -1,3 +1,5 @@
+//! Why a text can't be read as an item, each fault with its place.
+
 ghost use Rattle.std.specs.Prelude.{◌≡◌};
 ghost use Rattle.secs_text.specs.declared.text_fault.TextFault.TheVariants as fault;
 
