@@ -1,3 +1,6 @@
+//! The law of two lawful ends on one line, with runs that meet what it starts from and one that shows what the silence
+//! is for.
+
 ghost use Rattle.delivery.specs.Laws.{EndsDeliver};
 ghost use Rattle.delivery.specs.Worked.{ComesTwice, NeedsSilence, OutlivesLoss};
 

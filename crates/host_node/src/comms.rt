@@ -1,3 +1,5 @@
+//! The host's state of communication: how it changes, and the note of a change.
+
 ghost use Rattle.std.specs.Prelude.{◌≡◌, IfOk};
 ghost use Rattle.message_end.specs.Core.{EndView};
 ghost use Rattle.message_end.specs.Parts.{AreCarried};

@@ -1,3 +1,6 @@
+//! The host as an end, and its step in its parts. Replies, what comes too late and the end of all messages stand
+//! beside.
+
 ghost use Rattle.std.specs.Prelude.{◌≡◌, ◌+◌, ◌^◌, ◌<◌, ◌≤◌, false, [], Some};
 ghost use Rattle.arrayvec.specs.ArrayVec.{array_vec_len};
 ghost use Rattle.block_codec.specs.Protocol.{longest_text};

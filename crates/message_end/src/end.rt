@@ -1,3 +1,6 @@
+//! The core that both ends share: line, queue, assembly, transactions and numbers behind calls that keep the law of an
+//! end.
+
 ghost use Rattle.std.specs.Prelude.{◌≡◌, ◌+◌, ◌-◌, ◌^◌, ◌<◌, ◌≤◌, ◌++◌, ◌∷◌, ◌&&◌, [], Some, None, IfOk, IfSome, OnOk, is_some, length, not, slice_get};
 ghost use Rattle.std.specs.List.{count_by, find, list_any};
 ghost use Rattle.std.specs.Option.{option_map};

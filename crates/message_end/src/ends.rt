@@ -1,3 +1,6 @@
+//! What an end has to offer to be run in a world: a trait, so that what is proved of two ends holds of all that keep
+//! its law.
+
 ghost use Rattle.std.specs.Prelude.{◌≡◌, ◌<◌, ◌^◌, nat_le, ℕ, Bool, false, List, Option, IfOk, OnOk, if◌then◌else◌};
 ghost use Rattle.disk_base.specs.declared.cut.CutChoice.{CutChoice};
 ghost use Rattle.line_end.specs.Step.{is_due};

@@ -1,3 +1,5 @@
+//! The law of an end, also where a step stops early, and a run that can be followed by hand.
+
 ghost use Rattle.message_end.specs.Fronts.{StopsAreLawful};
 ghost use Rattle.message_end.specs.Laws.{EndsAreLawful, NotesAreRead};
 ghost use Rattle.message_end.specs.Worked.{IsSilent};

@@ -1,3 +1,5 @@
+//! A primary before it has system bytes, as the layers above hand it over.
+
 use gl_base::Row;
 
 /// A primary that isn't sent yet: it has no system bytes.

@@ -1,3 +1,5 @@
+//! The law that the host takes the spool in order, and logs that meet it or break it.
+
 ghost use Rattle.spool_delivery.specs.Laws.{SpoolIsTakenInOrder};
 ghost use Rattle.spool_delivery.specs.Worked.{AreNotKept, BreakOrder, CountsWhatComes, CountsWhatStands, NumbersAgain, PutsWhatIsFound, TakesTwice, UnloadsAfterLoss};
 

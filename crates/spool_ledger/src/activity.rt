@@ -1,3 +1,5 @@
+//! When the spool is active, and what an S6F23 is answered by that.
+
 ghost use Rattle.std.specs.Prelude.{◌≡◌, ◌++◌, IfOk};
 ghost use Rattle.message_end.specs.Ends.{printed};
 ghost use Rattle.spool_ledger.specs.Activity.{activated, rested, rsda_of};

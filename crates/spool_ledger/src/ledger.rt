@@ -1,3 +1,6 @@
+//! The ledger as a value: the list by its numbers, as decided and as it was when works were last handed over, the works
+//! since, and the unload.
+
 ghost use Rattle.std.specs.Prelude.{◌≡◌, ◌+◌, ◌^◌, ◌<◌, ◌≤◌};
 ghost use Rattle.gem_spool.specs.Works.{AreDue, counts_after};
 ghost use Rattle.spool_ledger.specs.Ledger.{IsLedger, carried_out, new_ledger, next_of, room_for, stood_count};

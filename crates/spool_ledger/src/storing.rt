@@ -1,3 +1,5 @@
+//! How messages come to the list and leave it: one is stored, the oldest is overwritten, all are purged.
+
 ghost use Rattle.std.specs.Prelude.{◌≡◌, ◌<◌, ◌≤◌, ◌%◌, ◌++◌, ◌∷◌, [], length, IfOk};
 ghost use Rattle.gem_spool.specs.declared.spool.Room.TheVariants.{Fits};
 ghost use Rattle.message_end.specs.Ends.{printed};

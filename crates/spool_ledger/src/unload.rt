@@ -1,3 +1,5 @@
+//! An unload as a value: the message under way, with its text where it waits for leave, and how many were confirmed.
+
 ghost use Rattle.std.specs.Prelude.{◌≡◌, ◌≤◌, length};
 ghost use Rattle.block_codec.specs.Protocol.{longest_text};
 

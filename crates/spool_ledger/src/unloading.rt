@@ -1,3 +1,5 @@
+//! An unload by its calls: it begins, takes up a message, which is granted leave and confirmed, and ends.
+
 ghost use Rattle.std.specs.Prelude.{◌≡◌, ◌<◌, ◌++◌, is_some, IfOk, None, Some};
 ghost use Rattle.message_end.specs.Ends.{printed};
 ghost use Rattle.spool_ledger.specs.Ledger.{confirmed_of};

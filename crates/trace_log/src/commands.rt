@@ -1,3 +1,5 @@
+//! What both sides may be told, and which commands fit.
+
 ghost use Rattle.std.specs.Prelude.{◌↔◌, IsTrue};
 ghost use Rattle.trace_log.specs.Commands.{HostCommandFits, MayBeSent, ToolCommandFits};
 

@@ -1,3 +1,5 @@
+//! What lines of the log name: messages, states and causes, each with its word.
+
 ghost use Rattle.std.specs.Prelude.{◌≡◌, ◌≤◌, ◌+◌, ◌++◌, length};
 ghost use Rattle.arrayvec.specs.ArrayVec.{array_vec_len};
 ghost use Rattle.trace_log.specs.Names.{cause_text, comms_text, control_text, header_title, message_name, name_text, system_text, title_of, title_text};

@@ -1,3 +1,5 @@
+//! Bytes, bodies and texts put at the end of a line of the log.
+
 ghost use Rattle.std.specs.Prelude.{◌≡◌, ◌++◌, OnErr, OnOk};
 ghost use Rattle.std.specs.List.{flat_map};
 ghost use Rattle.gl_base.specs.Rows.{Grows};
