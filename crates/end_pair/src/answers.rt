@@ -1,3 +1,5 @@
+//! How a run ends, and how a world answers each event of its schedule.
+
 /// How a run ended.
 #[derive(Clone, Copy, Debug, PartialEq, Eq)]
 pub enum RunEnd {

@@ -1,3 +1,5 @@
+//! What holds of all runs of two ends: how they end, and that their logs are those of moves that the ends' laws allow.
+
 ghost use Rattle.std.specs.Prelude.{List, All};
 ghost use Rattle.line_schedule.specs.declared.event.Event.{Event};
 ghost use Rattle.message_end.specs.Core.{step_in};

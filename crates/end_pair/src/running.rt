@@ -1,3 +1,5 @@
+//! A whole run: the schedule is carried out event by event on a new world, and its lines are written through a page.
+
 ghost use Rattle.std.specs.Prelude.{◌≡◌, ◌++◌, All};
 ghost use Rattle.gl_base.specs.Sending.{Sends};
 ghost use Rattle.end_pair.specs.declared.answers.WorldStep.TheVariants as answer;

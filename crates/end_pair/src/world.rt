@@ -1,3 +1,6 @@
+//! The world: two ends, the line between them, the clock, and what is planned of the power. One call carries out one
+//! event.
+
 ghost use Rattle.std.specs.Prelude.{◌≡◌, ◌≢◌, ◌<◌, ◌≤◌, ◌+◌, ◌*◌, ◌^◌, ◌++◌, ◌&&◌, false, not, None, Some, IfErr, IfOk, OnErr, OnOk};
 ghost use Rattle.gl_base.specs.declared.side.Side.TheVariants as sides;
 ghost use Rattle.message_end.specs.Core.{step_in};

@@ -1,3 +1,5 @@
+//! How a run over a link ends, and what was written and sent by then.
+
 /// How the run of an end over a link ended.
 #[derive(Clone, Copy, Debug, PartialEq, Eq)]
 pub enum Ending {

@@ -1,3 +1,6 @@
+//! What an end has to offer to be run over a link: a trait, so that one run is proved for the equipment and for the
+//! host.
+
 ghost use Rattle.std.specs.Prelude.{◌≡◌, ◌<◌, ◌^◌, ℕ, Option, option_copied};
 ghost use Rattle.line_schedule.specs.declared.script.ScriptStep.{ScriptStep};
 ghost use Rattle.message_end.specs.Ends.{Asked, Input, IsEmpty, Leaves, Machine, MayTake, Uses, input_of};

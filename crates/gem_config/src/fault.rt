@@ -1,3 +1,5 @@
+//! Why a plan file is refused: the key, and what is wrong with it.
+
 ghost use Rattle.std.specs.Prelude.{◌≡◌};
 ghost use Rattle.gem_config.specs.declared.fault.ConfigFault.TheVariants as faults;
 

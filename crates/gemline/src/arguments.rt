@@ -1,3 +1,6 @@
+//! The system's arguments as words of the top call, and what is answered where the system gives none. It is apart from
+//! `main`, so that tests can run it in memory.
+
 ghost use Rattle.std.specs.Prelude.{◌≡◌, [], IfOk, drop};
 ghost use Rattle.std.specs.Process.{exit_status};
 ghost use Rattle.std.specs.IoError.{error_kind};

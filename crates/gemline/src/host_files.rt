@@ -1,3 +1,5 @@
+//! The files of the system as `Files`, of which the top call reads plans and schedules.
+
 ghost use Rattle.std.specs.Prelude.{◌≡◌, ℕ, false, List, Option, Some, None};
 ghost use Rattle.gl_base.specs.Files.{FileIsWithin, FilesHealth, HasFileCause, ReadsFile, ReadsFileOf};
 ghost use Rattle.gl_base.specs.Source.{ReadFault};

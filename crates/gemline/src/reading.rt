@@ -1,3 +1,5 @@
+//! Anything that the system reads from as a `Source`: standard input, or an open file.
+
 ghost use Rattle.std.specs.Prelude.{◌≡◌, ◌<◌, false, length, None};
 ghost use Rattle.gl_base.specs.Source.{HasReadCause, Reads, SourceHealth, TakesWithin};
 ghost use Rattle.gemline.specs.Passing.{ReadsOn};

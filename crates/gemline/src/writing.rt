@@ -1,3 +1,5 @@
+//! Anything that the system writes to as a `Sink`: standard output, and standard error.
+
 ghost use Rattle.std.specs.Prelude.{◌≡◌, ◌<◌, length, None};
 ghost use Rattle.gl_base.specs.Sink.{HasWriteCause, SinkHealth, Writes, WritesWithin};
 ghost use Rattle.gemline.specs.Passing.{WritesOn};

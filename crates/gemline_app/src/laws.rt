@@ -1,3 +1,5 @@
+//! What holds of all runs of the program: the outcome that is due comes, and no fault is passed over.
+
 ghost use Rattle.gemline_app.specs.Laws.{EquipmentsAreAnswered, FaultsAreTold, HexMeansOne, HexSpellsOne};
 ghost use Rattle.gemline_app.specs.Laws.{HostsAreAnswered, OutcomesAreDue, ShowsWholeCaptures, SpelledIsHex};
 ghost use Rattle.gemline_app.specs.Laws.{SpelledReadsBack};

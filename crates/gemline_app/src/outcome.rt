@@ -1,3 +1,5 @@
+//! What a run of the program came to, with its status and the line that tells of it.
+
 ghost use Rattle.std.specs.Prelude.{◌≡◌, ◌+◌, ◌++◌, ◌≤◌, codes, decimal, length};
 ghost use Rattle.arrayvec.specs.ArrayVec.{array_vec_len};
 ghost use Rattle.gemline_app.specs.Outcome.{break_text, what_text};

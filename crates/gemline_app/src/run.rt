@@ -1,3 +1,5 @@
+//! The top call: words become a command, this is carried out, and its outcome becomes a line and a status.
+
 ghost use Rattle.std.specs.Prelude.{◌≡◌, ◌++◌, ◌≤◌, ℕ, List, None, Some, map, option_map, string_bytes};
 ghost use Rattle.command_words.specs.Asked.{Equipment, Host, IsInRange, Replay, asked_by};
 ghost use Rattle.gemline_app.specs.Gemline.{ComesFrom, ComesOnInput, IsRun, WasPrinted, WasShown};

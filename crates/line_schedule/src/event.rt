@@ -1,3 +1,5 @@
+//! The events of a schedule as values, and the ranges that they keep to.
+
 ghost use Rattle.std.specs.Prelude.{◌≡◌, ◌↔◌, IsTrue};
 ghost use Rattle.line_schedule.specs.Events.{ChoiceFits, EventFits};
 

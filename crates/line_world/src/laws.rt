@@ -1,3 +1,5 @@
+//! What a safe log says at each of its entries, and made rounds that can be followed by hand.
+
 ghost use Rattle.line_world.specs.Safe.{HoldsAtEachEntry};
 ghost use Rattle.line_world.specs.Worked.{WorkedRounds};
 

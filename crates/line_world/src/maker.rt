@@ -1,3 +1,5 @@
+//! Made rounds of a tool and its host, and the summary of their trace.
+
 ghost use Rattle.std.specs.Prelude.{◌≡◌};
 ghost use Rattle.equipment_tables.specs.Plan.{PlansFit};
 ghost use Rattle.gl_base.specs.Told.{sink_told};

@@ -1,3 +1,5 @@
+//! A run of a tool and its host. All laws of the layers below come together here: its log is safe.
+
 ghost use Rattle.end_pair.specs.Run.{HandsBack};
 ghost use Rattle.equipment_tables.specs.Plan.{PlansFit};
 ghost use Rattle.gl_base.specs.Told.{sink_told};
