@@ -3,8 +3,6 @@
 #![tactic(auto)]
 
 mod answers;
-#[cfg(test)]
-mod answers_tests;
 mod copies;
 mod laws;
 mod plan;

@@ -1,10 +1,11 @@
-use super::*;
-use crate::answers::{Answer, request_of};
+//! What the tables answer to messages of the host, and what these leave in them.
+
+use equipment_tables::{Answer, EquipmentPlan, Tables, request_of};
 use gem_alarms::AlarmPlan;
 use gem_remote::{CommandPlan, ParamPlan, RemotePlan};
 use gem_shapes::RuleEntry;
 use gem_states::ControlState;
-use gem_vars::{ConstantPlan, VariablePlan, VarsPlan};
+use gem_vars::{VariablePlan, VarsPlan};
 use gl_base::{NoMemory, Row};
 use line_end::{LinePlan, Times};
 use secs_items::{Item, Kind};

@@ -1,0 +1,6 @@
+//! Tests of the crates that make a tool's tables, from its variables to its plan file, over their public calls. They
+//! stand in a crate of their own, so that none of those is proved once more with them.
+#![tactic(auto)]
+
+#[cfg(test)]
+mod tables;
