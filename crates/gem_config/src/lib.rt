@@ -9,8 +9,6 @@ mod part;
 mod plans;
 mod rows;
 mod sections;
-#[cfg(test)]
-mod tests;
 mod unknown;
 mod values;
 mod words;

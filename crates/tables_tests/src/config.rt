@@ -1,5 +1,7 @@
-use super::{ConfigFault, ConfigWhat, read_plans};
+//! What plan files are read, and the key and cause of each refusal: every range at both ends, every kind and row.
+
 use equipment_tables::Plans;
+use gem_config::{ConfigFault, ConfigWhat, read_plans};
 use gem_states::ControlState;
 use gl_base::{NoMemory, Row};
 use std::alloc::Global;
