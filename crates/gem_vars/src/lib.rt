@@ -7,8 +7,6 @@ mod listing;
 mod plan;
 mod rows;
 mod settings;
-#[cfg(test)]
-mod tests;
 mod variable;
 mod vars;
 

@@ -6,3 +6,5 @@
 mod config;
 #[cfg(test)]
 mod tables;
+#[cfg(test)]
+mod vars;

@@ -1,5 +1,6 @@
-use super::*;
-use crate::listing::Listing;
+//! The lists of variables and constants that a host is answered, what is set in them, and which plans of them fit.
+
+use gem_vars::{ConstantPlan, Eac, Setting, VariablePlan, Vars, VarsPlan};
 use gl_base::{NoMemory, Row};
 use secs_items::{Item, encode_into};
 use std::alloc::Global;
@@ -86,6 +87,14 @@ fn is_spelled(alloc: Global, item: Result<Item, NoMemory>, bytes: &[u8]) -> bool
         Ok(item) => encode_into(&item, &mut spelling).is_ok() && spelling.as_slice() == bytes,
         Err(NoMemory) => false,
     }
+}
+
+// What the host asks for of each identifier.
+enum Listing {
+    StatusValues,
+    StatusNames,
+    ConstantValues,
+    ConstantNames,
 }
 
 // Whether a list has this body, and is as long.
