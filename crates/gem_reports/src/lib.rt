@@ -11,8 +11,6 @@ mod lengths;
 mod links;
 mod reports;
 mod standing;
-#[cfg(test)]
-mod tests;
 
 pub use answers::{Drack, Erack, Lrack};
 pub use gem_shapes::{Definition, Linking};

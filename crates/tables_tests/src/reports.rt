@@ -1,4 +1,6 @@
-use super::*;
+//! Reports as they are defined, linked and enabled, and what events and reports carry then.
+
+use gem_reports::{Drack, Erack, Lrack, Reports};
 use gem_shapes::{Definition, Linking};
 use gem_vars::{VariablePlan, Vars, VarsPlan};
 use gl_base::{NoMemory, Row};
