@@ -17,6 +17,3 @@ pub use part::{Params, Text};
 pub use primary::{Primary, is_known, is_known_stream};
 pub use reading::read_request;
 pub use request::Request;
-
-#[cfg(test)]
-mod tests;

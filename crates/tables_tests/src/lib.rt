@@ -7,6 +7,8 @@ mod config;
 #[cfg(test)]
 mod reports;
 #[cfg(test)]
+mod shapes;
+#[cfg(test)]
 mod tables;
 #[cfg(test)]
 mod vars;

@@ -1,4 +1,8 @@
-use super::*;
+//! Bodies of each primary of a host, of its shape and not; what they ask for, and how answers are spelled.
+
+use gem_shapes::{
+    Request, code_item, identity_item, is_known, is_known_stream, pair_item, read_request,
+};
 use gl_base::{NoMemory, Row};
 use secs_items::{Item, encode_into};
 use std::alloc::Global;
