@@ -6,8 +6,6 @@ mod laws;
 mod lengths;
 mod plan;
 mod remote;
-#[cfg(test)]
-mod tests;
 
 pub use laws::parameters_are_read;
 pub use plan::{CommandPlan, ParamPlan, RemotePlan};

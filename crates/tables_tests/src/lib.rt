@@ -5,6 +5,8 @@
 #[cfg(test)]
 mod config;
 #[cfg(test)]
+mod remote;
+#[cfg(test)]
 mod reports;
 #[cfg(test)]
 mod shapes;

@@ -1,4 +1,6 @@
-use super::*;
+//! Remote commands and terminals as a plan has them, what they are answered, and which plans fit.
+
+use gem_remote::{Ackc10, CommandPlan, ParamPlan, Remote, RemotePlan};
 use gl_base::Row;
 use secs_items::{Item, Kind, check, encode_into};
 use std::alloc::Global;
