@@ -6,8 +6,6 @@ mod alarms;
 mod laws;
 mod lengths;
 mod plan;
-#[cfg(test)]
-mod tests;
 
 pub use alarms::{Ackc5, AlarmStep, Alarms};
 pub use laws::alarms_are_looked_back_for;

@@ -1,4 +1,6 @@
-use super::*;
+//! Alarms as they are set, enabled and listed, and which plans of them fit.
+
+use gem_alarms::{Ackc5, AlarmPlan, AlarmStep, Alarms};
 use gl_base::{NoMemory, Row};
 use secs_items::{Item, encode_into};
 use std::alloc::Global;
