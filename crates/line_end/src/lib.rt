@@ -5,8 +5,6 @@ mod end;
 mod event;
 mod laws;
 mod plan;
-#[cfg(test)]
-mod tests;
 
 pub use end::{Chars, LineEnd};
 pub use event::{LineCause, LineEvent, Phase};

@@ -1,0 +1,9 @@
+//! Tests of the line's crates, over their public calls: here they are proved without proving those crates once more.
+#![tactic(auto)]
+
+#[cfg(test)]
+mod end;
+#[cfg(test)]
+mod end_rows;
+#[cfg(test)]
+mod plans;
