@@ -6,4 +6,6 @@ mod end;
 #[cfg(test)]
 mod end_rows;
 #[cfg(test)]
+mod messages;
+#[cfg(test)]
 mod plans;

@@ -9,8 +9,6 @@ mod message;
 mod outgoing;
 mod partial;
 mod step;
-#[cfg(test)]
-mod tests;
 mod waiting;
 
 pub use assembly::Assembly;

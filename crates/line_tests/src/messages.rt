@@ -1,7 +1,9 @@
-use super::*;
+//! Messages as blocks: what goes out, and what comes in block by block.
+
 use arrayvec::ArrayVec;
 use block_codec::{Block, Header, LONGEST_TEXT, frame_of};
 use gl_base::{NoMemory, Row, Side};
+use message_flow::{Assembly, Flow, Message, NodeInput, Note, Outgoing, Pushing, StepOut};
 use std::alloc::Global;
 use std::test::Fail;
 
