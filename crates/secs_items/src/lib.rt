@@ -25,6 +25,3 @@ pub use measures::{list_len, text_len};
 pub use reading::decode;
 pub use view::{ItemView, check};
 pub use writing::encode_into;
-
-#[cfg(test)]
-mod tests;

@@ -1,0 +1,5 @@
+//! Tests of items, their texts and captures, over public calls: proved without those crates' own proofs.
+#![tactic(auto)]
+
+#[cfg(test)]
+mod items;
