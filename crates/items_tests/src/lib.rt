@@ -3,3 +3,5 @@
 
 #[cfg(test)]
 mod items;
+#[cfg(test)]
+mod texts;

@@ -15,6 +15,3 @@ pub use laws::{
 pub use printing::print;
 pub use reading::read;
 pub use text_fault::TextFault;
-
-#[cfg(test)]
-mod tests;

@@ -1,6 +1,8 @@
-use super::*;
+//! Texts of items, read and printed.
+
 use gl_base::{NoMemory, Row};
 use secs_items::Item;
+use secs_text::{TextFault, print, read};
 use std::alloc::Global;
 
 fn is_printed(alloc: Global, item: &Item, text: &[u8]) -> bool {
