@@ -14,6 +14,3 @@ pub use laws::{bodies_are_shown, captures_read, captures_read_in_one_way};
 pub use lines::Line;
 pub use printer::{Stop, show};
 pub(crate) use receivers::Receivers;
-
-#[cfg(test)]
-mod tests;

@@ -1,5 +1,7 @@
-use super::*;
+//! Captures of a line, and the lines that show them.
+
 use gl_base::{MemSink, NoMemory, Row};
+use line_show::{Break, Ending, Stop, show};
 use std::alloc::Global;
 use std::test::Fail;
 
