@@ -33,8 +33,3 @@ pub use row::Row;
 pub use side::Side;
 pub use sink::{Sink, WriteAnswer};
 pub use source::{ReadAnswer, Source};
-
-#[cfg(test)]
-mod link_tests;
-#[cfg(test)]
-mod tests;

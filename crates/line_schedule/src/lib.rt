@@ -18,6 +18,3 @@ pub use laws::readers_find_the_meaning;
 pub use schedule::{Schedule, ScheduleFault, read_schedule};
 pub use script::{Script, ScriptStep, read_script};
 pub use words::number_in;
-
-#[cfg(test)]
-mod tests;

@@ -6,6 +6,16 @@ mod end;
 #[cfg(test)]
 mod end_rows;
 #[cfg(test)]
+mod links;
+#[cfg(test)]
 mod messages;
 #[cfg(test)]
+mod notes;
+#[cfg(test)]
+mod outside;
+#[cfg(test)]
 mod plans;
+#[cfg(test)]
+mod schedules;
+#[cfg(test)]
+mod transactions;

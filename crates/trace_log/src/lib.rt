@@ -8,8 +8,6 @@ mod lines;
 mod names;
 mod notes;
 mod putting;
-#[cfg(test)]
-mod tests;
 
 pub use commands::{HostCommand, ToolCommand};
 pub use entries::{put_end, put_note, put_slip};

@@ -6,8 +6,6 @@ mod begun;
 mod laws;
 mod matching;
 mod numbers;
-#[cfg(test)]
-mod tests;
 mod transactions;
 
 pub use laws::{numbers_come_once, open_are_begun_and_not_ended};

@@ -1,7 +1,8 @@
-use super::*;
-use crate::events::event_in;
+//! Schedules and scripts, within their grammars and outside them.
+
 use disk_base::CutChoice;
 use gl_base::{NoMemory, Row, Side};
+use line_schedule::{Event, Schedule, ScheduleFault, ScriptStep, read_schedule, read_script};
 use std::alloc::Global;
 use std::test::Fail;
 use trace_log::{HostCommand, ToolCommand};
@@ -183,44 +184,66 @@ fn commands_outside_the_grammar(rt: HostRuntime) -> Result<(), Fail> {
     Ok(())
 }
 
-fn event(alloc: Global, line: &[u8]) -> Option<Event> {
-    match event_in(alloc, line) {
-        Ok(event) => event,
-        Err(_) => None,
+// What a schedule tells.
+fn told(alloc: Global, line: &[u8]) -> Option<Schedule> {
+    read_schedule(alloc, line).ok()
+}
+
+fn loses(schedule: Option<Schedule>) -> bool {
+    match schedule {
+        Some(schedule) => matches!(
+            schedule.events.as_slice(),
+            [Event::Lose(Side::Equipment, 12)]
+        ),
+        None => false,
     }
 }
 
-fn loses(event: Option<Event>) -> bool {
-    matches!(event, Some(Event::Lose(Side::Equipment, 12)))
+fn changes(schedule: Option<Schedule>) -> bool {
+    match schedule {
+        Some(schedule) => matches!(
+            schedule.events.as_slice(),
+            [Event::Change(Side::Host, 3, 0xAF)]
+        ),
+        None => false,
+    }
 }
 
-fn changes(event: Option<Event>) -> bool {
-    matches!(event, Some(Event::Change(Side::Host, 3, 0xAF)))
+fn adds(schedule: Option<Schedule>) -> bool {
+    match schedule {
+        Some(schedule) => matches!(schedule.events.as_slice(), [Event::Add(Side::Host, 0x15)]),
+        None => false,
+    }
 }
 
-fn adds(event: Option<Event>) -> bool {
-    matches!(event, Some(Event::Add(Side::Host, 0x15)))
+fn cuts(schedule: Option<Schedule>) -> bool {
+    match schedule {
+        Some(schedule) => matches!(
+            schedule.events.as_slice(),
+            [Event::Cut(4_294_967_295, CutChoice::Fill(0xA5))]
+        ),
+        None => false,
+    }
 }
 
-fn cuts(event: Option<Event>) -> bool {
-    matches!(
-        event,
-        Some(Event::Cut(4_294_967_295, CutChoice::Fill(0xA5)))
-    )
-}
-
-fn cuts_to_the_first(event: Option<Event>) -> bool {
-    matches!(event, Some(Event::Cut(1, CutChoice::First(4_294_967_295))))
+fn cuts_to_the_first(schedule: Option<Schedule>) -> bool {
+    match schedule {
+        Some(schedule) => matches!(
+            schedule.events.as_slice(),
+            [Event::Cut(1, CutChoice::First(4_294_967_295))]
+        ),
+        None => false,
+    }
 }
 
 #[test]
 fn reads_what_lines_say(rt: HostRuntime) -> Result<(), Fail> {
     let alloc = rt.alloc();
-    assert!(rt; loses(event(alloc, b"lose E 012")));
-    assert!(rt; changes(event(alloc, b"change H 3 aF")));
-    assert!(rt; adds(event(alloc, b"add H 15")));
-    assert!(rt; cuts(event(alloc, b"cut 4294967295 fill A5")));
-    assert!(rt; cuts_to_the_first(event(alloc, b"cut 1 first 4294967295")));
+    assert!(rt; loses(told(alloc, b"lose E 012")));
+    assert!(rt; changes(told(alloc, b"change H 3 aF")));
+    assert!(rt; adds(told(alloc, b"add H 15")));
+    assert!(rt; cuts(told(alloc, b"cut 4294967295 fill A5")));
+    assert!(rt; cuts_to_the_first(told(alloc, b"cut 1 first 4294967295")));
     Ok(())
 }
 

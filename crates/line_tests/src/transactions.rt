@@ -1,7 +1,9 @@
-use super::*;
+//! Transactions with their replies and T3, and the numbers of primaries.
+
 use block_codec::Header;
 use std::alloc::Global;
 use std::test::Fail;
+use transact::{Beginning, Match, Numbers, Transactions};
 
 // A header of a message in one block, of device 0.
 fn header(system: u32, stream: u8, function: u8, wait: bool, from_equipment: bool) -> Header {

@@ -1,9 +1,19 @@
-use super::*;
+//! What ends note: every line of a log, the titles in it, and the commands that fit.
+
 use block_codec::Header;
 use gl_base::{NoMemory, Row, Side};
 use message_flow::{Message, Note};
 use secs_items::Item;
 use std::alloc::Global;
+use trace_log::{
+    Cause, CommsName, ControlName, HostCommand, Name, Title, ToolCommand, alarm_note, carried_note,
+    closed_note, comms_note, control_note, crowded_note, denied_note, discarded_note, display_note,
+    dropped_by_t4_note, dropped_note, duplicate_note, equipment_started_note, event_note,
+    failed_note, foreign_note, full_note, gone_note, host_started_note, leaving_note, power_note,
+    put_end, put_note, put_slip, received_note, refused_note, sent_note, set_note, spool_note,
+    stored_note, storing_note, stranger_note, timed_out_note, too_long_block_note, too_long_note,
+    try_note, unexpected_note, wrote_note,
+};
 
 fn is_note(note: Result<Note, NoMemory>, text: &[u8]) -> bool {
     match note {

@@ -1,4 +1,9 @@
-use super::*;
+//! Rows, and the outside in memory: sources, sinks with pages of output, and files.
+
+use gl_base::{
+    FileAnswer, Files, Input, MemFile, MemFiles, MemSink, MemSource, NoMemory, PAGE, Page, Row,
+    SinkAnswer, copy_out, read_all,
+};
 use std::alloc::Global;
 use std::test::Fail;
 

@@ -1,4 +1,6 @@
-use super::*;
+//! A link in memory: its events, its room, and the calls that fail.
+
+use gl_base::{Link, LinkAnswer, LinkEntry, LinkIn, MemLink, NoMemory, Row, Side};
 use std::alloc::Global;
 use std::test::Fail;
 
