@@ -7,14 +7,8 @@ mod kept;
 mod laws;
 mod reply;
 mod rule;
-#[cfg(test)]
-mod rule_tests;
 mod spool;
-#[cfg(test)]
-mod spool_tests;
 mod works;
-#[cfg(test)]
-mod works_tests;
 
 pub use count::Count;
 pub use gem_shapes::RuleEntry;

@@ -19,6 +19,3 @@ pub use spool::Spool;
 pub use staged::Staged;
 pub use states::{Dropping, Formatting, OldestAnswer, Raw, Recovering, Reserving, Spent, Staging};
 pub use stored::Stored;
-
-#[cfg(test)]
-mod tests;

@@ -1,6 +1,8 @@
-use crate::spool_tests::{formatted, leaves, with_two};
-use crate::{GemSpool, Room, Undone, Unread, Work};
+//! `gem_spool`: works carried out in a row, what a stop among them leaves, and the oldest message as it is read.
+
+use crate::spool_list::{formatted, leaves, with_two};
 use disk_base::{CutChoice, MemDisk};
+use gem_spool::{GemSpool, Room, Undone, Unread, Work};
 use gl_base::Row;
 use std::alloc::Global;
 use std::test::Fail;

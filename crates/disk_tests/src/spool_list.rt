@@ -1,5 +1,7 @@
-use super::*;
+//! `gem_spool`: each call of the spool as a change of its list, and what a purge leaves where it stops.
+
 use disk_base::{CutChoice, Disk, MemDisk, settle};
+use gem_spool::{GemSpool, PutAnswer, Room};
 use spool_slots::{OldestAnswer, Raw, Spool, Stored};
 use std::alloc::Global;
 

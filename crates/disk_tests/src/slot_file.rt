@@ -1,7 +1,9 @@
+//! `spool_slots`: what a put, a drop and a reserve leave where they stop, what is refused, and where a file breaks.
+
 ghost use Rattle.std.specs.Prelude.{◌≤◌, length};
 
-use super::*;
 use disk_base::{CutChoice, Disk, MemDisk, settle};
+use spool_slots::{Dropping, NotSpool, Raw, Recovering, Reserving, Spool, Staging, Stored};
 use std::alloc::Global;
 use std::test::Fail;
 

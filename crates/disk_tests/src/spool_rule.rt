@@ -1,4 +1,6 @@
-use super::*;
+//! `gem_spool`: each S2F43 of a table with its S2F44, and the primaries that are covered behind it.
+
+use gem_spool::{RuleEntry, SpoolRule};
 use gl_base::{NoMemory, Row};
 use secs_items::{Item, encode_into};
 use std::alloc::Global;
