@@ -6,8 +6,6 @@ mod endings;
 mod host;
 mod late;
 mod replies;
-#[cfg(test)]
-mod tests;
 
 pub use comms::HostComms;
 pub use host::Host;

@@ -5,8 +5,6 @@ mod end;
 mod endings;
 mod ends;
 mod laws;
-#[cfg(test)]
-mod tests;
 mod unsent;
 
 pub use end::{MessageEnd, Stop, Took, least};

@@ -1,11 +1,13 @@
+//! `message_end`: what an end does for each command of its core, and what it notes of that.
+
 ghost use Rattle.std.specs.Prelude.{IfSome};
 ghost use Rattle.message_end.specs.Calls.{FitsLine};
 
-use super::*;
 use arrayvec::ArrayVec;
 use block_codec::Header;
 use gl_base::{Row, Side};
 use line_end::{LinePlan, Times};
+use message_end::{MessageEnd, Stop, Unsent};
 use message_flow::StepOut;
 use std::alloc::Global;
 use std::test::Fail;
