@@ -1,3 +1,5 @@
+-- The eight digits are those of the four bytes.
+
 use Rattle.short_text.proofs.Hex.{word_digits}
 use Rattle.short_text.proofs.hex_word.Goals as goal
 

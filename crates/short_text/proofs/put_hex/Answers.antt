@@ -1,3 +1,5 @@
+-- Two digits more are put; with no byte left all are.
+
 use Rattle.std.proofs.Common.{arith, sym, ◌∙◌}
 use Rattle.short_text.proofs.Hex.{encode_upper-done, encode_upper-step}
 use Rattle.short_text.proofs.put_hex.Goals as goal

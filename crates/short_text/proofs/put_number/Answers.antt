@@ -1,3 +1,5 @@
+-- A number below 10 is its one digit.
+
 use Rattle.std.proofs.Common.{ap, sym, ◌∙◌, ◌++◌, List, ℕ}
 use Rattle.std.proofs.lemmas.Fmt.{decimal_digit}
 use Rattle.short_text.proofs.put_number.Goals as goal

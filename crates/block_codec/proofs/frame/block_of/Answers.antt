@@ -1,3 +1,5 @@
+-- A fault shows that the bytes are no block's frame, and a block that is answered is the only one of its frame.
+
 use Rattle.std.proofs.Common.{◌≡◌, Ok, ap}
 use Rattle.block_codec.proofs.Frames.{fault_of-no_frame, fault_of-wrong_sum, frame_bytes-from_split, frame_bytes-one}
 use Rattle.block_codec.specs.Frame.{frame_bytes}

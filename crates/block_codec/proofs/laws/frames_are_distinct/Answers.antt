@@ -1,3 +1,5 @@
+-- The law, by the lemmas of `Frames`.
+
 use Rattle.block_codec.proofs.Frames.{frame_bytes-same}
 use Rattle.block_codec.proofs.laws.frames_are_distinct.Goals as goal
 

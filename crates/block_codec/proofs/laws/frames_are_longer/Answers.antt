@@ -1,3 +1,5 @@
+-- The law, by the lemmas of `Frames`.
+
 use Rattle.block_codec.proofs.Frames.{length-frame_bytes}
 use Rattle.block_codec.proofs.laws.frames_are_longer.Goals as goal
 

@@ -1,3 +1,5 @@
+-- The law, by the lemmas of `Frames`.
+
 use Rattle.block_codec.proofs.Frames.{drop-frame_bytes, take-frame_bytes}
 use Rattle.block_codec.proofs.laws.length_byte_tells.Goals as goal
 

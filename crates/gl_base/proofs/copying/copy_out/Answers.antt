@@ -1,3 +1,5 @@
+-- One write more took some of the bytes that are left, from the front.
+
 use Rattle.std.proofs.Common.{arith, refl}
 use Rattle.gl_base.proofs.Appending.{took_more}
 use Rattle.gl_base.proofs.copying.copy_out.Goals as goal

@@ -1,3 +1,5 @@
+-- The bytes so far were written.
+
 use Rattle.std.proofs.Common.{◌≤◌, ◌-◌, length, take}
 use Rattle.gl_base.specs.Sending.{WroteText}
 use Rattle.gl_base.specs.Told.{sink_told}

@@ -1,3 +1,5 @@
+-- A read that passes the limit, or whose bytes find no memory, has taken a part from the front.
+
 use Rattle.std.proofs.Common.{arith}
 use Rattle.gl_base.proofs.Reading.{took_past, took_unkept}
 use Rattle.gl_base.proofs.input.read_all.Goals as goal

@@ -1,3 +1,5 @@
+-- What was read, with what is left, is all that was there, within the limit.
+
 use Rattle.std.proofs.Common.{◌≡◌, ◌≤◌, ◌-◌, ◌++◌, length}
 use Rattle.std.specs.Option.{option_map}
 use Rattle.gl_base.specs.Source.{IsReadOn}

@@ -1,3 +1,5 @@
+-- The bytes so far are listed as sent, within the room.
+
 use Rattle.std.proofs.Common.{◌≡◌, ◌≤◌, ◌+◌, ◌++◌, take, vec_capacity, vec_len}
 use Rattle.gl_base.specs.Link.{entries_of}
 use Rattle.gl_base.proofs.mem_link.put_sent.Given as goal

@@ -1,3 +1,5 @@
+-- The first bytes went out and the others behind them, or they were cut off.
+
 use Rattle.gl_base.proofs.Appending.{copies_behind, cut_before}
 use Rattle.gl_base.proofs.page.copy_both.Goals as goal
 

@@ -1,3 +1,5 @@
+-- What reads is the frame of its block, and what doesn't has a wrong sum.
+
 use Rattle.std.proofs.Common.{sym, ap, ◌∙◌}
 use Rattle.line_end.specs.Frames.{block_in}
 use Rattle.line_end.proofs.Framed.{block_in-frame_bytes, is_frame-frame_bytes, wrong_sum}

@@ -1,3 +1,5 @@
+-- The law, by the lemmas of `Arrivals`.
+
 use Rattle.std.proofs.Common.{refl}
 use Rattle.line_end.specs.State.{new_state}
 use Rattle.line_end.proofs.Arrivals.{came_whole}

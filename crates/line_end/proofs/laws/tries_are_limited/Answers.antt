@@ -1,3 +1,5 @@
+-- The law, by the lemmas of `Tries`.
+
 use Rattle.line_end.proofs.Tries.{tries_limited}
 use Rattle.line_end.proofs.laws.tries_are_limited.Goals as goal
 

@@ -1,3 +1,5 @@
+-- The law, by the lemmas of `Steps` and `Told`.
+
 use Rattle.line_order.proofs.Steps.{arrive_in_order}
 use Rattle.line_order.proofs.Told.{tells}
 use Rattle.line_order.proofs.laws.blocks_arrive_in_order.Goals as goal

@@ -1,3 +1,5 @@
+-- The runs, computed: what arrives, what is under way, and where a slip is.
+
 use Rattle.std.proofs.Common.{refl, rules}
 use Rattle.line_end.specs.Frames.{block_in, is_frame, sum_cause}
 use Rattle.line_order.specs.Worked.{changed_back, one_added, one_changed, one_lost, replaced, restarted, retried, start}

@@ -1,3 +1,5 @@
+-- The text of the item, or that of the first fault.
+
 use Rattle.std.proofs.Common.{sym}
 use Rattle.line_show.proofs.ShownBodies.{bad_shown, body_text-item}
 use Rattle.line_show.proofs.bodies.put_body.Goals as goal

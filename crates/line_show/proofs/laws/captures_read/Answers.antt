@@ -1,3 +1,5 @@
+-- The law, by the lemmas of `Existence`.
+
 use Rattle.std.proofs.Common.{length, arith}
 use Rattle.line_show.proofs.Existence.{reads}
 use Rattle.line_show.proofs.laws.captures_read.Goals as goal

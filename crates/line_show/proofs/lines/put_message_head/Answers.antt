@@ -1,3 +1,5 @@
+-- The parts of the line, put one behind the other, are its text.
+
 use Rattle.line_show.proofs.Putting.{put_made, put_more}
 use Rattle.line_show.proofs.lines.put_message_head.Goals as goal
 

@@ -1,3 +1,5 @@
+-- The lines of the block and then the message's text are put, or a write has cut them off.
+
 use Rattle.gl_base.specs.declared.copying.SinkAnswer.TheVariants.{Done, Failed}
 use Rattle.gl_base.proofs.Appending.{cut_before}
 use Rattle.line_show.proofs.Putting.{lines_put}

@@ -1,3 +1,6 @@
+-- The lines by how it ends: with the capture, at a break, for want of memory, or at a write. Past each piece the rest
+-- goes on.
+
 use Rattle.std.proofs.Common.{◌∙◌, ◌+◌, length, refl, sym, ap}
 use Rattle.std.proofs.lemmas.Bool.{eqb-true}
 use Rattle.std.proofs.lemmas.List.{nil_from_length}

@@ -1,3 +1,5 @@
+-- The lines of the pieces so far are put, and the receivers have met their blocks.
+
 use Rattle.std.proofs.Common.{◌-◌, length}
 use Rattle.gl_base.specs.Told.{sink_told}
 use Rattle.line_show.proofs.Showing.{IsAt}

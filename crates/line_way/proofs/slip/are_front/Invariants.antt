@@ -1,3 +1,5 @@
+-- Those that are left decide as all do.
+
 use Rattle.std.proofs.Common.{◌≡◌, ◌≤◌, ◌-◌, length, drop}
 use Rattle.line_way.specs.Kept.{are_front}
 use Rattle.line_way.proofs.slip.are_front.Given as goal

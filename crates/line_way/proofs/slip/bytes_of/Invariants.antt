@@ -1,3 +1,5 @@
+-- The bytes of the characters so far.
+
 use Rattle.std.proofs.Common.{◌≡◌, take}
 use Rattle.line_way.specs.Ways.{bytes_of, characters_of}
 use Rattle.line_way.proofs.slip.bytes_of.Given as goal

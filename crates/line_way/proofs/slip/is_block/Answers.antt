@@ -1,3 +1,5 @@
+-- What reads is a frame, and what has a fault is none.
+
 use Rattle.std.proofs.Common.{sym}
 use Rattle.line_end.proofs.Framed.{fault_of-other, is_false, is_frame-frame_bytes}
 use Rattle.line_way.proofs.Complete.{complete-whole}

@@ -1,3 +1,5 @@
+-- The gathered characters with the next one are the slip of the definition.
+
 use Rattle.std.proofs.Common.{◌≡◌, ◌++◌, ◌∷◌, [], ℕ, true, List, sym, ap, ◌∙◌, rules}
 use Rattle.line_end.specs.Frames.{is_frame}
 use Rattle.line_way.specs.Kept.{bytes_with}

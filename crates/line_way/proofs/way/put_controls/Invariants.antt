@@ -1,3 +1,5 @@
+-- The characters so far are under way, as controls.
+
 use Rattle.std.proofs.Common.{◌≡◌, ◌≤◌, ◌-◌, ◌++◌, length, map, take}
 use Rattle.line_way.specs.Kept.{control}
 use Rattle.line_way.proofs.way.put_controls.Given as goal

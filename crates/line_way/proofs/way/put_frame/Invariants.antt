@@ -1,3 +1,5 @@
+-- The characters so far, with those that are left, are the frame under way.
+
 use Rattle.std.proofs.Common.{◌≡◌, ◌≤◌, ◌-◌, ◌++◌, length, drop}
 use Rattle.line_way.specs.Kept.{framed_from}
 use Rattle.line_way.proofs.way.put_frame.Given as goal

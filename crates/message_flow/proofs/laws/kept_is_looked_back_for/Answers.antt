@@ -1,3 +1,5 @@
+-- The law, from what assembly and look-back agree on for each key.
+
 use Rattle.message_flow.proofs.Agreement.{agrees-after, firsts-length}
 use Rattle.message_flow.proofs.Deadlines.{deadline-kept, due-kept}
 use Rattle.message_flow.proofs.laws.kept_is_looked_back_for.Goals as goal

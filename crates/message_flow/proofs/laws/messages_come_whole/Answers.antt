@@ -1,3 +1,5 @@
+-- The law, by the lemmas of `Arrivals`.
+
 use Rattle.message_flow.proofs.Arrivals.{comes-whole}
 use Rattle.message_flow.proofs.laws.messages_come_whole.Goals as goal
 

@@ -1,3 +1,5 @@
+-- The law, by the lemmas of `Making`.
+
 use Rattle.message_flow.proofs.Making.{go-in-blocks}
 use Rattle.message_flow.proofs.laws.messages_go_in_blocks.Goals as goal
 

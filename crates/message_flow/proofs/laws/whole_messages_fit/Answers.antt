@@ -1,3 +1,5 @@
+-- The law, by the lemmas of `Making`.
+
 use Rattle.message_flow.proofs.Making.{whole-fit}
 use Rattle.message_flow.proofs.laws.whole_messages_fit.Goals as goal
 

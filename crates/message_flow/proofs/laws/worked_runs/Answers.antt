@@ -1,3 +1,5 @@
+-- What the runs start from, and what their blocks are, computed.
+
 use Rattle.std.proofs.Common.{refl, rules, arith, true, [], inl}
 use Rattle.message_flow.specs.Arrivals.HaveCome.{start, next, again, between}
 use Rattle.gl_base.specs.declared.side.Side.TheVariants.{Equipment}

@@ -1,3 +1,5 @@
+-- The law, by the lemmas of `Draws`.
+
 use Rattle.std.proofs.Common.{refl, ◌+◌}
 use Rattle.transact.proofs.Draws.{once}
 use Rattle.transact.proofs.laws.numbers_come_once.Goals as goal

@@ -1,3 +1,5 @@
+-- The law, by the lemmas of `History`.
+
 use Rattle.transact.proofs.History.{open-are}
 use Rattle.transact.proofs.laws.open_are_begun_and_not_ended.Goals as goal
 

@@ -1,8 +1,9 @@
+-- What was passed makes a block: its header fits, and its body is within the limit.
+
 use Rattle.std.proofs.Common.{◌≡◌, ◌≤◌, ◌<◌, length, ℕ, arith, rules}
 use Rattle.std.proofs.lemmas.List.Elements.{All-from_get_or}
 use Rattle.block_codec.proofs.block.Block.new.Goals as goal
 
--- what was passed makes a block
 pub invariant_of-result : goal.invariant_of-result
 invariant_of-result c =
     let taken : c.try_extend_from_slice.new.self.items ≡ c.args.body.now = search rules in

@@ -1,3 +1,5 @@
+-- The first of the events that are left is answered: what it tells, that it comes in time, and that it stays a link.
+
 use Rattle.std.proofs.Common.{subst, rules}
 use Rattle.gl_base.specs.Link.{IsFirstOf, IsTimely}
 use Rattle.gl_base.proofs.Events.{next_is, same_events}

@@ -1,3 +1,5 @@
+-- The character at a place is another one, or none is there and nothing changes.
+
 use Rattle.std.proofs.Common.{List, ap, sym, rules}
 use Rattle.line_way.specs.declared.character.Character.{Character}
 use Rattle.line_way.specs.Ways.{Way}

@@ -1,3 +1,5 @@
+-- A change is a deed of the line that it stands for.
+
 use Rattle.line_way.proofs.Deeds.{change-stands}
 use Rattle.line_way.proofs.ways.Ways.change.Goals as goal
 

@@ -1,3 +1,5 @@
+-- A loss of power is a deed of the line that it stands for.
+
 use Rattle.line_way.proofs.Deeds.{power-stands}
 use Rattle.line_way.proofs.ways.Ways.empty.Goals as goal
 

@@ -1,3 +1,5 @@
+-- The slip that is told is that of the line that it stands for.
+
 use Rattle.line_way.proofs.Slipping.{slip-stands}
 use Rattle.line_way.proofs.ways.Ways.slip.Goals as goal
 

@@ -1,3 +1,5 @@
+-- A step is deeds of the line that it stands for.
+
 use Rattle.std.proofs.Common.{sym, subst}
 use Rattle.std.proofs.lemmas.Result.{on_ok_weaker}
 use Rattle.line_way.specs.Step.{DoesStep}

@@ -1,3 +1,5 @@
+-- A whole message fits, since its receiver and its block do.
+
 use Rattle.std.proofs.Common.{◌∙◌, ap}
 use Rattle.message_flow.specs.Assembly.{AssemblyView}
 use Rattle.message_flow.specs.Receiver.{IsReceiver}

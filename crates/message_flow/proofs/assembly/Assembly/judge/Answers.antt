@@ -1,3 +1,5 @@
+-- A block whose message is open, and one whose message isn't: what it is, and the open messages then.
+
 use Rattle.std.proofs.Common.{◌≡◌, sym, ◌∙◌, ap, ◌+◌, false, List, get_or, Some, None}
 use Rattle.std.specs.List.{position}
 use Rattle.std.proofs.lemmas.List.{get_or_default}

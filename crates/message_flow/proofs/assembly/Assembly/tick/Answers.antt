@@ -1,3 +1,5 @@
+-- The first message that is due goes, found by its place, and the assembly stands for the drop.
+
 use Rattle.std.proofs.Common.{◌≡◌, refl, sym, ◌∙◌, ap, rules, List, get_or, Some, None}
 use Rattle.std.specs.List.{find, remove}
 use Rattle.message_flow.specs.declared.partial.Partial.{Partial}

@@ -1,3 +1,5 @@
+-- Without the message in front the queue stays a queue.
+
 use Rattle.message_flow.proofs.Queue.{front-left}
 use Rattle.message_flow.proofs.outgoing.Outgoing.drop_front.Goals as goal
 

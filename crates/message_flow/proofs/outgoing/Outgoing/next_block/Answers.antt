@@ -1,3 +1,5 @@
+-- The message in front leaves, or goes to the end with one block more gone, and the queue stays a queue.
+
 use Rattle.std.proofs.Common.{◌∙◌, ap, ◌<◌, ◌+◌, rules, length}
 use Rattle.std.proofs.lemmas.List.Elements.{All-get_or}
 use Rattle.block_codec.specs.Block.{BlockView}

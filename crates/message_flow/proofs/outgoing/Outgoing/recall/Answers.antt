@@ -1,3 +1,5 @@
+-- The message that leaves is the last that passes the test, and none does for a last block.
+
 use Rattle.std.proofs.Common.{◌≡◌, ◌∙◌, subst, sym, rules, true}
 use Rattle.std.specs.List.{list_any, remove}
 use Rattle.message_flow.specs.Outgoing.{IsOutgoing, is_source_of, without_last}

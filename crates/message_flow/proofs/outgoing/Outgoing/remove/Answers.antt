@@ -1,3 +1,5 @@
+-- One is found exactly where some waiting message passes the test.
+
 use Rattle.std.proofs.Common.{◌≡◌, ◌∙◌, sym, rules, true}
 use Rattle.std.specs.List.{list_any}
 use Rattle.message_flow.specs.Waiting.{is_named}

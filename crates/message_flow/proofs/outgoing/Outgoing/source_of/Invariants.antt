@@ -1,3 +1,5 @@
+-- None of the messages looked at passes the test.
+
 use Rattle.message_flow.specs.Outgoing.{is_source_of}
 use Rattle.message_flow.proofs.Places.{NonePass}
 use Rattle.message_flow.proofs.outgoing.Outgoing.source_of.Given as goal

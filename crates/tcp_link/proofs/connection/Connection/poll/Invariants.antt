@@ -1,3 +1,5 @@
+-- What has arrived, with what the stream has left, is kept.
+
 use Rattle.std.specs.Io.KnownBytes.{Keeps, prepend_known}
 use Rattle.tcp_link.proofs.connection.Connection.poll.Given as goal
 

@@ -1,3 +1,5 @@
+-- With one more they stay transactions.
+
 use Rattle.std.proofs.Common.{rules}
 use Rattle.transact.proofs.Kept.{more-keeps}
 use Rattle.transact.proofs.transactions.Transactions.begin.Goals as goal

@@ -1,3 +1,5 @@
+-- One is found exactly where it passes the test, it alone gets the deadline, and they stay transactions.
+
 use Rattle.std.proofs.Common.{ap, rules, refl, sym, ◌∙◌}
 use Rattle.transact.proofs.Kept.{timed-is, timed-keeps}
 use Rattle.transact.proofs.Places.{any-found, none-found, position-some}

@@ -1,3 +1,5 @@
+-- One is found exactly where it passes the test, and the others stay transactions.
+
 use Rattle.std.proofs.Common.{rules, sym, ◌∙◌, ap}
 use Rattle.transact.specs.Transactions.{TransactionsView}
 use Rattle.transact.proofs.Kept.{less-keeps}
