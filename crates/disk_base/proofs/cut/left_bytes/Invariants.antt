@@ -1,3 +1,5 @@
+-- The bytes so far, with those of the places that are left, are all.
+
 use Rattle.std.proofs.Common.{◌≡◌, ◌++◌, drop}
 use Rattle.disk_base.specs.Cut.{bytes_left}
 use Rattle.disk_base.proofs.cut.left_bytes.Given as goal

@@ -1,3 +1,5 @@
+-- The marks are those of some ranges, to which the calls that are left add theirs.
+
 use Rattle.std.proofs.Common.{◌≡◌, ℕ, List, [], fold, length}
 use Rattle.disk_base.specs.Cut.{marks_of}
 use Rattle.disk_base.specs.Log.{AreSized, loose_behind}

@@ -1,3 +1,5 @@
+-- The law, by the lemmas of `Stopped`.
+
 use Rattle.disk_base.proofs.Stopped.{has_written}
 use Rattle.disk_base.proofs.laws.failed_settle_has_written.Goals as goal
 

@@ -1,3 +1,5 @@
+-- The law, by the lemmas of `Moments`.
+
 use Rattle.disk_base.proofs.Moments.{settle_among, settle_others}
 use Rattle.disk_base.proofs.laws.settle_keeps_other_bytes.Goals as goal
 

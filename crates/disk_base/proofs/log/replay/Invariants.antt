@@ -1,3 +1,5 @@
+-- The calls that are left lead where all lead.
+
 use Rattle.std.proofs.Common.{◌≡◌, fold, length}
 use Rattle.disk_base.specs.Log.{AreWithin, bytes_after, calls_of}
 use Rattle.disk_base.proofs.log.replay.Given as goal

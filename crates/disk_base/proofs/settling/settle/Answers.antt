@@ -1,3 +1,5 @@
+-- The two calls are listed one behind the other.
+
 use Rattle.std.proofs.Common.{◌∙◌}
 use Rattle.disk_base.proofs.Listings.{listed_behind}
 use Rattle.disk_base.proofs.settling.settle.Goals as goal

@@ -1,3 +1,5 @@
+-- The bytes that were read are the cell's, so their value is its value.
+
 use Rattle.std.proofs.Common.{◌≡◌, ℕ, length, ap, ◌∙◌, arith, rules}
 use Rattle.disk_base.specs.Story.{bytes_at}
 use Rattle.gate_cell.specs.Cell.{value_of}

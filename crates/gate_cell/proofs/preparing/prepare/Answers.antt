@@ -1,3 +1,5 @@
+-- The value goes into the spare copy: what a crash leaves, which calls are listed, and what is prepared then.
+
 use Rattle.std.proofs.Common.{length, ℕ, ◌+◌, ◌≤◌, not, refl, sym, ap, subst, ◌∙◌, inl, inr, rules, arith}
 use Rattle.disk_base.specs.Calls.{read_call, with_call}
 use Rattle.disk_base.specs.declared.disk.DiskAnswer.TheVariants.{Done, Failed}

@@ -1,3 +1,5 @@
+-- One message more is shown, or one ends the listing.
+
 use Rattle.std.proofs.Common.{◌+◌, ap, ◌∙◌, arith}
 use Rattle.spool_show.proofs.MessageLines.{shown_more, shown_on, shown_stops}
 use Rattle.spool_show.proofs.listing.put_list.Goals as goal

@@ -1,3 +1,5 @@
+-- The messages so far are shown.
+
 use Rattle.gl_base.specs.Told.{sink_told}
 use Rattle.spool_show.proofs.MessageLines.{AreShown}
 use Rattle.spool_show.proofs.listing.put_list.Given as goal

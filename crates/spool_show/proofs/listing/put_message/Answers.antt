@@ -1,3 +1,5 @@
+-- The line of the message that was found, or none where the disk has failed.
+
 use Rattle.spool_show.proofs.MessageLines.{disk_failed, line_put, one_line}
 use Rattle.spool_show.proofs.listing.put_message.Goals as goal
 

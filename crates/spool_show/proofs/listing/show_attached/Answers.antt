@@ -1,3 +1,5 @@
+-- A spool that was recovered is shown, and one that wasn't gives its end.
+
 use Rattle.std.proofs.Common.{refl, rules, sym}
 use Rattle.spool_show.proofs.SpoolFiles.{not_recovered, shows_recovered, shows_same}
 use Rattle.spool_show.proofs.listing.show_attached.Goals as goal

@@ -1,3 +1,5 @@
+-- Head and list are sent, or cut off by a write, or a message ends them.
+
 use Rattle.spool_show.proofs.ShownFiles.{head_put, list_cut, list_sent, list_stops}
 use Rattle.spool_show.proofs.listing.show_list.Goals as goal
 

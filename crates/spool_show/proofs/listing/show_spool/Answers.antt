@@ -1,3 +1,5 @@
+-- The file was attached and is shown, or it couldn't be attached.
+
 use Rattle.std.proofs.Common.{inl}
 use Rattle.spool_show.proofs.SpoolFiles.{attached, has_file, not_attached, shows_before}
 use Rattle.spool_show.proofs.listing.show_spool.Goals as goal

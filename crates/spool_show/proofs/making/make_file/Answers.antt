@@ -1,3 +1,5 @@
+-- The file that was made stands for an empty list.
+
 use Rattle.std.proofs.Common.{◌≡◌, Some, rules}
 use Rattle.spool_show.proofs.making.make_file.Goals as goal
 

@@ -1,3 +1,5 @@
+-- One slot more is closed; what was used of the disk, up to a fault or the end.
+
 use Rattle.std.proofs.Common.{◌≡◌, ◌∙◌, ◌+◌, ◌<◌, ℕ, [], ◌∷◌, refl, subst, arith}
 use Rattle.std.specs.Option.{option_map}
 use Rattle.disk_base.specs.Faults.{IsUsed}

@@ -1,3 +1,5 @@
+-- The slots so far are closed, with one call and one byte each.
+
 use Rattle.std.proofs.Common.{◌≡◌}
 use Rattle.disk_base.specs.Faults.{IsUsed}
 use Rattle.disk_base.specs.SameDisk.{IsSameDisk}

@@ -1,3 +1,5 @@
+-- Name, number of slots and zeros are the page of the definition.
+
 use Rattle.std.proofs.Common.{◌≡◌, ◌∙◌, ◌++◌, ℕ, List, [], replicate, ap, sym, rules}
 use Rattle.std.specs.Int.{w32, to_be_bytes}
 use Rattle.spool_slots.specs.Front.{magic}

@@ -1,3 +1,5 @@
+-- A file that was made stands empty, and each fault has its cause, by the calls before it.
+
 use Rattle.std.proofs.Common.{◌≡◌, ◌∙◌, ◌+◌, ◌<◌, ℕ, List, length, ap, arith}
 use Rattle.std.specs.Option.{option_map}
 use Rattle.disk_base.specs.Story.{with_write}

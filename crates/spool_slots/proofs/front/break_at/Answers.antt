@@ -1,3 +1,5 @@
+-- The byte at the break is that of the file.
+
 use Rattle.std.proofs.Common.{◌∙◌, ℕ, List, ap}
 use Rattle.std.specs.List.{slice_get}
 use Rattle.spool_slots.proofs.Starts.{got_front}

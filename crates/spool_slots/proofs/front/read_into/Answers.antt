@@ -1,3 +1,5 @@
+-- What was read is the front of the file, in one call.
+
 use Rattle.std.proofs.Common.{length, ◌∙◌, sym, arith}
 use Rattle.spool_slots.proofs.Starts.{front_is}
 use Rattle.disk_base.specs.declared.disk.DiskAnswer.TheVariants.{Done, Failed}

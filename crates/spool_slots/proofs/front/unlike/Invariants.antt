@@ -1,3 +1,5 @@
+-- What is left is unlike where all is.
+
 use Rattle.std.proofs.Common.{◌≡◌, ◌+◌, length}
 use Rattle.spool_slots.specs.Front.{unlike_at}
 use Rattle.spool_slots.proofs.front.unlike.Given as goal

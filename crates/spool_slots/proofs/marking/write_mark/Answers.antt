@@ -1,3 +1,5 @@
+-- The mark by how far its change comes: what a crash leaves, which calls are listed, and what a fault has left.
+
 use Rattle.std.proofs.Common.{ℕ, ◌<◌, inl, inr, ⊎_elim, subst, arith, ◌∙◌}
 use Rattle.disk_base.specs.Faults.{DiskHealth, HasCause, IsPlanned}
 use Rattle.disk_base.specs.declared.disk.DiskAnswer.TheVariants.{Done, Failed}

@@ -1,3 +1,5 @@
+-- Front and slots make the file's list, and the reads are counted by where it ends.
+
 use Rattle.std.proofs.Common.{arith, ◌*◌, ◌+◌, ◌/◌, ◌∙◌, subst}
 use Rattle.disk_base.specs.declared.disk.DiskAnswer.TheVariants.{Done, Failed}
 use Rattle.spool_slots.specs.Area.{messages_below}

@@ -1,3 +1,5 @@
+-- The byte at the break is that of the file.
+
 use Rattle.spool_slots.proofs.Starts.{got_is}
 use Rattle.spool_slots.specs.Slot.{slot_place}
 use Rattle.spool_slots.proofs.slots.break_in.Goals as goal

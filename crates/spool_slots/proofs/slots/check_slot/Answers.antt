@@ -1,3 +1,5 @@
+-- The slot is ahead of the end exactly where the file's is.
+
 use Rattle.std.proofs.Common.{◌∙◌, sym}
 use Rattle.spool_slots.proofs.Starts.{broken_on, same_ahead}
 use Rattle.spool_slots.proofs.slots.check_slot.Goals as goal

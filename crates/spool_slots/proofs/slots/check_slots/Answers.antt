@@ -1,3 +1,5 @@
+-- The first slot that is ahead is the break; with none left none is. The reads are counted.
+
 use Rattle.std.proofs.Common.{refl, ◌∙◌, ◌≡◌, ap, subst, arith, None}
 use Rattle.spool_slots.specs.Area.{first_at}
 use Rattle.spool_slots.specs.Slot.{ahead_break, in_slot, slot_in}

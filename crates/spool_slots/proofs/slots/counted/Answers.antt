@@ -1,3 +1,5 @@
+-- With an open slot the scan is that of a message more.
+
 use Rattle.std.proofs.Common.{◌≡◌, ◌∙◌, ℕ, ap, sym, arith}
 use Rattle.std.proofs.lemmas.Bool.Decides.{nat_tests}
 use Rattle.spool_slots.proofs.Lists.{IsBelow, all_less, all_put_if, counts_on}

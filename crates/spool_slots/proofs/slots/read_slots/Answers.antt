@@ -1,3 +1,5 @@
+-- The break that was found is the first of the area, by fields or by numbers, and no slot was read more than twice.
+
 use Rattle.std.proofs.Common.{arith, ◌+◌, ◌*◌, ◌∙◌, Some, None}
 use Rattle.disk_base.specs.declared.disk.DiskAnswer.TheVariants.{Done, Failed}
 use Rattle.spool_slots.specs.Slot.{slot_in}

@@ -1,3 +1,5 @@
+-- The start is read in one call.
+
 use Rattle.std.proofs.Common.{length}
 use Rattle.spool_slots.proofs.Stretches.{one_read}
 use Rattle.spool_slots.proofs.slots.read_start.Goals as goal

@@ -1,3 +1,5 @@
+-- The slot breaks exactly where the file's does, or is counted.
+
 use Rattle.std.proofs.Common.{◌∙◌, sym}
 use Rattle.spool_slots.proofs.Starts.{broken_on, same_break, scanned_on}
 use Rattle.spool_slots.proofs.slots.scan_slot.Goals as goal

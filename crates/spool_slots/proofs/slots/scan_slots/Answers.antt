@@ -1,3 +1,5 @@
+-- The first slot that breaks is the break; with none left all are counted. The reads are counted, too.
+
 use Rattle.std.proofs.Common.{refl, ◌∙◌, ◌≡◌, ap, subst, arith, None}
 use Rattle.spool_slots.specs.Area.{first_at, messages_below}
 use Rattle.spool_slots.specs.Reading.{IsScan}

@@ -1,3 +1,5 @@
+-- No slot so far breaks, and the open ones are counted; each was read once, and the disk is as it was.
+
 use Rattle.std.proofs.Common.{◌≡◌, ◌≤◌, ◌<◌, ◌^◌, Some, None}
 use Rattle.disk_base.specs.declared.disk.DiskAnswer.TheVariants.{Done}
 use Rattle.disk_base.specs.Story.{Story}

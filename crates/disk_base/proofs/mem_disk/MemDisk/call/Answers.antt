@@ -1,3 +1,6 @@
+-- A call that is refused, one behind a stop, and one that is made: state and answer are those of the call that is due,
+-- and it stays a disk.
+
 use Rattle.std.proofs.Common.{◌≡◌, ◌∙◌, ◌+◌, length, false, true, refl, sym, ap, subst, rules}
 use Rattle.std.proofs.lemmas.List.{with_items_is}
 use Rattle.std.specs.Vec.{with_items}

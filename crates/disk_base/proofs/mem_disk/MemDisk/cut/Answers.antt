@@ -1,3 +1,5 @@
+-- The image of a choice is one of those that a crash may leave.
+
 use Rattle.std.proofs.Common.{◌≡◌, List, ℕ, length, sym, subst, rules}
 use Rattle.std.proofs.lemmas.Result.{IfOk-weaker}
 use Rattle.disk_base.specs.Cut.{image_of, settled_bytes}

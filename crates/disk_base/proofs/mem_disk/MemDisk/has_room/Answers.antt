@@ -1,3 +1,5 @@
+-- What is left is counted as `disk_health` counts it.
+
 use Rattle.std.proofs.Common.{◌≡◌, ◌-◌, ◌&&◌, ℕ, nat_le, length, vec_len, sym, ap, subst, ◌∙◌, rules}
 use Rattle.disk_base.specs.Log.{calls_of}
 use Rattle.disk_base.specs.MemDisk.{DiskState, disk_health}

@@ -1,3 +1,5 @@
+-- The marked places are those of the loose ranges, which lie within the disk.
+
 use Rattle.std.proofs.Common.{◌∙◌, length, ap, rules}
 use Rattle.std.proofs.lemmas.List.{with_items_is}
 use Rattle.disk_base.specs.Cut.{marks_of}

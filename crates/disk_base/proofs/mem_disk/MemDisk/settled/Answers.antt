@@ -1,3 +1,5 @@
+-- The calls up to the last good sync give the settled bytes.
+
 use Rattle.std.proofs.Common.{◌∙◌, ap, rules}
 use Rattle.std.proofs.lemmas.List.{with_items_is}
 use Rattle.disk_base.specs.Cut.{settled_bytes}

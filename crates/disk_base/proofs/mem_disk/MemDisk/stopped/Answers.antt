@@ -1,3 +1,5 @@
+-- Each choice leaves an image.
+
 use Rattle.std.proofs.Common.{subst}
 use Rattle.disk_base.specs.Cut.{image_of}
 use Rattle.disk_base.specs.Images.{IsImage}

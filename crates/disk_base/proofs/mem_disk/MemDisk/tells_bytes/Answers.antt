@@ -1,3 +1,5 @@
+-- The bytes of the story are those of the vector, and so below 256.
+
 use Rattle.std.proofs.Common.{◌≡◌, ◌<◌, ℕ, sym, subst, ◌∙◌, rules}
 use Rattle.std.specs.List.{All}
 use Rattle.disk_base.specs.MemDisk.{DiskState}

@@ -1,3 +1,5 @@
+-- Attaching that fails keeps the story, and what is told are bytes.
+
 use Rattle.std.proofs.Common.{◌<◌, ℕ, Some, [], ◌∙◌, refl, sym, ap, subst}
 use Rattle.std.specs.List.{All}
 use Rattle.disk_base.specs.MemDisk.{DiskState}

@@ -1,3 +1,5 @@
+-- The cause of a read's answer, and its entry in the list.
+
 use Rattle.std.proofs.Common.{Some, length, subst, sym, refl, arith}
 use Rattle.disk_base.specs.Faults.{HasCause}
 use Rattle.disk_base.specs.Listed.{AsListed}

@@ -1,3 +1,5 @@
+-- The cause of a sync's answer, and its entry in the list.
+
 use Rattle.std.proofs.Common.{Some, subst, sym, refl, arith}
 use Rattle.disk_base.specs.Faults.{HasCause}
 use Rattle.disk_base.specs.Listed.{AsListed}

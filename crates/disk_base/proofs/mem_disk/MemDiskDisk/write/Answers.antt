@@ -1,3 +1,5 @@
+-- The cause of a write's answer, want of room among them, and its entry in the list.
+
 use Rattle.std.proofs.Common.{Some, ◌-◌, ◌<◌, length, subst, sym, refl}
 use Rattle.disk_base.specs.Faults.{HasCause}
 use Rattle.disk_base.specs.Listed.{AsListed}

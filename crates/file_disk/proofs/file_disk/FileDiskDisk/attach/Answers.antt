@@ -1,3 +1,5 @@
+-- No fault is counted where the file is taken, and of its bytes nothing is told.
+
 use Rattle.std.proofs.Common.{◌<◌, refl}
 use Rattle.disk_base.specs.declared.disk.DiskAnswer.TheVariants.{Done}
 use Rattle.disk_base.proofs.Told.{untold_bytes}

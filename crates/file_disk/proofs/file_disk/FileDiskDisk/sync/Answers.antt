@@ -1,3 +1,5 @@
+-- A fault is counted exactly where the sync has failed.
+
 use Rattle.file_disk.proofs.Causes.{counted}
 use Rattle.file_disk.proofs.file_disk.FileDiskDisk.sync.Goals as goal
 

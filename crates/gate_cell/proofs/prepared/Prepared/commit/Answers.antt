@@ -1,3 +1,5 @@
+-- The gate is written or not: what a crash leaves of the value, and that an untold disk stays so.
+
 use Rattle.std.proofs.Common.{[], ◌∷◌}
 use Rattle.disk_base.specs.declared.disk.DiskAnswer.TheVariants.{Done, Failed}
 use Rattle.gate_cell.proofs.Values.{commits_spare, is_committed, settles_gate, untold}

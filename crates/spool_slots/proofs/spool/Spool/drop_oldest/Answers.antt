@@ -1,3 +1,5 @@
+-- The gate was closed, so the oldest message is gone; or that failed, and what a crash finds goes by the gate.
+
 use Rattle.std.proofs.Common.{◌==◌, not, ◌∙◌, ◌+◌, ◌-◌, ◌<◌, Ok, ap, sym, subst, arith}
 use Rattle.disk_base.specs.declared.disk.DiskAnswer.TheVariants.{Failed}
 use Rattle.spool_slots.specs.Changes.{HasDropped, Drops, dropped_in}

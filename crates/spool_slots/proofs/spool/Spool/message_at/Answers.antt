@@ -1,3 +1,5 @@
+-- The slot that was read has the message of this number, and the look keeps the spool.
+
 use Rattle.std.proofs.Common.{◌≡◌, ◌∙◌, ◌+◌, ◌%◌, ◌<◌, ◌≤◌, ℕ, length, Some, refl, ap, subst, arith}
 use Rattle.disk_base.specs.Calls.{Logs, read_call}
 use Rattle.disk_base.specs.Faults.{IsCrowded}

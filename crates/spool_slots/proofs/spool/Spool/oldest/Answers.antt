@@ -1,3 +1,5 @@
+-- The oldest message is that of the first number.
+
 use Rattle.std.proofs.Common.{subst}
 use Rattle.spool_slots.specs.Changes.{Looks}
 use Rattle.spool_slots.specs.Spool.{SpoolView}

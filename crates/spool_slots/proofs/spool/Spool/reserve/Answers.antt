@@ -1,3 +1,5 @@
+-- The mark was moved on, or that failed: the list stands at every moment, with the old mark or the new one.
+
 use Rattle.std.proofs.Common.{◌∙◌, ◌+◌, Ok, refl, ap, sym, subst}
 use Rattle.disk_base.specs.declared.disk.DiskAnswer.TheVariants.{Done, Failed}
 use Rattle.spool_slots.specs.Changes.{HasLostReserve, HasReserved, Reserves}

@@ -1,3 +1,5 @@
+-- What rests on the disk is the list in hand.
+
 use Rattle.std.proofs.Common.{◌≡◌, Some, subst}
 use Rattle.disk_base.specs.Story.{Story}
 use Rattle.spool_slots.specs.Spool.{Rests, SpoolView}

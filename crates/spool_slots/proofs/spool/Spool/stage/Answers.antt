@@ -1,3 +1,5 @@
+-- The parts of the message stand in a closed slot, or that failed: the list is as it was.
+
 use Rattle.std.proofs.Common.{◌∙◌, ◌+◌, ◌%◌, ◌<◌, Ok, sym, subst, arith}
 use Rattle.disk_base.specs.declared.disk.DiskAnswer.TheVariants.{Done, Failed}
 use Rattle.spool_slots.specs.Changes.{HasSettled, HasStaged, Stages, parts_of}

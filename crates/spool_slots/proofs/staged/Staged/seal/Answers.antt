@@ -1,3 +1,5 @@
+-- The gate was opened, so the message is on the list; or that failed, and what a crash finds goes by the gate.
+
 use Rattle.std.proofs.Common.{◌==◌, ◌∙◌, ◌+◌, Ok, ap, sym, subst}
 use Rattle.disk_base.specs.declared.disk.DiskAnswer.TheVariants.{Failed}
 use Rattle.spool_slots.specs.Changes.{HasSealed, Seals, sealed_in}

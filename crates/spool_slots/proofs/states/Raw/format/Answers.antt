@@ -1,3 +1,5 @@
+-- The file of an empty list makes a spool.
+
 use Rattle.std.proofs.Common.{◌∙◌, ◌≤◌, Ok, refl, ap, sym, subst, arith}
 use Rattle.spool_slots.specs.Format.{Formats}
 use Rattle.spool_slots.specs.Slot.{slot_place}

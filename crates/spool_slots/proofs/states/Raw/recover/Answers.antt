@@ -1,3 +1,5 @@
+-- What was read whole makes a spool, and each other end has its calls.
+
 use Rattle.std.proofs.Common.{◌≡◌, ◌∙◌, ◌≤◌, ◌*◌, ◌+◌, inl, inr, length, Some, refl, ap, sym, subst, arith}
 use Rattle.std.specs.Option.{option_map}
 use Rattle.disk_base.specs.Story.{Story, with_sync}
