@@ -1,3 +1,5 @@
+-- Floats are equal exactly where their bytes are.
+
 use Rattle.secs_items.specs.declared.item.Item.TheVariants as item
 use Rattle.secs_items.proofs.Rows.{raw_equal, rows_F4, rows_F8}
 use Rattle.secs_items.proofs.+comparing.Goals as goal

@@ -1,3 +1,5 @@
+-- The elements of a slice of bytes are below 256.
+
 use Rattle.std.proofs.Common.{arith}
 use Rattle.equipment_tables.proofs.Bodies.{all_bytes}
 use Rattle.equipment_tables.proofs.answers.are_bytes.Goals as goal

@@ -1,3 +1,5 @@
+-- One text more is noted behind those so far.
+
 use Rattle.std.proofs.Common.{◌∙◌, ap, List, ℕ, arith}
 use Rattle.trace_log.specs.Log.Happening.{Display}
 use Rattle.trace_log.specs.Text.{note_of}

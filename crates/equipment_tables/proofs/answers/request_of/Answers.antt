@@ -1,3 +1,5 @@
+-- What was read is the request of the body, and its parameters are those that the tables judge.
+
 use Rattle.std.proofs.Common.{arith}
 use Rattle.equipment_tables.proofs.Requests.{answer_asked, answer_is}
 use Rattle.equipment_tables.proofs.answers.request_of.Goals as goal

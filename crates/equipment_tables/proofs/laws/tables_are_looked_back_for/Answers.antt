@@ -1,3 +1,5 @@
+-- The law, entry by entry, from those of variables, reports, alarms and the spool's rule.
+
 use Rattle.std.proofs.Common.{refl, []}
 use Rattle.equipment_tables.specs.Past.{entries_at, spooled_by}
 use Rattle.equipment_tables.proofs.Past.{entry_same}

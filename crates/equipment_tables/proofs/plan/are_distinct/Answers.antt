@@ -1,3 +1,5 @@
+-- A CEID that stands again behind itself decides; with none left all are distinct.
+
 use Rattle.std.proofs.Common.{sym, ◌∙◌, ap, ℕ, List, map, get_or, nat_eq, arith, subst, IsTrue, ◌↔◌, Bool}
 use Rattle.std.proofs.lemmas.List.{map-id}
 use Rattle.std.specs.List.{IsDistinct, list_any}

@@ -1,3 +1,5 @@
+-- The law, by the lemmas of `History`.
+
 use Rattle.std.proofs.Common.{◌∙◌, ap}
 use Rattle.gem_alarms.specs.Alarms.{alarm_in, step_of}
 use Rattle.gem_alarms.specs.Laws.{after_entry}

@@ -1,3 +1,5 @@
+-- An ALID that stands again behind its alarm decides; with none left all are distinct.
+
 use Rattle.std.proofs.Common.{sym, ◌∙◌, ap, ℕ, get_or, nat_eq, arith}
 use Rattle.std.specs.List.{list_any}
 use Rattle.gl_base.proofs.Distinct.{all_distinct, fresh, not_distinct}

@@ -1,3 +1,5 @@
+-- The lengths of the parts make that of the refusal.
+
 use Rattle.std.proofs.Common.{refl, [], ◌∷◌, arith}
 use Rattle.secs_items.specs.declared.item.Item.TheVariants as item
 use Rattle.gem_shapes.specs.Answers.{code_item}

@@ -1,3 +1,5 @@
+-- The refusals are measured one by one; with all measured the reply is.
+
 use Rattle.std.proofs.Common.{sym, ◌∙◌, ap, List, length, get_or, arith}
 use Rattle.secs_items.specs.declared.item.Item.{Item}
 use Rattle.gem_remote.proofs.Measured.{measured_more, none_measured, reply_measured}

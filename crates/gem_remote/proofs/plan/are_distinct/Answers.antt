@@ -1,3 +1,5 @@
+-- A name that stands again behind its command decides; with none left all are distinct.
+
 use Rattle.std.proofs.Common.{sym, ◌∙◌, ap, List, ℕ, get_or, arith}
 use Rattle.std.specs.Prelude.{bytes_eq}
 use Rattle.std.specs.List.{list_any}

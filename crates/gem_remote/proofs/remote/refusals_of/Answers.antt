@@ -1,3 +1,5 @@
+-- One parameter more is judged; with all judged the refusals are whole.
+
 use Rattle.std.proofs.Common.{sym, ◌∙◌, ap, List, length, get_or, arith}
 use Rattle.secs_items.specs.declared.item.Item.{Item}
 use Rattle.gem_remote.proofs.Refusing.{no_param, none_listed, param_at, refusals_more, refusals_whole}

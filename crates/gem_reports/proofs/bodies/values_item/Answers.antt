@@ -1,3 +1,5 @@
+-- One value more comes behind those so far, where its variable is known.
+
 use Rattle.std.proofs.Common.{sym, ◌∙◌, ap, List, [], ◌++◌, get_or, arith}
 use Rattle.std.specs.List.{cons_option}
 use Rattle.secs_items.specs.declared.item.Item.{Item}

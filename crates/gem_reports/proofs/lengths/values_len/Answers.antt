@@ -1,3 +1,5 @@
+-- One value more is measured; with all measured the list is.
+
 use Rattle.std.proofs.Common.{sym, ◌∙◌, ap, List, ℕ, length, arith}
 use Rattle.std.proofs.lemmas.List.{take_all}
 use Rattle.std.specs.List.{filter_map}

@@ -1,3 +1,5 @@
+-- An item in front ends where the whole does, or where the fault of bytes behind it says.
+
 use Rattle.std.proofs.Common.{◌≡◌, ◌∙◌, length, ap, length-append, arith}
 use Rattle.std.specs.Option.{unwrap_or}
 use Rattle.gem_shapes.proofs.Fronts.{ends_at, ends_whole}

@@ -1,3 +1,5 @@
+-- What was found in the bytes is a part's view.
+
 use Rattle.gem_shapes.proofs.Contents.{filled}
 use Rattle.gem_shapes.proofs.part.part_of.Goals as goal
 

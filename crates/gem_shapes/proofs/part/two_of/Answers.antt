@@ -1,3 +1,5 @@
+-- The content of a list of two begins with the first item, and goes on with the second.
+
 use Rattle.std.proofs.Common.{arith}
 use Rattle.secs_items.specs.declared.item.Item.{out-Item}
 use Rattle.gem_shapes.specs.Elements.{list_of}

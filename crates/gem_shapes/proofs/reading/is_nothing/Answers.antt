@@ -1,3 +1,5 @@
+-- A body that is an item is nothing exactly where that is an empty list.
+
 use Rattle.gem_shapes.proofs.Asking.{nothing_is}
 use Rattle.gem_shapes.proofs.reading.is_nothing.Goals as goal
 

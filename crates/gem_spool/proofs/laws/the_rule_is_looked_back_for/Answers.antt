@@ -1,3 +1,5 @@
+-- The law, by the lemmas of `Covering`.
+
 use Rattle.std.proofs.Common.{◌∙◌, ap}
 use Rattle.gem_spool.specs.Laws.{entries_at}
 use Rattle.gem_spool.specs.Rule.{covered}

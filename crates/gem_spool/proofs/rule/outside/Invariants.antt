@@ -1,8 +1,9 @@
+-- The functions outside so far, with those of the functions that are left, are all.
+
 use Rattle.std.proofs.Common.{◌≡◌, ◌++◌, drop, filter}
 use Rattle.gem_spool.specs.Rule.{is_outside}
 use Rattle.gem_spool.proofs.rule.outside.Given as goal
 
--- the functions outside so far, with those of the functions that are left, are all
 abbrev pub invariant-loop-function : goal.invariant-loop-function
 invariant-loop-function l =
     l.outside ++ filter (is_outside l.stream) (drop l.function-index l.functions)

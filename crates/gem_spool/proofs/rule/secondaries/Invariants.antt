@@ -1,8 +1,9 @@
+-- The secondaries so far, with those of the functions that are left, are all.
+
 use Rattle.std.proofs.Common.{◌≡◌, ◌++◌, drop, filter}
 use Rattle.gem_spool.specs.Rule.{is_secondary}
 use Rattle.gem_spool.proofs.rule.secondaries.Given as goal
 
--- the secondaries so far, with those of the functions that are left, are all
 abbrev pub invariant-loop-function : goal.invariant-loop-function
 invariant-loop-function l =
     l.secondaries ++ filter is_secondary (drop l.function-index l.functions) ≡ filter is_secondary l.functions

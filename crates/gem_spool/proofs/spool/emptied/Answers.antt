@@ -1,3 +1,5 @@
+-- The messages leave one by one: one fails, or all are gone, and none lacks before.
+
 use Rattle.std.proofs.Common.{◌≡◌, ℕ, ◌+◌, suc, Err, sym, subst, arith}
 use Rattle.gem_spool.specs.Spool.{DropsSome, Purges}
 use Rattle.gem_spool.proofs.Purging.{is_less, purge_failed, purged}

@@ -1,3 +1,5 @@
+-- The law, by the lemmas of `History`.
+
 use Rattle.std.proofs.Common.{◌∙◌, ap}
 use Rattle.gem_vars.specs.Laws.{after_entry}
 use Rattle.gem_vars.specs.Tables.{constant_in, value_in, with_constants}

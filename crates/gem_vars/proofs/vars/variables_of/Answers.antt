@@ -1,3 +1,5 @@
+-- One variable more is put as the plan has it.
+
 use Rattle.std.proofs.Common.{◌≡◌, ◌∙◌, ap, ℕ, List, [], get_or, arith, nat_eq}
 use Rattle.indexmap.specs.IndexMap.{insert_entry}
 use Rattle.secs_items.specs.declared.item.Item.{Item}

@@ -1,8 +1,9 @@
+-- The number of the bytes so far, which is small.
+
 use Rattle.std.proofs.Common.{◌≡◌, ◌<◌, ◌≤◌, take}
 use Rattle.secs_items.specs.Reading.{number_from}
 use Rattle.secs_items.proofs.head.number_of.Given as goal
 
--- the number of the bytes so far, which is small
 abbrev pub invariant-loop-byte : goal.invariant-loop-byte
 invariant-loop-byte l = record {
   so_far : l.number ≡ number_from (take l.byte-index l.bytes);

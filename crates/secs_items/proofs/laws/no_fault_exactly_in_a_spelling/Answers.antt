@@ -1,3 +1,5 @@
+-- The law, by the lemmas of `SpellLaws`.
+
 use Rattle.secs_items.proofs.SpellLaws.{none_spells, spells_none}
 use Rattle.secs_items.proofs.laws.no_fault_exactly_in_a_spelling.Goals as goal
 

@@ -1,3 +1,5 @@
+-- The law, by the lemmas of `SpellLaws`.
+
 use Rattle.secs_items.proofs.SpellLaws.{no_prefix, one_value}
 use Rattle.secs_items.proofs.laws.no_spelling_begins_another.Goals as goal
 

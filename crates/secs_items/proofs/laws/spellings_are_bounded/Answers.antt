@@ -1,3 +1,5 @@
+-- The law, by the lemmas of `Least`.
+
 use Rattle.secs_items.proofs.Least.{none_deeper, none_shorter, too_deep}
 use Rattle.secs_items.proofs.laws.spellings_are_bounded.Goals as goal
 

@@ -1,3 +1,5 @@
+-- The law, by the lemmas of `FaultPlaces`.
+
 use Rattle.secs_items.proofs.FaultPlaces.{fault_stands, short_is, trailing_is}
 use Rattle.secs_items.proofs.laws.where_each_fault_stands.Goals as goal
 

@@ -1,3 +1,5 @@
+-- Head and items make the length of the list.
+
 use Rattle.std.proofs.Common.{◌≡◌, ◌*◌, length, arith}
 use Rattle.secs_items.specs.declared.kind.Kind.TheVariants as kind
 use Rattle.secs_items.specs.Spelling.{shortest_head}

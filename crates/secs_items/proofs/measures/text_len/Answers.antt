@@ -1,3 +1,5 @@
+-- Head and characters make the length of the text.
+
 use Rattle.std.proofs.Common.{◌≡◌, ◌+◌, ◌*◌, length, arith}
 use Rattle.secs_items.specs.declared.kind.Kind.TheVariants as kind
 use Rattle.secs_items.specs.Measures.{capped}

@@ -1,3 +1,5 @@
+-- An item by its head, and a list item by item, as the definition reads them, each fault with its place.
+
 use Rattle.std.proofs.Common.{refl, sym, ◌∙◌, arith}
 use Rattle.std.proofs.lemmas.Result.{err_from_is_err_and}
 use Rattle.secs_items.specs.Heads.{head_view}

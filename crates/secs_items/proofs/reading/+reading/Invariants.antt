@@ -1,3 +1,5 @@
+-- Why the reading ends, and what holds at each item of a list.
+
 use Rattle.std.proofs.Common.{◌≡◌, ◌+◌, ◌-◌, ◌*◌, ◌≤◌, length}
 use Rattle.secs_items.specs.Reading.{item_at, items_at}
 use Rattle.secs_items.proofs.ItemLoop.{with_front}

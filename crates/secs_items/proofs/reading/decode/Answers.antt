@@ -1,3 +1,5 @@
+-- No other item has these bytes.
+
 use Rattle.secs_items.proofs.SpellLaws.{answers_only}
 use Rattle.secs_items.proofs.reading.decode.Goals as goal
 

@@ -1,3 +1,5 @@
+-- One element more is read off the front of the rest.
+
 use Rattle.std.proofs.Common.{◌+◌, ◌-◌, ◌*◌, ◌/◌, length}
 use Rattle.secs_items.proofs.ElementLoop.{element_more, left_more, left_after}
 use Rattle.secs_items.proofs.reading.elements_of.Goals as goal

@@ -1,8 +1,9 @@
+-- The elements so far and those of the rest are all.
+
 use Rattle.std.proofs.Common.{◌≡◌, ◌++◌, ◌-◌, ◌*◌, ◌/◌, length}
 use Rattle.secs_items.specs.Elements.{elements_at}
 use Rattle.secs_items.proofs.reading.elements_of.Given as goal
 
--- the elements so far and those of the rest are all
 abbrev pub invariant-loop : goal.invariant-loop
 invariant-loop g l =
     let size = g.T.Element.SIZE in

@@ -1,3 +1,5 @@
+-- An item is passed over by its head and its content, and a list item by item, as the definition does.
+
 use Rattle.std.proofs.Common.{arith}
 use Rattle.std.proofs.lemmas.Result.{err_from_is_err_and}
 use Rattle.secs_items.specs.Heads.{head_view}

@@ -1,3 +1,5 @@
+-- Why the passing over ends, and what holds at each item of a list.
+
 use Rattle.std.proofs.Common.{◌≡◌, ◌+◌, ◌-◌, ◌*◌, ◌≤◌, length}
 use Rattle.secs_items.specs.Reading.{after_each, after_item}
 use Rattle.secs_items.proofs.view.+skipping.Given as goal

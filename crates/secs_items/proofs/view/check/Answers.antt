@@ -1,3 +1,5 @@
+-- No other item has these bytes.
+
 use Rattle.secs_items.proofs.SpellLaws.{checks_only}
 use Rattle.secs_items.proofs.view.check.Goals as goal
 

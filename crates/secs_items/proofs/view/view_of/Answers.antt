@@ -1,3 +1,5 @@
+-- The view in front: it is a view, its item is what reads there, and it shows these bytes.
+
 use Rattle.std.proofs.Common.{ℕ, ◌-◌, ◌/◌, List, length, take, Ok, sym, ap, subst, ◌∙◌, arith}
 use Rattle.std.proofs.lemmas.Result.{err_from_is_err_and}
 use Rattle.secs_items.specs.Heads.{head_view}

@@ -1,3 +1,5 @@
+-- What was written spells the item.
+
 use Rattle.secs_items.proofs.SpellLaws.{spells_so}
 use Rattle.secs_items.proofs.writing.encode_into.Goals as goal
 

@@ -1,3 +1,5 @@
+-- The law, by the lemmas of `FaultLaws` and `FaultPlaces`.
+
 use Rattle.secs_text.proofs.FaultLaws.{fault_or_item, no_fault_read}
 use Rattle.secs_text.proofs.FaultPlaces.{one_fault}
 use Rattle.secs_text.proofs.laws.a_fault_or_an_item.Goals as goal

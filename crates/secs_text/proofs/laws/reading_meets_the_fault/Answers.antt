@@ -1,3 +1,5 @@
+-- The law, by the lemmas of `FaultLaws` and `TextLaws`.
+
 use Rattle.secs_text.proofs.FaultLaws.{met_fault}
 use Rattle.secs_text.proofs.TextLaws.{no_fault}
 use Rattle.secs_text.proofs.laws.reading_meets_the_fault.Goals as goal

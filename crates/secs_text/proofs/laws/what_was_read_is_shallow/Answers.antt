@@ -1,3 +1,5 @@
+-- The law, by the lemmas of `Shallow`.
+
 use Rattle.secs_text.proofs.Shallow.{bytes_shallow, text_shallow}
 use Rattle.secs_text.proofs.laws.what_was_read_is_shallow.Goals as goal
 

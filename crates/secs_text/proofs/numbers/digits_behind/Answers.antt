@@ -1,3 +1,5 @@
+-- The number begins with the first digit.
+
 use Rattle.std.proofs.Common.{◌^◌, refl, arith}
 use Rattle.std.proofs.lemmas.Bool.{lt-ltb}
 use Rattle.secs_text.proofs.numbers.digits_behind.Goals as goal

@@ -1,3 +1,5 @@
+-- What is put is the text of the item, and the item is in range, kind by kind.
+
 use Rattle.std.proofs.Common.{refl, sym, ◌∙◌}
 use Rattle.secs_items.specs.declared.item.Item.TheOpen.{Item-F}
 use Rattle.secs_items.specs.declared.item.Item.TheVariants.{rolls-L, rolls-B, rolls-Bool, rolls-A, rolls-J, rolls-I1, rolls-I2, rolls-I4, rolls-I8, rolls-U1, rolls-U2, rolls-U4, rolls-U8, rolls-F4, rolls-F8}

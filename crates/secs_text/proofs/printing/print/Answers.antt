@@ -1,3 +1,5 @@
+-- What is printed reads as the item, since that is in range.
+
 use Rattle.std.proofs.Common.{Result, Ok, Err}
 use Rattle.std.specs.Prelude.{OnOk}
 use Rattle.secs_items.specs.declared.item.Item.{Item}

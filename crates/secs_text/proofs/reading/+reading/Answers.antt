@@ -1,3 +1,5 @@
+-- An item by its kind, and a list item by item, as the definition reads them, each fault with its place.
+
 use Rattle.std.proofs.Common.{◌<◌, length, Ok, refl, ap, ◌∙◌, arith}
 use Rattle.std.proofs.lemmas.Result.{IfOk-weaker, err_from_is_err_and}
 use Rattle.secs_text.specs.Nexts.{next_rest, next_view}

@@ -1,3 +1,5 @@
+-- Why the reading ends, and what holds at each item of a list.
+
 use Rattle.std.proofs.Common.{◌+◌, ◌*◌, ◌≤◌, length}
 use Rattle.secs_text.specs.Grammar.{Kept}
 use Rattle.secs_text.specs.Reading.{element_next, elements_at, item_at}

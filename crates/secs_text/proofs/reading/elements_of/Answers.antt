@@ -1,3 +1,5 @@
+-- One element more is read off the front of the rest, or a fault ends it.
+
 use Rattle.std.proofs.Common.{◌<◌, length, Ok, ap, ◌∙◌, arith}
 use Rattle.std.proofs.lemmas.Result.{err_from_is_err_and}
 use Rattle.secs_text.specs.Nexts.{next_rest, next_view}

@@ -1,3 +1,5 @@
+-- What is promised of a text, from what reading its item has found.
+
 use Rattle.secs_text.proofs.FaultLaws.{answers_fault, answers_named}
 use Rattle.secs_text.proofs.TextLaws.{answers_found, answers_only}
 use Rattle.secs_text.proofs.reading.read.Goals as goal

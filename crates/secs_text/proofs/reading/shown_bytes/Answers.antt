@@ -1,3 +1,5 @@
+-- The text ends here, one byte more is read, or a fault ends it.
+
 use Rattle.std.proofs.Common.{length, sym, ◌∙◌, arith}
 use Rattle.std.proofs.lemmas.Result.{err_from_is_err_and}
 use Rattle.secs_text.specs.Reading.{each_at, shown_at, shown_next}

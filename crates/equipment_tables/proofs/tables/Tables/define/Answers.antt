@@ -1,3 +1,5 @@
+-- The answer goes by what stands, since the reports stand for some history.
+
 use Rattle.std.proofs.Common.{◌≡◌, subst, IfOk}
 use Rattle.gem_reports.specs.Reporting.{drack_in, reporting_of}
 use Rattle.gem_vars.specs.Tables.{value_in}

@@ -1,3 +1,5 @@
+-- A body that isn't too long is its item's spelling, and within the limit.
+
 use Rattle.equipment_tables.specs.Answers.{event_item}
 use Rattle.equipment_tables.specs.Tables.{state_of}
 use Rattle.equipment_tables.proofs.Bodies.{body_within, row_is, too_long}

@@ -1,3 +1,5 @@
+-- The item goes by what stands, since the reports stand for some history.
+
 use Rattle.std.proofs.Common.{◌≡◌, sym, ◌∙◌, ap, subst, IfOk}
 use Rattle.secs_items.specs.declared.item.Item.{Item}
 use Rattle.gem_reports.specs.Reporting.{Reporting, event_body_in}

@@ -1,3 +1,5 @@
+-- The length goes by what stands, since the reports stand for some history.
+
 use Rattle.std.proofs.Common.{sym, ◌∙◌, ap, length}
 use Rattle.secs_items.specs.declared.item.Item.{Item}
 use Rattle.secs_items.specs.Measures.{capped}

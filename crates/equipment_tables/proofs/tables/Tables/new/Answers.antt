@@ -1,3 +1,5 @@
+-- The tables as planned: the reports stand for no history, and each part is the plan's.
+
 use Rattle.std.proofs.Common.{◌∙◌, ap, ℕ, List, []}
 use Rattle.gem_alarms.specs.declared.plan.AlarmPlan.{AlarmPlan}
 use Rattle.gem_alarms.specs.History.{alarms_at}

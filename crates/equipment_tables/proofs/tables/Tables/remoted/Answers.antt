@@ -1,3 +1,5 @@
+-- The answer is the one for the item that the parameters show.
+
 use Rattle.std.proofs.Common.{◌≡◌, IfOk, subst}
 use Rattle.equipment_tables.specs.Answers.{remoted_of_item}
 use Rattle.equipment_tables.specs.Tables.{TablesView, state_of}

@@ -1,3 +1,5 @@
+-- The length is that of the one reply that these parameters have.
+
 use Rattle.std.proofs.Common.{◌≡◌, IfOk, subst, length}
 use Rattle.secs_items.specs.Measures.{capped}
 use Rattle.secs_items.specs.Spelling.{shortest_spelling}

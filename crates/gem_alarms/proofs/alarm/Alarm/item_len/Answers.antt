@@ -1,3 +1,5 @@
+-- The lengths of the parts make that of the item.
+
 use Rattle.std.proofs.Common.{sym, [], ◌∷◌, refl, arith}
 use Rattle.secs_items.proofs.SpelledLengths.{length-byte}
 use Rattle.gem_alarms.specs.Alarms.{alcd_of}

@@ -1,3 +1,5 @@
+-- An alarm that isn't there has the length of its empty item.
+
 use Rattle.std.proofs.Common.{◌≡◌, sym, ◌∙◌, ap, length, None}
 use Rattle.std.specs.Option.{option_copied}
 use Rattle.secs_items.specs.Measures.{capped}

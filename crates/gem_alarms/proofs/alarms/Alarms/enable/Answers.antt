@@ -1,3 +1,5 @@
+-- The rows are changed one by one; with all changed the table is as told.
+
 use Rattle.std.proofs.Common.{◌≡◌, sym, ◌∙◌, ap, length, arith}
 use Rattle.gem_tables.proofs.First.{changed_first, changed_more, changed_whole, changed_within}
 use Rattle.gem_alarms.specs.Alarms.{AlarmTable, enabled_by, with_enabled}

@@ -1,8 +1,9 @@
+-- The alarms so far are enabled, or disabled.
+
 use Rattle.std.proofs.Common.{◌≡◌}
 use Rattle.gem_tables.proofs.First.{changed_first}
 use Rattle.gem_alarms.specs.Alarms.{with_enabled}
 use Rattle.gem_alarms.proofs.alarms.Alarms.enable.Given as goal
 
--- the alarms so far are enabled, or disabled
 abbrev pub invariant-loop-i : goal.invariant-loop-i
 invariant-loop-i l = l.self-inside.alarms.entries ≡ changed_first (with_enabled l.on) l.i l.fn.self

@@ -1,3 +1,5 @@
+-- The count stays within its range; with none left count and length are those of the list.
+
 use Rattle.std.proofs.Common.{◌≡◌, refl, sym, ap, ◌+◌, length, arith, ◌<◌, ◌^◌}
 use Rattle.std.proofs.lemmas.Map.Iter.{rest_all, rest_more}
 use Rattle.std.specs.Map.Iter.{deref_pair}

@@ -1,3 +1,5 @@
+-- With none left the length is that of all.
+
 use Rattle.std.proofs.Common.{refl, map}
 use Rattle.std.proofs.lemmas.Map.Iter.{rest_all}
 use Rattle.std.specs.Map.Iter.{deref_pair}

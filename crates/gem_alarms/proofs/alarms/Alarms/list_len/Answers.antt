@@ -1,3 +1,5 @@
+-- The list of all alarms, and that of the named ones, from the lengths of their items.
+
 use Rattle.std.proofs.Common.{sym, ◌∙◌, ap, length, map, List}
 use Rattle.std.proofs.lemmas.List.{length-map}
 use Rattle.secs_items.specs.declared.item.Item.{Item}

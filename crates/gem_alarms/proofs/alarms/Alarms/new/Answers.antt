@@ -1,3 +1,5 @@
+-- One alarm more is put as the plan has it.
+
 use Rattle.std.proofs.Common.{◌≡◌, ◌∙◌, ap, ℕ, List, [], get_or, false, arith}
 use Rattle.indexmap.specs.IndexMap.{insert_entry}
 use Rattle.std.specs.Prelude.{nat_eq}

@@ -1,3 +1,5 @@
+-- An entry deletes its report or defines it, and the draft goes on with it.
+
 use Rattle.std.proofs.Common.{◌==◌, sym, ◌∙◌, ap, cond, List, ℕ, length, nat_eq, Some}
 use Rattle.std.specs.Map.{lookup}
 use Rattle.gem_reports.proofs.Steps.{draft_defines, draft_deletes}

@@ -1,3 +1,5 @@
+-- The first entry that can't be entered gives the answer; with none left all are in the draft.
+
 use Rattle.std.proofs.Common.{sym, ◌∙◌, ap, subst, ◌∷◌, length, nat_eq, arith}
 use Rattle.std.specs.Map.{lookup}
 use Rattle.gem_shapes.specs.declared.entries.Definition.{Definition}

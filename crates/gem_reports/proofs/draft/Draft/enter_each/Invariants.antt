@@ -1,3 +1,5 @@
+-- The entries that are left are answered as all.
+
 use Rattle.std.proofs.Common.{List, drop}
 use Rattle.gem_vars.specs.Tables.{value_in}
 use Rattle.gem_reports.specs.Drafts.{IsDraft}
@@ -5,7 +7,6 @@ use Rattle.gem_reports.specs.History.{ReportEntry}
 use Rattle.gem_reports.proofs.Entering.{IsDefining}
 use Rattle.gem_reports.proofs.draft.Draft.enter_each.Given as goal
 
--- the entries that are left are answered as all
 abbrev pub invariant-loop-entry : goal.invariant-loop-entry
 invariant-loop-entry l =
     (start past : List ReportEntry) → IsDraft l.fn.self.standing l.fn.self.deleted.keys start past

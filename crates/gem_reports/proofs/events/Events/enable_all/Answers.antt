@@ -1,3 +1,5 @@
+-- The rows are changed one by one; with all changed the table is as told.
+
 use Rattle.std.proofs.Common.{◌≡◌, ◌∙◌, ap, length, arith}
 use Rattle.gem_tables.proofs.First.{changed_first, changed_more, changed_whole, changed_within}
 use Rattle.gem_reports.specs.Events.{EventTable, with_enabled}

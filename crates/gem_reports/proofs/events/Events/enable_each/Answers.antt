@@ -1,3 +1,5 @@
+-- One named event more is changed; with all changed the table is as told.
+
 use Rattle.std.proofs.Common.{◌∙◌, ap, arith}
 use Rattle.std.proofs.lemmas.List.{take_all}
 use Rattle.gem_tables.specs.Rows.{with_each}

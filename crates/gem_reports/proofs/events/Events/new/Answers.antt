@@ -1,3 +1,5 @@
+-- One event more is put, or is there already.
+
 use Rattle.std.proofs.Common.{◌∙◌, ap, List, ℕ, false, get_or, nat_eq, arith}
 use Rattle.indexmap.specs.IndexMap.{insert_entry}
 use Rattle.gem_reports.proofs.Rows.{planted_more}

@@ -1,3 +1,5 @@
+-- The rows lose their links one by one; with all changed the table is as told.
+
 use Rattle.std.proofs.Common.{◌≡◌, ◌∙◌, ap, List, [], ℕ, length, arith}
 use Rattle.indexmap.specs.IndexMap.{set_value_at}
 use Rattle.gem_tables.proofs.First.{changed_first, changed_more, changed_whole, changed_within}

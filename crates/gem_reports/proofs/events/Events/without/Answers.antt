@@ -1,3 +1,5 @@
+-- One row more is copied without the links that go.
+
 use Rattle.std.proofs.Common.{sym, ◌∙◌, ap, subst, ◌++◌, nat_eq}
 use Rattle.std.proofs.lemmas.Map.Iter.{rest_more}
 use Rattle.std.specs.List.{IsDistinct}

@@ -1,3 +1,5 @@
+-- The first entry that can't be entered gives the answer; with none left all are in the draft.
+
 use Rattle.std.proofs.Common.{◌+◌, ◌-◌, sym, ◌∙◌, ap, length, nat_eq, arith}
 use Rattle.std.specs.Map.{lookup}
 use Rattle.std.specs.Option.{option_map}

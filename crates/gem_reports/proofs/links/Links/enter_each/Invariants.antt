@@ -1,10 +1,11 @@
+-- The entries that are left are answered as all.
+
 use Rattle.std.proofs.Common.{ℕ, List, drop}
 use Rattle.gem_reports.specs.Drafts.{IsLinkDraft}
 use Rattle.gem_reports.specs.History.{ReportEntry}
 use Rattle.gem_reports.proofs.Entering.{IsLinking}
 use Rattle.gem_reports.proofs.links.Links.enter_each.Given as goal
 
--- the entries that are left are answered as all
 abbrev pub invariant-loop-entry : goal.invariant-loop-entry
 invariant-loop-entry l =
     (events : List ℕ) (past : List ReportEntry)

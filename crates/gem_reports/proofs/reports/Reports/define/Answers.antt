@@ -1,3 +1,5 @@
+-- All reports are deleted, or the draft over a copy gives the answer and what stands.
+
 use Rattle.std.proofs.Common.{sym, ◌∙◌, ap, subst}
 use Rattle.gem_tables.specs.Rows.{with_each}
 use Rattle.gem_reports.specs.Answers.{past_with_definitions}

@@ -1,3 +1,5 @@
+-- The first CEID that isn't known gives the answer; where there is none the events stand as told.
+
 use Rattle.std.proofs.Common.{sym, ◌∙◌, ap, subst}
 use Rattle.std.specs.Option.{option_copied, option_map_or}
 use Rattle.gem_reports.specs.declared.answers.Erack.TheVariants as erack

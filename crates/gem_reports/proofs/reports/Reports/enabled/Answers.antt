@@ -1,3 +1,5 @@
+-- The row that is found, or not found, is that of the history.
+
 use Rattle.std.proofs.Common.{sym, ◌∙◌, ap, nat_eq}
 use Rattle.std.specs.Map.{lookup}
 use Rattle.std.specs.Option.{option_copied}

@@ -1,3 +1,5 @@
+-- The body that is kept is that of the history.
+
 use Rattle.std.proofs.Common.{◌≡◌, subst, IfOk}
 use Rattle.secs_items.specs.declared.item.Item.{Item}
 use Rattle.gem_vars.specs.Tables.{value_in}

@@ -1,3 +1,5 @@
+-- The lengths of the parts make that of the body, which is that of the history.
+
 use Rattle.std.proofs.Common.{refl, sym, ◌∙◌, ap, subst, List, [], ◌∷◌, ℕ, length, map, nat_eq, arith}
 use Rattle.std.proofs.lemmas.List.{length-map}
 use Rattle.std.specs.Map.{lookup}

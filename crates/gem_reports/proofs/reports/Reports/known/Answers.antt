@@ -1,3 +1,5 @@
+-- The rows are those of the plan's events.
+
 use Rattle.std.proofs.Common.{◌∙◌, ap, is_some, nat_eq}
 use Rattle.std.specs.Map.{lookup}
 use Rattle.gem_reports.specs.Events.{EventTable}

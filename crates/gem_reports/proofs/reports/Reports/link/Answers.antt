@@ -1,3 +1,5 @@
+-- The draft over a copy gives the answer and what stands.
+
 use Rattle.std.proofs.Common.{sym, ◌∙◌, ap, subst, List, ℕ}
 use Rattle.gem_tables.specs.Rows.{with_each}
 use Rattle.gem_reports.specs.Events.{without}

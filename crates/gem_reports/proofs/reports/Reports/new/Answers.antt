@@ -1,3 +1,5 @@
+-- The first rows stand for no history.
+
 use Rattle.gem_reports.proofs.Entering.{first_stands}
 use Rattle.gem_reports.proofs.reports.Reports.new.Goals as goal
 

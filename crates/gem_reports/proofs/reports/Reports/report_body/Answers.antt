@@ -1,3 +1,5 @@
+-- The body that is kept is that of the history.
+
 use Rattle.std.proofs.Common.{◌≡◌, ◌∙◌, ap, subst, nat_eq, IfOk}
 use Rattle.std.specs.Map.{lookup}
 use Rattle.secs_items.specs.declared.item.Item.{Item}

@@ -1,3 +1,5 @@
+-- The length that is kept is that of the history's body.
+
 use Rattle.std.proofs.Common.{◌∙◌, ap, length, nat_eq}
 use Rattle.std.specs.Map.{lookup}
 use Rattle.secs_items.specs.declared.item.Item.{Item}

@@ -1,3 +1,5 @@
+-- One report more is copied behind those so far.
+
 use Rattle.std.proofs.Common.{sym, ◌∙◌, ap, subst, List, ℕ, ◌++◌, nat_eq}
 use Rattle.std.proofs.lemmas.Map.Iter.{rest_more}
 use Rattle.std.specs.List.{IsDistinct}

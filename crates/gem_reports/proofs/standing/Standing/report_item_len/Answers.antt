@@ -1,3 +1,5 @@
+-- The lengths of the parts make that of the report.
+
 use Rattle.std.proofs.Common.{[], ◌∷◌, nat_eq, refl, arith}
 use Rattle.std.specs.Map.{lookup}
 use Rattle.secs_items.specs.Items.{number_item}

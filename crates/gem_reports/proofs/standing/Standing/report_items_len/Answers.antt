@@ -1,3 +1,5 @@
+-- One report more is measured.
+
 use Rattle.std.proofs.Common.{nat_eq, arith}
 use Rattle.std.specs.Map.{lookup}
 use Rattle.secs_items.proofs.SpelledLengths.{one_item_more}

@@ -1,3 +1,5 @@
+-- The length of the reports so far.
+
 use Rattle.std.proofs.Common.{◌≡◌, map, nat_eq, take}
 use Rattle.std.specs.Map.{lookup}
 use Rattle.secs_items.specs.Measures.{capped}
@@ -6,7 +8,6 @@ use Rattle.gem_vars.specs.Tables.{value_in}
 use Rattle.gem_reports.specs.Bodies.{report_item}
 use Rattle.gem_reports.proofs.standing.Standing.report_items_len.Given as goal
 
--- the length of the reports so far
 abbrev pub invariant-loop-rptid : goal.invariant-loop-rptid
 invariant-loop-rptid l =
     l.len ≡ capped (together (map (report_item (value_in l.vars) (λ other. lookup (nat_eq other) l.self))

@@ -1,3 +1,5 @@
+-- One item more is read off the front of what is left, or breaks the form.
+
 use Rattle.std.proofs.Common.{sym, ◌∙◌}
 use Rattle.secs_items.specs.declared.item.Item.{out-Item}
 use Rattle.gem_shapes.specs.Elements.{list_of}

@@ -1,3 +1,5 @@
+-- The bytes of the view are those of its item, so both show the same flag.
+
 use Rattle.std.proofs.Common.{sym, ap, ◌∙◌}
 use Rattle.secs_items.specs.declared.item.Item.{out-Item}
 use Rattle.secs_items.specs.Spelling.{Spells, SpellsEach}

@@ -1,3 +1,5 @@
+-- The bytes of the view are those of its item, so both show the same text.
+
 use Rattle.std.proofs.Common.{Some, sym, ap, ◌∙◌}
 use Rattle.secs_items.specs.declared.item.Item.{out-Item}
 use Rattle.secs_items.specs.Spelling.{Spells, SpellsEach}

@@ -1,3 +1,5 @@
+-- A primary that isn't asked without an item is read by its item.
+
 use Rattle.gem_shapes.proofs.Asking.{by_item}
 use Rattle.gem_shapes.proofs.primary.Primary.request.Goals as goal
 

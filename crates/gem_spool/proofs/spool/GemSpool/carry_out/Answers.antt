@@ -1,3 +1,5 @@
+-- Each work has its turn, is done or fails there; with all done the spool is as told.
+
 use Rattle.std.proofs.Common.{◌≡◌, List, take, subst}
 use Rattle.std.proofs.lemmas.List.{take_all}
 use Rattle.gem_spool.specs.Works.{DoesAll}

@@ -1,7 +1,8 @@
+-- Those so far are done.
+
 use Rattle.std.proofs.Common.{take}
 use Rattle.gem_spool.specs.Works.{DoesAll}
 use Rattle.gem_spool.proofs.spool.GemSpool.carry_out.Given as goal
 
--- those so far are done
 abbrev pub invariant-works : goal.invariant-works
 invariant-works g l = DoesAll g.D.Disk l.fn.self (take l.at l.works) l.spool

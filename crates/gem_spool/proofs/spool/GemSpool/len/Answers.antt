@@ -1,3 +1,5 @@
+-- What rests on the disk stands as the list.
+
 use Rattle.gem_spool.proofs.Stays.{stands_so}
 use Rattle.gem_spool.proofs.spool.GemSpool.len.Goals as goal
 

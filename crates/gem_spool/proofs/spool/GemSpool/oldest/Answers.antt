@@ -1,3 +1,5 @@
+-- A look keeps the list, and how it stands.
+
 use Rattle.gem_spool.proofs.First.{look_stands}
 use Rattle.gem_spool.proofs.Lists.{look_list}
 use Rattle.gem_spool.proofs.spool.GemSpool.oldest.Goals as goal

@@ -1,3 +1,5 @@
+-- The slot that was read has the oldest message, and the look keeps how the list stands.
+
 use Rattle.std.proofs.Common.{◌<◌, [], arith}
 use Rattle.spool_slots.specs.declared.states.OldestAnswer.TheVariants as oldest
 use Rattle.gem_spool.proofs.First.{look_stands, read_message, reads_oldest}

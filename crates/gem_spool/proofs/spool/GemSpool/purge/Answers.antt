@@ -1,3 +1,5 @@
+-- The list without any message, and how it stands.
+
 use Rattle.std.proofs.Common.{refl}
 use Rattle.gem_spool.specs.declared.works.Work.TheVariants.{Purge}
 use Rattle.gem_spool.proofs.Doing.{does_stands}

@@ -1,3 +1,5 @@
+-- The list stays and the mark moves on: how both stand, at every moment and by how it ends.
+
 use Rattle.std.proofs.Common.{Ok, Err, sym, subst}
 use Rattle.disk_base.specs.Through.{GoesThrough}
 use Rattle.disk_base.specs.declared.disk.DiskAnswer.TheVariants.{Done}

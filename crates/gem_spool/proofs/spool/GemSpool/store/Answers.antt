@@ -1,3 +1,5 @@
+-- A put by how it ends: sealed, or failed in one of its halves. Where there is room it isn't refused.
+
 use Rattle.std.proofs.Common.{Err, inl, inr, ap, refl, subst}
 use Rattle.gem_spool.proofs.Putting.{lost_early, lost_late, not_full, put_done, put_failed, stage_failed}
 use Rattle.spool_slots.specs.Changes.{Stages}

@@ -1,3 +1,5 @@
+-- The list with the message at its end, and how it stands.
+
 use Rattle.gem_spool.specs.declared.works.Work.TheVariants as work
 use Rattle.gem_spool.proofs.Doing.{does_stands}
 use Rattle.gem_spool.proofs.Lists.{put_list}

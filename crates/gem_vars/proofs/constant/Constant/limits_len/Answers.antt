@@ -1,3 +1,5 @@
+-- The lengths of the parts make that of the row.
+
 use Rattle.std.proofs.Common.{refl, ap, List, ℕ, length, arith}
 use Rattle.secs_items.specs.declared.item.Item.TheVariants as item
 use Rattle.secs_items.specs.Items.{number_item}

@@ -1,3 +1,5 @@
+-- A known constant has the length of a number, an unknown one that of an empty list.
+
 use Rattle.std.proofs.Common.{◌≡◌, sym, ◌∙◌, ap, length, [], Some, None}
 use Rattle.std.specs.Option.{option_map_or}
 use Rattle.secs_items.specs.declared.item.Item.TheVariants as item

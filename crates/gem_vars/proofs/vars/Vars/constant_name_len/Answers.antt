@@ -1,3 +1,5 @@
+-- A constant that isn't there has the length of its empty row.
+
 use Rattle.std.proofs.Common.{◌≡◌, sym, ◌∙◌, ap, length, None}
 use Rattle.std.specs.Option.{option_copied}
 use Rattle.secs_items.specs.Measures.{capped}

@@ -1,3 +1,5 @@
+-- With all measured the length is that of the list.
+
 use Rattle.std.proofs.Common.{sym, ◌∙◌, ap, map, List, ℕ, arith}
 use Rattle.std.proofs.lemmas.List.{length-map, take_all}
 use Rattle.secs_items.specs.Measures.{capped}

@@ -1,3 +1,5 @@
+-- The built-in constants and the plan's have ECIDs apart from those before, so that each is put.
+
 use Rattle.std.proofs.Common.{◌∙◌}
 use Rattle.gem_vars.proofs.Constants.{first_apart, own_apart}
 use Rattle.gem_vars.proofs.vars.Vars.new.Goals as goal

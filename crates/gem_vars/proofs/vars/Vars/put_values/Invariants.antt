@@ -1,8 +1,9 @@
+-- With those that are left the tables are as they are to be.
+
 use Rattle.std.proofs.Common.{◌≡◌, drop}
 use Rattle.gem_vars.specs.Tables.{with_constants}
 use Rattle.gem_vars.proofs.vars.Vars.put_values.Given as goal
 
--- with those that are left the tables are as they are to be
 abbrev pub invariant-loop-ecid : goal.invariant-loop-ecid
 invariant-loop-ecid l =
     with_constants (drop l.ecid-index l.list)

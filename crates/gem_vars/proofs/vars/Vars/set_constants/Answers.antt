@@ -1,3 +1,5 @@
+-- Setting values keeps the ECIDs.
+
 use Rattle.std.proofs.Common.{◌∙◌, ap}
 use Rattle.gem_vars.specs.Tables.{ecids_of}
 use Rattle.gem_vars.proofs.Kept.{constants_kept}

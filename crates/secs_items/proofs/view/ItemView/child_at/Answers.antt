@@ -1,3 +1,5 @@
+-- The items in front of the child and the child itself read, being parts of a whole item, so neither is a fault.
+
 use Rattle.std.proofs.Common.{length, arith}
 use Rattle.secs_items.proofs.ViewSteps.{child_is, child_of, child_read, child_shown, ok_err}
 use Rattle.secs_items.proofs.view.ItemView.child_at.Goals as goal

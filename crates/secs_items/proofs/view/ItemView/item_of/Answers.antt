@@ -1,3 +1,5 @@
+-- The items of a list read off its content make the item that is shown.
+
 use Rattle.std.proofs.Common.{sym, ◌∙◌, length, arith}
 use Rattle.secs_items.proofs.ViewSteps.{item_whole}
 use Rattle.secs_items.proofs.view.ItemView.item_of.Goals as goal

@@ -1,3 +1,5 @@
+-- The count of the view is that of the item that it shows.
+
 use Rattle.std.proofs.Common.{sym, ap, ◌∙◌}
 use Rattle.secs_items.specs.declared.item.Item.{out-Item}
 use Rattle.secs_items.specs.Layers.{count_of}

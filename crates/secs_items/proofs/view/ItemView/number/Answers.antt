@@ -1,3 +1,5 @@
+-- A view is a number exactly where the item that it shows is one, kind by kind.
+
 use Rattle.std.proofs.Common.{sym, ap, ◌∙◌}
 use Rattle.secs_items.specs.declared.item.Item.{out-Item}
 use Rattle.secs_items.specs.Views.{Viewed, item_in, number_of}
