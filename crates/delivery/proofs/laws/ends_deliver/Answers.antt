@@ -1,3 +1,5 @@
+-- The law, by the lemmas of `Delivers`.
+
 use Rattle.delivery.proofs.Delivers.{deliver}
 use Rattle.delivery.proofs.laws.ends_deliver.Goals as goal
 

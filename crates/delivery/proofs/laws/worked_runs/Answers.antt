@@ -1,3 +1,5 @@
+-- The three runs, each by its lemma, where messages go in blocks.
+
 use Rattle.delivery.proofs.Examples.{comes-twice, needs-silence, outlives-loss}
 use Rattle.delivery.proofs.laws.worked_runs.Goals as goal
 

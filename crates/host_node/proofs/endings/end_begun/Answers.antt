@@ -1,3 +1,5 @@
+-- One transaction ends with its note, and there are fewer; with none left all have ended.
+
 use Rattle.std.proofs.Common.{rules, refl, sym, ap, subst, ◌∙◌, Option}
 use Rattle.block_codec.specs.declared.header.Header.{Header}
 use Rattle.message_end.specs.Core.{EndView}

@@ -1,3 +1,5 @@
+-- Ending the transactions that are left comes to what ending all does.
+
 use Rattle.std.proofs.Common.{◌≡◌, length}
 use Rattle.trace_log.specs.Text.{printed_note}
 use Rattle.message_end.specs.Core.{carried}

@@ -1,3 +1,5 @@
+-- The turns that are left come to what all 16 do.
+
 use Rattle.std.proofs.Common.{◌≡◌, ◌≤◌, replicate}
 use Rattle.trace_log.specs.Text.{printed_note}
 use Rattle.message_end.specs.Parts.{on_the_way}

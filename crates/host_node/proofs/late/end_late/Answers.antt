@@ -1,3 +1,5 @@
+-- What T4 drops and then what T3 ends, unless the first stops.
+
 use Rattle.std.proofs.Common.{replicate}
 use Rattle.message_end.specs.Parts.{on_the_way}
 use Rattle.host_node.specs.Host.{drops, expires, late_duties}

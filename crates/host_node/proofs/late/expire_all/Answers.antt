@@ -1,3 +1,5 @@
+-- With none due any more, the turns that are left change nothing.
+
 use Rattle.std.proofs.Common.{sym, ◌∙◌}
 use Rattle.trace_log.specs.Text.{printed_note}
 use Rattle.message_end.specs.Parts.{on_the_way}

@@ -1,3 +1,5 @@
+-- The item of the body decides; a body that is none doesn't establish.
+
 use Rattle.std.proofs.Common.{ap, ◌∙◌}
 use Rattle.host_node.specs.Replies.{establishes_item}
 use Rattle.host_node.proofs.Reading.{established, faulty}

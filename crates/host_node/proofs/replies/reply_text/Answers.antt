@@ -1,3 +1,5 @@
+-- The replies that have a text: to a question, to S1F13, and to what is acknowledged.
+
 use Rattle.std.proofs.Common.{sym, ap, ◌∙◌, Some}
 use Rattle.host_node.proofs.Texts.{to_acknowledged, to_establishing, to_question}
 use Rattle.host_node.proofs.replies.reply_text.Goals as goal

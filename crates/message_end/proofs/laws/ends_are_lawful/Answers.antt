@@ -1,3 +1,5 @@
+-- The law, from those of the line, of the assembly and of messages in blocks.
+
 use Rattle.message_end.proofs.Lawful.{lawful}
 use Rattle.message_end.proofs.laws.ends_are_lawful.Goals as goal
 

@@ -1,3 +1,5 @@
+-- The law, by the lemmas of `Reading`.
+
 use Rattle.message_end.proofs.Reading.{read-all}
 use Rattle.message_end.proofs.laws.notes_are_read.Goals as goal
 

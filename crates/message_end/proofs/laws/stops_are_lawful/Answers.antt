@@ -1,3 +1,5 @@
+-- The law, from the one that each end keeps.
+
 use Rattle.message_end.proofs.Fronts.{stops-lawful}
 use Rattle.message_end.proofs.laws.stops_are_lawful.Goals as goal
 

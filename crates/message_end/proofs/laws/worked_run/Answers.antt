@@ -1,3 +1,5 @@
+-- The run, computed down to the sum of the frame.
+
 use Rattle.std.proofs.Common.{refl, rules}
 use Rattle.line_end.specs.Frames.{block_in, is_frame, sum_cause}
 use Rattle.message_end.proofs.laws.worked_run.Goals as goal

@@ -1,3 +1,5 @@
+-- The logs, computed; those that aren't kept, the run of two ends, and the broken orders by their lemmas.
+
 use Rattle.std.specs.Prelude.{refl}
 use Rattle.spool_delivery.proofs.Examples.{are-not-kept, break-order, unloads-after-loss}
 use Rattle.spool_delivery.proofs.laws.worked_logs.Goals as goal

@@ -1,3 +1,5 @@
+-- The law, by the lemmas of `NoteLines`.
+
 use Rattle.trace_log.proofs.NoteLines.{notes_are_lines}
 use Rattle.trace_log.proofs.laws.notes_are_lines.Goals as goal
 

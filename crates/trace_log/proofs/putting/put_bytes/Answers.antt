@@ -1,3 +1,5 @@
+-- With all put the digits are those of the bytes.
+
 use Rattle.std.proofs.Common.{List, ℕ, ap, ◌∙◌, ◌++◌}
 use Rattle.std.proofs.lemmas.List.{take_all}
 use Rattle.std.specs.List.{flat_map}

@@ -1,3 +1,5 @@
+-- All messages end, and then the communication.
+
 use Rattle.std.proofs.Common.{subst, [], Some}
 use Rattle.message_end.specs.Parts.{Takes}
 use Rattle.host_node.specs.declared.comms.HostComms.{HostComms}

@@ -1,3 +1,5 @@
+-- A step leaves what its parts leave; one that stops has nothing to send.
+
 use Rattle.std.proofs.Common.{refl, []}
 use Rattle.message_end.specs.Ends.{input_of}
 use Rattle.message_end.proofs.Leaving.{leaves-gone, leaves-stopped}

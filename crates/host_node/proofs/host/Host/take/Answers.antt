@@ -1,3 +1,5 @@
+-- What a character has brought: a block that failed, or one that came.
+
 use Rattle.std.proofs.Common.{sym, subst, ◌∙◌}
 use Rattle.trace_log.specs.Text.{printed_note}
 use Rattle.message_end.specs.declared.end.Took.{Took}

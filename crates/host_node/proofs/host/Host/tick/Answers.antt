@@ -1,3 +1,5 @@
+-- A block that failed at its deadline breaks all off.
+
 use Rattle.std.proofs.Common.{sym, subst, ◌∙◌, Option}
 use Rattle.block_codec.specs.declared.header.Header.{Header}
 use Rattle.trace_log.specs.Text.{printed_note}

@@ -1,3 +1,5 @@
+-- The message whose block failed waits no longer, and is noted.
+
 use Rattle.std.proofs.Common.{rules}
 use Rattle.message_end.proofs.Ended.{failed_one}
 use Rattle.message_end.proofs.end.MessageEnd.end_failed.Goals as goal

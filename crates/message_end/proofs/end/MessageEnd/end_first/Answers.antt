@@ -1,3 +1,5 @@
+-- The transaction that began first ends, where there is one.
+
 use Rattle.std.proofs.Common.{refl, sym, ◌∙◌}
 use Rattle.message_end.proofs.Ended.{first_ended, none_first}
 use Rattle.message_end.proofs.end.MessageEnd.end_first.Goals as goal

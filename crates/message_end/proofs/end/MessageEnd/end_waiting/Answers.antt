@@ -1,3 +1,5 @@
+-- One waiting message ends with its note, and there are fewer; with none left all have ended.
+
 use Rattle.std.proofs.Common.{rules, sym, ◌∙◌}
 use Rattle.message_end.proofs.Ended.{no_waiting, one_waiting}
 use Rattle.message_end.proofs.end.MessageEnd.end_waiting.Goals as goal

@@ -1,3 +1,5 @@
+-- Without its oldest message it stays a ledger.
+
 use Rattle.std.proofs.Common.{rules}
 use Rattle.spool_ledger.proofs.Keeping.{oldest_out_keeps}
 use Rattle.spool_ledger.proofs.ledger.Ledger.oldest_out.Goals as goal

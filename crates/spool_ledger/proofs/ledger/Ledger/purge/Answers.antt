@@ -1,3 +1,5 @@
+-- Without any message it stays a ledger.
+
 use Rattle.std.proofs.Common.{rules, ap, ℕ, ◌+◌}
 use Rattle.spool_ledger.proofs.Keeping.{all_out_keeps}
 use Rattle.spool_ledger.proofs.ledger.Ledger.purge.Goals as goal

@@ -1,3 +1,5 @@
+-- With a message more it stays a ledger, and the notes are those of the put.
+
 use Rattle.std.proofs.Common.{rules, append_assoc}
 use Rattle.spool_ledger.specs.Storing.{spooled}
 use Rattle.spool_ledger.proofs.Keeping.{put_keeps}

@@ -1,3 +1,5 @@
+-- A full list has an oldest message, and without that there is room.
+
 use Rattle.std.proofs.Common.{rules, length, ap, ◌∙◌}
 use Rattle.trace_log.specs.declared.names.Cause.TheVariants.{Overwritten}
 use Rattle.spool_ledger.specs.Ledger.{LedgerView, room_for}
