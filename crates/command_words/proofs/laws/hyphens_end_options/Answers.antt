@@ -1,3 +1,5 @@
+-- The law, by the lemmas of `HyphensEnd`.
+
 use Rattle.command_words.proofs.HyphensEnd.{takes_all}
 use Rattle.command_words.proofs.laws.hyphens_end_options.Goals as goal
 

@@ -1,3 +1,5 @@
+-- What was parsed is the number that the digits mean.
+
 use Rattle.std.proofs.Common.{◌∙◌}
 use Rattle.command_words.proofs.ParsedNumbers.{numeral_read}
 use Rattle.command_words.proofs.numbers.value_of.Goals as goal

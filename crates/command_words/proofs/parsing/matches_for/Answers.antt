@@ -1,3 +1,5 @@
+-- The command of a name is simple and free, so what `clap` makes of the words is what the forms say.
+
 use Rattle.std.proofs.Common.{◌∙◌, ap, map, string_bytes}
 use Rattle.clap.specs.Words.{app_of, is_simple_and_free}
 use Rattle.command_words.proofs.ParsedWords.{parsed_for}

@@ -1,3 +1,5 @@
+-- What `clap` promises of a simple command: the kinds of its arguments, and the matches.
+
 use Rattle.clap.specs.Words.{app_of}
 use Rattle.command_words.proofs.ParsedWords.{simple_of}
 use Rattle.command_words.proofs.parsing.parse.Goals as goal

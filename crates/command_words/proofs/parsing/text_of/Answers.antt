@@ -1,3 +1,5 @@
+-- The text at an id is the first value that was found there.
+
 use Rattle.std.proofs.Common.{◌∙◌}
 use Rattle.clap.proofs.WalkLemmas.{first_value-rows}
 use Rattle.clap.specs.Words.{found_of}

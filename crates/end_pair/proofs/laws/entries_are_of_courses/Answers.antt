@@ -1,3 +1,5 @@
+-- The law, by the lemmas of `Noting`.
+
 use Rattle.end_pair.proofs.Noting.{entries-noted}
 use Rattle.end_pair.proofs.laws.entries_are_of_courses.Goals as goal
 

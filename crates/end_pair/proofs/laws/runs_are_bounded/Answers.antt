@@ -1,3 +1,5 @@
+-- The law, by the lemmas of `Outcomes`.
+
 use Rattle.end_pair.proofs.Outcomes.{runs-bounded}
 use Rattle.end_pair.proofs.laws.runs_are_bounded.Goals as goal
 

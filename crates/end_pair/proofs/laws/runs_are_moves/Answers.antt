@@ -1,3 +1,5 @@
+-- Both ends keep their law from their starts on, so the log is that of moves.
+
 use Rattle.std.proofs.Common.{subst}
 use Rattle.gl_base.specs.declared.side.Side.TheVariants.{Equipment, Host}
 use Rattle.message_end.specs.Core.{Went, step_in}

@@ -1,3 +1,5 @@
+-- The law, by the lemmas of `FourWays`.
+
 use Rattle.end_pair.proofs.FourWays.{four-ways}
 use Rattle.end_pair.proofs.laws.runs_end_four_ways.Goals as goal
 

@@ -1,3 +1,5 @@
+-- The law, by the lemmas of `Causes`.
+
 use Rattle.end_pair.proofs.Causes.{by-cause}
 use Rattle.end_pair.proofs.laws.steps_end_by_cause.Goals as goal
 

@@ -1,3 +1,5 @@
+-- The losses, computed.
+
 use Rattle.std.proofs.Common.{refl}
 use Rattle.end_pair.proofs.laws.worked_losses.Goals as goal
 

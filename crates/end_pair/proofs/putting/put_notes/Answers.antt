@@ -1,3 +1,5 @@
+-- Where memory runs out, a part of the notes' lines was put.
+
 use Rattle.end_pair.proofs.Texts.{notes_part, on_err}
 use Rattle.end_pair.proofs.putting.put_notes.Goals as goal
 

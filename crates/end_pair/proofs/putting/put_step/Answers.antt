@@ -1,3 +1,5 @@
+-- Where memory runs out at the notes, a part of all the step's lines was put: those of its characters come behind.
+
 use Rattle.std.proofs.Common.{List, subst}
 use Rattle.std.specs.List.{flat_map}
 use Rattle.message_end.specs.Ends.{printed}

@@ -1,3 +1,6 @@
+-- A run by how it ends: at the start, at a write, at an event, at its close. Past each event the rest leads to the
+-- whole.
+
 use Rattle.std.proofs.Common.{◌≤◌, ◌+◌, List, length, drop, ap, arith}
 use Rattle.std.proofs.lemmas.List.{drop_all}
 use Rattle.line_schedule.specs.declared.event.Event.{Event}

@@ -1,3 +1,5 @@
+-- What is left of the schedule leads, behind the lines so far, to the whole run.
+
 use Rattle.std.proofs.Common.{drop}
 use Rattle.gl_base.specs.Told.{sink_told}
 use Rattle.message_end.specs.Core.{step_in}

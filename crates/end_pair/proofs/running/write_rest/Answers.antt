@@ -1,3 +1,5 @@
+-- The page went out, and the lines behind it.
+
 use Rattle.gl_base.proofs.Appending.{finished}
 use Rattle.end_pair.proofs.running.write_rest.Goals as goal
 

@@ -1,3 +1,5 @@
+-- The lines of a restart, whole or in part: that of the lost power, and then those of the start.
+
 use Rattle.std.proofs.Common.{◌≡◌, ◌++◌, List, Err, subst}
 use Rattle.std.specs.List.{flat_map}
 use Rattle.gl_base.specs.declared.side.Side.TheVariants.{Equipment}

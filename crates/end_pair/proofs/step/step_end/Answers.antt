@@ -1,3 +1,5 @@
+-- A step by how it ends: whole, for want of memory, or at a call of its disk.
+
 use Rattle.std.proofs.Common.{◌≡◌, ◌-◌, false, List, Err, subst}
 use Rattle.std.specs.List.{flat_map}
 use Rattle.message_end.specs.Ends.{EndsBy, input_of}

@@ -1,3 +1,5 @@
+-- Losing those that are left leads where losing all does.
+
 use Rattle.std.proofs.Common.{◌≡◌}
 use Rattle.line_way.specs.Kept.{direction_to, with_direction}
 use Rattle.end_pair.specs.World.{lost}

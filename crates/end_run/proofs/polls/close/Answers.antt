@@ -1,3 +1,5 @@
+-- The line of the closing is the last one, or there is no memory for it.
+
 use Rattle.std.proofs.Common.{List, ℕ, append-nil, ap, subst, ◌∙◌}
 use Rattle.gl_base.specs.Told.{sink_told}
 use Rattle.gl_base.proofs.Appending.{wrote_nothing}

@@ -1,3 +1,6 @@
+-- Turn by turn: one ends the run, or the polls are over. Past each turn the rest leads to the whole, and no fault was
+-- counted.
+
 use Rattle.std.proofs.Common.{◌≡◌, suc, ◌-◌, List, None, Some, refl, arith}
 use Rattle.gl_base.specs.declared.link.LinkIn.{LinkIn}
 use Rattle.end_run.specs.Calls.{left_of}

@@ -1,3 +1,5 @@
+-- Some polls were made, and those that are left lead to the whole.
+
 use Rattle.std.proofs.Common.{◌≤◌, None, length}
 use Rattle.end_run.specs.Calls.{left_of}
 use Rattle.end_run.specs.Counts.{CountsNone, counted}
@@ -6,7 +8,6 @@ use Rattle.end_run.specs.Scenes.{scene}
 use Rattle.end_run.proofs.Polling.{IsPolled, polls}
 use Rattle.end_run.proofs.polls.poll_all.Given as goal
 
--- some polls were made, and those that are left lead to the whole
 abbrev pub invariant-polls : goal.invariant-polls
 invariant-polls g l =
     let e = g.E.LinkedEnd in

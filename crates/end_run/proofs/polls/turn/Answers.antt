@@ -1,3 +1,5 @@
+-- A turn by what the poll has answered: where it leads, how many lines were given, and which fault was counted.
+
 use Rattle.std.proofs.Common.{None, Some, refl}
 use Rattle.gl_base.specs.declared.link.LinkIn.TheVariants as link
 use Rattle.end_run.specs.Calls.{left_of}

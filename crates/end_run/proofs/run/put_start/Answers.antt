@@ -1,3 +1,5 @@
+-- The lines of the start go out, whole or in part, or there is no memory for them.
+
 use Rattle.std.proofs.Common.{List, ℕ, subst, ◌∙◌}
 use Rattle.gl_base.specs.Sending.{WroteShort, WroteText}
 use Rattle.gl_base.specs.Told.{sink_told}

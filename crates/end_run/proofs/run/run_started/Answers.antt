@@ -1,3 +1,5 @@
+-- A run by where it ends: at the start's lines, at the connection, in the first step, or in the polls.
+
 use Rattle.std.proofs.Common.{List, None, Some, refl, subst, sym}
 use Rattle.end_run.specs.Outcome.{ComesOver}
 use Rattle.end_run.specs.Run.{polled}

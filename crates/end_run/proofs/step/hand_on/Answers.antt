@@ -1,3 +1,5 @@
+-- The lines are written, and then the characters sent; each way in which that ends, with the fault that is counted.
+
 use Rattle.std.proofs.Common.{List, ℕ, [], ◌∷◌, None, refl, subst, sym, ◌∙◌}
 use Rattle.end_run.specs.Acts.Act.{Writes}
 use Rattle.end_run.specs.Outcome.{Does}

@@ -1,3 +1,5 @@
+-- The characters are sent or not, with the fault that is counted.
+
 use Rattle.std.proofs.Common.{refl, rules, ◌<◌, length}
 use Rattle.end_run.proofs.Stepping.{send_fails}
 use Rattle.end_run.proofs.step.send_all.Goals as goal

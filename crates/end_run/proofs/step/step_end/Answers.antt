@@ -1,3 +1,5 @@
+-- A step by how it ends: numbers spent, a fault of its disk, no memory, or its lines handed on.
+
 use Rattle.std.proofs.Common.{Err, List, None, Some, refl, subst, sym}
 use Rattle.std.specs.List.{flat_map}
 use Rattle.gl_base.specs.Told.{sink_told}

@@ -1,3 +1,5 @@
+-- A plain input is one that every end takes, and that of the definition.
+
 use Rattle.std.proofs.Common.{None, subst}
 use Rattle.end_run.specs.Outcome.{Comes}
 use Rattle.end_run.specs.Scenes.{scene}

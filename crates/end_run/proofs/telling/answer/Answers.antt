@@ -1,3 +1,5 @@
+-- The lines that are due are told, and unless one ends the run the plain input comes behind them.
+
 use Rattle.std.proofs.Common.{ℕ, List, Some, None, take, ap, subst, ◌∙◌}
 use Rattle.end_run.specs.Calls.{plain_input}
 use Rattle.end_run.specs.Outcome.{Comes}

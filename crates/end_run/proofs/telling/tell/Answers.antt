@@ -1,3 +1,5 @@
+-- A line that tells nothing ends the run; each other one is a step with its command.
+
 use Rattle.std.proofs.Common.{None, refl, sym}
 use Rattle.end_run.specs.Outcome.{Comes}
 use Rattle.end_run.specs.Scenes.{scene}

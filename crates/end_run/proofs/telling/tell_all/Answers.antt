@@ -1,3 +1,5 @@
+-- Line by line: one ends the run, or all are told.
+
 use Rattle.std.proofs.Common.{◌≤◌, ◌+◌, List, None, Some, refl, length, drop, ap, arith}
 use Rattle.std.proofs.lemmas.List.{drop_all}
 use Rattle.end_run.specs.Script.{ScriptLine}

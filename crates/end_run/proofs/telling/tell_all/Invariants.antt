@@ -1,3 +1,5 @@
+-- The lines so far were given, and those that are left lead to the whole.
+
 use Rattle.std.proofs.Common.{None, drop}
 use Rattle.end_run.specs.Counts.{CountsNone, counted}
 use Rattle.end_run.specs.Scenes.{scene}
@@ -5,7 +7,6 @@ use Rattle.end_run.specs.Steps.{all_told}
 use Rattle.end_run.proofs.Doing.{Leads}
 use Rattle.end_run.proofs.telling.tell_all.Given as goal
 
--- the lines so far were given, and those that are left lead to the whole
 abbrev pub invariant-lines : goal.invariant-lines
 invariant-lines g l =
     let e = g.E.LinkedEnd in

@@ -1,3 +1,5 @@
+-- What the table gives at a key is what stands there.
+
 use Rattle.toml.proofs.Views.{table_get}
 use Rattle.gem_config.proofs.found.member.Goals as goal
 

@@ -1,3 +1,5 @@
+-- The law, by the lemmas of `FittingPlans`.
+
 use Rattle.gem_config.proofs.FittingPlans.{meaning_fits}
 use Rattle.gem_config.proofs.laws.what_is_read_fits.Goals as goal
 

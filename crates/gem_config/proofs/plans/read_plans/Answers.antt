@@ -1,3 +1,5 @@
+-- A text that parses is a document, and its meaning decides.
+
 use Rattle.std.proofs.Common.{◌≡◌, Some, sym, ap, ◌∙◌}
 use Rattle.toml.specs.Parse.{parse_document}
 use Rattle.toml.specs.View.{table_view}

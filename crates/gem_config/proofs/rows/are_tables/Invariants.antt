@@ -1,9 +1,10 @@
+-- Those that are left decide.
+
 use Rattle.std.proofs.Common.{◌≡◌, drop}
 use Rattle.toml.specs.Text.{are_tables}
 use Rattle.toml.specs.View.{items_view}
 use Rattle.gem_config.proofs.rows.are_tables.Given as goal
 
--- those that are left decide
 abbrev pub invariant-loop-value : goal.invariant-loop-value
 invariant-loop-value l =
     are_tables (items_view (drop l.value-index l.values)) ≡ are_tables (items_view l.values)

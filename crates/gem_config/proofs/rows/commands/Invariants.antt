@@ -1,9 +1,10 @@
+-- Those so far, with those that are left, are all.
+
 use Rattle.std.proofs.Common.{◌≡◌, [], drop}
 use Rattle.toml.specs.View.{items_view}
 use Rattle.gem_config.specs.Rows.{commands_from}
 use Rattle.gem_config.proofs.rows.commands.Given as goal
 
--- those so far, with those that are left, are all
 abbrev pub invariant-loop-value : goal.invariant-loop-value
 invariant-loop-value l =
     commands_from l.name l.commands (items_view (drop l.value-index l.values))

@@ -1,9 +1,10 @@
+-- The least so far, with those that are left, is the least of all.
+
 use Rattle.std.proofs.Common.{◌≡◌}
 use Rattle.toml.specs.View.{members_view}
 use Rattle.gem_config.specs.Others.{least_of, others}
 use Rattle.gem_config.proofs.unknown.others.Given as goal
 
--- the least so far, with those that are left, is the least of all
 abbrev pub invariant-members : goal.invariant-members
 invariant-members l =
     (goal.iterator-members).can_next l.key-iterator × (goal.iterator-members).is_finite l.key-iterator

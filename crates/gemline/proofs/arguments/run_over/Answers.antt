@@ -1,3 +1,5 @@
+-- A run over the words behind the program's name, or the refusal where the system gave none.
+
 use Rattle.std.proofs.Common.{◌∙◌, refl, List, Result, inl, map, string_bytes, subst, sym}
 use Rattle.std.specs.declared.alloc.Global.{Global}
 use Rattle.std.specs.declared.io.Error.{Error}

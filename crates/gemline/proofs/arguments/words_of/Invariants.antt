@@ -1,8 +1,9 @@
+-- The words so far and those that are left are all behind the name.
+
 use Rattle.std.proofs.Common.{◌≡◌, ◌++◌, drop}
 use Rattle.std.specs.Vec.Iter.{into_iter_items, into_iter_len}
 use Rattle.gemline.proofs.arguments.words_of.Given as goal
 
--- the words so far and those that are left are all behind the name
 abbrev pub invariant-words : goal.invariant-words
 invariant-words l = l.words.items ++ into_iter_items l.arguments ≡ drop 1 (into_iter_items l.fn.arguments)
 

@@ -1,3 +1,5 @@
+-- The plan that was read fits.
+
 use Rattle.gemline_app.proofs.equipment.equipment.Goals as goal
 
 pub run_input-requires : goal.run_input-requires

@@ -1,3 +1,5 @@
+-- The device that is run over is the attached disk.
+
 use Rattle.std.proofs.Common.{refl, rules}
 use Rattle.gemline_app.proofs.Filing.{spool_same}
 use Rattle.gemline_app.proofs.equipment.run_attached.Goals as goal

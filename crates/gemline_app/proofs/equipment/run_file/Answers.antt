@@ -1,3 +1,5 @@
+-- The file was attached and is run over, or it couldn't be attached.
+
 use Rattle.std.proofs.Common.{inl, inr, refl, sym, ◌∙◌}
 use Rattle.gemline_app.proofs.Filing.{spool_same, taken_as_is}
 use Rattle.gemline_app.proofs.equipment.run_file.Goals as goal

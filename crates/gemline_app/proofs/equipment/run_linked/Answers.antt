@@ -1,3 +1,5 @@
+-- The run from the started equipment, and the faults that it has counted.
+
 use Rattle.std.proofs.Common.{Option, Some, subst}
 use Rattle.end_run.specs.Counts.{Counts, counted}
 use Rattle.gemline_app.specs.LinkTold.{link_told}

@@ -1,3 +1,5 @@
+-- A start that goes on is run; one that is refused gives its outcome, with the disk as it left it.
+
 use Rattle.std.proofs.Common.{inl, inr, refl, sym, ◌∙◌}
 use Rattle.gemline_app.proofs.Equipping.{refused_as, refused_same, run_counts, run_same, start_refuses}
 use Rattle.gemline_app.proofs.equipment.run_over.Goals as goal

@@ -1,3 +1,5 @@
+-- The script was read and the run is by it, or its fault is told.
+
 use Rattle.std.proofs.Common.{refl}
 use Rattle.end_run.proofs.Sides.{are_told_tool}
 use Rattle.gemline_app.proofs.Hosting.{refuses_script, runs_script}

@@ -1,3 +1,5 @@
+-- A host without memory to start runs nothing; each other one runs from its start.
+
 use Rattle.std.proofs.Common.{None, refl, ◌∙◌, sym}
 use Rattle.message_end.specs.Ends.{none_asked}
 use Rattle.end_run.specs.declared.ending.Ending.TheVariants as ending

@@ -1,3 +1,5 @@
+-- The plans are those that the bytes of the file mean.
+
 use Rattle.std.proofs.Common.{List, subst, ℕ}
 use Rattle.gemline_app.specs.Files.{TextAnswers}
 use Rattle.gemline_app.proofs.Hosting.{plan_answers}

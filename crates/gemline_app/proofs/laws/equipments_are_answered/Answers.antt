@@ -1,3 +1,5 @@
+-- The law, by the lemmas of `EquipmentAnswered`.
+
 use Rattle.gemline_app.proofs.EquipmentAnswered.{equipments_answered}
 use Rattle.gemline_app.proofs.laws.equipments_are_answered.Goals as goal
 

@@ -1,3 +1,5 @@
+-- The law, by the lemmas of `Due`.
+
 use Rattle.gemline_app.proofs.Due.{whole_capture}
 use Rattle.gemline_app.proofs.laws.shows_whole_captures.Goals as goal
 

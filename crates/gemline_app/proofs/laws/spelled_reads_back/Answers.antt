@@ -1,3 +1,5 @@
+-- The law, by the lemmas of `ReadBack`.
+
 use Rattle.gemline_app.proofs.ReadBack.{reads_back, spelled_is_hex}
 use Rattle.gemline_app.proofs.laws.spelled_reads_back.Goals as goal
 

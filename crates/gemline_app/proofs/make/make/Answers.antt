@@ -1,3 +1,5 @@
+-- The plans of made rounds fit and are run; without memory for them nothing is written.
+
 use Rattle.std.proofs.Common.{refl, sym, subst, inl}
 use Rattle.equipment_tables.specs.Plan.{PlansFit}
 use Rattle.gemline_app.proofs.FittingMade.{made_fit, over_made}

@@ -1,3 +1,5 @@
+-- The outcome is that of the rounds that were made.
+
 use Rattle.gemline_app.proofs.make.make_over.Goals as goal
 
 pub returns : goal.returns

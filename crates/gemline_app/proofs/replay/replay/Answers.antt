@@ -1,3 +1,5 @@
+-- The plans that were read fit.
+
 use Rattle.gemline_app.proofs.replay.replay.Goals as goal
 
 pub replay_over-requires : goal.replay_over-requires

@@ -1,3 +1,5 @@
+-- The schedule was read and is run, or its fault is told.
+
 use Rattle.std.proofs.Common.{refl}
 use Rattle.gemline_app.proofs.Replaying.{refuses_text, replayed_over, runs_schedule}
 use Rattle.gemline_app.proofs.replay.run_text.Goals as goal

@@ -1,3 +1,5 @@
+-- The words are a command, which is carried out and told of, or they are refused.
+
 use Rattle.std.proofs.Common.{refl}
 use Rattle.gemline_app.proofs.Running.{carried_out, refused}
 use Rattle.gemline_app.proofs.run.gemline.Goals as goal

@@ -1,3 +1,5 @@
+-- The file of `host` and that of `equipment` is the plan.
+
 use Rattle.std.proofs.Common.{◌∙◌, Some, ap, sym}
 use Rattle.command_words.specs.Asked.{asked_by}
 use Rattle.command_words.specs.declared.command.Command.{Command}

@@ -1,3 +1,5 @@
+-- The first part is sent and the other behind it, or it was cut off.
+
 use Rattle.gl_base.specs.declared.copying.SinkAnswer.TheVariants.{Failed}
 use Rattle.gl_base.proofs.Appending.{copies_behind, cut_before}
 use Rattle.gemline_app.proofs.run.send_two.Goals as goal

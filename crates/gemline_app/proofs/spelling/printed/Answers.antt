@@ -1,3 +1,5 @@
+-- Hex that means bytes is answered by what these spell; other input is refused.
+
 use Rattle.std.proofs.Common.{List, ℕ, sym, subst}
 use Rattle.gemline_app.specs.Gemline.{HexRefuses, ItemAnswers}
 use Rattle.gemline_app.specs.declared.outcome.Outcome.{Outcome}

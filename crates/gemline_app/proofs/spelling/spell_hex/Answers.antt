@@ -1,3 +1,5 @@
+-- The text of the item is written, or why there is none is told.
+
 use Rattle.std.proofs.Common.{Err, Ok, refl, ◌∙◌}
 use Rattle.gemline_app.proofs.spelling.spell_hex.Goals as goal
 

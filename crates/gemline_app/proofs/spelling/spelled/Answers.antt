@@ -1,3 +1,5 @@
+-- The item of a text that was read can be spelled.
+
 use Rattle.line_schedule.proofs.TextItems.{text_encodes}
 use Rattle.gemline_app.proofs.spelling.spelled.Goals as goal
 

@@ -1,3 +1,5 @@
+-- The item that was read is the one that the text means.
+
 use Rattle.std.proofs.Common.{ap, sym}
 use Rattle.secs_text.proofs.TextLaws.{as_read}
 use Rattle.line_schedule.specs.Items.{found}

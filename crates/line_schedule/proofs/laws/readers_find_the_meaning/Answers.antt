@@ -1,3 +1,5 @@
+-- The law for schedules and for scripts of both sides: a line that tells something is found, and no other one.
+
 use Rattle.line_schedule.proofs.EventReaders.{a_script_line, an_event, no_event, none_told}
 use Rattle.line_schedule.proofs.laws.readers_find_the_meaning.Goals as goal
 

@@ -1,3 +1,5 @@
+-- The events so far are those of the lines before the rest.
+
 use Rattle.std.proofs.Common.{length}
 use Rattle.line_schedule.specs.Reading.{schedule_reader}
 use Rattle.line_schedule.specs.Schedule.{most_lines}

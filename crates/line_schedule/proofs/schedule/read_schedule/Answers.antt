@@ -1,3 +1,5 @@
+-- What is promised of a schedule, from what the loop over its lines has found.
+
 use Rattle.line_schedule.proofs.ScheduleLaws.{fits, found, line_named, only, outside_refused}
 use Rattle.line_schedule.proofs.schedule.read_schedule.Goals as goal
 

@@ -1,3 +1,5 @@
+-- The lines that are left are in order behind those so far exactly where all are.
+
 use Rattle.std.proofs.Common.{◌≡◌, length}
 use Rattle.line_schedule.specs.Script.{are_in_order}
 use Rattle.line_schedule.proofs.script.are_in_order.Given as goal

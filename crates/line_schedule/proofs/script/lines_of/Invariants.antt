@@ -1,3 +1,5 @@
+-- The lines so far are those before the rest.
+
 use Rattle.std.proofs.Common.{length}
 use Rattle.line_schedule.specs.Reading.{script_reader}
 use Rattle.line_schedule.specs.Script.{most_script_lines}

@@ -1,3 +1,5 @@
+-- What is promised of a script, from what the loop over its lines has found.
+
 use Rattle.line_schedule.proofs.ScriptLaws.{fits, found, line_named, only, outside_refused}
 use Rattle.line_schedule.proofs.script.read_script.Goals as goal
 

@@ -1,3 +1,5 @@
+-- The lines so far are counted, and with those that are left all are.
+
 use Rattle.std.proofs.Common.{◌≡◌, length}
 use Rattle.line_schedule.specs.Lines.{lines_of}
 use Rattle.line_world.specs.Counting.{with_lines}

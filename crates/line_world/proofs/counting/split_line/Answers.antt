@@ -1,3 +1,5 @@
+-- The text in front of the first place found is the first line; without such a place it is the only one.
+
 use Rattle.std.proofs.Common.{sym, ◌∙◌}
 use Rattle.line_schedule.proofs.LineEnds.{first_line, only_line}
 use Rattle.line_world.proofs.counting.split_line.Goals as goal

@@ -1,3 +1,5 @@
+-- The word in front of the first place found, and what is behind it; without such a place it is all.
+
 use Rattle.std.proofs.Common.{ℕ, ◌+◌, Option, ap, sym, ◌∙◌, arith, length-drop}
 use Rattle.std.proofs.lemmas.List.{take_all}
 use Rattle.line_world.specs.Make.{before_place, behind_place}

@@ -1,3 +1,5 @@
+-- The law, by the lemmas of `SoFar`.
+
 use Rattle.line_world.proofs.SoFar.{holds-at-each}
 use Rattle.line_world.proofs.laws.holds_at_each_entry.Goals as goal
 

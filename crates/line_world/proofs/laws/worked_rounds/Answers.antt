@@ -1,3 +1,5 @@
+-- The rounds and the counts, computed; the bodies of the requests by their lemmas.
+
 use Rattle.std.proofs.Common.{refl}
 use Rattle.line_world.proofs.Bodies.{spelled-s2f33, spelled-s2f35, spelled-s2f37, spelled-s6f23}
 use Rattle.line_world.proofs.laws.worked_rounds.Goals as goal

@@ -1,3 +1,5 @@
+-- The made rounds may be run over an empty spool; their summary is written, or the run ends as it has stopped.
+
 use Rattle.gl_base.proofs.Appending.{wrote_nothing}
 use Rattle.line_world.proofs.Disks.{first-is, holds_empty, opens_empty}
 use Rattle.line_world.proofs.Made.{stops-as, writes-made}

@@ -1,3 +1,5 @@
+-- All rounds by where they end: at the start, on the way, or behind the last one.
+
 use Rattle.std.proofs.Common.{refl}
 use Rattle.end_pair.specs.Kept.{seen}
 use Rattle.end_pair.specs.World.{after_events, and_more, begun, still}

@@ -1,3 +1,5 @@
+-- The three requests come one behind the other.
+
 use Rattle.line_world.proofs.Asking.{defined}
 use Rattle.line_world.proofs.rounds.define_report.Goals as goal
 

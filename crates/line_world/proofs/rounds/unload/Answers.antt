@@ -1,3 +1,5 @@
+-- The request for an unload comes behind the events so far.
+
 use Rattle.line_world.proofs.Asking.{unloaded}
 use Rattle.line_world.proofs.rounds.unload.Goals as goal
 

@@ -1,3 +1,6 @@
+-- The log is safe by the laws of the layers below, whether there was memory for a disk or not; its text is that of the
+-- pair's run.
+
 use Rattle.std.proofs.Common.{[], refl, subst}
 use Rattle.end_pair.specs.Laws.{IsOfMoves}
 use Rattle.end_pair.specs.Run as pair

@@ -1,3 +1,5 @@
+-- The lines of both starts stand one behind the other, in part where memory runs out.
+
 use Rattle.std.proofs.Common.{◌++◌, List, ℕ, ap, append_assoc, subst, sym, ◌∙◌}
 use Rattle.gl_base.specs.declared.side.Side.TheVariants.{Equipment, Host}
 use Rattle.message_end.specs.Core.{step_in}

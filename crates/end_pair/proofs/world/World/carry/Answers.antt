@@ -1,3 +1,5 @@
+-- A cut plans the loss alone, and has no lines.
+
 use Rattle.std.proofs.Common.{sym, subst}
 use Rattle.line_schedule.specs.declared.event.Event.{Event}
 use Rattle.end_pair.specs.declared.answers.WorldStep.TheVariants.{Went}

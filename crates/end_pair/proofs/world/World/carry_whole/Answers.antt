@@ -1,3 +1,5 @@
+-- The event ends by itself, or the power goes in it, where a call was planned still.
+
 use Rattle.std.proofs.Common.{false, inl, refl}
 use Rattle.end_pair.specs.Kept.{IsDark, seen}
 use Rattle.end_pair.specs.World.{happened}

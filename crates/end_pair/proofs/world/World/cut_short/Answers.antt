@@ -1,3 +1,5 @@
+-- The power goes at the event's end or within it, or something else ends the run before.
+
 use Rattle.std.proofs.Common.{true, inr}
 use Rattle.end_pair.specs.Kept.{IsDark, seen}
 use Rattle.end_pair.specs.declared.answers.WorldStep.TheVariants.{PowerLost, Went}

@@ -1,3 +1,5 @@
+-- With no call planned any more, a start anew would begin from what the equipment is.
+
 use Rattle.std.proofs.Common.{ap, refl, subst, ◌∙◌}
 use Rattle.end_pair.specs.Kept.{IsDark, seen}
 use Rattle.end_pair.specs.World.{World}

@@ -1,3 +1,5 @@
+-- Characters are handed over one by one: none is left, one ends the run, or all n are handed over.
+
 use Rattle.std.proofs.Common.{◌≡◌, ◌+◌, ◌-◌, sym, ◌∙◌, arith}
 use Rattle.end_pair.specs.Kept.{IsDark, seen}
 use Rattle.end_pair.specs.World.{given_times}

@@ -1,3 +1,5 @@
+-- Handing over those that are left leads where handing over all does.
+
 use Rattle.end_pair.specs.Kept.{IsDark, seen}
 use Rattle.end_pair.specs.World.{given_times}
 use Rattle.end_pair.proofs.Pieces.{Leads}

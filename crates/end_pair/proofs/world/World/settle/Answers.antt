@@ -1,3 +1,5 @@
+-- Characters are handed over one by one: the line is quiet, one ends the run, or the limit is met.
+
 use Rattle.std.proofs.Common.{◌≡◌, ◌+◌, ◌-◌, sym, ◌∙◌, arith}
 use Rattle.end_pair.specs.Kept.{IsDark, seen}
 use Rattle.end_pair.specs.World.{settled_times}

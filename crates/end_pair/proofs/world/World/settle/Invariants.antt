@@ -1,3 +1,5 @@
+-- Settling what is left leads where settling all does.
+
 use Rattle.end_pair.specs.Kept.{IsDark, seen}
 use Rattle.end_pair.specs.World.{settled_times}
 use Rattle.end_pair.proofs.Pieces.{Leads}

@@ -1,3 +1,5 @@
+-- The lines of both starts and of the first steps, and what ends a run there.
+
 use Rattle.std.proofs.Common.{List, ℕ, subst, sym}
 use Rattle.message_end.specs.Core.{step_in}
 use Rattle.trace_log.specs.Text.{text_of}

@@ -1,3 +1,5 @@
+-- The line is emptied and the equipment restarted, which is `again` of the definition.
+
 use Rattle.std.proofs.Common.{false, subst}
 use Rattle.end_pair.specs.Kept.{Comes, IsDark, seen}
 use Rattle.end_pair.specs.World.{World, again}

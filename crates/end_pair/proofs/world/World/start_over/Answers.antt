@@ -1,3 +1,5 @@
+-- A start anew, and then a step at the same moment, unless the start ends the run.
+
 use Rattle.std.proofs.Common.{◌≡◌, ◌+◌, ℕ, ap, arith, subst}
 use Rattle.message_end.specs.Ends.Input.{Time}
 use Rattle.end_pair.specs.Kept.{Comes, IsDark, seen}

@@ -1,3 +1,5 @@
+-- What an event comes to: its lines and its world, and that no event ends without power.
+
 use Rattle.std.proofs.Common.{◌≡◌, sym, subst}
 use Rattle.trace_log.specs.Text.{text_of}
 use Rattle.end_pair.specs.Kept.{Comes, IsDark, seen}

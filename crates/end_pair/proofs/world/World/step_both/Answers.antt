@@ -1,3 +1,5 @@
+-- The equipment's step, and then the host's, unless the first ends the run.
+
 use Rattle.message_end.specs.Ends.Input.{Time}
 use Rattle.end_pair.specs.Kept.{IsDark, seen}
 use Rattle.end_pair.specs.World.{equipment_stepped, host_stepped, later}

@@ -1,3 +1,5 @@
+-- A step of the equipment, or none where all steps are made.
+
 use Rattle.std.proofs.Common.{◌+◌, ℕ, sym, ap, subst, ◌∙◌}
 use Rattle.message_end.specs.Ends.{input_of}
 use Rattle.end_pair.specs.Kept.{Comes, IsDark, seen}

@@ -1,3 +1,5 @@
+-- A step of the host, or none where all steps are made.
+
 use Rattle.std.proofs.Common.{◌≡◌, ◌+◌, ℕ, false, refl, sym, ap, subst, ◌∙◌}
 use Rattle.gl_base.specs.declared.side.Side.TheVariants.{Host}
 use Rattle.message_end.specs.Ends.{input_of}

@@ -1,10 +1,11 @@
+-- Those so far, with those that are left, are all.
+
 use Rattle.std.proofs.Common.{◌≡◌, [], drop}
 use Rattle.toml.specs.View.{items_view}
 use Rattle.gem_config.specs.Found.{found_view}
 use Rattle.gem_config.specs.Values.{each_from, item_text}
 use Rattle.gem_config.proofs.found.Found.items_in.Given as goal
 
--- those so far, with those that are left, are all
 abbrev pub invariant-loop-value : goal.invariant-loop-value
 invariant-loop-value l =
     let read = item_text (found_view l.self).key in

@@ -1,3 +1,5 @@
+-- Those so far, with those that are left, are all.
+
 use Rattle.std.proofs.Common.{◌≡◌, [], drop}
 use Rattle.toml.specs.View.{items_view}
 use Rattle.gem_config.specs.Found.{found_view}
@@ -5,7 +7,6 @@ use Rattle.gem_config.specs.Values.{each_from, word}
 use Rattle.gem_config.specs.Words.{spooled_named}
 use Rattle.gem_config.proofs.found.Found.spooled_in.Given as goal
 
--- those so far, with those that are left, are all
 abbrev pub invariant-loop-name : goal.invariant-loop-name
 invariant-loop-name l =
     let read = word spooled_named (found_view l.self).key in

@@ -1,3 +1,5 @@
+-- A step that goes on, and one that stops: what each leaves of the end, of its room and of its device.
+
 use Rattle.std.proofs.Common.{Ok, Err, ◌∙◌}
 use Rattle.message_end.specs.Ends.{input_of}
 use Rattle.equipment_node.specs.Held.{view_in}

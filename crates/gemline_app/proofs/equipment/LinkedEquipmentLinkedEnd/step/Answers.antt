@@ -1,3 +1,5 @@
+-- The equipment that is going makes the step. One that has stopped isn't known, so its step owes nothing.
+
 use Rattle.std.proofs.Common.{ap, sym, subst, ◌∙◌, Option}
 use Rattle.message_end.specs.Ends.{Leaves, Uses, input_of, none_asked}
 use Rattle.equipment_node.specs.Held.{Held}

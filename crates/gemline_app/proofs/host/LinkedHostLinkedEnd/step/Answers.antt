@@ -1,3 +1,5 @@
+-- A host stays known, and has no disk to use or to count.
+
 use Rattle.message_end.specs.Ends.{input_of}
 use Rattle.end_run.proofs.Coming.{stays_always}
 use Rattle.end_run.proofs.Counting.{counts_no_disk, uses_no_disk}

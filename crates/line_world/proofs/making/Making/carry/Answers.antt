@@ -1,3 +1,5 @@
+-- One event more is carried out and its lines are counted, or it ends the run.
+
 use Rattle.std.proofs.Common.{ap, ◌∙◌}
 use Rattle.line_schedule.specs.Lines.{lines_of}
 use Rattle.line_world.specs.Counting.{with_lines}

@@ -1,3 +1,5 @@
+-- Event by event: one ends the run, or all are carried out and what is behind them goes on.
+
 use Rattle.std.proofs.Common.{◌++◌, ◌+◌, ◌≤◌, List, length, drop, refl, ap, subst, arith}
 use Rattle.std.proofs.lemmas.List.{drop_all}
 use Rattle.end_pair.specs.Kept.{seen}

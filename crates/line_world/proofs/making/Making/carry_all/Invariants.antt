@@ -1,3 +1,5 @@
+-- Whatever comes of the events that are left and of those behind comes of all.
+
 use Rattle.std.proofs.Common.{◌++◌, List, drop}
 use Rattle.end_pair.specs.Kept.{seen}
 use Rattle.end_pair.specs.World.{Piece, after_events}
@@ -6,7 +8,6 @@ use Rattle.line_world.specs.Making.{Leads}
 use Rattle.line_world.specs.declared.counting.Counts.{Counts}
 use Rattle.line_world.proofs.making.Making.carry_all.Given as goal
 
--- whatever comes of the events that are left and of those behind comes of all
 abbrev pub invariant-events : goal.invariant-events
 invariant-events g l =
     let e = g.E.End in

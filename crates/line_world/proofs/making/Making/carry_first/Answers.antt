@@ -1,3 +1,5 @@
+-- The first events are carried out, or there is no memory to make them.
+
 use Rattle.std.proofs.Common.{◌++◌, List, subst, sym, ◌∙◌}
 use Rattle.end_pair.specs.Kept.{seen}
 use Rattle.end_pair.specs.World.{after_events}

@@ -1,3 +1,5 @@
+-- The first events and then round by round: one ends the run, or all are carried out.
+
 use Rattle.std.proofs.Common.{◌-◌, List, subst}
 use Rattle.end_pair.specs.Kept.{seen}
 use Rattle.end_pair.specs.World.{after_events}

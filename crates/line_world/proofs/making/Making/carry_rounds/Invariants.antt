@@ -1,3 +1,5 @@
+-- Whatever comes of the rounds that are left comes of all.
+
 use Rattle.end_pair.specs.Kept.{seen}
 use Rattle.end_pair.specs.World.{Piece, after_events}
 use Rattle.line_world.specs.Make.{make_events, numbers_behind, rounds_of}
@@ -5,7 +7,6 @@ use Rattle.line_world.specs.Making.{Leads}
 use Rattle.line_world.specs.declared.counting.Counts.{Counts}
 use Rattle.line_world.proofs.making.Making.carry_rounds.Given as goal
 
--- whatever comes of the rounds that are left comes of all
 abbrev pub invariant-rounds : goal.invariant-rounds
 invariant-rounds g l =
     let e = g.E.End in

@@ -1,3 +1,5 @@
+-- The line of the end is counted, too.
+
 use Rattle.std.proofs.Common.{◌++◌, List, ℕ, ap, ◌∙◌}
 use Rattle.line_schedule.specs.Lines.{lines_of}
 use Rattle.trace_log.specs.Log.Entry.{Ended}

@@ -1,3 +1,5 @@
+-- The lines of the start are counted, or the run ends there.
+
 use Rattle.std.proofs.Common.{ap, ◌∙◌}
 use Rattle.end_pair.specs.World.{begun}
 use Rattle.line_schedule.specs.Lines.{lines_of}
