@@ -1,7 +1,10 @@
 //! Items: bytes and values side by side, written by hand from the format table of SEMI E5.
 
 use gl_base::{NoMemory, Row};
-use secs_items::{EncodeFault, Item, ItemFault, ItemView, Kind, MAX_DEPTH, check, decode, encode_into, list_len, text_len};
+use secs_items::{
+    EncodeFault, Item, ItemFault, ItemView, Kind, MAX_DEPTH, check, decode, encode_into, list_len,
+    text_len,
+};
 use std::alloc::Global;
 
 fn text(alloc: Global, of: &[u8]) -> Result<Item, NoMemory> {
