@@ -19,6 +19,3 @@ pub use laws::{cut_leaves_the_chosen_byte, failed_settle_has_written, settle_kee
 pub use mem_disk::MemDisk;
 pub use no_memory::NoMemory;
 pub use settling::settle;
-
-#[cfg(test)]
-mod tests;

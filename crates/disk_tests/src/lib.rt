@@ -1,8 +1,12 @@
-//! Tests of what lies on the disk: the spool file and the spool in it, over public calls.
+//! Tests of the disk and of what lies on it, over public calls: a disk in memory, the spool file, and its list.
 #![tactic(auto)]
 
 #[cfg(test)]
 mod list_works;
+#[cfg(test)]
+mod memory_disk;
+#[cfg(test)]
+mod shown_spool;
 #[cfg(test)]
 mod slot_file;
 #[cfg(test)]

@@ -9,6 +9,3 @@ mod spool_end;
 pub use listing::show_spool;
 pub use making::format_spool;
 pub use spool_end::SpoolEnd;
-
-#[cfg(test)]
-mod tests;

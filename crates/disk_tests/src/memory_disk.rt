@@ -1,4 +1,6 @@
-use super::*;
+//! `disk_base`: what a disk in memory does call by call, and what a crash leaves of it.
+
+use disk_base::{CutChoice, Disk, DiskAnswer, MemDisk, NoMemory, settle};
 use std::alloc::Global;
 use std::test::Fail;
 

@@ -1,6 +1,8 @@
-use super::*;
+//! `spool_show`: how a spool file is made and shown, and each end of both.
+
 use disk_base::{MemDisk, settle};
 use gl_base::MemSink;
+use spool_show::{SpoolEnd, format_spool, show_spool};
 use spool_slots::NotSpool;
 use std::alloc::Global;
 
