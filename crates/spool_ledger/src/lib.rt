@@ -7,8 +7,6 @@ mod activity;
 mod laws;
 mod ledger;
 mod storing;
-#[cfg(test)]
-mod tests;
 mod unload;
 mod unloading;
 

@@ -9,3 +9,5 @@ mod host_cases;
 mod host_comms;
 #[cfg(test)]
 mod host_steps;
+#[cfg(test)]
+mod ledger_calls;

@@ -1,9 +1,11 @@
-use super::*;
+//! `spool_ledger`: what each call of a ledger notes, and what the disk owes then.
+
 use arrayvec::ArrayVec;
 use gem_spool::Work;
 use gl_base::{NoMemory, Row};
 use message_end::Stop;
 use message_flow::StepOut;
+use spool_ledger::{Ledger, WaitingText};
 use std::alloc::Global;
 
 // What a ledger is asked: to store an S6F11 of two bytes, with the spool full to keep what stands or to overwrite it;
@@ -234,22 +236,26 @@ fn takes_up(alloc: Global, ledger: &mut Ledger) -> Result<(), NoMemory> {
     ledger.take_up(alloc, 5, 42, Some(text), &mut out)
 }
 
-// A text that waits is let go once, and its message stays under way.
+static LEAVES: [Asking; 1] = [(Asked::Confirm, b"leaving 5 confirmed;gone 5;D", 6, 1)];
+
+// A text that waits is let go once, and its message stays under way: its reply takes it off the list.
 fn lets_go_once(alloc: Global) -> bool {
     let mut ledger = Ledger::new(alloc, 3, 5, 2);
     takes_up(alloc, &mut ledger).is_ok()
         && is_text(ledger.granted(), &[1, 0])
         && ledger.granted().is_none()
         && ledger.next_unload(0).is_none()
-        && ledger.is_unloading()
+        && all_go(alloc, &mut ledger, &LEAVES)
 }
 
-// An unload that ends keeps its message.
+static STAYS: [Asking; 2] = [(Asked::Confirm, b"", 5, 2), (Asked::TakeUp(0), b"", 5, 2)];
+
+// An unload that ends keeps its message: a late reply removes nothing, and no other message is taken up.
 fn stays(alloc: Global) -> bool {
     let mut ledger = Ledger::new(alloc, 3, 5, 2);
     let is_taken = takes_up(alloc, &mut ledger).is_ok();
     ledger.end_unload();
-    is_taken && !ledger.is_unloading() && ledger.is_active() && ledger.len() == 2
+    is_taken && ledger.is_active() && ledger.len() == 2 && all_go(alloc, &mut ledger, &STAYS)
 }
 
 #[test]
