@@ -1,17 +1,9 @@
 //! The equipment: a GEM tool at its end of the line, with its spool.
 #![tactic(auto)]
 
-#[cfg(test)]
-mod control_tests;
 mod disk_step;
-#[cfg(test)]
-mod disk_tests;
 mod endings;
 mod equipment;
-#[cfg(test)]
-mod error_tests;
-#[cfg(test)]
-mod establish_tests;
 mod in_memory;
 mod kept;
 mod kind;
@@ -19,15 +11,9 @@ mod laws;
 mod messages;
 mod notes_cut;
 mod own;
-#[cfg(test)]
-mod planned_tool;
-#[cfg(test)]
-mod played_host;
 mod primaries;
 mod replies;
 mod report;
-#[cfg(test)]
-mod report_tests;
 mod reports;
 mod sending;
 mod spooling;

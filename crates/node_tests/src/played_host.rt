@@ -4,11 +4,11 @@ ghost use Rattle.std.specs.Prelude.{◌<◌, ◌^◌};
 ghost use Rattle.message_end.specs.Ends.{IsEmpty, MayTake, input_of};
 ghost use Rattle.trace_log.specs.Commands.{ToolCommandFits};
 
-use crate::Equipment;
 use crate::planned_tool::{formatted, plan};
 use arrayvec::ArrayVec;
 use block_codec::{Block, Header, frame_of};
 use disk_base::MemDisk;
+use equipment_node::Equipment;
 use gl_base::Row;
 use message_flow::{NodeInput, StepOut};
 use secs_items::Item;

@@ -2,16 +2,12 @@
 
 ghost use Rattle.message_end.specs.Ends.{MayTake, input_of};
 ghost use Rattle.trace_log.specs.Commands.{ToolCommandFits};
-ghost use Rattle.equipment_node.specs.Amid.{IsReady};
-ghost use Rattle.equipment_node.specs.Node.{node_of};
 
-use crate::Ended;
-use crate::equipment::Equipment;
-use crate::own::Tool;
 use crate::planned_tool::{formatted, plan};
 use crate::played_host::{WHOLE, block, keeps, nothing_yet};
 use block_codec::frame_of;
 use disk_base::{CutChoice, MemDisk};
+use equipment_node::{Ended, Equipment};
 use gem_spool::GemSpool;
 use gl_base::Row;
 use message_flow::{NodeInput, StepOut};
@@ -347,38 +343,24 @@ fn online(alloc: Global, count: u32) -> Course {
     takes(alloc, course, &[0x04, 0x06])
 }
 
-// Draws one of its system bytes, where a step has enough of them still.
-fn draws(alloc: Global, tool: &mut Tool, spool: &GemSpool<MemDisk>)
-    requires ready { IsReady spool.now.spool (node_of tool.old) }
-    ensures ready { IsReady spool.now.spool (node_of tool.new) }
-{
-    let _ = spool;
-    if tool.core.left() < 128 {
-        return;
+// Its communication is disabled, and enabled: S1F13 draws one of its system bytes then.
+fn enabled_again(alloc: Global, course: Course) -> Course {
+    let disable = ToolCommand::Disable;
+    let enable = ToolCommand::Enable;
+    if !disable.fits() || !enable.fits() {
+        return Course::Stuck;
     }
-    let mut out = nothing_yet(alloc);
-    let _ = tool.core.draw(&mut out);
+    let course = goes_on(alloc, course, NodeInput::Command(&disable));
+    goes_on(alloc, course, NodeInput::Command(&enable))
 }
 
-// It has one of its system bytes less.
-fn drawn(alloc: Global, equipment: Equipment<MemDisk>) -> Equipment<MemDisk> {
-    let Equipment { mut tool, spool } = equipment;
-    draws(alloc, &mut tool, &spool);
-    Equipment { tool, spool }
-}
-
-// It has few system bytes left.
+// It has few system bytes left: 127 of 4,096, the first of which its start has drawn.
 fn worn(alloc: Global) -> Course {
-    match started(alloc, 1) {
-        Course::Goes(equipment) => {
-            let mut equipment = equipment;
-            for _ in 0..4_000 {
-                equipment = drawn(alloc, equipment);
-            }
-            Course::Goes(equipment)
-        }
-        other => other,
+    let mut course = started(alloc, 1);
+    for _ in 0..3_968 {
+        course = enabled_again(alloc, course);
     }
+    course
 }
 
 // Its disk stops at a call.
