@@ -1,11 +1,10 @@
 mod Carrying
-mod Due
+pub mod Due
 mod EquipmentAnswered
 mod EquipmentDue
 mod Equipping
 mod FaultsTold
 mod Filing
-mod FirstExchange
 mod FittingMade
 mod HexLaws
 mod HexMeaning

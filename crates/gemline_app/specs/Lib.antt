@@ -1,6 +1,5 @@
 pub mod Equipment
 pub mod Files
-pub mod FirstExchange
 pub mod Gemline
 pub mod HexInput
 pub mod HexReading

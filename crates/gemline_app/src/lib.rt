@@ -18,6 +18,3 @@ pub use laws::{
 };
 pub use outcome::{FileRole, Outcome};
 pub use run::{gemline, report};
-
-#[cfg(test)]
-mod tests;

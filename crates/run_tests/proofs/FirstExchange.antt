@@ -8,7 +8,7 @@ use Rattle.line_show.specs.Capture.{Reads}
 use Rattle.line_show.specs.Lines.{lines_of}
 use Rattle.line_show.specs.declared.capture.Ending.TheVariants.{Whole}
 use Rattle.line_show.specs.Capture.Piece.{Framed}
-use Rattle.gemline_app.specs.FirstExchange.{ShowsTheFirst, first_frame, first_lines}
+use Rattle.run_tests.specs.FirstExchange.{ShowsTheFirst, first_frame, first_lines}
 use Rattle.gemline_app.proofs.Due.{whole_capture}
 
 abbrev pub first_block : BlockView

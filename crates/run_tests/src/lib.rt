@@ -1,0 +1,18 @@
+//! What runs as a whole, through its public calls: words as commands, one end over its link, the world of a tool and
+//! its host, and the program.
+#![tactic(auto)]
+
+#[cfg(test)]
+mod faults_and_usage;
+#[cfg(test)]
+mod host_runs;
+#[cfg(test)]
+mod played_program;
+#[cfg(test)]
+mod replay_and_make;
+#[cfg(test)]
+mod show_and_spell;
+#[cfg(test)]
+mod spool_files;
+#[cfg(test)]
+mod tool_runs;

@@ -1,0 +1,91 @@
+//! `format` and `spool` over a disk in memory.
+
+use crate::played_program::{End, FOURTH, FRONT, disk_with, output, status_over, words_of};
+use std::alloc::Global;
+use std::test::Fail;
+
+/// Words, the first bytes of a file of 16,384 and of its slot 1, which call of the disk and of the output fails, and
+/// the end.
+type Spooling = (&'static [&'static str], [&'static [u8]; 2], u32, u32, End);
+
+/// `format` and `spool`.
+static SPOOLS: [Spooling; 8] = [
+    (
+        &["format", "SPOOL", "0000000003"],
+        [b"", b""],
+        0,
+        0,
+        (0, "formatted slots=3 bytes=16384\n", ""),
+    ),
+    (
+        &["format", "SPOOL", "3"],
+        [FRONT, FOURTH],
+        1,
+        1,
+        (74, "", "gemline: 74 disk\n"),
+    ),
+    (
+        &["format", "SPOOL", "3"],
+        [FRONT, FOURTH],
+        0,
+        1,
+        (73, "", "gemline: 73 write\n"),
+    ),
+    (
+        &["spool", "SPOOL"],
+        [FRONT, b""],
+        0,
+        0,
+        (0, "spool slots=3 mark=0 len=0\n", ""),
+    ),
+    (
+        &["spool", "SPOOL"],
+        [FRONT, FOURTH],
+        0,
+        0,
+        (0, "spool slots=3 mark=0 len=1\n4 S6F11 W 0100\n", ""),
+    ),
+    (
+        &["spool", "SPOOL"],
+        [b"GLSPX", FOURTH],
+        0,
+        0,
+        (78, "", "gemline: 78 not a spool at 4\n"),
+    ),
+    (
+        &["spool", "SPOOL"],
+        [FRONT, FOURTH],
+        1,
+        1,
+        (74, "", "gemline: 74 disk\n"),
+    ),
+    (
+        &["spool", "SPOOL"],
+        [FRONT, FOURTH],
+        0,
+        1,
+        (73, "", "gemline: 73 write\n"),
+    ),
+];
+
+/// Whether words over a disk end so.
+fn is_spooling(alloc: Global, case: &Spooling) -> bool {
+    let (words, bytes, call, write, (wanted, text, line)) = *case;
+    let (Ok(words), Some(mut disk)) = (words_of(alloc, words), disk_with(alloc, &bytes)) else {
+        return false;
+    };
+    disk.fail_at(call);
+    let mut out = output(alloc, 2000, write);
+    let mut err = output(alloc, 100, 0);
+    status_over(alloc, &words, &mut out, &mut err, &mut disk) == wanted
+        && out.bytes.as_slice() == text.as_bytes()
+        && err.bytes.as_slice() == line.as_bytes()
+}
+
+#[test]
+fn spool_files_are_made_and_listed(rt: HostRuntime) -> Result<(), Fail> {
+    for case in &SPOOLS {
+        assert!(rt; is_spooling(rt.alloc(), case));
+    }
+    Ok(())
+}
