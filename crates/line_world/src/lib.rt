@@ -9,8 +9,6 @@ mod making;
 mod rounds;
 mod running;
 mod summary;
-#[cfg(test)]
-mod tests;
 
 pub use end_pair::{RunEnd, World, WorldStep};
 pub use equipment_tables::Plans;

@@ -16,3 +16,5 @@ mod show_and_spell;
 mod spool_files;
 #[cfg(test)]
 mod tool_runs;
+#[cfg(test)]
+mod worlds;

@@ -1,4 +1,5 @@
-use super::*;
+//! The world of a tool and its host: what schedules and rounds come to.
+
 use equipment_node::EquipmentEnd;
 use equipment_tables::{EquipmentPlan, HostPlan};
 use gem_remote::RemotePlan;
@@ -9,6 +10,7 @@ use gl_base::{MemSink, Row};
 use host_node::Host;
 use line_end::{LinePlan, Phase, Times};
 use line_schedule::read_schedule;
+use line_world::{Plans, RunEnd, World, make, run};
 use message_end::End;
 use secs_items::Item;
 use std::alloc::Global;
