@@ -9,8 +9,6 @@ mod putting;
 mod run;
 mod step;
 mod telling;
-#[cfg(test)]
-mod tests;
 
 pub use ending::Ending;
 pub use linked_end::LinkedEnd;

@@ -7,6 +7,10 @@ mod faults_and_usage;
 #[cfg(test)]
 mod host_runs;
 #[cfg(test)]
+mod linked_host;
+#[cfg(test)]
+mod linked_runs;
+#[cfg(test)]
 mod played_program;
 #[cfg(test)]
 mod replay_and_make;

@@ -1,8 +1,8 @@
 use Rattle.message_end.specs.Ends.{input_of}
 use Rattle.end_run.proofs.Coming.{stays_always}
 use Rattle.end_run.proofs.Counting.{counts_no_disk, uses_no_disk}
-use Rattle.end_run.specs.declared.tests.LinkedHost.{LinkedHost}
-use Rattle.end_run.proofs.tests.LinkedHostLinkedEnd.step.Goals as goal
+use Rattle.run_tests.specs.declared.linked_host.LinkedHost.{LinkedHost}
+use Rattle.run_tests.proofs.linked_host.LinkedHostLinkedEnd.step.Goals as goal
 
 pub returns-clause-end : goal.returns-clause-end
 returns-clause-end c =
