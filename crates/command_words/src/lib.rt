@@ -13,6 +13,3 @@ pub use command::{Command, WordsFault, command_of};
 pub use laws::{
     hyphens_end_options, other_names_are_refused, plain_words_are_taken, words_are_as_worked,
 };
-
-#[cfg(test)]
-mod tests;

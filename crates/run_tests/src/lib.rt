@@ -11,6 +11,8 @@ mod linked_host;
 #[cfg(test)]
 mod linked_runs;
 #[cfg(test)]
+mod parsed_words;
+#[cfg(test)]
 mod played_program;
 #[cfg(test)]
 mod replay_and_make;

@@ -1,4 +1,6 @@
-use super::*;
+//! The words after the name of the program: which command they are, or why they are none.
+
+use command_words::{Command, WordsFault, command_of};
 use std::alloc::{AllocError, Global};
 
 /// Words, and what they are.
