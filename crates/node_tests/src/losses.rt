@@ -343,15 +343,18 @@ fn online(alloc: Global, count: u32) -> Course {
     takes(alloc, course, &[0x04, 0x06])
 }
 
-// Its communication is disabled, and enabled: S1F13 draws one of its system bytes then.
-fn enabled_again(alloc: Global, course: Course) -> Course {
-    let disable = ToolCommand::Disable;
-    let enable = ToolCommand::Enable;
-    if !disable.fits() || !enable.fits() {
+// Its tool does something.
+fn commanded(alloc: Global, course: Course, command: &ToolCommand) -> Course {
+    if !command.fits() {
         return Course::Stuck;
     }
-    let course = goes_on(alloc, course, NodeInput::Command(&disable));
-    goes_on(alloc, course, NodeInput::Command(&enable))
+    goes_on(alloc, course, NodeInput::Command(command))
+}
+
+// Its communication is disabled, and enabled: S1F13 draws one of its system bytes then.
+fn enabled_again(alloc: Global, course: Course) -> Course {
+    let course = commanded(alloc, course, &ToolCommand::Disable);
+    commanded(alloc, course, &ToolCommand::Enable)
 }
 
 // It has few system bytes left: 127 of 4,096, the first of which its start has drawn.
@@ -376,11 +379,7 @@ fn armed(course: Course, call: u32) -> Course {
 
 // An alarm is set.
 fn alarmed(alloc: Global, course: Course) -> Course {
-    let alarm = ToolCommand::Alarm(7, true);
-    if !alarm.fits() {
-        return Course::Stuck;
-    }
-    goes_on(alloc, course, NodeInput::Command(&alarm))
+    commanded(alloc, course, &ToolCommand::Alarm(7, true))
 }
 
 // S6F23 with this code.
