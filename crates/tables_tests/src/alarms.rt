@@ -1,8 +1,8 @@
 //! Alarms as they are set, enabled and listed, and which plans of them fit.
 
+use crate::spelled::is_spelled;
 use gem_alarms::{Ackc5, AlarmPlan, AlarmStep, Alarms};
 use gl_base::{NoMemory, Row};
-use secs_items::{Item, encode_into};
 use std::alloc::Global;
 use std::test::Fail;
 
@@ -39,15 +39,6 @@ fn alarms_of(alloc: Global, plan: Result<Row<AlarmPlan>, NoMemory>) -> Option<Al
         return None;
     }
     Alarms::new(alloc, plan.as_slice()).ok()
-}
-
-// Whether an item is spelled so.
-fn is_spelled(alloc: Global, item: Result<Item, NoMemory>, bytes: &[u8]) -> bool {
-    let mut spelling = Row::new(alloc);
-    match item {
-        Ok(item) => encode_into(&item, &mut spelling).is_ok() && spelling.as_slice() == bytes,
-        Err(NoMemory) => false,
-    }
 }
 
 const PRESSURE_SET: [u8; 21] = [

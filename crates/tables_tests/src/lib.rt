@@ -13,6 +13,8 @@ mod reports;
 #[cfg(test)]
 mod shapes;
 #[cfg(test)]
+mod spelled;
+#[cfg(test)]
 mod tables;
 #[cfg(test)]
 mod vars;

@@ -1,10 +1,11 @@
 //! Reports as they are defined, linked and enabled, and what events and reports carry then.
 
+use crate::spelled::is_spelled;
 use gem_reports::{Drack, Erack, Lrack, Reports};
 use gem_shapes::{Definition, Linking};
 use gem_vars::{VariablePlan, Vars, VarsPlan};
 use gl_base::{NoMemory, Row};
-use secs_items::{Item, encode_into};
+use secs_items::Item;
 use std::alloc::Global;
 use std::test::Fail;
 
@@ -98,15 +99,6 @@ fn links(reports: &mut Reports, alloc: Global, list: &[(u32, &[u32])], answer: L
             Ok(lrack) => lrack == answer,
             Err(NoMemory) => false,
         },
-        Err(NoMemory) => false,
-    }
-}
-
-// Whether an item is spelled so.
-fn is_spelled(alloc: Global, item: Result<Item, NoMemory>, bytes: &[u8]) -> bool {
-    let mut spelling = Row::new(alloc);
-    match item {
-        Ok(item) => encode_into(&item, &mut spelling).is_ok() && spelling.as_slice() == bytes,
         Err(NoMemory) => false,
     }
 }

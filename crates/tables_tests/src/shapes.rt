@@ -1,10 +1,11 @@
 //! Bodies of each primary of a host, of its shape and not; what they ask for, and how answers are spelled.
 
+use crate::spelled::is_spelled;
 use gem_shapes::{
     Request, code_item, identity_item, is_known, is_known_stream, pair_item, read_request,
 };
-use gl_base::{NoMemory, Row};
-use secs_items::{Item, encode_into};
+use gl_base::NoMemory;
+use secs_items::Item;
 use std::alloc::Global;
 use std::test::Fail;
 
@@ -375,15 +376,6 @@ fn values_are_those_of_the_body(rt: HostRuntime) -> Result<(), Fail> {
     assert!(rt; displays(&asked(alloc, 10, 3, THIRD[5].good), b"HI"));
     assert!(rt; enables(&asked(alloc, 5, 3, &all), None));
     Ok(())
-}
-
-// Whether an item is spelled so.
-fn is_spelled(alloc: Global, item: Result<Item, NoMemory>, bytes: &[u8]) -> bool {
-    let mut spelling = Row::new(alloc);
-    match item {
-        Ok(item) => encode_into(&item, &mut spelling).is_ok() && spelling.as_slice() == bytes,
-        Err(NoMemory) => false,
-    }
 }
 
 fn established(alloc: Global) -> Result<Item, NoMemory> {

@@ -1,8 +1,9 @@
 //! The lists of variables and constants that a host is answered, what is set in them, and which plans of them fit.
 
+use crate::spelled::is_spelled;
 use gem_vars::{ConstantPlan, Eac, Setting, VariablePlan, Vars, VarsPlan};
 use gl_base::{NoMemory, Row};
-use secs_items::{Item, encode_into};
+use secs_items::Item;
 use std::alloc::Global;
 use std::test::Fail;
 
@@ -78,15 +79,6 @@ fn vars_of(alloc: Global, plan: Result<VarsPlan, NoMemory>) -> Option<Vars> {
         return None;
     }
     Vars::new(alloc, &plan).ok()
-}
-
-// Whether an item is spelled so.
-fn is_spelled(alloc: Global, item: Result<Item, NoMemory>, bytes: &[u8]) -> bool {
-    let mut spelling = Row::new(alloc);
-    match item {
-        Ok(item) => encode_into(&item, &mut spelling).is_ok() && spelling.as_slice() == bytes,
-        Err(NoMemory) => false,
-    }
 }
 
 // What the host asks for of each identifier.
