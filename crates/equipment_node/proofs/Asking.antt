@@ -27,18 +27,20 @@ use Rattle.message_end.specs.Parts.{Node}
 use Rattle.spool_ledger.specs.Ledger.{LedgerView}
 use Rattle.spool_ledger.specs.Unloading.{next_number}
 use Rattle.equipment_tables.specs.Tables.{most_transmitted}
-use Rattle.equipment_node.specs.declared.disk_step.Ended.{Ended}
-use Rattle.equipment_node.specs.declared.disk_step.Ended.TheVariants as ended
-use Rattle.equipment_node.specs.declared.kind.Kind.{Kind}
+use Rattle.spool_works.specs.declared.ended.Ended.{Ended}
+use Rattle.spool_works.specs.declared.ended.Ended.TheVariants as ended
+use Rattle.tool_step.specs.declared.kind.Kind.{Kind}
 use Rattle.equipment_node.specs.Amid.{Carries, DoesLast, IsBegun, IsBegunSpent, opened, settled_node}
 use Rattle.equipment_node.specs.Asked.{HasAsked, HasFallen, HasSpared, IsSureDisk, asked_for, read_asks}
-use Rattle.equipment_node.specs.Disk.{DiskWork, all_bytes, all_calls, asks, read_works, reserve_works, standing_behind, standing_in, standings_behind, takes_up, works_behind}
-use Rattle.equipment_node.specs.Disk.DiskWork.{Change, ReadOldest, Reserve}
-use Rattle.equipment_node.specs.Equipment.{EquipmentView, begun_step, needs_numbers, reserving as opening}
-use Rattle.equipment_node.specs.Own.{OwnView, ToolPart}
+use Rattle.spool_works.specs.DiskWorks.{DiskWork, all_bytes, all_calls, standing_behind, standings_behind}
+use Rattle.tool_step.specs.Disk.{asks, read_works, reserve_works, standing_in, takes_up, works_behind}
+use Rattle.spool_works.specs.DiskWorks.DiskWork.{Change, ReadOldest, Reserve}
+use Rattle.tool_step.specs.Equipment.{EquipmentView, begun_step, needs_numbers, reserving as opening}
+use Rattle.tool_step.specs.Own.{OwnView, ToolPart}
 use Rattle.equipment_node.specs.Stepping.{IsClear}
 use Rattle.equipment_node.proofs.Opened.{mark-failed}
-use Rattle.equipment_node.proofs.OverDisk.{is_reserving, opened-standing, same-len, takes-settled}
+use Rattle.equipment_node.proofs.OnDisk.{is_reserving, opened-standing, same-len}
+use Rattle.equipment_node.proofs.OverDisk.{takes-settled}
 
 -- ---- counts
 

@@ -25,25 +25,27 @@ use Rattle.message_end.specs.Parts.{Node}
 use Rattle.spool_ledger.specs.Ledger.{LedgerView, new_ledger}
 use Rattle.equipment_tables.specs.declared.plan.EquipmentPlan.{EquipmentPlan}
 use Rattle.equipment_tables.specs.Plan.{EquipmentPlanFits}
-use Rattle.equipment_node.specs.declared.disk_step.Ended.{Ended}
-use Rattle.equipment_node.specs.declared.disk_step.Ended.TheVariants as ended
+use Rattle.spool_works.specs.declared.ended.Ended.{Ended}
+use Rattle.spool_works.specs.declared.ended.Ended.TheVariants as ended
 use Rattle.equipment_node.specs.declared.equipment.Seat.{Seat}
-use Rattle.equipment_node.specs.declared.kind.Kind.{Kind}
+use Rattle.tool_step.specs.declared.kind.Kind.{Kind}
 use Rattle.equipment_node.specs.Amid.{IsReady}
 use Rattle.equipment_node.specs.Asked.{HasSpared}
-use Rattle.equipment_node.specs.Equipment.{EquipmentView, first_in, found_in}
-use Rattle.equipment_node.specs.Grants.{GrantView}
-use Rattle.equipment_node.specs.Live.{ReportView}
-use Rattle.equipment_node.specs.Node.{node_of}
-use Rattle.equipment_node.specs.Own.{OwnView}
-use Rattle.equipment_node.specs.Sound.{CanBeSent}
-use Rattle.equipment_node.specs.SpoolSound.{new-good}
-use Rattle.equipment_node.specs.StartOver.{IsFresh, StartAsks, StartsOver, StartsWith, new_node, started_over}
+use Rattle.tool_step.specs.Equipment.{EquipmentView}
+use Rattle.spool_works.specs.Found.{first_in, found_in}
+use Rattle.tool_step.specs.Grants.{GrantView}
+use Rattle.tool_step.specs.Live.{ReportView}
+use Rattle.tool_core.specs.Node.{node_of}
+use Rattle.tool_step.specs.Own.{OwnView}
+use Rattle.tool_law.specs.Sound.{CanBeSent}
+use Rattle.tool_law.proofs.SpoolSound.{new-good}
+use Rattle.equipment_node.specs.StartOver.{IsFresh, StartAsks, StartsOver, StartsWith, started_over}
+use Rattle.tool_core.specs.Starting.{new_node}
 use Rattle.equipment_node.specs.Stepping.{IsClear, IsTold}
 use Rattle.message_end.specs.Core.{IsText}
 use Rattle.equipment_node.proofs.Asking.{fallen-fault, spared-used}
 use Rattle.equipment_node.proofs.Opened.{at-last}
-use Rattle.equipment_node.proofs.OverDisk.{kept-of}
+use Rattle.equipment_node.proofs.OnDisk.{kept-of}
 
 -- ---- it is ready for its first step
 

@@ -1,63 +1,14 @@
 -- That some works behind others break where they break together.
-use Rattle.std.proofs.Common.{◌≡◌, refl, sym, subst, arith, nat_le, ◌+◌, ◌-◌, ◌<◌, zero, suc, Bool, true, false, ℕ, List, [], ◌∷◌, ◌++◌, length, length-append, Some}
-use Rattle.std.proofs.lemmas.Bool.Decides.{nat_tests}
-use Rattle.std.specs.Prelude.{slice_get}
-use Rattle.disk_base.specs.Faults.{DiskHealth, IsAmong}
+use Rattle.std.proofs.Common.{◌≡◌, sym, subst, arith, ◌+◌, ◌-◌, ◌<◌, zero, suc, ℕ, List, ◌++◌, length, length-append, Some}
+use Rattle.disk_base.specs.Faults.{DiskHealth}
 use Rattle.disk_base.specs.Story.{Story}
 use Rattle.disk_base.specs.declared.disk.Disk as disk
 use Rattle.message_end.specs.Ends.{Loss, call_of}
 use Rattle.message_flow.specs.declared.step.Note.{Note}
-use Rattle.equipment_node.specs.Breaking.{BreaksAt, HasBrokenAt, HasPassed, IsGoingDisk, Passes}
-use Rattle.equipment_node.specs.Equipment.{EquipmentView}
-
--- ---- the call of a place
-
-get-before : {X : Type 0} (one two : List X) (n : ℕ) (x : X) → slice_get one n ≡ Some x
-    → slice_get (one ++ two) n ≡ Some x
-get-before [] two n x is = absurd (cc)
-get-before (y ∷ one) two zero x is = is
-get-before (y ∷ one) two (suc n) x is = get-before one two n x is
-
-get-behind : {X : Type 0} (one two : List X) (n : ℕ) (x : X) → slice_get two n ≡ Some x
-    → slice_get (one ++ two) (length one + n) ≡ Some x
-get-behind [] two n x is =
-    let same : n ≡ 0 + n = omega arith in subst (λ (k : ℕ). slice_get two k ≡ Some x) same is
-get-behind (y ∷ one) two n x is =
-    let same : suc (length one + n) ≡ suc (length one) + n = omega arith in
-    subst (λ (k : ℕ). slice_get (y ∷ (one ++ two)) k ≡ Some x) same (get-behind one two n x is)
-
-pub call-before : {X : Type 0} (one two : List X) (n : ℕ) (x : X) → call_of n one ≡ Some x
-    → call_of n (one ++ two) ≡ Some x
-call-before one two zero x is = absurd (cc)
-call-before one two (suc n) x is = get-before one two n x is
-
-pub call-behind : {X : Type 0} (one two : List X) (n : ℕ) (x : X) → call_of n two ≡ Some x
-    → call_of (length one + n) (one ++ two) ≡ Some x
-call-behind one two zero x is = absurd (cc)
-call-behind one two (suc n) x is =
-    let same : suc (length one + n) ≡ length one + suc n = omega arith in
-    subst (λ (k : ℕ). call_of k (one ++ two) ≡ Some x) same (get-behind one two n x is)
-
--- ---- what has passed
-
--- the planned call isn't among so many, so it comes behind them, or none is planned
-past-all : (at calls : ℕ) → (IsAmong at calls → ⊥) → 0 < at → calls < at
-past-all at calls none some = go (nat_le at calls) refl
-  where
-    go : (within : Bool) → nat_le at calls ≡ within → calls < at
-    go true e = absurd (none (some, grind (arith, nat_tests, e)))
-    go false e = grind (arith, nat_tests, e)
-
-pub passed-both : (a b c : DiskHealth) (one two : ℕ) → HasPassed a b one → HasPassed b c two → HasPassed a c (one + two)
-passed-both a b c one two first second = record {
-  passes = λ among.
-      let near = first.nearer in
-      let past = past-all a.stop_in one first.passes among.0 in
-      let most = among.1 in
-      second.passes (omega (arith, near, past), omega (arith, near, most));
-  nearer = let near = first.nearer in let more = second.nearer in omega (arith, near, more);
-  on = second.on;
-}
+use Rattle.equipment_node.specs.Breaking.{BreaksAt, HasBrokenAt, Passes}
+use Rattle.spool_works.specs.Breaking.{HasPassed, IsGoingDisk}
+use Rattle.tool_step.specs.Equipment.{EquipmentView}
+use Rattle.spool_works.proofs.CallPlaces.{call-before, call-behind, passed-both}
 
 -- ---- losses behind others
 

@@ -6,13 +6,13 @@ use Rattle.gem_spool.specs.Works.{standing_after, standings_after}
 use Rattle.gem_spool.specs.declared.works.Work.{Work}
 use Rattle.message_end.specs.Ends.{Loss, call_of}
 use Rattle.trace_log.specs.Log.{Happening}
-use Rattle.equipment_node.specs.Disk.{DiskWork, behind_change, fronts_of, up_to_change}
-use Rattle.equipment_node.specs.Disk.DiskWork.{Change}
-use Rattle.equipment_node.specs.Equipment.{EquipmentView}
-use Rattle.equipment_node.specs.Losses.{loss_at, losses_of}
-use Rattle.equipment_node.specs.SpoolLosses.{Left, work_calls}
-use Rattle.equipment_node.proofs.Broken.{call-before, call-behind}
-use Rattle.equipment_node.proofs.BrokenList.{works_left}
+use Rattle.spool_works.specs.DiskWorks.{DiskWork, behind_change, fronts_of, up_to_change}
+use Rattle.spool_works.specs.DiskWorks.DiskWork.{Change}
+use Rattle.tool_step.specs.Equipment.{EquipmentView}
+use Rattle.tool_step.specs.Losses.{loss_at, losses_of}
+use Rattle.spool_works.specs.SpoolLosses.{Left, work_calls}
+use Rattle.spool_works.proofs.CallPlaces.{call-before, call-behind}
+use Rattle.spool_works.proofs.BrokenList.{works_left}
 
 -- of all calls with the same front
 pub map-long : {X Y : Type 0} (f : X → Y) (xs : List X) → length (map f xs) ≡ length xs

@@ -9,8 +9,8 @@ use Rattle.trace_log.specs.Log.{Happening}
 use Rattle.trace_log.specs.Log.Happening.{EquipmentStarted, HostStarted, Power, Closed, Sent, Received, Wrote, Comms, Control, Spool, Set, Event, Alarm, Carried, Display, Refused, Storing, Stored, Leaving, Gone, Try, Duplicate, Unexpected, Foreign, TooLongBlock, Crowded, DroppedByT4, Failed, TimedOut, Stranger, Dropped, Denied, Discarded, TooLong, Full, Recorded}
 use Rattle.trace_log.specs.Text.{note_of, printed_note}
 use Rattle.equipment_node.specs.Cut.{announces, cut_at, noted_to}
-use Rattle.equipment_node.specs.Disk.{DiskWork, behind_change, fronts_of, is_before_change, up_to_change}
-use Rattle.equipment_node.specs.Disk.DiskWork.{Change, ReadOldest}
+use Rattle.spool_works.specs.DiskWorks.{DiskWork, behind_change, fronts_of, is_before_change, up_to_change}
+use Rattle.spool_works.specs.DiskWorks.DiskWork.{Change, ReadOldest}
 
 -- ---- the lines
 

@@ -20,14 +20,15 @@ use Rattle.message_end.proofs.Leaving.{read-parts}
 use Rattle.spool_slots.specs.Spool.{SpoolView}
 use Rattle.spool_ledger.specs.Ledger.{LedgerView, stood_count}
 use Rattle.spool_ledger.specs.declared.ledger.Stand.{Stand}
-use Rattle.equipment_node.specs.declared.kind.Kind.{Kind}
+use Rattle.tool_step.specs.declared.kind.Kind.{Kind}
 use Rattle.equipment_node.specs.Amid.{HasOpened, IsBegun, IsReady, IsSoundOwn, StopsAt, opened}
-use Rattle.equipment_node.specs.Calls.{IsReached, IsSpent}
-use Rattle.equipment_node.specs.Equipment.{EquipmentView, begun_step, file_step, parts_done, went_with_file}
-use Rattle.equipment_node.specs.Lawful.{first-sound, parts-sound, sound-self}
-use Rattle.equipment_node.specs.Own.{OwnView, ToolPart}
-use Rattle.equipment_node.specs.Sound.{IsSound}
-use Rattle.equipment_node.specs.Step.{first_parts}
+use Rattle.tool_core.specs.Calls.{IsReached, IsSpent}
+use Rattle.tool_step.specs.Equipment.{EquipmentView, begun_step, file_step, parts_done, went_with_file}
+use Rattle.tool_law.proofs.Lawful.{first-sound, parts-sound}
+use Rattle.tool_law.proofs.MildCommands.{sound-self}
+use Rattle.tool_step.specs.Own.{OwnView, ToolPart}
+use Rattle.tool_law.specs.Sound.{IsSound}
+use Rattle.tool_step.specs.Step.{first_parts}
 
 same-step : {S : Type 0} {a b : Step S Note} → Goes a ≡ Goes b → a ≡ b
 same-step same = cc

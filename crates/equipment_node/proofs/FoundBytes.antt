@@ -7,8 +7,8 @@ use Rattle.disk_base.specs.Story.{bytes_at}
 use Rattle.spool_slots.specs.Area.{first_at, messages_below, put_by_number, put_if}
 use Rattle.spool_slots.specs.File.{file_in, slots_in, spool_break}
 use Rattle.spool_slots.specs.Slot.{Message, head_break, in_slot, is_open, message_of, slot_break, slot_in, slot_place}
-use Rattle.equipment_node.specs.Equipment.{spooled_of}
-use Rattle.equipment_node.specs.Sound.{AllCanBeSent, CanBeSent}
+use Rattle.spool_works.specs.Found.{spooled_of}
+use Rattle.tool_law.specs.Sound.{AllCanBeSent, CanBeSent}
 use Rattle.equipment_node.proofs.Found.{IsGood, first-none, no-place, second-none, slot-good}
 
 abbrev IsSent : Message → Type 0

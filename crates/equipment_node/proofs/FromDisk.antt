@@ -21,17 +21,19 @@ use Rattle.message_end.specs.Ends.{HasGone, IsNotStopped, Leaves, calls_left}
 use Rattle.message_end.specs.Parts.{Node}
 use Rattle.equipment_tables.specs.declared.plan.EquipmentPlan.{EquipmentPlan}
 use Rattle.equipment_tables.specs.Plan.{EquipmentPlanFits}
-use Rattle.equipment_node.specs.declared.kind.Kind.{Kind}
-use Rattle.equipment_node.specs.declared.own.Tool.{Tool}
+use Rattle.tool_step.specs.declared.kind.Kind.{Kind}
+use Rattle.tool_core.specs.declared.own.Tool.{Tool}
 use Rattle.equipment_node.specs.Asked.{HasSpared, IsSureDisk}
-use Rattle.equipment_node.specs.Breaking.{KeepsMarked}
-use Rattle.equipment_node.specs.Disk.{reserve_asks, standing_in}
-use Rattle.equipment_node.specs.End.{machine}
-use Rattle.equipment_node.specs.Equipment.{EquipmentView, starts}
-use Rattle.equipment_node.specs.InMemory.{HasPower, IsArmed, IsFileOf, IsLost, IsMarkedBy, IsWhole, Restarts, anew_over, disk_of, file_cut, left_behind, planned_in, starts_over, stop_told, with_stop}
-use Rattle.equipment_node.specs.Node.{node_of}
-use Rattle.equipment_node.specs.Own.{OwnView}
-use Rattle.equipment_node.specs.Sound.{AllCanBeSent}
+use Rattle.spool_works.specs.Breaking.{KeepsMarked}
+use Rattle.spool_works.specs.DiskWorks.{reserve_asks}
+use Rattle.tool_step.specs.Disk.{standing_in}
+use Rattle.tool_step.specs.End.{machine}
+use Rattle.tool_step.specs.Equipment.{EquipmentView, starts}
+use Rattle.equipment_node.specs.InMemory.{HasPower, IsArmed, IsFileOf, IsLost, IsWhole, Restarts, anew_over, disk_of, file_cut, left_behind, planned_in, starts_over, stop_told, with_stop}
+use Rattle.spool_works.specs.Marked.{IsMarkedBy}
+use Rattle.tool_core.specs.Node.{node_of}
+use Rattle.tool_step.specs.Own.{OwnView}
+use Rattle.tool_law.specs.Sound.{AllCanBeSent}
 use Rattle.equipment_node.specs.StartOver.{HasStartedOver, IsFresh}
 use Rattle.equipment_node.specs.Stepping.{stop_by, view_of}
 use Rattle.equipment_node.proofs.Asking.{spared-used}

@@ -25,17 +25,18 @@ use Rattle.message_end.specs.declared.end.Stop.TheVariants as stop
 use Rattle.message_end.specs.Core.{Went}
 use Rattle.message_end.specs.Parts.{Node}
 use Rattle.equipment_tables.specs.declared.plan.EquipmentPlan.{EquipmentPlan}
-use Rattle.equipment_node.specs.declared.disk_step.Ended.{Ended}
-use Rattle.equipment_node.specs.declared.disk_step.Ended.TheVariants as ended
+use Rattle.spool_works.specs.declared.ended.Ended.{Ended}
+use Rattle.spool_works.specs.declared.ended.Ended.TheVariants as ended
 use Rattle.equipment_node.specs.declared.equipment.Seat.{Seat}
 use Rattle.equipment_node.specs.declared.equipment.Starting.{Starting}
 use Rattle.equipment_node.specs.declared.equipment.Starting.TheVariants as starting
-use Rattle.equipment_node.specs.declared.kind.Kind.{Kind}
+use Rattle.tool_step.specs.declared.kind.Kind.{Kind}
 use Rattle.equipment_node.specs.Amid.{Carries, DoesLast}
-use Rattle.equipment_node.specs.Calls.{IsReached}
-use Rattle.equipment_node.specs.HandedBack.{HandsBack, HasFailed, IsEnded, IsKept, SeatHandsBack, StartHandsBack}
+use Rattle.tool_core.specs.Calls.{IsReached}
+use Rattle.spool_works.specs.HandedBack.{HandsBack, HasFailed, IsEnded, IsKept}
+use Rattle.equipment_node.specs.HandedBack.{SeatHandsBack, StartHandsBack}
 use Rattle.equipment_node.specs.Held.{Held, starting_by}
-use Rattle.equipment_node.specs.Own.{OwnView, ToolPart}
+use Rattle.tool_step.specs.Own.{OwnView, ToolPart}
 use Rattle.equipment_node.specs.StartOver.{StartsWith}
 
 -- no part of a step asks the disk

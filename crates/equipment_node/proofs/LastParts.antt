@@ -28,18 +28,20 @@ use Rattle.spool_ledger.specs.Ledger.{LedgerView, carried_out}
 use Rattle.spool_ledger.specs.Unloading.{next_number}
 use Rattle.spool_ledger.specs.declared.ledger.Stand.{Stand}
 use Rattle.equipment_tables.specs.Tables.{most_transmitted}
-use Rattle.equipment_node.specs.declared.disk_step.Ended.{Ended}
-use Rattle.equipment_node.specs.declared.disk_step.Ended.TheVariants as ended
-use Rattle.equipment_node.specs.declared.kind.Kind.{Kind}
+use Rattle.spool_works.specs.declared.ended.Ended.{Ended}
+use Rattle.spool_works.specs.declared.ended.Ended.TheVariants as ended
+use Rattle.tool_step.specs.declared.kind.Kind.{Kind}
 use Rattle.equipment_node.specs.Amid.{DoesLast, EndsSo, IsAt, asked_node}
-use Rattle.equipment_node.specs.Disk.{standing_in}
-use Rattle.equipment_node.specs.Equipment.{EquipmentView, file_step, node_step, oldest_of, spooled_of, with_node, went_with_file}
-use Rattle.equipment_node.specs.Own.{OwnView, ToolPart, ToolTurn}
-use Rattle.equipment_node.specs.Spooling.{end_of_spooling, taking_turn, unload_part}
-use Rattle.equipment_node.specs.Step.{last_parts, offer}
-use Rattle.equipment_node.specs.Stepping.{IsClear, IsTold, taking}
+use Rattle.tool_step.specs.Disk.{standing_in}
+use Rattle.tool_step.specs.Equipment.{EquipmentView, file_step, node_step, oldest_of, with_node, went_with_file}
+use Rattle.spool_works.specs.Found.{spooled_of}
+use Rattle.tool_step.specs.Own.{OwnView, ToolPart, ToolTurn}
+use Rattle.tool_step.specs.Spooling.{end_of_spooling, taking_turn, unload_part}
+use Rattle.tool_step.specs.Step.{last_parts, offer}
+use Rattle.equipment_node.specs.Stepping.{IsClear, IsTold}
+use Rattle.tool_step.specs.Taking.{taking}
 use Rattle.equipment_node.proofs.Found.{IsGood, oldest-good}
-use Rattle.equipment_node.proofs.OverDisk.{kept-of}
+use Rattle.equipment_node.proofs.OnDisk.{kept-of}
 use Rattle.equipment_node.proofs.Staying.{HasRested, last-rested}
 
 same-step : {S : Type 0} {a b : Step S Note} → Goes a ≡ Goes b → a ≡ b

@@ -1,78 +1,28 @@
-mod Alarms
-mod Asking
-mod Beginning
-mod Broken
-mod BrokenList
-mod BrokenPasses
-mod BrokenPurge
-mod BrokenSteps
-mod BrokenWorks
-mod CalmCommands
-mod CalmParts
-mod CalmTurns
-mod Called
-mod Commanded
-mod Counted
-mod Cutting
-mod Drawing
-mod DrawnTurns
-mod FirstParts
-mod Following
-mod Found
-mod FoundBytes
-mod FromDisk
-mod HandingBack
-mod Heeding
-mod HeldReports
-mod HostReports
-mod Judging
-mod KeptLedger
-mod KeptSpool
-mod KeptUnload
-mod LastParts
-mod LeavingReports
-mod Interrupted
-mod Longer
-mod Lost
-mod Making
-mod Opened
-mod OverDisk
-mod Parity
-mod Parting
-mod PlainTurns
-mod QuietNotes
-mod Reading
-mod Readying
-mod Reporting
-mod Seated
-mod Shelved
-mod ShelvedTurns
-mod SilentCommands
-mod Slots
-mod SpentCauses
-mod SpentMoves
-mod SpentRuns
-mod SpoolMessages
-mod SpoolRuns
-mod SpoolTurns
-mod SpoolUnloads
-mod StartCalled
-mod StartMarked
-mod Staying
-mod RoomKept
-mod StepBreaks
-mod StepCalls
-mod StepEnds
-mod StepMarks
-mod Storing
-mod TakenTurns
-mod TakenUp
-mod Taking
-mod Texts
-mod ToldLong
-mod ToolReports
-mod Trying
-mod Turned
-mod UnloadOpen
-mod WorkLines
-mod WritesFew
+pub mod Asking
+pub mod Beginning
+pub mod BreakPlaces
+pub mod Broken
+pub mod BrokenSteps
+pub mod Cutting
+pub mod FirstParts
+pub mod Found
+pub mod FoundBytes
+pub mod FromDisk
+pub mod HandingBack
+pub mod LastParts
+pub mod Making
+pub mod OnDisk
+pub mod Opened
+pub mod OverDisk
+pub mod Readying
+pub mod Seated
+pub mod Slots
+pub mod SpentMoves
+pub mod StartCalled
+pub mod StartMarked
+pub mod Staying
+pub mod StepBreaks
+pub mod StepCalls
+pub mod StepEnds
+pub mod StepMarks
+pub mod TakenUp

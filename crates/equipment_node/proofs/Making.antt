@@ -6,10 +6,10 @@ use Rattle.trace_log.specs.declared.commands.ToolCommand.{ToolCommand}
 use Rattle.message_end.specs.Core.{Step, Went}
 use Rattle.message_end.specs.Core.Went.{Goes}
 use Rattle.message_end.specs.Ends.{DoesStep, Input, MayTake}
-use Rattle.equipment_node.specs.Equipment.{EquipmentView, act}
-use Rattle.equipment_node.specs.Laws.{DidOf}
-use Rattle.equipment_node.specs.LawfulLosses.{equipment_lawful}
-use Rattle.equipment_node.specs.Step.{end_plan}
+use Rattle.tool_step.specs.Equipment.{EquipmentView, act}
+use Rattle.tool_law.specs.Laws.{DidOf}
+use Rattle.tool_law.proofs.LawfulLosses.{equipment_lawful}
+use Rattle.tool_step.specs.Step.{end_plan}
 use Rattle.equipment_node.specs.Stepping.{IsMade}
 
 pub next-made :

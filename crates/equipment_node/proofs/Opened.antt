@@ -16,14 +16,14 @@ use Rattle.message_end.specs.Core.{Command, EndView, Step, at_first}
 use Rattle.message_end.specs.Core.Went.{Goes, Spent}
 use Rattle.message_end.specs.Parts.{Node, core_after}
 use Rattle.transact.specs.Numbers.{NumbersView}
-use Rattle.equipment_node.specs.declared.kind.Kind.{Kind}
+use Rattle.tool_step.specs.declared.kind.Kind.{Kind}
 use Rattle.equipment_node.specs.Amid.{HasOpened, Keeps, opened}
-use Rattle.equipment_node.specs.Disk.{reserve_works, standing_in}
-use Rattle.equipment_node.specs.Disk.DiskWork.{Reserve}
-use Rattle.equipment_node.specs.Equipment.{EquipmentView, is_marked_out, needs_numbers, reserved, reserving, with_core}
-use Rattle.equipment_node.specs.Own.{OwnView}
+use Rattle.tool_step.specs.Disk.{reserve_works, standing_in}
+use Rattle.spool_works.specs.DiskWorks.DiskWork.{Reserve}
+use Rattle.tool_step.specs.Equipment.{EquipmentView, is_marked_out, needs_numbers, reserved, reserving, with_core}
+use Rattle.tool_step.specs.Own.{OwnView}
 use Rattle.equipment_node.specs.Stepping.{IsClear, IsMade, IsTold}
-use Rattle.equipment_node.proofs.OverDisk.{kept-of}
+use Rattle.equipment_node.proofs.OnDisk.{kept-of}
 
 -- as many are left as a step may need
 abbrev pub has_enough : NumbersView → Bool

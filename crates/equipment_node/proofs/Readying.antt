@@ -18,19 +18,21 @@ use Rattle.equipment_tables.specs.Plan.{EquipmentPlanFits}
 use Rattle.equipment_tables.specs.Tables.{most_transmitted}
 use Rattle.spool_ledger.specs.Ledger.{carried_out, stood_count}
 use Rattle.spool_ledger.specs.declared.ledger.Stand.{Stand}
-use Rattle.equipment_node.specs.declared.disk_step.Ended.{Ended}
-use Rattle.equipment_node.specs.declared.kind.Kind.{Kind}
+use Rattle.spool_works.specs.declared.ended.Ended.{Ended}
+use Rattle.tool_step.specs.declared.kind.Kind.{Kind}
 use Rattle.equipment_node.specs.Amid.{DoesLast, IsReady, IsSendable, IsSoundOwn, asked_node, settled_node}
-use Rattle.equipment_node.specs.Equipment.{EquipmentView, settled_own}
-use Rattle.equipment_node.specs.Lawful.{AllKeepSound, KeepsSound, ended-sound, parts-sound, sound-self, taking-sound}
-use Rattle.equipment_node.specs.Own.{OwnView}
-use Rattle.equipment_node.specs.Sound.{IsSound}
-use Rattle.equipment_node.specs.Spooling.{end_of_spooling}
-use Rattle.equipment_node.specs.SpoolSound.{carried-good, next-good}
-use Rattle.equipment_node.specs.Step.{offer}
-use Rattle.equipment_node.specs.Stepping.{IsOn, taking}
+use Rattle.tool_step.specs.Equipment.{EquipmentView, settled_own}
+use Rattle.tool_law.proofs.Lawful.{AllKeepSound, KeepsSound, ended-sound, parts-sound, taking-sound}
+use Rattle.tool_law.proofs.MildCommands.{sound-self}
+use Rattle.tool_step.specs.Own.{OwnView}
+use Rattle.tool_law.specs.Sound.{IsSound}
+use Rattle.tool_step.specs.Spooling.{end_of_spooling}
+use Rattle.tool_law.proofs.SpoolSound.{carried-good, next-good}
+use Rattle.tool_step.specs.Step.{offer}
+use Rattle.equipment_node.specs.Stepping.{IsOn}
+use Rattle.tool_step.specs.Taking.{taking}
 use Rattle.equipment_node.proofs.FirstParts.{same-count}
-use Rattle.equipment_node.proofs.OverDisk.{counted}
+use Rattle.equipment_node.proofs.OnDisk.{counted}
 
 -- ---- from a state that doings have made
 

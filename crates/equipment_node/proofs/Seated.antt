@@ -18,20 +18,20 @@ use Rattle.message_end.specs.Ends.{HasGone, HasStarted, Input, IsNotStopped, Lea
 use Rattle.message_end.specs.Parts.{Node}
 use Rattle.equipment_tables.specs.declared.plan.EquipmentPlan.{EquipmentPlan}
 use Rattle.equipment_tables.specs.Plan.{EquipmentPlanFits}
-use Rattle.equipment_node.specs.declared.disk_step.Ended.{Ended}
-use Rattle.equipment_node.specs.declared.disk_step.Ended.TheVariants as ended
-use Rattle.equipment_node.specs.declared.kind.Kind.{Kind}
-use Rattle.equipment_node.specs.declared.own.Tool.{Tool}
-use Rattle.equipment_node.specs.Disk.{stops}
-use Rattle.equipment_node.specs.Equipment.{EquipmentView, act, started_on, starts}
+use Rattle.spool_works.specs.declared.ended.Ended.{Ended}
+use Rattle.spool_works.specs.declared.ended.Ended.TheVariants as ended
+use Rattle.tool_step.specs.declared.kind.Kind.{Kind}
+use Rattle.tool_core.specs.declared.own.Tool.{Tool}
+use Rattle.tool_step.specs.Disk.{stops}
+use Rattle.tool_step.specs.Equipment.{EquipmentView, act, started_on, starts}
 use Rattle.equipment_node.specs.InMemory.{stop_told}
-use Rattle.equipment_node.specs.Laws.{DidOf}
-use Rattle.equipment_node.specs.LawfulLosses.{equipment_lawful}
-use Rattle.equipment_node.specs.Node.{node_of}
-use Rattle.equipment_node.specs.Own.{OwnView}
-use Rattle.equipment_node.specs.Sound.{AllCanBeSent}
+use Rattle.tool_law.specs.Laws.{DidOf}
+use Rattle.tool_law.proofs.LawfulLosses.{equipment_lawful}
+use Rattle.tool_core.specs.Node.{node_of}
+use Rattle.tool_step.specs.Own.{OwnView}
+use Rattle.tool_law.specs.Sound.{AllCanBeSent}
 use Rattle.equipment_node.specs.StartOver.{HasStartedOver, StartsOver}
-use Rattle.equipment_node.specs.Step.{end_plan}
+use Rattle.tool_step.specs.Step.{end_plan}
 use Rattle.equipment_node.specs.Stepping.{HasStepped, IsClear, IsMade, IsOn, IsTold, Steps, stop_by, view_of}
 
 module _ {D : Type 0} (members : disk.Ghosts D) where

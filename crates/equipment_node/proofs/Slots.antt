@@ -8,12 +8,12 @@ use Rattle.message_end.specs.Ends.{Input}
 use Rattle.message_end.specs.Parts.{Node, after_parts}
 use Rattle.equipment_tables.specs.declared.plan.EquipmentPlan.{EquipmentPlan}
 use Rattle.equipment_tables.specs.Plan.{EquipmentPlanFits}
-use Rattle.equipment_node.specs.declared.kind.Kind.{Kind}
-use Rattle.equipment_node.specs.Equipment.{EquipmentView, act, begun_step, ended_step, is_marked_out, needs_numbers, node_step, oldest_of, parts_done, reserved, settled_step, settled_went, went_with_file}
-use Rattle.equipment_node.specs.Lawful.{AllKeepSound, IsGoodView, act-good, begun-good, first-sound, last-sound, oldest-good, parts-sound, settled-view-good}
-use Rattle.equipment_node.specs.Own.{OwnView, ToolPart}
-use Rattle.equipment_node.specs.Sound.{IsSound}
-use Rattle.equipment_node.specs.Step.{first_parts, last_parts}
+use Rattle.tool_step.specs.declared.kind.Kind.{Kind}
+use Rattle.tool_step.specs.Equipment.{EquipmentView, act, begun_step, ended_step, is_marked_out, needs_numbers, node_step, oldest_of, parts_done, reserved, settled_step, settled_went, went_with_file}
+use Rattle.tool_law.proofs.Lawful.{AllKeepSound, IsGoodView, act-good, begun-good, first-sound, last-sound, oldest-good, parts-sound, settled-view-good}
+use Rattle.tool_step.specs.Own.{OwnView, ToolPart}
+use Rattle.tool_law.specs.Sound.{IsSound}
+use Rattle.tool_step.specs.Step.{first_parts, last_parts}
 
 abbrev slots_in : EquipmentView → ℕ
 slots_in s = s.node.own.ledger.slots

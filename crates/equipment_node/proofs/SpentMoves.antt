@@ -11,15 +11,16 @@ use Rattle.trace_log.specs.Log.{Happening}
 use Rattle.message_end.specs.Core.{Step, Went, at_first}
 use Rattle.message_end.specs.Core.Went.{Goes, Spent}
 use Rattle.message_end.specs.Ends.{Input}
-use Rattle.equipment_node.specs.declared.disk_step.Ended.{Ended}
-use Rattle.equipment_node.specs.declared.disk_step.Ended.TheVariants as ended
+use Rattle.spool_works.specs.declared.ended.Ended.{Ended}
+use Rattle.spool_works.specs.declared.ended.Ended.TheVariants as ended
 use Rattle.equipment_node.specs.declared.equipment.Starting.{Starting}
 use Rattle.equipment_node.specs.declared.equipment.Starting.TheVariants as starting
 use Rattle.equipment_tables.specs.declared.plan.EquipmentPlan.{EquipmentPlan}
-use Rattle.equipment_node.specs.Equipment.{EquipmentView, act, is_marked_out, started_on, starts}
+use Rattle.tool_step.specs.Equipment.{EquipmentView, act, is_marked_out, started_on, starts}
 use Rattle.equipment_node.specs.Held.{Begins, Held, IsIn, Moves, view_in}
-use Rattle.equipment_node.specs.SpentSteps.{IsSpentByCause, IsStartSpentByCause, ends_spent, finds_spent}
-use Rattle.equipment_node.proofs.SpentCauses.{spent-by-cause}
+use Rattle.equipment_node.specs.SpentSteps.{IsSpentByCause, IsStartSpentByCause}
+use Rattle.tool_law.specs.SpentSteps.{ends_spent, finds_spent}
+use Rattle.tool_law.proofs.SpentCauses.{spent-by-cause}
 
 module _ {D : Type 0} (members : disk.Ghosts D) (h : Held D) (input : Input ToolCommand) (now : ℕ) (out : StepOut)
     (in_state : IsIn members h)

@@ -18,16 +18,17 @@ use Rattle.spool_slots.specs.declared.states.Recovering.TheVariants as recoverin
 use Rattle.spool_slots.specs.declared.states.Reserving.TheVariants as reserving
 use Rattle.spool_slots.specs.declared.states.Spent.{Spent as Device}
 use Rattle.equipment_tables.specs.declared.plan.EquipmentPlan.{EquipmentPlan}
-use Rattle.equipment_node.specs.declared.disk_step.Ended.{Ended}
-use Rattle.equipment_node.specs.declared.disk_step.Ended.TheVariants as ended
+use Rattle.spool_works.specs.declared.ended.Ended.{Ended}
+use Rattle.spool_works.specs.declared.ended.Ended.TheVariants as ended
 use Rattle.equipment_node.specs.declared.equipment.Seat.{Seat}
 use Rattle.equipment_node.specs.declared.equipment.Starting.{Starting}
 use Rattle.equipment_node.specs.declared.equipment.Starting.TheVariants as starting
-use Rattle.equipment_node.specs.DiskCalls.{HasFailedIn, HasMade, disk_held, mark_calls, syncs}
+use Rattle.spool_works.specs.DiskCalls.{HasFailedIn, HasMade, mark_calls, syncs}
+use Rattle.equipment_node.specs.DiskCalls.{disk_held}
 use Rattle.equipment_node.specs.Held.{Held, starting_by}
 use Rattle.equipment_node.specs.StartCalls.{AreLooks, CallsInStart, MovesMark, StartMoves}
 use Rattle.equipment_node.specs.StartOver.{StartsWith}
-use Rattle.equipment_node.proofs.Called.{made-same, mark-made, mark-stops, with-both, with-none}
+use Rattle.spool_works.proofs.Called.{made-same, mark-made, mark-stops, with-both, with-none}
 use Rattle.equipment_node.proofs.TakenUp.{mark-is, now-told, slots-are}
 
 looks-of :

@@ -7,12 +7,12 @@ use Rattle.gem_spool.specs.Spool.{ReservesFrom}
 use Rattle.message_flow.specs.declared.step.StepOut.{StepOut}
 use Rattle.spool_slots.specs.Spool.{SpoolView}
 use Rattle.equipment_tables.specs.declared.plan.EquipmentPlan.{EquipmentPlan}
-use Rattle.equipment_node.specs.declared.disk_step.Ended.{Ended}
+use Rattle.spool_works.specs.declared.ended.Ended.{Ended}
 use Rattle.equipment_node.specs.declared.equipment.Seat.{Seat}
-use Rattle.equipment_node.specs.Breaking.{KeepsMarked}
-use Rattle.equipment_node.specs.InMemory.{IsMarkedBy}
+use Rattle.spool_works.specs.Breaking.{KeepsMarked}
+use Rattle.spool_works.specs.Marked.{IsMarkedBy}
 use Rattle.equipment_node.specs.StartOver.{StartsWith}
-use Rattle.equipment_node.proofs.Parity.{marked-more}
+use Rattle.spool_works.proofs.Parity.{marked-more}
 
 module _ {D : Type 0} (members : disk.Ghosts D) (g h : GemSpool D) (base : ℕ)
     (reserves : ReservesFrom members g h (Some base)) where

@@ -16,11 +16,11 @@ use Rattle.spool_ledger.specs.Activity.{changed, is_done}
 use Rattle.spool_ledger.specs.Ledger.{LedgerView, quiet}
 use Rattle.spool_ledger.specs.Unloading.{after_next, next_number as spool_next_number, taken_up, trying, unload_next, with_unload}
 use Rattle.spool_ledger.specs.declared.unload.Unload.{Unload}
-use Rattle.equipment_node.specs.declared.kind.Kind.{Kind}
-use Rattle.equipment_node.specs.Own.{OwnView, ToolPart, ToolTurn, is_communicating, with_ledger, with_tried}
-use Rattle.equipment_node.specs.Sent.{grant_item, text_of}
-use Rattle.equipment_node.specs.Spooling.{dataid_in, end_of_spooling, leave_turn, needs_leave, sent_turn, taking_turn, tried_turn, unload_part, unloaded_own, unloading_turn, waiting_text, stopped_turn}
-use Rattle.equipment_node.specs.Step.{last_parts}
+use Rattle.tool_step.specs.declared.kind.Kind.{Kind}
+use Rattle.tool_step.specs.Own.{OwnView, ToolPart, ToolTurn, is_communicating, with_ledger, with_tried}
+use Rattle.tool_step.specs.Sent.{grant_item, text_of}
+use Rattle.tool_step.specs.Spooling.{dataid_in, end_of_spooling, leave_turn, needs_leave, sent_turn, taking_turn, tried_turn, unload_part, unloaded_own, unloading_turn, waiting_text, stopped_turn}
+use Rattle.tool_step.specs.Step.{last_parts}
 
 -- ---- what comes behind them
 

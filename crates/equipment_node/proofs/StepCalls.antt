@@ -27,19 +27,20 @@ use Rattle.equipment_tables.specs.Tables.{most_transmitted}
 use Rattle.spool_ledger.specs.Ledger.{LedgerView, carried_out, stood_count}
 use Rattle.spool_ledger.specs.Unloading.{is_over, next_number, number_next}
 use Rattle.spool_ledger.specs.declared.unload.Unload.{Unload}
-use Rattle.equipment_node.specs.declared.disk_step.Ended.{Ended}
-use Rattle.equipment_node.specs.declared.disk_step.Ended.TheVariants as ended
-use Rattle.equipment_node.specs.declared.kind.Kind.{Kind}
+use Rattle.spool_works.specs.declared.ended.Ended.{Ended}
+use Rattle.spool_works.specs.declared.ended.Ended.TheVariants as ended
+use Rattle.tool_step.specs.declared.kind.Kind.{Kind}
 use Rattle.equipment_node.specs.Amid.{Carries, DoesLast, IsBegun, IsBegunSpent, Opens, opened}
-use Rattle.equipment_node.specs.Disk.{DiskWork, read_works, reserve_works, standing_behind, standing_in, standings_behind, works_behind, works_of}
-use Rattle.equipment_node.specs.Disk.DiskWork.{Change, ReadOldest, Reserve}
-use Rattle.equipment_node.specs.DiskCalls.{HasBegunWorks, HasCalled, HasFailedIn, HasMade, all_disk_calls, disk_calls, disk_in, mark_calls}
-use Rattle.equipment_node.specs.Equipment.{EquipmentView, begun_step, is_marked_out, needs_numbers, parts_done, reserving as opening, settled, settled_step}
-use Rattle.equipment_node.specs.Own.{OwnView, ToolPart}
-use Rattle.equipment_node.specs.Step.{first_parts}
+use Rattle.spool_works.specs.DiskWorks.{DiskWork, standing_behind, standings_behind}
+use Rattle.tool_step.specs.Disk.{read_works, reserve_works, standing_in, works_behind, works_of}
+use Rattle.spool_works.specs.DiskWorks.DiskWork.{Change, ReadOldest, Reserve}
+use Rattle.spool_works.specs.DiskCalls.{HasBegunWorks, HasCalled, HasFailedIn, HasMade, all_disk_calls, disk_calls, disk_in, mark_calls}
+use Rattle.tool_step.specs.Equipment.{EquipmentView, begun_step, is_marked_out, needs_numbers, parts_done, reserving as opening, settled, settled_step}
+use Rattle.tool_step.specs.Own.{OwnView, ToolPart}
+use Rattle.tool_step.specs.Step.{first_parts}
 use Rattle.equipment_node.specs.Stepping.{IsClear}
 use Rattle.equipment_node.proofs.Asking.{changes-stand, opened-behind}
-use Rattle.equipment_node.proofs.Called.{all-failed, all-made, failed-before, failed-behind, look-made, look-stops, made-same, made-then, mark-made, mark-stops}
+use Rattle.spool_works.proofs.Called.{all-failed, all-made, failed-before, failed-behind, look-made, look-stops, made-same, made-then, mark-made, mark-stops}
 use Rattle.equipment_node.proofs.Opened.{mark-failed}
 use Rattle.equipment_node.proofs.OverDisk.{done-standing, takes-settled}
 

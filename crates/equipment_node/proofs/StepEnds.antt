@@ -20,21 +20,24 @@ use Rattle.message_end.specs.Core.{Went, step_in}
 use Rattle.message_end.specs.Ends.{EndsBy, HasLost, Input, IsNearer, Leaves, Loss, call_of}
 use Rattle.message_end.specs.Parts.{Node}
 use Rattle.equipment_tables.specs.declared.plan.EquipmentPlan.{EquipmentPlan}
-use Rattle.equipment_node.specs.declared.disk_step.Ended.{Ended}
-use Rattle.equipment_node.specs.declared.disk_step.Ended.TheVariants as ended
-use Rattle.equipment_node.specs.declared.kind.Kind.{Kind}
-use Rattle.equipment_node.specs.Breaking.{BreaksAt, BreaksBy, HasBrokenAt, HasRoomLeft, IsGoingDisk, LeavesImages, Passes, mark_behind}
-use Rattle.equipment_node.specs.Disk.{standing_in, works_of}
-use Rattle.equipment_node.specs.DiskCalls.{disk_in}
-use Rattle.equipment_node.specs.End.{machine}
-use Rattle.equipment_node.specs.Equipment.{EquipmentView, act, begun_step, restarts, starts}
-use Rattle.equipment_node.specs.InMemory.{HasPower, IsLost, IsMarkedBy, IsWhole, anew_over, file_cut, lost_by, lost_if, stop_told}
-use Rattle.equipment_node.specs.Lawful.{IsGoodView}
-use Rattle.equipment_node.specs.LawfulLosses.{LeavesWell, all-well}
-use Rattle.equipment_node.specs.LossCalls.{IsAtCall, at-call, has-call}
-use Rattle.equipment_node.specs.Losses.{losses}
-use Rattle.equipment_node.specs.Own.{OwnView}
-use Rattle.equipment_node.specs.Sound.{AllCanBeSent}
+use Rattle.spool_works.specs.declared.ended.Ended.{Ended}
+use Rattle.spool_works.specs.declared.ended.Ended.TheVariants as ended
+use Rattle.tool_step.specs.declared.kind.Kind.{Kind}
+use Rattle.equipment_node.specs.Breaking.{BreaksAt, BreaksBy, HasBrokenAt, Passes, mark_behind}
+use Rattle.spool_works.specs.Breaking.{HasRoomLeft, IsGoingDisk, LeavesImages}
+use Rattle.tool_step.specs.Disk.{standing_in, works_of}
+use Rattle.spool_works.specs.DiskCalls.{disk_in}
+use Rattle.tool_step.specs.End.{machine}
+use Rattle.tool_step.specs.Equipment.{EquipmentView, act, begun_step, restarts, starts}
+use Rattle.equipment_node.specs.InMemory.{HasPower, IsLost, IsWhole, anew_over, file_cut, lost_by, lost_if, stop_told}
+use Rattle.spool_works.specs.Marked.{IsMarkedBy}
+use Rattle.tool_law.proofs.Lawful.{IsGoodView}
+use Rattle.tool_law.proofs.LawfulLosses.{LeavesWell, all-well}
+use Rattle.tool_step.proofs.LossCalls.{IsAtCall, at-call}
+use Rattle.spool_works.proofs.LossCounts.{has-call}
+use Rattle.tool_step.specs.Losses.{losses}
+use Rattle.tool_step.specs.Own.{OwnView}
+use Rattle.tool_law.specs.Sound.{AllCanBeSent}
 use Rattle.equipment_node.specs.Stepping.{HasStepped, stop_by, view_of}
 use Rattle.equipment_node.proofs.Seated.{step-on}
 use Rattle.equipment_node.proofs.Slots.{act-plan, act-slots}

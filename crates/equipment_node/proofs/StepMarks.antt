@@ -6,11 +6,12 @@ use Rattle.message_end.specs.Core.Went.{Goes, Spent}
 use Rattle.message_end.specs.Ends.{Input}
 use Rattle.message_end.specs.Parts.{after_parts}
 use Rattle.equipment_node.specs.Breaking.{mark_behind}
-use Rattle.equipment_node.specs.Disk.{standing_in, standings_behind}
-use Rattle.equipment_node.specs.Disk.DiskWork.{Reserve}
-use Rattle.equipment_node.specs.Equipment.{EquipmentView, act, begun_step, is_marked_out, needs_numbers, node_step, parts_done, reserved}
-use Rattle.equipment_node.specs.LawfulLosses.{ended-mark, parts-mark}
-use Rattle.equipment_node.specs.Step.{first_parts}
+use Rattle.tool_step.specs.Disk.{standing_in}
+use Rattle.spool_works.specs.DiskWorks.{standings_behind}
+use Rattle.spool_works.specs.DiskWorks.DiskWork.{Reserve}
+use Rattle.tool_step.specs.Equipment.{EquipmentView, act, begun_step, is_marked_out, needs_numbers, node_step, parts_done, reserved}
+use Rattle.tool_law.proofs.LawfulLosses.{ended-mark, parts-mark}
+use Rattle.tool_step.specs.Step.{first_parts}
 
 pub act-mark : (s : EquipmentView) (input : Input ToolCommand) (now : ℕ)
     → (step_in (act s input now)).next.mark ≡ mark_behind s

@@ -23,9 +23,10 @@ use Rattle.equipment_tables.specs.declared.plan.EquipmentPlan.{EquipmentPlan}
 use Rattle.equipment_tables.specs.Plan.{EquipmentPlanFits}
 use Rattle.equipment_node.specs.declared.equipment.Starting.{Starting}
 use Rattle.equipment_node.specs.declared.equipment.Starting.TheVariants as starting
-use Rattle.equipment_node.specs.Equipment.{first_in, is_marked_out, starts}
+use Rattle.spool_works.specs.Found.{first_in}
+use Rattle.tool_step.specs.Equipment.{is_marked_out, starts}
 use Rattle.equipment_node.specs.Held.{Begins, FindsFile, HasMark, Held, starting_by, view_in}
-use Rattle.equipment_node.specs.Sound.{AllCanBeSent}
+use Rattle.tool_law.specs.Sound.{AllCanBeSent}
 use Rattle.equipment_node.specs.StartOver.{BeginsOver, IsFresh}
 use Rattle.equipment_node.proofs.FoundBytes.{found-sent}
 use Rattle.equipment_node.proofs.Seated.{start-gone, start-on}

@@ -25,17 +25,17 @@ use Rattle.equipment_tables.specs.Plan.{EquipmentPlanFits}
 use Rattle.equipment_tables.specs.Tables.{most_transmitted}
 use Rattle.spool_ledger.specs.Ledger.{stood_count}
 use Rattle.spool_ledger.specs.Unloading.{after_next}
-use Rattle.equipment_node.specs.declared.disk_step.Ended.{Ended}
-use Rattle.equipment_node.specs.declared.disk_step.Ended.TheVariants as ended
-use Rattle.equipment_node.specs.declared.kind.Kind.{Kind}
-use Rattle.equipment_node.specs.Calls.{IsSpent}
+use Rattle.spool_works.specs.declared.ended.Ended.{Ended}
+use Rattle.spool_works.specs.declared.ended.Ended.TheVariants as ended
+use Rattle.tool_step.specs.declared.kind.Kind.{Kind}
+use Rattle.tool_core.specs.Calls.{IsSpent}
 use Rattle.equipment_node.specs.Cut.{cut_at}
-use Rattle.equipment_node.specs.Disk.{reserve_works, standing_in, takes_up}
-use Rattle.equipment_node.specs.Disk.DiskWork.{Reserve}
-use Rattle.equipment_node.specs.Equipment.{EquipmentView, act, begun_step, ended_step, needs_numbers, reserved, reserving, settled_own}
-use Rattle.equipment_node.specs.Left.{Holds}
-use Rattle.equipment_node.specs.Own.{OwnView, ToolPart, with_ledger}
-use Rattle.equipment_node.specs.Sound.{CanBeSent, IsSound}
+use Rattle.tool_step.specs.Disk.{reserve_works, standing_in, takes_up}
+use Rattle.spool_works.specs.DiskWorks.DiskWork.{Reserve}
+use Rattle.tool_step.specs.Equipment.{EquipmentView, act, begun_step, ended_step, needs_numbers, reserved, reserving, settled_own}
+use Rattle.tool_step.specs.Left.{Holds}
+use Rattle.tool_step.specs.Own.{OwnView, ToolPart, with_ledger}
+use Rattle.tool_law.specs.Sound.{CanBeSent, IsSound}
 use Rattle.equipment_node.specs.Stepping.{IsClear, IsTold, Steps}
 
 -- ---- before a step

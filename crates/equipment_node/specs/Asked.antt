@@ -5,10 +5,11 @@ use Rattle.disk_base.specs.declared.disk.Disk as disk
 use Rattle.gem_spool.specs.declared.spool.GemSpool.{GemSpool}
 use Rattle.gem_spool.specs.Standing.{Standing}
 use Rattle.message_end.specs.Ends.{Asked, IsLeft, IsShort}
-use Rattle.equipment_node.specs.declared.disk_step.Ended.{Ended}
-use Rattle.equipment_node.specs.declared.disk_step.Ended.TheVariants as ended
-use Rattle.equipment_node.specs.Disk.{DiskWork, all_bytes, all_calls, takes_up}
-use Rattle.equipment_node.specs.Own.{OwnView}
+use Rattle.spool_works.specs.declared.ended.Ended.{Ended}
+use Rattle.spool_works.specs.declared.ended.Ended.TheVariants as ended
+use Rattle.spool_works.specs.DiskWorks.{DiskWork, all_bytes, all_calls}
+use Rattle.tool_step.specs.Disk.{takes_up}
+use Rattle.tool_step.specs.Own.{OwnView}
 
 -- no call of it is to fail
 pub record IsSureDisk (health : DiskHealth) : Type 0 where

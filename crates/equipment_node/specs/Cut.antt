@@ -3,7 +3,7 @@ use Rattle.std.specs.Prelude.{ℕ, zero, suc, Bool, ◌||◌, nat_eq, List, [], 
 use Rattle.std.specs.List.{starts_with}
 use Rattle.message_flow.specs.declared.step.Note.{Note}
 use Rattle.trace_log.specs.Log.{Happening}
-use Rattle.equipment_node.specs.Disk.{behind_change, up_to_change}
+use Rattle.spool_works.specs.DiskWorks.{behind_change, up_to_change}
 
 -- a line that stands before a change of the list
 abbrev pub announces : Note → Bool

@@ -15,12 +15,12 @@ use Rattle.spool_slots.specs.declared.states.Recovering.TheVariants as recoverin
 use Rattle.trace_log.specs.declared.commands.ToolCommand.{ToolCommand}
 use Rattle.message_end.specs.Ends.{HasGone, Input, IsEmpty}
 use Rattle.equipment_tables.specs.declared.plan.EquipmentPlan.{EquipmentPlan}
-use Rattle.equipment_node.specs.declared.disk_step.Ended.{Ended}
+use Rattle.spool_works.specs.declared.ended.Ended.{Ended}
 use Rattle.equipment_node.specs.declared.equipment.Starting.{Starting}
 use Rattle.equipment_node.specs.declared.equipment.Starting.TheVariants as starting
-use Rattle.equipment_node.specs.declared.own.Tool.{Tool}
-use Rattle.equipment_node.specs.Equipment.{EquipmentView, act, is_marked_out, starts}
-use Rattle.equipment_node.specs.Node.{node_of}
+use Rattle.tool_core.specs.declared.own.Tool.{Tool}
+use Rattle.tool_step.specs.Equipment.{EquipmentView, act, is_marked_out, starts}
+use Rattle.tool_core.specs.Node.{node_of}
 use Rattle.equipment_node.specs.Stepping.{IsOn, IsTold, Steps, view_of}
 
 -- the tool, and the spool in hand

@@ -1,5 +1,5 @@
 -- The disk in memory of an equipment's spool, in a world.
-use Rattle.std.specs.Prelude.{◌≡◌, ◌==◌, ◌&&◌, ◌+◌, ◌-◌, ◌/◌, ◌%◌, nat_le, ℕ, Bool, true, false, List, [], Option, Some, None, Result, Ok, Err}
+use Rattle.std.specs.Prelude.{◌≡◌, ◌&&◌, ◌+◌, ◌-◌, nat_le, ℕ, Bool, true, false, [], Option, Some, None, Result, Ok, Err}
 use Rattle.disk_base.specs.Cut.{image_of}
 use Rattle.disk_base.specs.MemDisk.{DiskState, disk_health}
 use Rattle.disk_base.specs.declared.cut.CutChoice.{CutChoice}
@@ -7,7 +7,6 @@ use Rattle.disk_base.specs.declared.disk.Disk as disk
 use Rattle.gem_spool.specs.declared.spool.GemSpool.{GemSpool}
 use Rattle.message_flow.specs.declared.step.StepOut.{StepOut}
 use Rattle.spool_slots.specs.File.{SpoolFile, StandsFor, file_in}
-use Rattle.spool_slots.specs.Losses.{marks_second}
 use Rattle.trace_log.specs.Log.{Happening}
 use Rattle.message_end.specs.declared.end.Stop.{Stop}
 use Rattle.message_end.specs.declared.end.Stop.TheVariants as stop
@@ -15,26 +14,23 @@ use Rattle.message_end.specs.Core.{Went}
 use Rattle.message_end.specs.Ends.{most_calls}
 use Rattle.message_end.specs.Parts.{Node}
 use Rattle.equipment_tables.specs.declared.plan.EquipmentPlan.{EquipmentPlan}
-use Rattle.equipment_node.specs.declared.disk_step.Ended.{Ended}
-use Rattle.equipment_node.specs.declared.disk_step.Ended.TheVariants as ended
-use Rattle.equipment_node.specs.declared.kind.Kind.{Kind}
-use Rattle.equipment_node.specs.declared.own.Tool.{Tool}
+use Rattle.spool_works.specs.declared.ended.Ended.{Ended}
+use Rattle.spool_works.specs.declared.ended.Ended.TheVariants as ended
+use Rattle.tool_step.specs.declared.kind.Kind.{Kind}
+use Rattle.tool_core.specs.declared.own.Tool.{Tool}
 use Rattle.equipment_node.specs.Asked.{HasSpared, IsSureDisk}
-use Rattle.equipment_node.specs.Disk.{reserve_asks}
-use Rattle.equipment_node.specs.Equipment.{EquipmentView, first_in, restarts, starts}
-use Rattle.equipment_node.specs.Own.{OwnView}
-use Rattle.equipment_node.specs.Sound.{AllCanBeSent}
+use Rattle.spool_works.specs.DiskWorks.{reserve_asks}
+use Rattle.tool_step.specs.Equipment.{EquipmentView, restarts, starts}
+use Rattle.spool_works.specs.Found.{first_in}
+use Rattle.tool_step.specs.Own.{OwnView}
+use Rattle.tool_law.specs.Sound.{AllCanBeSent}
 use Rattle.equipment_node.specs.StartOver.{HasStartedOver, IsFresh, StartsOver}
 use Rattle.equipment_node.specs.Stepping.{IsOn, stop_by, view_of}
+use Rattle.spool_works.specs.Marked.{IsMarkedBy}
 
 -- no call of its disk is to fail
 abbrev pub IsSure : GemSpool DiskState → Type 0
 IsSure spool = IsSureDisk (disk_health spool.spool.disk)
-
--- the gate of the mark goes with the mark: a new file has its first copy and the mark 0, and each reserve turns the
--- gate and adds 4,096
-abbrev pub IsMarkedBy : List ℕ → ℕ → Type 0
-IsMarkedBy bytes mark = marks_second bytes ≡ ((mark / 4096) % 2 == 1)
 
 -- an equipment starts over messages that can be sent, by a spool that was just taken up
 pub record Holds (spool : GemSpool DiskState) : Type 0 where

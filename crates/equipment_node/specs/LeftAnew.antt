@@ -7,10 +7,10 @@ use Rattle.disk_base.specs.declared.disk.Disk as disk
 use Rattle.gem_spool.specs.declared.spool.GemSpool.{GemSpool}
 use Rattle.message_end.specs.Parts.{Node}
 use Rattle.equipment_tables.specs.declared.plan.EquipmentPlan.{EquipmentPlan}
-use Rattle.equipment_node.specs.declared.kind.Kind.{Kind}
-use Rattle.equipment_node.specs.Equipment.{restarts}
+use Rattle.tool_step.specs.declared.kind.Kind.{Kind}
+use Rattle.tool_step.specs.Equipment.{restarts}
 use Rattle.equipment_node.specs.InMemory.{anew_over}
-use Rattle.equipment_node.specs.Own.{OwnView}
+use Rattle.tool_step.specs.Own.{OwnView}
 use Rattle.equipment_node.specs.Stepping.{view_of}
 
 pub settled_over :

@@ -9,12 +9,13 @@ use Rattle.disk_base.specs.declared.disk.Disk as disk
 use Rattle.disk_base.specs.declared.disk.DiskAnswer.TheVariants.{Failed}
 use Rattle.spool_slots.specs.Changes.{most_reads}
 use Rattle.spool_slots.specs.File.{SpoolFile, file_in}
-use Rattle.equipment_node.specs.declared.disk_step.Ended.{Ended}
-use Rattle.equipment_node.specs.declared.disk_step.Ended.TheVariants as ended
+use Rattle.spool_works.specs.declared.ended.Ended.{Ended}
+use Rattle.spool_works.specs.declared.ended.Ended.TheVariants as ended
 use Rattle.equipment_node.specs.declared.equipment.Seat.{Seat}
 use Rattle.equipment_node.specs.declared.equipment.Starting.{Starting}
 use Rattle.equipment_node.specs.declared.equipment.Starting.TheVariants as starting
-use Rattle.equipment_node.specs.DiskCalls.{HasFailedIn, HasMade, disk_held, mark_calls, syncs, with_calls}
+use Rattle.spool_works.specs.DiskCalls.{HasFailedIn, HasMade, mark_calls, syncs, with_calls}
+use Rattle.equipment_node.specs.DiskCalls.{disk_held}
 use Rattle.equipment_node.specs.Held.{Held}
 
 -- ---- over a spool in hand

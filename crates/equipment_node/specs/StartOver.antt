@@ -1,39 +1,33 @@
 -- What the code says of a start over a spool.
-use Rattle.std.specs.Prelude.{◌≡◌, ℕ, true, false, [], ◌∷◌, ◌++◌, Some, Result, Ok, Err}
+use Rattle.std.specs.Prelude.{◌≡◌, ℕ, true, false, [], Some, Result, Ok, Err}
 use Rattle.disk_base.specs.Story.{Story}
 use Rattle.disk_base.specs.Through.{EachImage}
 use Rattle.disk_base.specs.declared.disk.Disk as disk
 use Rattle.gem_spool.specs.declared.spool.GemSpool.{GemSpool}
 use Rattle.gem_spool.specs.Standing.{standing_of}
 use Rattle.gem_spool.specs.Works.{IsMarked}
-use Rattle.message_flow.specs.declared.step.Note.{Note}
 use Rattle.message_flow.specs.declared.step.StepOut.{StepOut}
 use Rattle.spool_slots.specs.declared.states.Spent.{Spent}
 use Rattle.trace_log.specs.Log.{Happening}
-use Rattle.trace_log.specs.Text.{IsStartNote}
-use Rattle.transact.specs.Numbers.{numbers_from}
 use Rattle.message_end.specs.Core.{Step}
 use Rattle.message_end.specs.Ends.{printed}
-use Rattle.message_end.specs.Laws.{new_end}
-use Rattle.message_end.specs.Parts.{Node}
-use Rattle.spool_ledger.specs.Ledger.{LedgerView, new_ledger}
+use Rattle.spool_ledger.specs.Ledger.{new_ledger}
 use Rattle.equipment_tables.specs.declared.plan.EquipmentPlan.{EquipmentPlan}
-use Rattle.equipment_node.specs.declared.disk_step.Ended.{Ended}
-use Rattle.equipment_node.specs.declared.disk_step.Ended.TheVariants as ended
+use Rattle.spool_works.specs.declared.ended.Ended.{Ended}
+use Rattle.spool_works.specs.declared.ended.Ended.TheVariants as ended
 use Rattle.equipment_node.specs.declared.equipment.Seat.{Seat}
 use Rattle.equipment_node.specs.declared.equipment.Starting.{Starting}
 use Rattle.equipment_node.specs.declared.equipment.Starting.TheVariants as starting
-use Rattle.equipment_node.specs.declared.kind.Kind.{Kind}
-use Rattle.equipment_node.specs.declared.own.Tool.{Tool}
+use Rattle.tool_core.specs.declared.own.Tool.{Tool}
 use Rattle.equipment_node.specs.Amid.{Keeps}
 use Rattle.equipment_node.specs.Asked.{HasFallen, HasSpared}
-use Rattle.equipment_node.specs.Disk.{reserve_asks}
-use Rattle.equipment_node.specs.Equipment.{EquipmentView, first_in, is_marked_out, new_own, started_on}
+use Rattle.spool_works.specs.DiskWorks.{reserve_asks}
+use Rattle.tool_step.specs.Equipment.{EquipmentView, is_marked_out, started_on}
+use Rattle.spool_works.specs.Found.{first_in}
 use Rattle.equipment_node.specs.Held.{Held}
-use Rattle.equipment_node.specs.Node.{node_of}
-use Rattle.equipment_node.specs.Own.{OwnView}
-use Rattle.equipment_node.specs.Step.{end_plan}
+use Rattle.tool_core.specs.Node.{node_of}
 use Rattle.equipment_node.specs.Stepping.{IsClear, IsTold}
+use Rattle.tool_core.specs.Starting.{new_node, IsStartNoted}
 
 -- it was taken up from its device, and nothing was done with it since: an empty one begins with number 0
 pub record IsFresh {D : Type 0} (members : disk.Ghosts D) (g : GemSpool D) : Type 0 where
@@ -86,19 +80,6 @@ BeginsOver members plan g out (Err (starting.DiskFailed spent)) =
 BeginsOver members plan g out (Err (starting.NoMemory spent)) =
     StartsOver members plan g out (Err (ended.NoMemory spent))
 BeginsOver members plan g out (Err (starting.NotSpool raw break)) = ⊥
-
--- ---- its pieces
-
--- as it starts, with what is known of the spool and the system bytes from a base on
-abbrev pub new_node : EquipmentPlan → LedgerView → ℕ → Node OwnView Kind
-new_node plan ledger base =
-    record { own = new_own plan ledger; core = new_end (end_plan plan) (numbers_from base 4096) }
-
--- the start is noted
-pub record IsStartNoted (len base : ℕ) (out_old out_new : StepOut) : Type 0 where
-  pub note : Note
-  pub is : IsStartNote len base note
-  pub notes : out_new.notes ≡ out_old.notes ++ note ∷ []
 
 -- with the system bytes from a base on, unless memory runs out
 abbrev pub StartsWith :

@@ -10,10 +10,9 @@ use Rattle.spool_slots.specs.Spool.{SpoolView}
 use Rattle.spool_slots.specs.declared.states.Spent.{Spent}
 use Rattle.trace_log.specs.declared.commands.ToolCommand.{ToolCommand}
 use Rattle.trace_log.specs.Log.{Happening}
-use Rattle.trace_log.specs.Names.{Spooled}
 use Rattle.message_end.specs.declared.end.Stop.{Stop}
 use Rattle.message_end.specs.declared.end.Stop.TheVariants as stop
-use Rattle.message_end.specs.Core.{EndView, Step}
+use Rattle.message_end.specs.Core.{Step}
 use Rattle.message_end.specs.Core.Went.{Goes}
 use Rattle.message_end.specs.Doings.{Doing}
 use Rattle.message_end.specs.Ends.{HasSpent, HasStopped, Input, printed}
@@ -21,30 +20,14 @@ use Rattle.message_end.specs.Parts.{Node}
 use Rattle.equipment_tables.specs.declared.plan.EquipmentPlan.{EquipmentPlan}
 use Rattle.equipment_tables.specs.Plan.{EquipmentPlanFits}
 use Rattle.spool_ledger.specs.Ledger.{carried_out}
-use Rattle.spool_ledger.specs.Unloading.{taken_up}
-use Rattle.equipment_node.specs.declared.disk_step.Ended.{Ended}
-use Rattle.equipment_node.specs.declared.disk_step.Ended.TheVariants as ended
-use Rattle.equipment_node.specs.declared.kind.Kind.{Kind}
-use Rattle.equipment_node.specs.Disk.{standing_in, stops}
-use Rattle.equipment_node.specs.Equipment.{EquipmentView, act}
-use Rattle.equipment_node.specs.Laws.{DidOf}
-use Rattle.equipment_node.specs.Left as left
-use Rattle.equipment_node.specs.Own.{OwnView, ToolPart, ToolTurn, quiet_turn, turn_behind, with_ledger}
-use Rattle.equipment_node.specs.Sent.{grant_item, text_of}
-use Rattle.equipment_node.specs.Spooling.{dataid_in, leave_turn, lines_commands, taking_turn}
-
--- the oldest message, which was read, is taken up under its number
-abbrev pub taking : Option (ℕ × Spooled) → ToolPart
-taking None own e = quiet_turn own
-taking (Some oldest) own e = taking_turn (Some oldest.0) (Some oldest.1) own e
-
--- an S6F11 of several blocks is taken up under these system bytes, and waits for leave
-abbrev pub waiting_turn : ℕ → ℕ → Spooled → OwnView → EndView Kind → ToolTurn
-waiting_turn number system message own e =
-    let booked = taken_up number system (Some message.body) own.ledger in
-    turn_behind (lines_commands booked.lines)
-    (leave_turn (text_of own (grant_item (dataid_in message.body) (length message.body)))
-    (with_ledger booked.next own) e)
+use Rattle.spool_works.specs.declared.ended.Ended.{Ended}
+use Rattle.spool_works.specs.declared.ended.Ended.TheVariants as ended
+use Rattle.tool_step.specs.declared.kind.Kind.{Kind}
+use Rattle.tool_step.specs.Disk.{standing_in, stops}
+use Rattle.tool_step.specs.Equipment.{EquipmentView, act}
+use Rattle.tool_law.specs.Laws.{DidOf}
+use Rattle.tool_step.specs.Left as left
+use Rattle.tool_step.specs.Own.{OwnView}
 
 -- ---- the spool in hand
 

@@ -19,39 +19,29 @@ ghost use Rattle.equipment_tables.specs.Tables.{most_transmitted};
 ghost use Rattle.equipment_node.specs.Amid.{Acts, Carries, DoesLast, EndsSo, HasOpened, IsAt, IsBegun, IsReady, IsSendable, Opens, StopsAt, asked_node, opened, settled_node};
 ghost use Rattle.equipment_node.specs.Breaking.{BreaksBy, mark_behind};
 ghost use Rattle.equipment_node.specs.Asked.{HasAsked, asked_for, read_asks};
-ghost use Rattle.equipment_node.specs.Disk.{asks, read_works, reserve_works, standing_in, works_behind};
-ghost use Rattle.equipment_node.specs.Disk.DiskWork.{ReadOldest};
-ghost use Rattle.equipment_node.specs.DiskCalls.{CallsInStep, HasCalled, disk_in};
-ghost use Rattle.equipment_node.specs.Equipment.{EquipmentView, begun_step, needs_numbers};
-ghost use Rattle.equipment_node.specs.HandedBack.{HandsBack};
-ghost use Rattle.equipment_node.specs.Losses.{losses, losses_of};
-ghost use Rattle.equipment_node.specs.Node.{node_of, own_of};
-ghost use Rattle.equipment_node.specs.Sound.{CanBeSent};
-ghost use Rattle.equipment_node.specs.Spooling.{end_of_spooling};
-ghost use Rattle.equipment_node.specs.Step.{offer};
-ghost use Rattle.equipment_node.specs.Stepping.{IsOn, IsTold, Steps, taking};
+ghost use Rattle.tool_step.specs.Disk.{asks, read_works, reserve_works, standing_in, works_behind};
+ghost use Rattle.spool_works.specs.DiskWorks.DiskWork.{ReadOldest};
+ghost use Rattle.equipment_node.specs.DiskCalls.{CallsInStep};
+ghost use Rattle.spool_works.specs.DiskCalls.{HasCalled, disk_in};
+ghost use Rattle.tool_step.specs.Equipment.{EquipmentView, begun_step, needs_numbers};
+ghost use Rattle.spool_works.specs.HandedBack.{HandsBack};
+ghost use Rattle.tool_step.specs.Losses.{losses, losses_of};
+ghost use Rattle.tool_core.specs.Node.{node_of, own_of};
+ghost use Rattle.tool_law.specs.Sound.{CanBeSent};
+ghost use Rattle.tool_step.specs.Spooling.{end_of_spooling};
+ghost use Rattle.tool_step.specs.Step.{offer};
+ghost use Rattle.equipment_node.specs.Stepping.{IsOn, IsTold, Steps};
+ghost use Rattle.tool_step.specs.Taking.{taking};
 
 use crate::notes_cut::cut_notes;
-use crate::own::Tool;
-use crate::report::{Report, primary_function};
 use disk_base::Disk;
 use gem_spool::{GemSpool, Kept, Unread, Work};
 use message_end::Stop;
 use message_flow::{NodeInput, StepOut};
-use spool_slots::Spent;
+use spool_works::Ended;
 use std::alloc::Global;
+use tool_core::{MORE, Report, Tool, primary_function};
 use trace_log::ToolCommand;
-
-/// Why an equipment has stopped in a step. Its device is handed back.
-#[derive(Debug, Drop)]
-pub enum Ended<D> {
-    /// Memory ran out. Some first works of the step are done on the device.
-    NoMemory(Spent<D>),
-    /// The disk failed. The works before that call are done, and the one that it is of is done or not.
-    DiskFailed(Spent<D>),
-    /// No system bytes are left, or no number for a message of the spool. The works that came before that are done.
-    NumbersSpent(Spent<D>),
-}
 
 // Fewer system bytes than a step may need.
 const FEW: u64 = 128;
@@ -59,425 +49,420 @@ const FEW: u64 = 128;
 // How many bytes a body of the spool has at most.
 const BODY_MOST: usize = 4081;
 
-/// How many system bytes are reserved at once.
-pub(crate) const MORE: u32 = 4_096;
-
-impl Tool {
-    /// One step. Where it stops nothing is sent.
-    pub(crate) fn step_on<D: Disk>(
-        &mut self,
-        alloc: Global,
-        spool: GemSpool<D>,
-        input: NodeInput<'_, ToolCommand>,
-        now: u64,
-        out: &mut StepOut,
-    ) -> Result<GemSpool<D>, Ended<D>>
-        requires now { now < 2 ^ 62 }
-        requires input { MayTake ToolCommandFits (input_of input) }
-        requires out { IsEmpty out.old }
-        requires ready { IsReady spool.spool (node_of self.old) }
-        ensures ready { IfOk result (λ g. IsReady g.spool (node_of self.new)) }
-        ensures steps { (s : EquipmentView) → node_of self.old ≡ s.node → IsOn D.Disk spool.spool s
-            → IsTold (D.told spool.spool.disk)
-            → Steps D.Disk s (input_of input.entry) now (node_of self.new) out.new result }
-        ensures asks { (s : EquipmentView) → node_of self.old ≡ s.node → IsOn D.Disk spool.spool s
-            → IsTold (D.told spool.spool.disk)
-            → HasAsked D.Disk spool.spool.disk (asks s (input_of input.entry) now) result }
-        ensures calls { (s : EquipmentView) → node_of self.old ≡ s.node → IsOn D.Disk spool.spool s
-            → CallsInStep D.Disk disk_in spool.spool.disk s (input_of input.entry) now result }
-        ensures breaks { (s : EquipmentView) → node_of self.old ≡ s.node → IsOn D.Disk spool.spool s
-            → IsTold (D.told spool.spool.disk)
-            → BreaksBy D.Disk disk_in spool.spool.disk s.mark (losses s (input_of input.entry) now) (mark_behind s)
-            out.new.notes result }
-        ensures disk { HandsBack D.Disk spool.spool.disk result }
-    {
-        match self.act(alloc, spool, input, now, out) {
-            Ok(spool) => Ok(spool),
-            Err(ended) => {
-                out.line.clear();
-                Err(ended)
-            }
+/// One step. Where it stops nothing is sent.
+pub(crate) fn step_on<D: Disk>(
+    tool: &mut Tool,
+    alloc: Global,
+    spool: GemSpool<D>,
+    input: NodeInput<'_, ToolCommand>,
+    now: u64,
+    out: &mut StepOut,
+) -> Result<GemSpool<D>, Ended<D>>
+    requires now { now < 2 ^ 62 }
+    requires input { MayTake ToolCommandFits (input_of input) }
+    requires out { IsEmpty out.old }
+    requires ready { IsReady spool.spool (node_of tool.old) }
+    ensures ready { IfOk result (λ g. IsReady g.spool (node_of tool.new)) }
+    ensures steps { (s : EquipmentView) → node_of tool.old ≡ s.node → IsOn D.Disk spool.spool s
+        → IsTold (D.told spool.spool.disk)
+        → Steps D.Disk s (input_of input.entry) now (node_of tool.new) out.new result }
+    ensures asks { (s : EquipmentView) → node_of tool.old ≡ s.node → IsOn D.Disk spool.spool s
+        → IsTold (D.told spool.spool.disk)
+        → HasAsked D.Disk spool.spool.disk (asks s (input_of input.entry) now) result }
+    ensures calls { (s : EquipmentView) → node_of tool.old ≡ s.node → IsOn D.Disk spool.spool s
+        → CallsInStep D.Disk disk_in spool.spool.disk s (input_of input.entry) now result }
+    ensures breaks { (s : EquipmentView) → node_of tool.old ≡ s.node → IsOn D.Disk spool.spool s
+        → IsTold (D.told spool.spool.disk)
+        → BreaksBy D.Disk disk_in spool.spool.disk s.mark (losses s (input_of input.entry) now) (mark_behind s)
+        out.new.notes result }
+    ensures disk { HandsBack D.Disk spool.spool.disk result }
+{
+    match act(tool, alloc, spool, input, now, out) {
+        Ok(spool) => Ok(spool),
+        Err(ended) => {
+            out.line.clear();
+            Err(ended)
         }
     }
+}
 
-    // All of a step.
-    fn act<D: Disk>(
-        &mut self,
-        alloc: Global,
-        spool: GemSpool<D>,
-        input: NodeInput<'_, ToolCommand>,
-        now: u64,
-        out: &mut StepOut,
-    ) -> Result<GemSpool<D>, Ended<D>>
-        requires now { now < 2 ^ 62 }
-        requires input { MayTake ToolCommandFits (input_of input) }
-        requires out { IsEmpty out.old }
-        requires ready { IsReady spool.spool (node_of self.old) }
-        ensures ready { IfOk result (λ g. IsReady g.spool (node_of self.new)) }
-        ensures acts { (s : EquipmentView) → node_of self.old ≡ s.node → IsOn D.Disk spool.spool s
-            → IsTold (D.told spool.spool.disk)
-            → Acts D.Disk s (input_of input.entry) now (node_of self.new) out.new result }
-        ensures asks { (s : EquipmentView) → node_of self.old ≡ s.node → IsOn D.Disk spool.spool s
-            → IsTold (D.told spool.spool.disk)
-            → HasAsked D.Disk spool.spool.disk (asks s (input_of input.entry) now) result }
-        ensures calls { (s : EquipmentView) → node_of self.old ≡ s.node → IsOn D.Disk spool.spool s
-            → CallsInStep D.Disk disk_in spool.spool.disk s (input_of input.entry) now result }
-        ensures breaks { (s : EquipmentView) → node_of self.old ≡ s.node → IsOn D.Disk spool.spool s
-            → IsTold (D.told spool.spool.disk)
-            → BreaksBy D.Disk disk_in spool.spool.disk s.mark (losses s (input_of input.entry) now) (mark_behind s)
-            out.new.notes result }
-        ensures disk { HandsBack D.Disk spool.spool.disk result }
-    {
-        match self.reserve(spool, out) {
-            Ok(spool) => self.act_on(alloc, spool, input, now, out),
-            Err(ended) => Err(ended),
+// All of a step.
+fn act<D: Disk>(
+    tool: &mut Tool,
+    alloc: Global,
+    spool: GemSpool<D>,
+    input: NodeInput<'_, ToolCommand>,
+    now: u64,
+    out: &mut StepOut,
+) -> Result<GemSpool<D>, Ended<D>>
+    requires now { now < 2 ^ 62 }
+    requires input { MayTake ToolCommandFits (input_of input) }
+    requires out { IsEmpty out.old }
+    requires ready { IsReady spool.spool (node_of tool.old) }
+    ensures ready { IfOk result (λ g. IsReady g.spool (node_of tool.new)) }
+    ensures acts { (s : EquipmentView) → node_of tool.old ≡ s.node → IsOn D.Disk spool.spool s
+        → IsTold (D.told spool.spool.disk)
+        → Acts D.Disk s (input_of input.entry) now (node_of tool.new) out.new result }
+    ensures asks { (s : EquipmentView) → node_of tool.old ≡ s.node → IsOn D.Disk spool.spool s
+        → IsTold (D.told spool.spool.disk)
+        → HasAsked D.Disk spool.spool.disk (asks s (input_of input.entry) now) result }
+    ensures calls { (s : EquipmentView) → node_of tool.old ≡ s.node → IsOn D.Disk spool.spool s
+        → CallsInStep D.Disk disk_in spool.spool.disk s (input_of input.entry) now result }
+    ensures breaks { (s : EquipmentView) → node_of tool.old ≡ s.node → IsOn D.Disk spool.spool s
+        → IsTold (D.told spool.spool.disk)
+        → BreaksBy D.Disk disk_in spool.spool.disk s.mark (losses s (input_of input.entry) now) (mark_behind s)
+        out.new.notes result }
+    ensures disk { HandsBack D.Disk spool.spool.disk result }
+{
+    match reserve(tool, spool, out) {
+        Ok(spool) => act_on(tool, alloc, spool, input, now, out),
+        Err(ended) => Err(ended),
+    }
+}
+
+// More system bytes are reserved where few are left.
+fn reserve<D: Disk>(
+    tool: &mut Tool,
+    spool: GemSpool<D>,
+    out: &mut StepOut,
+) -> Result<GemSpool<D>, Ended<D>>
+    requires ready { IsReady spool.spool (node_of tool.old) }
+    ensures opens { (s : EquipmentView) → node_of tool.old ≡ s.node → IsOn D.Disk spool.spool s
+        → IsTold (D.told spool.spool.disk) → Opens D.Disk s (node_of tool.new) result }
+    ensures asks { (s : EquipmentView) → node_of tool.old ≡ s.node → IsOn D.Disk spool.spool s
+        → IsTold (D.told spool.spool.disk)
+        → HasAsked D.Disk spool.spool.disk (asked_for (standing_in s) (reserve_works s)) result }
+    ensures calls { (s : EquipmentView) → node_of tool.old ≡ s.node → IsOn D.Disk spool.spool s
+        → (t : Story) → D.told spool.spool.disk ≡ Some t
+        → HasCalled D.Disk disk_in spool.spool.disk t.now.bytes (standing_in s) (reserve_works s) result }
+    ensures breaks { (s : EquipmentView) → node_of tool.old ≡ s.node → IsOn D.Disk spool.spool s
+        → IsTold (D.told spool.spool.disk) → out.old.notes ≡ []
+        → BreaksBy D.Disk disk_in spool.spool.disk s.mark
+        (losses_of s (standing_in s) [] (reserve_works s) []) (mark_behind s) out.new.notes result }
+    ensures ready { IfOk result (λ g. IsReady g.spool (node_of tool.new)) }
+    ensures notes { out.new.notes ≡ out.old.notes }
+    ensures line { out.new.line.items ≡ out.old.line.items }
+    ensures disk { HandsBack D.Disk spool.spool.disk result }
+{
+    if has_enough(tool) {
+        return Ok(spool);
+    }
+    reserve_more(tool, spool, out)
+}
+
+// Whether as many system bytes are left as a step may need.
+fn has_enough(tool: &Tool) -> bool
+    ensures { result ≡ nat_le 128 (tool.now.core.numbers.end - tool.now.core.numbers.next) }
+{
+    tool.core.left() >= FEW
+}
+
+// More system bytes are reserved.
+fn reserve_more<D: Disk>(
+    tool: &mut Tool,
+    spool: GemSpool<D>,
+    out: &mut StepOut,
+) -> Result<GemSpool<D>, Ended<D>>
+    requires ready { IsReady spool.spool (node_of tool.old) }
+    ensures opens { (s : EquipmentView) → node_of tool.old ≡ s.node → needs_numbers s ≡ true
+        → IsOn D.Disk spool.spool s → IsTold (D.told spool.spool.disk)
+        → Opens D.Disk s (node_of tool.new) result }
+    ensures asks { (s : EquipmentView) → node_of tool.old ≡ s.node → needs_numbers s ≡ true
+        → IsOn D.Disk spool.spool s
+        → HasAsked D.Disk spool.spool.disk (asked_for (standing_in s) (reserve_works s)) result }
+    ensures calls { (s : EquipmentView) → node_of tool.old ≡ s.node → needs_numbers s ≡ true
+        → IsOn D.Disk spool.spool s → (t : Story) → D.told spool.spool.disk ≡ Some t
+        → HasCalled D.Disk disk_in spool.spool.disk t.now.bytes (standing_in s) (reserve_works s) result }
+    ensures breaks { (s : EquipmentView) → node_of tool.old ≡ s.node → needs_numbers s ≡ true
+        → IsOn D.Disk spool.spool s → IsTold (D.told spool.spool.disk) → out.old.notes ≡ []
+        → BreaksBy D.Disk disk_in spool.spool.disk s.mark
+        (losses_of s (standing_in s) [] (reserve_works s) []) (mark_behind s) out.new.notes result }
+    ensures ready { IfOk result (λ g. IsReady g.spool (node_of tool.new)) }
+    ensures notes { out.new.notes ≡ out.old.notes }
+    ensures line { out.new.line.items ≡ out.old.line.items }
+    ensures disk { HandsBack D.Disk spool.spool.disk result }
+{
+    match spool.reserve() {
+        Ok((spool, Some(_))) => {
+            tool.core.more(MORE, out);
+            Ok(spool)
         }
+        Ok((spool, None)) => Err(Ended::NumbersSpent(spool.retire())),
+        Err(spent) => Err(Ended::DiskFailed(spent)),
     }
+}
 
-    // More system bytes are reserved where few are left.
-    fn reserve<D: Disk>(
-        &mut self,
-        spool: GemSpool<D>,
-        out: &mut StepOut,
-    ) -> Result<GemSpool<D>, Ended<D>>
-        requires ready { IsReady spool.spool (node_of self.old) }
-        ensures opens { (s : EquipmentView) → node_of self.old ≡ s.node → IsOn D.Disk spool.spool s
-            → IsTold (D.told spool.spool.disk) → Opens D.Disk s (node_of self.new) result }
-        ensures asks { (s : EquipmentView) → node_of self.old ≡ s.node → IsOn D.Disk spool.spool s
-            → IsTold (D.told spool.spool.disk)
-            → HasAsked D.Disk spool.spool.disk (asked_for (standing_in s) (reserve_works s)) result }
-        ensures calls { (s : EquipmentView) → node_of self.old ≡ s.node → IsOn D.Disk spool.spool s
-            → (t : Story) → D.told spool.spool.disk ≡ Some t
-            → HasCalled D.Disk disk_in spool.spool.disk t.now.bytes (standing_in s) (reserve_works s) result }
-        ensures breaks { (s : EquipmentView) → node_of self.old ≡ s.node → IsOn D.Disk spool.spool s
-            → IsTold (D.told spool.spool.disk) → out.old.notes ≡ []
-            → BreaksBy D.Disk disk_in spool.spool.disk s.mark
-            (losses_of s (standing_in s) [] (reserve_works s) []) (mark_behind s) out.new.notes result }
-        ensures ready { IfOk result (λ g. IsReady g.spool (node_of self.new)) }
-        ensures notes { out.new.notes ≡ out.old.notes }
-        ensures line { out.new.line.items ≡ out.old.line.items }
-        ensures disk { HandsBack D.Disk spool.spool.disk result }
-    {
-        if self.has_enough() {
-            return Ok(spool);
+// All of a step that has system bytes enough.
+fn act_on<D: Disk>(
+    tool: &mut Tool,
+    alloc: Global,
+    spool: GemSpool<D>,
+    input: NodeInput<'_, ToolCommand>,
+    now: u64,
+    out: &mut StepOut,
+) -> Result<GemSpool<D>, Ended<D>>
+    requires now { now < 2 ^ 62 }
+    requires input { MayTake ToolCommandFits (input_of input) }
+    requires out { IsEmpty out.old }
+    requires ready { IsReady spool.spool (node_of tool.old) }
+    ensures ready { IfOk result (λ g. IsReady g.spool (node_of tool.new)) }
+    ensures acts { (s : EquipmentView) → HasOpened D.Disk s (node_of tool.old) spool
+        → Acts D.Disk s (input_of input.entry) now (node_of tool.new) out.new result }
+    ensures asks { (s : EquipmentView) → HasOpened D.Disk s (node_of tool.old) spool
+        → HasAsked D.Disk spool.spool.disk
+        (asked_for (standing_in (opened s)) (works_behind (begun_step s (input_of input.entry) now)))
+        result }
+    ensures calls { (s : EquipmentView) → HasOpened D.Disk s (node_of tool.old) spool → (bytes : List ℕ)
+        → HasCalled D.Disk disk_in spool.spool.disk bytes (standing_in (opened s))
+        (works_behind (begun_step s (input_of input.entry) now))
+        result }
+    ensures breaks { (s : EquipmentView) → HasOpened D.Disk s (node_of tool.old) spool
+        → BreaksBy D.Disk disk_in spool.spool.disk (opened s).mark
+        (losses_of s (standing_in (opened s)) [] (works_behind (begun_step s (input_of input.entry) now))
+        (step_in (begun_step s (input_of input.entry) now)).notes)
+        (opened s).mark out.new.notes result }
+    ensures disk { HandsBack D.Disk spool.spool.disk result }
+{
+    match tool.do_first(alloc, input, now, out) {
+        Ok(()) => act_behind(tool, alloc, spool, now, out),
+        Err(stop) => Err(end_early(tool, alloc, spool, stop, out)),
+    }
+}
+
+// The works, and what comes behind them.
+fn act_behind<D: Disk>(
+    tool: &mut Tool,
+    alloc: Global,
+    spool: GemSpool<D>,
+    now: u64,
+    out: &mut StepOut,
+) -> Result<GemSpool<D>, Ended<D>>
+    requires now { now < 2 ^ 62 }
+    requires ready { IsReady spool.spool (node_of tool.old) }
+    requires room { array_vec_len out.old.line ≤ 514 }
+    ensures ready { IfOk result (λ g. IsReady g.spool (node_of tool.new)) }
+    ensures acts { (s : EquipmentView) → (input : Input ToolCommand)
+        → IsBegun s input now (node_of tool.old) out.old → HasOpened D.Disk s (opened s).node spool
+        → Acts D.Disk s input now (node_of tool.new) out.new result }
+    ensures asks { (s : EquipmentView) → (input : Input ToolCommand)
+        → IsBegun s input now (node_of tool.old) out.old → HasOpened D.Disk s (opened s).node spool
+        → HasAsked D.Disk spool.spool.disk
+        (asked_for (standing_in (opened s)) (works_behind (begun_step s input now)))
+        result }
+    ensures calls { (s : EquipmentView) → (input : Input ToolCommand)
+        → IsBegun s input now (node_of tool.old) out.old → HasOpened D.Disk s (opened s).node spool
+        → (bytes : List ℕ)
+        → HasCalled D.Disk disk_in spool.spool.disk bytes (standing_in (opened s))
+        (works_behind (begun_step s input now))
+        result }
+    ensures breaks { (s : EquipmentView) → (input : Input ToolCommand)
+        → IsBegun s input now (node_of tool.old) out.old → HasOpened D.Disk s (opened s).node spool
+        → BreaksBy D.Disk disk_in spool.spool.disk (opened s).mark
+        (losses_of s (standing_in (opened s)) [] (works_behind (begun_step s input now))
+        (step_in (begun_step s input now)).notes)
+        (opened s).mark out.new.notes result }
+    ensures disk { HandsBack D.Disk spool.spool.disk result }
+{
+    match carry_out(tool, alloc, spool, out) {
+        Ok(spool) => act_last(tool, alloc, spool, now, out),
+        Err(ended) => Err(ended),
+    }
+}
+
+// The step stops before its works are done. Where memory was wanting, it is as if the disk had failed at the first.
+fn end_early<D: Disk>(
+    tool: &mut Tool,
+    alloc: Global,
+    spool: GemSpool<D>,
+    stop: Stop,
+    out: &mut StepOut,
+) -> Ended<D>
+    requires count { stop ≡ NumbersSpent → count_of spool.spool ≡ stood_count tool.old.own.ledger }
+    ensures acts { (s : EquipmentView) → (input : Input ToolCommand) → (now : ℕ)
+        → StopsAt s input now (node_of tool.old) out.old stop → HasOpened D.Disk s (opened s).node spool
+        → Acts D.Disk s input now (node_of tool.new) out.new (Err result) }
+    ensures asks { (s : EquipmentView) → (input : Input ToolCommand) → (now : ℕ)
+        → StopsAt s input now (node_of tool.old) out.old stop → HasOpened D.Disk s (opened s).node spool
+        → HasAsked D.Disk spool.spool.disk
+        (asked_for (standing_in (opened s)) (works_behind (begun_step s input now)))
+        (Err result) }
+    ensures calls { (s : EquipmentView) → (input : Input ToolCommand) → (now : ℕ)
+        → StopsAt s input now (node_of tool.old) out.old stop → HasOpened D.Disk s (opened s).node spool
+        → (bytes : List ℕ)
+        → HasCalled D.Disk disk_in spool.spool.disk bytes (standing_in (opened s))
+        (works_behind (begun_step s input now))
+        (Err result) }
+    ensures breaks { (s : EquipmentView) → (input : Input ToolCommand) → (now : ℕ)
+        → StopsAt s input now (node_of tool.old) out.old stop → HasOpened D.Disk s (opened s).node spool
+        → BreaksBy D.Disk disk_in spool.spool.disk (opened s).mark
+        (losses_of s (standing_in (opened s)) [] (works_behind (begun_step s input now))
+        (step_in (begun_step s input now)).notes)
+        (opened s).mark out.new.notes (Err result) }
+    ensures disk { stop ≢ DiskFailed → HandsBack D.Disk spool.spool.disk (Err result) }
+{
+    match stop {
+        Stop::NumbersSpent => stop_spent(tool, alloc, spool, out),
+        Stop::NoMemory => {
+            cut_notes(&mut out.notes, 0);
+            Ended::NoMemory(spool.retire())
         }
-        self.reserve_more(spool, out)
+        // (no part of a step asks the disk)
+        Stop::DiskFailed => Ended::DiskFailed(spool.retire()),
     }
+}
 
-    // Whether as many system bytes are left as a step may need.
-    fn has_enough(&self) -> bool
-        ensures { result ≡ nat_le 128 (self.now.core.numbers.end - self.now.core.numbers.next) }
-    {
-        self.core.left() >= FEW
+// A number was wanting: the works are carried out still.
+fn stop_spent<D: Disk>(
+    tool: &mut Tool,
+    alloc: Global,
+    spool: GemSpool<D>,
+    out: &mut StepOut,
+) -> Ended<D>
+    requires count { count_of spool.spool ≡ stood_count tool.old.own.ledger }
+    ensures acts { (s : EquipmentView) → (input : Input ToolCommand) → (now : ℕ)
+        → StopsAt s input now (node_of tool.old) out.old NumbersSpent → HasOpened D.Disk s (opened s).node spool
+        → Acts D.Disk s input now (node_of tool.new) out.new (Err result) }
+    ensures asks { (s : EquipmentView) → (input : Input ToolCommand) → (now : ℕ)
+        → StopsAt s input now (node_of tool.old) out.old NumbersSpent → HasOpened D.Disk s (opened s).node spool
+        → HasAsked D.Disk spool.spool.disk
+        (asked_for (standing_in (opened s)) (works_behind (begun_step s input now)))
+        (Err result) }
+    ensures calls { (s : EquipmentView) → (input : Input ToolCommand) → (now : ℕ)
+        → StopsAt s input now (node_of tool.old) out.old NumbersSpent → HasOpened D.Disk s (opened s).node spool
+        → (bytes : List ℕ)
+        → HasCalled D.Disk disk_in spool.spool.disk bytes (standing_in (opened s))
+        (works_behind (begun_step s input now))
+        (Err result) }
+    ensures breaks { (s : EquipmentView) → (input : Input ToolCommand) → (now : ℕ)
+        → StopsAt s input now (node_of tool.old) out.old NumbersSpent → HasOpened D.Disk s (opened s).node spool
+        → BreaksBy D.Disk disk_in spool.spool.disk (opened s).mark
+        (losses_of s (standing_in (opened s)) [] (works_behind (begun_step s input now))
+        (step_in (begun_step s input now)).notes)
+        (opened s).mark out.new.notes (Err result) }
+    ensures disk { HandsBack D.Disk spool.spool.disk (Err result) }
+{
+    match carry_out(tool, alloc, spool, out) {
+        Ok(spool) => Ended::NumbersSpent(spool.retire()),
+        Err(ended) => ended,
     }
+}
 
-    // More system bytes are reserved.
-    fn reserve_more<D: Disk>(
-        &mut self,
-        spool: GemSpool<D>,
-        out: &mut StepOut,
-    ) -> Result<GemSpool<D>, Ended<D>>
-        requires ready { IsReady spool.spool (node_of self.old) }
-        ensures opens { (s : EquipmentView) → node_of self.old ≡ s.node → needs_numbers s ≡ true
-            → IsOn D.Disk spool.spool s → IsTold (D.told spool.spool.disk)
-            → Opens D.Disk s (node_of self.new) result }
-        ensures asks { (s : EquipmentView) → node_of self.old ≡ s.node → needs_numbers s ≡ true
-            → IsOn D.Disk spool.spool s
-            → HasAsked D.Disk spool.spool.disk (asked_for (standing_in s) (reserve_works s)) result }
-        ensures calls { (s : EquipmentView) → node_of self.old ≡ s.node → needs_numbers s ≡ true
-            → IsOn D.Disk spool.spool s → (t : Story) → D.told spool.spool.disk ≡ Some t
-            → HasCalled D.Disk disk_in spool.spool.disk t.now.bytes (standing_in s) (reserve_works s) result }
-        ensures breaks { (s : EquipmentView) → node_of self.old ≡ s.node → needs_numbers s ≡ true
-            → IsOn D.Disk spool.spool s → IsTold (D.told spool.spool.disk) → out.old.notes ≡ []
-            → BreaksBy D.Disk disk_in spool.spool.disk s.mark
-            (losses_of s (standing_in s) [] (reserve_works s) []) (mark_behind s) out.new.notes result }
-        ensures ready { IfOk result (λ g. IsReady g.spool (node_of self.new)) }
-        ensures notes { out.new.notes ≡ out.old.notes }
-        ensures line { out.new.line.items ≡ out.old.line.items }
-        ensures disk { HandsBack D.Disk spool.spool.disk result }
-    {
-        match spool.reserve() {
-            Ok((spool, Some(_))) => {
-                self.core.more(MORE, out);
-                Ok(spool)
-            }
-            Ok((spool, None)) => Err(Ended::NumbersSpent(spool.retire())),
-            Err(spent) => Err(Ended::DiskFailed(spent)),
+// Carries out what is owed. Where the disk fails the notes end with the line of that work.
+fn carry_out<D: Disk>(
+    tool: &mut Tool,
+    alloc: Global,
+    spool: GemSpool<D>,
+    out: &mut StepOut,
+) -> Result<GemSpool<D>, Ended<D>>
+    requires count { count_of spool.spool ≡ stood_count tool.old.own.ledger }
+    ensures works { Carries D.Disk spool tool.old.own.ledger.works out.old out.new result }
+    ensures node { node_of tool.new ≡ settled_node (node_of tool.old) }
+    ensures come_to { counts_after (stood_count tool.old.own.ledger) tool.old.own.ledger.works
+        ≡ stood_count (carried_out tool.old.own.ledger) }
+    ensures line { out.new.line ≡ out.old.line }
+{
+    let works = tool.own.ledger.take_works(alloc);
+    carry_all(spool, works.as_slice(), out)
+}
+
+// What comes behind the works.
+fn act_last<D: Disk>(
+    tool: &mut Tool,
+    alloc: Global,
+    spool: GemSpool<D>,
+    now: u64,
+    out: &mut StepOut,
+) -> Result<GemSpool<D>, Ended<D>>
+    requires now { now < 2 ^ 62 }
+    requires room { array_vec_len out.old.line ≤ 514 }
+    requires ready { IsReady spool.spool (node_of tool.old) }
+    ensures ready { IfOk result (λ g. IsReady g.spool (node_of tool.new)) }
+    ensures ends { (t : Step EquipmentView Happening) → IsAt D.Disk t (node_of tool.old) out.old spool
+        → EndsSo D.Disk now t (node_of tool.new) out.new result }
+    ensures asks { HasAsked D.Disk spool.spool.disk (read_asks (own_of tool.old.own)) result }
+    ensures calls { (t : Step EquipmentView Happening) → IsAt D.Disk t (node_of tool.old) out.old spool
+        → (bytes : List ℕ)
+        → HasCalled D.Disk disk_in spool.spool.disk bytes (standing_in t.next) (read_works (Goes t)) result }
+    ensures breaks { (t : Step EquipmentView Happening) → IsAt D.Disk t (node_of tool.old) out.old spool
+        → (s : EquipmentView) → (standing_in t.next).slots ≡ s.node.own.ledger.slots
+        → BreaksBy D.Disk disk_in spool.spool.disk t.next.mark
+        (losses_of s (standing_in t.next) [] (read_works (Goes t)) t.notes) t.next.mark out.new.notes result }
+    ensures disk { HandsBack D.Disk spool.spool.disk result }
+{
+    match tool.next_unload() {
+        Some(number) => act_reading(tool, alloc, spool, number, now, out),
+        None => end_with(tool, alloc, spool, None, now, out),
+    }
+}
+
+// The oldest message is read, which is to be taken up under this number, and goes to the host.
+fn act_reading<D: Disk>(
+    tool: &mut Tool,
+    alloc: Global,
+    spool: GemSpool<D>,
+    number: u64,
+    now: u64,
+    out: &mut StepOut,
+) -> Result<GemSpool<D>, Ended<D>>
+    requires now { now < 2 ^ 62 }
+    requires room { array_vec_len out.old.line ≤ 514 }
+    requires ready { IsReady spool.spool (node_of tool.old) }
+    ensures ready { IfOk result (λ g. IsReady g.spool (node_of tool.new)) }
+    ensures ends { (t : Step EquipmentView Happening) → node_of tool.old ≡ asked_node t.next.node
+        → unload_number (most_transmitted t.next.node.own.tables) t.next.node.own.ledger ≡ Some number
+        → IsAt D.Disk t t.next.node out.old spool
+        → EndsSo D.Disk now t (node_of tool.new) out.new result }
+    ensures asks { HasAsked D.Disk spool.spool.disk (record { calls = 1; bytes = 0 }) result }
+    ensures calls { (st : Standing) → count_of spool.spool ≡ count_in st → 0 < length st.list
+        → (bytes : List ℕ) → HasCalled D.Disk disk_in spool.spool.disk bytes st (ReadOldest ∷ []) result }
+    ensures breaks { (s : EquipmentView) → (st : Standing) → Stands D.Disk spool.spool st → 0 < length st.list
+        → st.slots ≡ s.node.own.ledger.slots → IsTold (D.told spool.spool.disk) → (front : List Happening)
+        → out.old.notes ≡ printed front
+        → BreaksBy D.Disk disk_in spool.spool.disk st.mark (losses_of s st [] (ReadOldest ∷ []) front) st.mark
+        out.new.notes result }
+    ensures disk { HandsBack D.Disk spool.spool.disk result }
+{
+    let mut spool = spool;
+    match spool.oldest_message(alloc) {
+        Ok(kept) => {
+            let report = report_of(kept);
+            end_with(tool, alloc, spool, Some((number, report)), now, out)
         }
+        Err(Unread::Empty) => end_with(tool, alloc, spool, None, now, out),
+        Err(Unread::Failed) => Err(Ended::DiskFailed(spool.retire())),
+        Err(Unread::NoMemory) => Err(Ended::NoMemory(spool.retire())),
     }
+}
 
-    // All of a step that has system bytes enough.
-    fn act_on<D: Disk>(
-        &mut self,
-        alloc: Global,
-        spool: GemSpool<D>,
-        input: NodeInput<'_, ToolCommand>,
-        now: u64,
-        out: &mut StepOut,
-    ) -> Result<GemSpool<D>, Ended<D>>
-        requires now { now < 2 ^ 62 }
-        requires input { MayTake ToolCommandFits (input_of input) }
-        requires out { IsEmpty out.old }
-        requires ready { IsReady spool.spool (node_of self.old) }
-        ensures ready { IfOk result (λ g. IsReady g.spool (node_of self.new)) }
-        ensures acts { (s : EquipmentView) → HasOpened D.Disk s (node_of self.old) spool
-            → Acts D.Disk s (input_of input.entry) now (node_of self.new) out.new result }
-        ensures asks { (s : EquipmentView) → HasOpened D.Disk s (node_of self.old) spool
-            → HasAsked D.Disk spool.spool.disk
-            (asked_for (standing_in (opened s)) (works_behind (begun_step s (input_of input.entry) now)))
-            result }
-        ensures calls { (s : EquipmentView) → HasOpened D.Disk s (node_of self.old) spool → (bytes : List ℕ)
-            → HasCalled D.Disk disk_in spool.spool.disk bytes (standing_in (opened s))
-            (works_behind (begun_step s (input_of input.entry) now))
-            result }
-        ensures breaks { (s : EquipmentView) → HasOpened D.Disk s (node_of self.old) spool
-            → BreaksBy D.Disk disk_in spool.spool.disk (opened s).mark
-            (losses_of s (standing_in (opened s)) [] (works_behind (begun_step s (input_of input.entry) now))
-            (step_in (begun_step s (input_of input.entry) now)).notes)
-            (opened s).mark out.new.notes result }
-        ensures disk { HandsBack D.Disk spool.spool.disk result }
-    {
-        match self.do_first(alloc, input, now, out) {
-            Ok(()) => self.act_behind(alloc, spool, now, out),
-            Err(stop) => Err(self.stop(alloc, spool, stop, out)),
-        }
-    }
-
-    // The works, and what comes behind them.
-    fn act_behind<D: Disk>(
-        &mut self,
-        alloc: Global,
-        spool: GemSpool<D>,
-        now: u64,
-        out: &mut StepOut,
-    ) -> Result<GemSpool<D>, Ended<D>>
-        requires now { now < 2 ^ 62 }
-        requires ready { IsReady spool.spool (node_of self.old) }
-        requires room { array_vec_len out.old.line ≤ 514 }
-        ensures ready { IfOk result (λ g. IsReady g.spool (node_of self.new)) }
-        ensures acts { (s : EquipmentView) → (input : Input ToolCommand)
-            → IsBegun s input now (node_of self.old) out.old → HasOpened D.Disk s (opened s).node spool
-            → Acts D.Disk s input now (node_of self.new) out.new result }
-        ensures asks { (s : EquipmentView) → (input : Input ToolCommand)
-            → IsBegun s input now (node_of self.old) out.old → HasOpened D.Disk s (opened s).node spool
-            → HasAsked D.Disk spool.spool.disk
-            (asked_for (standing_in (opened s)) (works_behind (begun_step s input now)))
-            result }
-        ensures calls { (s : EquipmentView) → (input : Input ToolCommand)
-            → IsBegun s input now (node_of self.old) out.old → HasOpened D.Disk s (opened s).node spool
-            → (bytes : List ℕ)
-            → HasCalled D.Disk disk_in spool.spool.disk bytes (standing_in (opened s))
-            (works_behind (begun_step s input now))
-            result }
-        ensures breaks { (s : EquipmentView) → (input : Input ToolCommand)
-            → IsBegun s input now (node_of self.old) out.old → HasOpened D.Disk s (opened s).node spool
-            → BreaksBy D.Disk disk_in spool.spool.disk (opened s).mark
-            (losses_of s (standing_in (opened s)) [] (works_behind (begun_step s input now))
-            (step_in (begun_step s input now)).notes)
-            (opened s).mark out.new.notes result }
-        ensures disk { HandsBack D.Disk spool.spool.disk result }
-    {
-        match self.carry_out(alloc, spool, out) {
-            Ok(spool) => self.act_last(alloc, spool, now, out),
-            Err(ended) => Err(ended),
-        }
-    }
-
-    // The step stops before its works are done. Where memory was wanting, it is as if the disk had failed at the first.
-    fn stop<D: Disk>(
-        &mut self,
-        alloc: Global,
-        spool: GemSpool<D>,
-        stop: Stop,
-        out: &mut StepOut,
-    ) -> Ended<D>
-        requires count { stop ≡ NumbersSpent → count_of spool.spool ≡ stood_count self.old.own.ledger }
-        ensures acts { (s : EquipmentView) → (input : Input ToolCommand) → (now : ℕ)
-            → StopsAt s input now (node_of self.old) out.old stop → HasOpened D.Disk s (opened s).node spool
-            → Acts D.Disk s input now (node_of self.new) out.new (Err result) }
-        ensures asks { (s : EquipmentView) → (input : Input ToolCommand) → (now : ℕ)
-            → StopsAt s input now (node_of self.old) out.old stop → HasOpened D.Disk s (opened s).node spool
-            → HasAsked D.Disk spool.spool.disk
-            (asked_for (standing_in (opened s)) (works_behind (begun_step s input now)))
-            (Err result) }
-        ensures calls { (s : EquipmentView) → (input : Input ToolCommand) → (now : ℕ)
-            → StopsAt s input now (node_of self.old) out.old stop → HasOpened D.Disk s (opened s).node spool
-            → (bytes : List ℕ)
-            → HasCalled D.Disk disk_in spool.spool.disk bytes (standing_in (opened s))
-            (works_behind (begun_step s input now))
-            (Err result) }
-        ensures breaks { (s : EquipmentView) → (input : Input ToolCommand) → (now : ℕ)
-            → StopsAt s input now (node_of self.old) out.old stop → HasOpened D.Disk s (opened s).node spool
-            → BreaksBy D.Disk disk_in spool.spool.disk (opened s).mark
-            (losses_of s (standing_in (opened s)) [] (works_behind (begun_step s input now))
-            (step_in (begun_step s input now)).notes)
-            (opened s).mark out.new.notes (Err result) }
-        ensures disk { stop ≢ DiskFailed → HandsBack D.Disk spool.spool.disk (Err result) }
-    {
-        match stop {
-            Stop::NumbersSpent => self.stop_spent(alloc, spool, out),
-            Stop::NoMemory => {
-                cut_notes(&mut out.notes, 0);
-                Ended::NoMemory(spool.retire())
-            }
-            // (no part of a step asks the disk)
-            Stop::DiskFailed => Ended::DiskFailed(spool.retire()),
-        }
-    }
-
-    // A number was wanting: the works are carried out still.
-    fn stop_spent<D: Disk>(
-        &mut self,
-        alloc: Global,
-        spool: GemSpool<D>,
-        out: &mut StepOut,
-    ) -> Ended<D>
-        requires count { count_of spool.spool ≡ stood_count self.old.own.ledger }
-        ensures acts { (s : EquipmentView) → (input : Input ToolCommand) → (now : ℕ)
-            → StopsAt s input now (node_of self.old) out.old NumbersSpent → HasOpened D.Disk s (opened s).node spool
-            → Acts D.Disk s input now (node_of self.new) out.new (Err result) }
-        ensures asks { (s : EquipmentView) → (input : Input ToolCommand) → (now : ℕ)
-            → StopsAt s input now (node_of self.old) out.old NumbersSpent → HasOpened D.Disk s (opened s).node spool
-            → HasAsked D.Disk spool.spool.disk
-            (asked_for (standing_in (opened s)) (works_behind (begun_step s input now)))
-            (Err result) }
-        ensures calls { (s : EquipmentView) → (input : Input ToolCommand) → (now : ℕ)
-            → StopsAt s input now (node_of self.old) out.old NumbersSpent → HasOpened D.Disk s (opened s).node spool
-            → (bytes : List ℕ)
-            → HasCalled D.Disk disk_in spool.spool.disk bytes (standing_in (opened s))
-            (works_behind (begun_step s input now))
-            (Err result) }
-        ensures breaks { (s : EquipmentView) → (input : Input ToolCommand) → (now : ℕ)
-            → StopsAt s input now (node_of self.old) out.old NumbersSpent → HasOpened D.Disk s (opened s).node spool
-            → BreaksBy D.Disk disk_in spool.spool.disk (opened s).mark
-            (losses_of s (standing_in (opened s)) [] (works_behind (begun_step s input now))
-            (step_in (begun_step s input now)).notes)
-            (opened s).mark out.new.notes (Err result) }
-        ensures disk { HandsBack D.Disk spool.spool.disk (Err result) }
-    {
-        match self.carry_out(alloc, spool, out) {
-            Ok(spool) => Ended::NumbersSpent(spool.retire()),
-            Err(ended) => ended,
-        }
-    }
-
-    // Carries out what is owed. Where the disk fails the notes end with the line of that work.
-    fn carry_out<D: Disk>(
-        &mut self,
-        alloc: Global,
-        spool: GemSpool<D>,
-        out: &mut StepOut,
-    ) -> Result<GemSpool<D>, Ended<D>>
-        requires count { count_of spool.spool ≡ stood_count self.old.own.ledger }
-        ensures works { Carries D.Disk spool self.old.own.ledger.works out.old out.new result }
-        ensures node { node_of self.new ≡ settled_node (node_of self.old) }
-        ensures come_to { counts_after (stood_count self.old.own.ledger) self.old.own.ledger.works
-            ≡ stood_count (carried_out self.old.own.ledger) }
-        ensures line { out.new.line ≡ out.old.line }
-    {
-        let works = self.own.ledger.take_works(alloc);
-        carry_all(spool, works.as_slice(), out)
-    }
-
-    // What comes behind the works.
-    fn act_last<D: Disk>(
-        &mut self,
-        alloc: Global,
-        spool: GemSpool<D>,
-        now: u64,
-        out: &mut StepOut,
-    ) -> Result<GemSpool<D>, Ended<D>>
-        requires now { now < 2 ^ 62 }
-        requires room { array_vec_len out.old.line ≤ 514 }
-        requires ready { IsReady spool.spool (node_of self.old) }
-        ensures ready { IfOk result (λ g. IsReady g.spool (node_of self.new)) }
-        ensures ends { (t : Step EquipmentView Happening) → IsAt D.Disk t (node_of self.old) out.old spool
-            → EndsSo D.Disk now t (node_of self.new) out.new result }
-        ensures asks { HasAsked D.Disk spool.spool.disk (read_asks (own_of self.old.own)) result }
-        ensures calls { (t : Step EquipmentView Happening) → IsAt D.Disk t (node_of self.old) out.old spool
-            → (bytes : List ℕ)
-            → HasCalled D.Disk disk_in spool.spool.disk bytes (standing_in t.next) (read_works (Goes t)) result }
-        ensures breaks { (t : Step EquipmentView Happening) → IsAt D.Disk t (node_of self.old) out.old spool
-            → (s : EquipmentView) → (standing_in t.next).slots ≡ s.node.own.ledger.slots
-            → BreaksBy D.Disk disk_in spool.spool.disk t.next.mark
-            (losses_of s (standing_in t.next) [] (read_works (Goes t)) t.notes) t.next.mark out.new.notes result }
-        ensures disk { HandsBack D.Disk spool.spool.disk result }
-    {
-        match self.next_unload() {
-            Some(number) => self.act_reading(alloc, spool, number, now, out),
-            None => self.end_with(alloc, spool, None, now, out),
-        }
-    }
-
-    // The oldest message is read, which is to be taken up under this number, and goes to the host.
-    fn act_reading<D: Disk>(
-        &mut self,
-        alloc: Global,
-        spool: GemSpool<D>,
-        number: u64,
-        now: u64,
-        out: &mut StepOut,
-    ) -> Result<GemSpool<D>, Ended<D>>
-        requires now { now < 2 ^ 62 }
-        requires room { array_vec_len out.old.line ≤ 514 }
-        requires ready { IsReady spool.spool (node_of self.old) }
-        ensures ready { IfOk result (λ g. IsReady g.spool (node_of self.new)) }
-        ensures ends { (t : Step EquipmentView Happening) → node_of self.old ≡ asked_node t.next.node
-            → unload_number (most_transmitted t.next.node.own.tables) t.next.node.own.ledger ≡ Some number
-            → IsAt D.Disk t t.next.node out.old spool
-            → EndsSo D.Disk now t (node_of self.new) out.new result }
-        ensures asks { HasAsked D.Disk spool.spool.disk (record { calls = 1; bytes = 0 }) result }
-        ensures calls { (st : Standing) → count_of spool.spool ≡ count_in st → 0 < length st.list
-            → (bytes : List ℕ) → HasCalled D.Disk disk_in spool.spool.disk bytes st (ReadOldest ∷ []) result }
-        ensures breaks { (s : EquipmentView) → (st : Standing) → Stands D.Disk spool.spool st → 0 < length st.list
-            → st.slots ≡ s.node.own.ledger.slots → IsTold (D.told spool.spool.disk) → (front : List Happening)
-            → out.old.notes ≡ printed front
-            → BreaksBy D.Disk disk_in spool.spool.disk st.mark (losses_of s st [] (ReadOldest ∷ []) front) st.mark
-            out.new.notes result }
-        ensures disk { HandsBack D.Disk spool.spool.disk result }
-    {
-        let mut spool = spool;
-        match spool.oldest_message(alloc) {
-            Ok(kept) => {
-                let report = report_of(kept);
-                self.end_with(alloc, spool, Some((number, report)), now, out)
-            }
-            Err(Unread::Empty) => self.end_with(alloc, spool, None, now, out),
-            Err(Unread::Failed) => Err(Ended::DiskFailed(spool.retire())),
-            Err(Unread::NoMemory) => Err(Ended::NoMemory(spool.retire())),
-        }
-    }
-
-    // The last parts, with what was read.
-    fn end_with<D: Disk>(
-        &mut self,
-        alloc: Global,
-        spool: GemSpool<D>,
-        oldest: Option<(u64, Report)>,
-        now: u64,
-        out: &mut StepOut,
-    ) -> Result<GemSpool<D>, Ended<D>>
-        requires now { now < 2 ^ 62 }
-        requires room { array_vec_len out.old.line ≤ 514 }
-        requires ready { IsReady spool.spool (node_of self.old) }
-        requires can { IsSendable oldest }
-        ensures ready { IfOk result (λ g. IsReady g.spool (node_of self.new)) }
-        ensures ends { DoesLast
-            D.Disk
-            spool
-            (taking oldest ∷ end_of_spooling ∷ offer now ∷ [])
-            (node_of self.old)
-            out.old
-            (node_of self.new)
-            out.new
-            result }
-    {
-        match self.do_last(alloc, oldest, now, out) {
-            Ok(()) => Ok(spool),
-            Err(Stop::NoMemory) => Err(Ended::NoMemory(spool.retire())),
-            Err(Stop::NumbersSpent) => Err(Ended::NumbersSpent(spool.retire())),
-            Err(Stop::DiskFailed) => Err(Ended::DiskFailed(spool.retire())),
-        }
+// The last parts, with what was read.
+fn end_with<D: Disk>(
+    tool: &mut Tool,
+    alloc: Global,
+    spool: GemSpool<D>,
+    oldest: Option<(u64, Report)>,
+    now: u64,
+    out: &mut StepOut,
+) -> Result<GemSpool<D>, Ended<D>>
+    requires now { now < 2 ^ 62 }
+    requires room { array_vec_len out.old.line ≤ 514 }
+    requires ready { IsReady spool.spool (node_of tool.old) }
+    requires can { IsSendable oldest }
+    ensures ready { IfOk result (λ g. IsReady g.spool (node_of tool.new)) }
+    ensures ends { DoesLast
+        D.Disk
+        spool
+        (taking oldest ∷ end_of_spooling ∷ offer now ∷ [])
+        (node_of tool.old)
+        out.old
+        (node_of tool.new)
+        out.new
+        result }
+{
+    match tool.do_last(alloc, oldest, now, out) {
+        Ok(()) => Ok(spool),
+        Err(Stop::NoMemory) => Err(Ended::NoMemory(spool.retire())),
+        Err(Stop::NumbersSpent) => Err(Ended::NumbersSpent(spool.retire())),
+        Err(Stop::DiskFailed) => Err(Ended::DiskFailed(spool.retire())),
     }
 }
 

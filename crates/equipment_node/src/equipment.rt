@@ -7,31 +7,31 @@ ghost use Rattle.trace_log.specs.Commands.{ToolCommandFits};
 ghost use Rattle.message_end.specs.Ends.{IsEmpty, MayTake, input_of};
 ghost use Rattle.equipment_tables.specs.Plan.{EquipmentPlanFits};
 ghost use Rattle.equipment_node.specs.Amid.{IsReady};
-ghost use Rattle.equipment_node.specs.Breaking.{KeepsMarked};
+ghost use Rattle.spool_works.specs.Breaking.{KeepsMarked};
 ghost use Rattle.equipment_node.specs.DiskCalls.{CallsInStep, disk_held};
 ghost use Rattle.equipment_node.specs.HandedBack.{SeatHandsBack, StartHandsBack, StepHandsBack};
 ghost use Rattle.equipment_node.specs.Held.{Begins, FindsFile, IsIn, Moves, starting_by, view_in};
-ghost use Rattle.equipment_node.specs.Node.{node_of};
+ghost use Rattle.tool_core.specs.Node.{node_of};
 ghost use Rattle.equipment_node.specs.SpentSteps.{IsSpentByCause, IsStartSpentByCause};
 ghost use Rattle.equipment_node.specs.StartCalls.{CallsInStart, MovesMark, StartMoves};
-ghost use Rattle.equipment_node.specs.StartOver.{BeginsOver, IsFresh, IsStartNoted, StartAsks, StartsOver, StartsWith, new_node};
-ghost use Rattle.equipment_node.specs.Step.{deadline_of};
+ghost use Rattle.equipment_node.specs.StartOver.{BeginsOver, IsFresh, StartAsks, StartsOver, StartsWith};
+ghost use Rattle.tool_core.specs.Starting.{IsStartNoted, new_node};
+ghost use Rattle.tool_step.specs.Step.{deadline_of};
 
-use crate::disk_step::{Ended, MORE};
-use crate::kind::Kind;
-use crate::own::{Own, Tool};
+use crate::disk_step::step_on;
 use disk_base::{Disk, MemDisk};
 use equipment_tables::EquipmentPlan;
 use gem_spool::GemSpool;
-use gl_base::{NoMemory, Side};
+use gl_base::NoMemory;
 use line_end::Phase;
-use message_end::{MessageEnd, least};
 use message_flow::{NodeInput, StepOut};
 use spool_ledger::Ledger;
 use spool_slots::{NotSpool, Raw, Recovering, Spent};
+use spool_works::Ended;
 use std::alloc::Global;
 use std::marker::Model;
-use trace_log::{ToolCommand, equipment_started_note};
+use tool_core::Tool;
+use trace_log::ToolCommand;
 
 /// The equipment: a GEM tool at its end of the line, with the spool on its disk. All else that it keeps is on the heap,
 /// so that it is cheap to move.
@@ -42,10 +42,10 @@ pub struct Equipment<D: Disk> {
 }
 
 impl<D: Disk> Model for Equipment<D> {
-    ghost use Rattle.equipment_node.specs.contracts.own.Tool as tool_code;
+    ghost use Rattle.tool_core.specs.contracts.own.Tool as tool_code;
     ghost use Rattle.equipment_node.specs.Amid.{IsReady};
     ghost use Rattle.equipment_node.specs.Held.{Held, held_code};
-    ghost use Rattle.equipment_node.specs.Node.{node_of};
+    ghost use Rattle.tool_core.specs.Node.{node_of};
 
     ghost Value = { Held D };
 
@@ -152,7 +152,7 @@ impl<D: Disk> Equipment<D> {
         ensures disk { StepHandsBack D.Disk self.spool.spool.disk result }
     {
         let Equipment { mut tool, spool } = self;
-        match tool.step_on(alloc, spool, input, now, out) {
+        match step_on(&mut tool, alloc, spool, input, now, out) {
             Ok(spool) => Ok(Equipment { tool, spool }),
             Err(ended) => Err(ended),
         }
@@ -260,74 +260,4 @@ fn start_with<D: Disk>(
         Ok(tool) => Ok(Seat { tool, spool }),
         Err(NoMemory) => Err(Ended::NoMemory(spool.retire())),
     }
-}
-
-impl Tool {
-    /// A start, which is noted, with what is known of the spool and the system bytes from a base on.
-    pub(crate) fn start_on(
-        alloc: Global,
-        plan: &EquipmentPlan,
-        ledger: Ledger,
-        base: u32,
-        out: &mut StepOut,
-    ) -> Result<Box<Tool>, NoMemory>
-        requires plan { EquipmentPlanFits plan.now }
-        requires numbers { base + 4096 ≤ 2 ^ 32 }
-        ensures node { IfOk result (λ tool. node_of tool.value ≡ new_node plan.now ledger base) }
-        ensures noted { IfOk result (λ tool. IsStartNoted ledger.len base out.old out.new) }
-        ensures line { out.new.line ≡ out.old.line }
-    {
-        let len = u64::from(ledger.len());
-        let tool = boxed(alloc, Tool::start(alloc, plan, ledger, base)?)?;
-        note_start(alloc, len, u64::from(base), out)?;
-        Ok(tool)
-    }
-
-    // As it starts.
-    fn start(
-        alloc: Global,
-        plan: &EquipmentPlan,
-        ledger: Ledger,
-        base: u32,
-    ) -> Result<Tool, NoMemory>
-        requires plan { EquipmentPlanFits plan.now }
-        requires numbers { base + 4096 ≤ 2 ^ 32 }
-        ensures { IfOk result (λ tool. node_of tool ≡ new_node plan.now ledger base) }
-    {
-        let core: MessageEnd<Kind> = MessageEnd::new(
-            alloc,
-            Side::Equipment,
-            &plan.line,
-            base,
-            u64::from(MORE),
-        )?;
-        let copy = plan.copy(alloc)?;
-        let own = Own::new(alloc, copy, ledger)?;
-        Ok(Tool { core, own })
-    }
-
-    /// When it next acts by itself.
-    pub(crate) fn deadline(&self) -> Option<u64>
-        ensures { result ≡ deadline_of (node_of self.now) }
-    {
-        least(self.core.deadline(), self.own.comms.deadline())
-    }
-}
-
-// Puts what the equipment keeps on the heap.
-fn boxed(alloc: Global, tool: Tool) -> Result<Box<Tool>, NoMemory>
-    ensures { IfOk result (λ boxed. boxed.value ≡ tool) }
-{
-    match Box::new(alloc, tool) {
-        Ok(boxed) => Ok(boxed),
-        Err(_failed) => Err(NoMemory),
-    }
-}
-
-// Notes a start that finds so many messages, with this first number.
-fn note_start(alloc: Global, len: u64, base: u64, out: &mut StepOut) -> Result<(), NoMemory>
-    ensures noted { IfOk result (λ done. IsStartNoted len base out.old out.new) }
-    ensures line { out.new.line ≡ out.old.line }
-{
-    out.notes.push(equipment_started_note(alloc, len, base)?)
 }

@@ -7,19 +7,18 @@ ghost use Rattle.disk_base.specs.declared.cut.CutChoice.{CutChoice};
 ghost use Rattle.equipment_tables.specs.Plan.{EquipmentPlanFits};
 ghost use Rattle.trace_log.specs.Commands.{ToolCommandFits};
 ghost use Rattle.message_end.specs.Ends.{EndsBy, IsEmpty, IsNotStopped, Leaves, MayTake, input_of};
-ghost use Rattle.equipment_node.specs.Breaking.{KeepsMarked};
-ghost use Rattle.equipment_node.specs.Disk.{stops};
-ghost use Rattle.equipment_node.specs.End.{machine as equipment_machine};
-ghost use Rattle.equipment_node.specs.Equipment.{act};
+ghost use Rattle.spool_works.specs.Breaking.{KeepsMarked};
+ghost use Rattle.tool_step.specs.Disk.{stops};
+ghost use Rattle.tool_step.specs.End.{machine as equipment_machine};
+ghost use Rattle.tool_step.specs.Equipment.{act};
 ghost use Rattle.equipment_node.specs.InMemory.{HasPower, IsArmed, IsFileOf, IsLost, IsWhole, Restarts, anew_over, disk_of};
 ghost use Rattle.equipment_node.specs.InMemory.{left_behind, lost_by, planned_in, starts_over, stop_told, with_stop};
-ghost use Rattle.equipment_node.specs.Losses.{losses};
-ghost use Rattle.equipment_node.specs.Node.{node_of};
+ghost use Rattle.tool_step.specs.Losses.{losses};
+ghost use Rattle.tool_core.specs.Node.{node_of};
 ghost use Rattle.equipment_node.specs.Stepping.{stop_by, view_of};
 
-use crate::disk_step::Ended;
+use crate::disk_step::step_on;
 use crate::equipment::{Seat, start_over};
-use crate::own::{Planned, Tool};
 use disk_base::{CutChoice, Disk, MemDisk};
 use equipment_tables::EquipmentPlan;
 use gem_spool::GemSpool;
@@ -27,7 +26,9 @@ use line_end::Phase;
 use message_end::{End, Stop};
 use message_flow::{NodeInput, StepOut};
 use spool_slots::Raw;
+use spool_works::Ended;
 use std::alloc::Global;
+use tool_core::{Planned, Tool};
 use trace_log::ToolCommand;
 
 /// For how many calls there is room in the list of a disk in memory: for 65,536, and for a few more, so that a disk
@@ -63,15 +64,15 @@ impl End for EquipmentEnd {
 
     type Store = GemSpool<MemDisk>;
 
-    ghost use Rattle.equipment_node.specs.End.{machine};
-    ghost use Rattle.equipment_node.specs.Equipment.{EquipmentView, starts};
+    ghost use Rattle.tool_step.specs.End.{machine};
+    ghost use Rattle.tool_step.specs.Equipment.{EquipmentView, starts};
     ghost use Rattle.equipment_node.specs.LeftAnew.{settled_over};
     ghost use Rattle.equipment_node.specs.InMemory.{Holds, IsWhole, anew_over, planned_in};
-    ghost use Rattle.equipment_node.specs.Laws.{DidOf};
-    ghost use Rattle.equipment_node.specs.LawfulLosses.{equipment_lawful};
+    ghost use Rattle.tool_law.specs.Laws.{DidOf};
+    ghost use Rattle.tool_law.proofs.LawfulLosses.{equipment_lawful};
     ghost use Rattle.std.specs.Prelude.{is_some};
-    ghost use Rattle.equipment_node.specs.Node.{node_of};
-    ghost use Rattle.equipment_node.specs.Step.{deadline_of, end_plan};
+    ghost use Rattle.tool_core.specs.Node.{node_of};
+    ghost use Rattle.tool_step.specs.Step.{deadline_of, end_plan};
     ghost use Rattle.equipment_node.specs.Stepping.{view_of};
     ghost use Rattle.equipment_tables.specs.Plan.{EquipmentPlanFits};
     ghost use Rattle.gem_spool.specs.Standing.{standing_of};
@@ -290,7 +291,7 @@ impl EquipmentEnd {
             self.new.spool
             self.new.lost }
     {
-        match self.tool.step_on(alloc, spool, input, now, out) {
+        match step_on(&mut self.tool, alloc, spool, input, now, out) {
             Ok(spool) => {
                 self.spool = Some(spool);
                 Ok(())

@@ -10,7 +10,7 @@ use Rattle.message_end.specs.Core.{Step, at_first}
 use Rattle.message_end.specs.Core.Went.{Goes, Spent}
 use Rattle.equipment_tables.specs.declared.plan.EquipmentPlan.{EquipmentPlan}
 use Rattle.equipment_tables.specs.declared.plan.Plans.{Plans}
-use Rattle.equipment_node.specs.Equipment.{EquipmentView, is_marked_out, started_on, starts}
+use Rattle.tool_step.specs.Equipment.{EquipmentView, is_marked_out, started_on, starts}
 use Rattle.end_run.specs.Counts.{Counts}
 use Rattle.end_run.specs.Script.{ScriptLine}
 use Rattle.end_run.specs.declared.ending.Ending.{Ending}

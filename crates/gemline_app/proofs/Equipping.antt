@@ -18,16 +18,17 @@ use Rattle.message_end.specs.Core.{Step}
 use Rattle.message_end.specs.Ends.{Input, Leaves, Uses, none_asked}
 use Rattle.message_end.specs.Parts.{Node}
 use Rattle.equipment_tables.specs.declared.plan.EquipmentPlan.{EquipmentPlan}
-use Rattle.equipment_node.specs.declared.disk_step.Ended.{Ended}
-use Rattle.equipment_node.specs.declared.disk_step.Ended.TheVariants as ended
+use Rattle.spool_works.specs.declared.ended.Ended.{Ended}
+use Rattle.spool_works.specs.declared.ended.Ended.TheVariants as ended
 use Rattle.equipment_node.specs.declared.equipment.Starting.{Starting}
 use Rattle.equipment_node.specs.declared.equipment.Starting.TheVariants as starting
-use Rattle.equipment_node.specs.declared.kind.Kind.{Kind}
-use Rattle.equipment_node.specs.Disk.{standing_in, stops}
-use Rattle.equipment_node.specs.Equipment.{EquipmentView, act}
-use Rattle.equipment_node.specs.HandedBack.{HasFailed, IsEnded, IsKept, StartHandsBack}
+use Rattle.tool_step.specs.declared.kind.Kind.{Kind}
+use Rattle.tool_step.specs.Disk.{standing_in, stops}
+use Rattle.tool_step.specs.Equipment.{EquipmentView, act}
+use Rattle.spool_works.specs.HandedBack.{HasFailed, IsEnded, IsKept}
+use Rattle.equipment_node.specs.HandedBack.{StartHandsBack}
 use Rattle.equipment_node.specs.Held.{Begins, FindsFile, Held, view_in}
-use Rattle.equipment_node.specs.Own.{OwnView}
+use Rattle.tool_step.specs.Own.{OwnView}
 use Rattle.equipment_node.specs.Stepping.{HasLeft, Steps, stop_by}
 use Rattle.end_run.specs.Counts.{Counted, Counts, Device, DeviceFails, StepCounts, counted_by}
 use Rattle.end_run.specs.Outcome.{ComesOver, RunsOver}

@@ -14,7 +14,7 @@ use Rattle.end_pair.specs.declared.answers.WorldStep.{WorldStep}
 use Rattle.end_pair.specs.declared.answers.WorldStep.TheVariants as went
 use Rattle.end_pair.specs.Laws.{EndsOneWay}
 use Rattle.end_pair.proofs.FourWays.{carried-out, four-ways}
-use Rattle.equipment_node.specs.End as equipment
+use Rattle.tool_step.specs.End as equipment
 use Rattle.host_node.specs.Host as host
 use Rattle.line_world.specs.Run.{Runs, equipment_start, host_start, log_of, went_of}
 use Rattle.trace_log.specs.Log.{Entry}

@@ -14,12 +14,12 @@ use Rattle.message_end.specs.Core.{Step}
 use Rattle.message_end.specs.Core.Went.{Goes}
 use Rattle.message_end.specs.Ends.{Asked, Machine}
 use Rattle.equipment_tables.specs.declared.plan.EquipmentPlan.{EquipmentPlan}
-use Rattle.equipment_node.specs.Disk.{standing_in}
-use Rattle.equipment_node.specs.End.{machine}
-use Rattle.equipment_node.specs.Equipment.{EquipmentView, is_marked_out, starts}
+use Rattle.tool_step.specs.Disk.{standing_in}
+use Rattle.tool_step.specs.End.{machine}
+use Rattle.tool_step.specs.Equipment.{EquipmentView, is_marked_out, starts}
 use Rattle.equipment_node.specs.Held.{HasMark, IsUntouched as HasUntouched}
-use Rattle.equipment_node.specs.Left.{Holds, Leaves}
-use Rattle.equipment_node.specs.Step.{deadline_of}
+use Rattle.tool_step.specs.Left.{Holds, Leaves}
+use Rattle.tool_step.specs.Step.{deadline_of}
 use Rattle.end_run.specs.Counts.{Counted, Counts, counted_by}
 use Rattle.end_run.specs.Outcome.{RunsOver}
 use Rattle.end_run.specs.Pieces.{Piece}

@@ -21,7 +21,7 @@ use Rattle.trace_log.specs.Log.{Entry, Happening}
 use Rattle.message_end.specs.Core.{Step}
 use Rattle.message_end.specs.Core.Went.{Goes}
 use Rattle.equipment_tables.specs.declared.plan.EquipmentPlan.{EquipmentPlan}
-use Rattle.equipment_node.specs.Equipment.{EquipmentView, is_marked_out, starts}
+use Rattle.tool_step.specs.Equipment.{EquipmentView, is_marked_out, starts}
 use Rattle.end_run.specs.Pieces.{Piece as RunPiece}
 use Rattle.end_run.specs.Script.{ScriptLine}
 use Rattle.end_run.specs.declared.ending.Ending.{Ending as RunEnding}

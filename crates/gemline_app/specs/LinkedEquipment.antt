@@ -6,14 +6,14 @@ use Rattle.spool_slots.specs.declared.states.Spent.{Spent}
 use Rattle.trace_log.specs.declared.commands.ToolCommand.{ToolCommand}
 use Rattle.message_end.specs.declared.end.Stop.{Stop}
 use Rattle.message_end.specs.Ends.{Input}
-use Rattle.equipment_node.specs.declared.disk_step.Ended.{Ended}
-use Rattle.equipment_node.specs.declared.disk_step.Ended.TheVariants as ended
+use Rattle.spool_works.specs.declared.ended.Ended.{Ended}
+use Rattle.spool_works.specs.declared.ended.Ended.TheVariants as ended
 use Rattle.equipment_node.specs.declared.equipment.Starting.{Starting}
 use Rattle.equipment_node.specs.declared.equipment.Starting.TheVariants as starting
-use Rattle.equipment_node.specs.Equipment.{EquipmentView, started_on}
+use Rattle.tool_step.specs.Equipment.{EquipmentView, started_on}
 use Rattle.equipment_node.specs.Held.{Held, IsIn, view_in}
 use Rattle.equipment_node.specs.Stepping.{HasLeft}
-use Rattle.equipment_node.specs.WorkedSpool.{plan_with}
+use Rattle.tool_step.specs.WorkedSpool.{plan_with}
 use Rattle.end_run.specs.Counts.{Device}
 use Rattle.gemline_app.specs.declared.equipment.LinkedEquipment.{LinkedEquipment}
 use Rattle.gemline_app.specs.declared.outcome.Outcome.{Outcome}

@@ -10,7 +10,7 @@ ghost use Rattle.trace_log.specs.Log.{Happening};
 ghost use Rattle.message_end.specs.Core.{Step};
 ghost use Rattle.message_end.specs.Ends.{IsEmpty, Leaves, MayTake, Uses, input_of, none_asked, printed};
 ghost use Rattle.equipment_tables.specs.Plan.{EquipmentPlanFits};
-ghost use Rattle.equipment_node.specs.Equipment.{EquipmentView};
+ghost use Rattle.tool_step.specs.Equipment.{EquipmentView};
 ghost use Rattle.equipment_node.specs.Held.{IsIn, view_in};
 ghost use Rattle.equipment_node.specs.Stepping.{stop_by};
 ghost use Rattle.end_run.specs.Counts.{Counts, StepCounts, counted};
@@ -49,7 +49,7 @@ impl<D: Disk + Drop> LinkedEnd for LinkedEquipment<D> {
 
     ghost use Rattle.message_end.specs.Ends.{none_asked};
     ghost use Rattle.trace_log.specs.Commands.{ToolCommandFits};
-    ghost use Rattle.equipment_node.specs.Equipment.{EquipmentView};
+    ghost use Rattle.tool_step.specs.Equipment.{EquipmentView};
     ghost use Rattle.end_run.specs.Sides.{told_equipment};
     ghost use Rattle.gemline_app.specs.Equipment.{equipment_due, linked_machine};
     ghost use Rattle.gemline_app.specs.LinkedEquipment.{Fixed, HoldsOne, IsKnown, LeavesDevice, device_by, disk_in};

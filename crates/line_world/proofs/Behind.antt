@@ -2,7 +2,7 @@
 use Rattle.std.proofs.Common.{List, [], ◌∷◌, ◌++◌, sym, subst}
 use Rattle.delivery.specs.Laws.{Deliver, EndsDeliver}
 use Rattle.end_pair.specs.Laws.{AreNoNotes, IsOfMoves}
-use Rattle.equipment_node.specs.Laws.{DidOf}
+use Rattle.tool_law.specs.Laws.{DidOf}
 use Rattle.equipment_tables.specs.Plan.{PlansFit}
 use Rattle.equipment_tables.specs.declared.plan.Plans.{Plans}
 use Rattle.message_end.specs.Log as moves

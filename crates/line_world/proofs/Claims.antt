@@ -3,10 +3,11 @@ use Rattle.std.proofs.Common.{◌<◌, List, [], refl, sym, subst, arith}
 use Rattle.delivery.specs.Laws.{EndsDeliver}
 use Rattle.end_pair.specs.Laws.{IsOfMoves}
 use Rattle.end_pair.specs.Noted.{AreOfCourses, noted_by}
-use Rattle.equipment_node.specs.End as equipment
-use Rattle.equipment_node.specs.Laws.{DidOf, ReportsAreOfTheirEvents}
-use Rattle.equipment_node.specs.Reported.{Reported}
-use Rattle.equipment_node.specs.SpoolKept.{SpoolIsKept, TriesAreInTurn, policy_of}
+use Rattle.tool_step.specs.End as equipment
+use Rattle.tool_law.specs.Laws.{DidOf}
+use Rattle.tool_reports.specs.Laws.{ReportsAreOfTheirEvents}
+use Rattle.tool_reports.specs.Reported.{Reported}
+use Rattle.tool_spool.specs.SpoolKept.{SpoolIsKept, TriesAreInTurn, policy_of}
 use Rattle.equipment_tables.specs.Plan.{PlansFit}
 use Rattle.equipment_tables.specs.declared.plan.Plans.{Plans}
 use Rattle.gl_base.specs.declared.side.Side.TheVariants.{Equipment}

@@ -5,10 +5,12 @@ use Rattle.end_pair.specs.Run as pair
 use Rattle.end_pair.specs.Run.{HandsBack}
 use Rattle.end_pair.specs.World.{World}
 use Rattle.end_pair.specs.declared.answers.RunEnd.{RunEnd}
-use Rattle.equipment_node.specs.End as equipment
-use Rattle.equipment_node.specs.Equipment.{first_in, starts}
-use Rattle.equipment_node.specs.InMemory.{Holds, IsMarkedBy}
-use Rattle.equipment_node.specs.Sound.{AllCanBeSent}
+use Rattle.tool_step.specs.End as equipment
+use Rattle.spool_works.specs.Found.{first_in}
+use Rattle.tool_step.specs.Equipment.{starts}
+use Rattle.equipment_node.specs.InMemory.{Holds}
+use Rattle.spool_works.specs.Marked.{IsMarkedBy}
+use Rattle.tool_law.specs.Sound.{AllCanBeSent}
 use Rattle.equipment_tables.specs.declared.plan.EquipmentPlan.{EquipmentPlan}
 use Rattle.equipment_tables.specs.declared.plan.Plans.{Plans}
 use Rattle.gem_spool.specs.declared.spool.GemSpool.{GemSpool}

@@ -5,7 +5,7 @@ use Rattle.end_pair.specs.declared.answers.RunEnd.{RunEnd}
 use Rattle.end_pair.specs.declared.answers.RunEnd.TheVariants as end
 use Rattle.end_pair.specs.declared.answers.WorldStep.{WorldStep}
 use Rattle.end_pair.specs.declared.answers.WorldStep.TheVariants as went
-use Rattle.equipment_node.specs.End as equipment
+use Rattle.tool_step.specs.End as equipment
 use Rattle.equipment_tables.specs.declared.plan.Plans.{Plans}
 use Rattle.gl_base.specs.Sending.{WroteText}
 use Rattle.gl_base.specs.Told.{SinkTold}

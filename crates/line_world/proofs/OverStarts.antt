@@ -3,7 +3,7 @@
 use Rattle.std.proofs.Common.{◌≡◌, ◌⊎◌, ◌&&◌, ◌||◌, ◌==◌, ◌%◌, nat_eq, not, zero, suc, ℕ, Bool, true, false, List, [], ◌∷◌, ◌++◌, drop, length, option_to_list, Option, Some, None, if◌then◌else◌, inl, inr, refl, sym, ap, subst, ◌∙◌, arith}
 use Rattle.std.specs.List.{list_any}
 use Rattle.std.proofs.lemmas.Bool.Decides.{nat_tests}
-use Rattle.equipment_node.specs.Reported.{Happened, HoldsItsValues, IsOfEvent, Reported, events_in, is_event_report, is_live, is_of, past_in, tries_in}
+use Rattle.tool_reports.specs.Reported.{Happened, HoldsItsValues, IsOfEvent, Reported, events_in, is_event_report, is_live, is_of, past_in, tries_in}
 use Rattle.equipment_tables.specs.declared.plan.EquipmentPlan.{EquipmentPlan}
 use Rattle.message_end.specs.Own.{Has}
 use Rattle.message_flow.specs.Message.{is_primary}

@@ -1,7 +1,7 @@
 -- What is said of a safe log holds at each of its entries.
 use Rattle.std.proofs.Common.{List, [], ◌∷◌, ◌++◌}
 use Rattle.end_pair.specs.Noted.{noted_by}
-use Rattle.equipment_node.specs.Reported.{Reported}
+use Rattle.tool_reports.specs.Reported.{Reported}
 use Rattle.equipment_tables.specs.declared.plan.EquipmentPlan.{EquipmentPlan}
 use Rattle.gl_base.specs.declared.side.Side.TheVariants.{Equipment, Host}
 use Rattle.spool_delivery.specs.Laws.{IsSpoolTaken}

@@ -2,8 +2,8 @@
 use Rattle.std.proofs.Common.{◌≡◌, ◌++◌, List, [], ◌∷◌, refl, ap, subst, sym, ◌∙◌}
 use Rattle.end_pair.specs.Laws.{AreNoNotes, IsOfMoves}
 use Rattle.end_pair.specs.Noted.{noted_by}
-use Rattle.equipment_node.specs.Laws.{DidOf}
-use Rattle.equipment_node.specs.SpoolKept.{TriesAreInTurn, policy_of}
+use Rattle.tool_law.specs.Laws.{DidOf}
+use Rattle.tool_spool.specs.SpoolKept.{TriesAreInTurn, policy_of}
 use Rattle.equipment_tables.specs.Plan.{PlansFit}
 use Rattle.equipment_tables.specs.declared.plan.Plans.{Plans}
 use Rattle.gl_base.specs.declared.side.Side.TheVariants.{Equipment, Host}

@@ -2,11 +2,11 @@
 use Rattle.std.proofs.Common.{◌++◌, ℕ, List, [], ◌∷◌, ap, subst, sym, ◌∙◌, append_assoc}
 use Rattle.end_pair.specs.Laws.{AreStarts, AreSteps, HasNoStart, IsNoStart, IsStart}
 use Rattle.end_pair.specs.Laws.AreSteps.{cut_short, ends_start, no_moves, one_step, world_says}
-use Rattle.equipment_node.specs.Equipment.{EquipmentView}
-use Rattle.equipment_node.specs.Laws.{DidOf}
-use Rattle.equipment_node.specs.SpoolKept.{TriesAreInTurn}
-use Rattle.equipment_node.specs.Tried.{AreTried}
-use Rattle.equipment_node.specs.TriedDoings.{may-say, world-free}
+use Rattle.tool_step.specs.Equipment.{EquipmentView}
+use Rattle.tool_law.specs.Laws.{DidOf}
+use Rattle.tool_spool.specs.SpoolKept.{TriesAreInTurn}
+use Rattle.tool_law.specs.Tried.{AreTried}
+use Rattle.tool_law.proofs.TriedDoings.{may-say, world-free}
 use Rattle.equipment_tables.specs.declared.plan.Plans.{Plans}
 use Rattle.gl_base.specs.declared.side.Side.{Side}
 use Rattle.gl_base.specs.declared.side.Side.TheVariants.{Equipment, Host}

@@ -1,6 +1,6 @@
 -- What the reports of the equipment tell of, over all its starts.
 use Rattle.std.specs.Prelude.{◌≡◌, true, ℕ, List, [], ◌∷◌, Option, Some, None}
-use Rattle.equipment_node.specs.Reported.{Happened, IsTextOf, is_event_report, is_of, item_of, past_in, was_enabled}
+use Rattle.tool_reports.specs.Reported.{Happened, IsTextOf, is_event_report, is_of, item_of, past_in, was_enabled}
 use Rattle.equipment_tables.specs.declared.plan.EquipmentPlan.{EquipmentPlan}
 use Rattle.message_end.specs.Own.{Has}
 use Rattle.trace_log.specs.Log.{Happening, Past}

@@ -5,8 +5,8 @@ use Rattle.end_pair.specs.Run as pair
 use Rattle.end_pair.specs.World.{Piece, World}
 use Rattle.end_pair.specs.declared.answers.RunEnd.{RunEnd}
 use Rattle.end_pair.specs.declared.answers.WorldStep.{WorldStep}
-use Rattle.equipment_node.specs.End as equipment
-use Rattle.equipment_node.specs.Equipment as equipment_states
+use Rattle.tool_step.specs.End as equipment
+use Rattle.tool_step.specs.Equipment as equipment_states
 use Rattle.equipment_node.specs.declared.in_memory.EquipmentEnd.{EquipmentEnd}
 use Rattle.equipment_tables.specs.declared.plan.Plans.{Plans}
 use Rattle.gl_base.specs.Told.{SinkTold}

@@ -3,9 +3,9 @@ use Rattle.std.specs.Prelude.{ℕ, List, ◌++◌}
 use Rattle.delivery.specs.Order.{AreInOrder}
 use Rattle.end_pair.specs.Laws.{IsOfMoves}
 use Rattle.end_pair.specs.Noted.{noted_by}
-use Rattle.equipment_node.specs.Laws.{DidOf}
-use Rattle.equipment_node.specs.Reported.{Reported}
-use Rattle.equipment_node.specs.SpoolKept.{policy_of}
+use Rattle.tool_law.specs.Laws.{DidOf}
+use Rattle.tool_reports.specs.Reported.{Reported}
+use Rattle.tool_spool.specs.SpoolKept.{policy_of}
 use Rattle.equipment_tables.specs.declared.plan.Plans.{Plans}
 use Rattle.gl_base.specs.declared.side.Side.TheVariants as side
 use Rattle.host_node.specs.Host as host

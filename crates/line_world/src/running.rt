@@ -10,7 +10,7 @@ ghost use Rattle.line_world.specs.Safe.{IsSafe};
 use crate::disk::empty_spool;
 use delivery::ends_deliver;
 use end_pair::{RunEnd, World, entries_are_of_courses, runs_are_moves};
-use equipment_node::{EquipmentEnd, reports_are_of_their_events, spool_is_kept};
+use equipment_node::EquipmentEnd;
 use equipment_tables::Plans;
 use gl_base::Sink;
 use host_node::Host;
@@ -18,6 +18,8 @@ use line_schedule::Schedule;
 use message_end::End;
 use spool_delivery::spool_is_taken_in_order;
 use std::alloc::Global;
+use tool_reports::reports_are_of_their_events;
+use tool_spool::spool_is_kept;
 
 /// Carries out a schedule on the line between a tool and its host, losses of the tool's power included, and writes the
 /// trace of what both note. The log of that trace is safe, up to the first slip: each message delivered was sent by the

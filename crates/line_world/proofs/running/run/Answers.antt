@@ -4,8 +4,8 @@
 use Rattle.std.proofs.Common.{[], refl, subst}
 use Rattle.end_pair.specs.Laws.{IsOfMoves}
 use Rattle.end_pair.specs.Run as pair
-use Rattle.equipment_node.specs.End as equipment
-use Rattle.equipment_node.specs.Laws.{DidOf}
+use Rattle.tool_step.specs.End as equipment
+use Rattle.tool_law.specs.Laws.{DidOf}
 use Rattle.gl_base.proofs.Appending.{part_before, wrote_nothing}
 use Rattle.host_node.specs.Host as host
 use Rattle.message_end.specs.Core.{Step}

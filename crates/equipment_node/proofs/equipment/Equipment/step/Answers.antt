@@ -1,11 +1,11 @@
 use Rattle.std.proofs.Common.{ap, subst, sym}
 use Rattle.std.specs.Prelude.{Ok, Err}
 use Rattle.message_end.specs.Ends.{input_of}
-use Rattle.equipment_node.specs.declared.own.Tool.{Tool}
+use Rattle.tool_core.specs.declared.own.Tool.{Tool}
 use Rattle.equipment_node.specs.DiskCalls.{CallsInStep, disk_held}
-use Rattle.equipment_node.specs.HandedBack.{IsEnded, IsKept}
+use Rattle.spool_works.specs.HandedBack.{IsEnded, IsKept}
 use Rattle.equipment_node.specs.Held.{HasMoved, IsIn, Moves, view_in}
-use Rattle.equipment_node.specs.Node.{node_of}
+use Rattle.tool_core.specs.Node.{node_of}
 use Rattle.equipment_node.proofs.Seated.{any-node, step-gone, step-on}
 use Rattle.equipment_node.proofs.SpentMoves.{moved-by-cause}
 use Rattle.equipment_node.proofs.equipment.Equipment.step.Goals as goal
@@ -19,18 +19,18 @@ returns-in-Ok-clause-moves g c in_state =
     subst
     (λ h.
     HasMoved g.D.Disk h (input_of c.args.input) c.args.now c.step_on.new.out
-    (record { tool = c.step_on.new.self; spool = c.in-Ok.spool }))
+    (record { tool = c.step_on.new.tool; spool = c.in-Ok.spool }))
     c.self.view_is
     (record {
       gone =
           step-gone g.D.Disk
           (view_in g.D.Disk (record { tool = c.self.inside.tool.value; spool = c.self.inside.spool }))
-          (input_of c.args.input) c.args.now (node_of c.step_on.new.self) c.step_on.new.out c.in-Ok.spool is;
+          (input_of c.args.input) c.args.now (node_of c.step_on.new.tool) c.step_on.new.out c.in-Ok.spool is;
       in_state = record {
         on =
             step-on g.D.Disk
             (view_in g.D.Disk (record { tool = c.self.inside.tool.value; spool = c.self.inside.spool }))
-            (input_of c.args.input) c.args.now (node_of c.step_on.new.self) c.step_on.new.out c.in-Ok.spool is;
+            (input_of c.args.input) c.args.now (node_of c.step_on.new.tool) c.step_on.new.out c.in-Ok.spool is;
         told = is.told;
       };
     })
@@ -43,7 +43,7 @@ returns-in-Err-clause-moves g c in_state =
     c.self.view_is
     (any-node g.D.Disk
     (view_in g.D.Disk (record { tool = c.self.inside.tool.value; spool = c.self.inside.spool }))
-    (input_of c.args.input) c.args.now (node_of c.step_on.new.self) (node_of c.self.inside.tool.value)
+    (input_of c.args.input) c.args.now (node_of c.step_on.new.tool) (node_of c.self.inside.tool.value)
     c.step_on.new.out c.in-Err.ended
     (c.in-Err.ensures.steps
     (view_in g.D.Disk (record { tool = c.self.inside.tool.value; spool = c.self.inside.spool }))
@@ -55,7 +55,7 @@ returns-in-Ok-clause-calls g c in_state =
     subst
     (λ h.
     CallsInStep g.D.Disk disk_held h.spool.spool.disk (view_in g.D.Disk h) (input_of c.args.input) c.args.now
-    (Ok (record { tool = c.step_on.new.self; spool = c.in-Ok.spool })))
+    (Ok (record { tool = c.step_on.new.tool; spool = c.in-Ok.spool })))
     c.self.view_is
     (λ t told.
     c.in-Ok.ensures.calls (view_in g.D.Disk (record { tool = c.self.inside.tool.value; spool = c.self.inside.spool }))
@@ -76,7 +76,7 @@ returns-in-Err-clause-calls g c in_state =
 pub returns-in-Ok-clause-spent : goal.returns-in-Ok-clause-spent
 returns-in-Ok-clause-spent g c in_state =
     moved-by-cause g.D.Disk _ (input_of c.args.input) c.args.now c.step_on.new.out in_state
-    (Ok (record { tool = c.step_on.new.self; spool = c.in-Ok.spool })) (returns-in-Ok-clause-moves g c in_state)
+    (Ok (record { tool = c.step_on.new.tool; spool = c.in-Ok.spool })) (returns-in-Ok-clause-moves g c in_state)
 
 pub returns-in-Err-clause-spent : goal.returns-in-Err-clause-spent
 returns-in-Err-clause-spent g c in_state =

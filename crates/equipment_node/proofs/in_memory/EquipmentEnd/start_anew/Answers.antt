@@ -3,7 +3,7 @@ use Rattle.disk_base.specs.MemDisk.{DiskState}
 use Rattle.disk_base.specs.contracts.mem_disk.MemDiskDisk.TheImpl.{ghosts}
 use Rattle.gem_spool.specs.declared.spool.GemSpool.{GemSpool}
 use Rattle.equipment_tables.specs.declared.plan.EquipmentPlan.{EquipmentPlan}
-use Rattle.equipment_node.specs.Breaking.{KeepsMarked}
+use Rattle.spool_works.specs.Breaking.{KeepsMarked}
 use Rattle.equipment_node.specs.InMemory.{stop_told}
 use Rattle.equipment_node.specs.StartOver.{HasStartedOver}
 use Rattle.equipment_node.proofs.in_memory.EquipmentEnd.start_anew.Goals as goal

@@ -3,7 +3,7 @@ use Rattle.disk_base.specs.MemDisk.{DiskState}
 use Rattle.disk_base.specs.contracts.mem_disk.MemDiskDisk.TheImpl.{ghosts}
 use Rattle.message_end.specs.Ends.{Leaves}
 use Rattle.equipment_node.specs.InMemory.{IsFileOf, starts_over}
-use Rattle.equipment_node.specs.Node.{node_of}
+use Rattle.tool_core.specs.Node.{node_of}
 use Rattle.equipment_node.specs.Stepping.{view_of}
 use Rattle.equipment_node.proofs.FromDisk.{cut-file}
 use Rattle.equipment_node.proofs.in_memory.EquipmentEnd.start_from.Goals as goal

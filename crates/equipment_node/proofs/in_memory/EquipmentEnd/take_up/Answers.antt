@@ -6,7 +6,7 @@ use Rattle.gem_spool.specs.declared.spool.GemSpool.{GemSpool}
 use Rattle.spool_slots.specs.Changes.{Recovers}
 use Rattle.equipment_tables.specs.declared.plan.EquipmentPlan.{EquipmentPlan}
 use Rattle.equipment_node.specs.InMemory.{IsArmed, IsWhole}
-use Rattle.equipment_node.specs.Node.{node_of}
+use Rattle.tool_core.specs.Node.{node_of}
 use Rattle.equipment_node.proofs.FromDisk.{anew-armed, anew-whole, from-leaves, from-whole}
 use Rattle.equipment_node.proofs.in_memory.EquipmentEnd.take_up.Goals as goal
 

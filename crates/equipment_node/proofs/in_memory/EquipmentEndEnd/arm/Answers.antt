@@ -3,7 +3,7 @@ use Rattle.disk_base.specs.MemDisk.{DiskState}
 use Rattle.disk_base.specs.contracts.mem_disk.MemDiskDisk.TheImpl.{ghosts}
 use Rattle.gem_spool.specs.declared.spool.GemSpool.{GemSpool}
 use Rattle.equipment_node.specs.InMemory.{HasPower, planned_in}
-use Rattle.equipment_node.specs.Node.{node_of}
+use Rattle.tool_core.specs.Node.{node_of}
 use Rattle.equipment_node.specs.Stepping.{view_of}
 use Rattle.equipment_node.proofs.FromDisk.{power-in, within-means, within-planned, within-power}
 use Rattle.equipment_node.proofs.in_memory.EquipmentEndEnd.arm.Goals as goal

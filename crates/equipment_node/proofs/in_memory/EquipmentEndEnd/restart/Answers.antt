@@ -5,9 +5,9 @@ use Rattle.gem_spool.specs.declared.spool.GemSpool.{GemSpool}
 use Rattle.message_end.specs.Core.{Went}
 use Rattle.message_end.specs.Ends.{Leaves}
 use Rattle.trace_log.specs.Log.{Happening}
-use Rattle.equipment_node.specs.Equipment.{EquipmentView}
+use Rattle.tool_step.specs.Equipment.{EquipmentView}
 use Rattle.equipment_node.specs.InMemory.{IsWhole, disk_of}
-use Rattle.equipment_node.specs.Node.{node_of}
+use Rattle.tool_core.specs.Node.{node_of}
 use Rattle.equipment_node.specs.Stepping.{view_of}
 use Rattle.equipment_node.proofs.FromDisk.{anew-of, planned-left}
 use Rattle.equipment_node.proofs.in_memory.EquipmentEndEnd.restart.Goals as goal

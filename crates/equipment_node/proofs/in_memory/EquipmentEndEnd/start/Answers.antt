@@ -8,9 +8,9 @@ use Rattle.gem_spool.specs.declared.spool.GemSpool.{GemSpool}
 use Rattle.message_end.specs.declared.end.Stop.{Stop}
 use Rattle.message_end.specs.Ends.{HasGone, IsNotStopped}
 use Rattle.equipment_node.specs.declared.in_memory.EquipmentEnd.{EquipmentEnd}
-use Rattle.equipment_node.specs.Equipment.{started_on, starts}
+use Rattle.tool_step.specs.Equipment.{started_on, starts}
 use Rattle.equipment_node.specs.InMemory.{HasPower, left_behind, planned_in, stop_told}
-use Rattle.equipment_node.specs.Node.{node_of}
+use Rattle.tool_core.specs.Node.{node_of}
 use Rattle.equipment_node.specs.Stepping.{view_of}
 use Rattle.equipment_node.proofs.FromDisk.{seated-power, seated-slots}
 use Rattle.equipment_node.proofs.Seated.{start-gone, started-ends, told-whole}

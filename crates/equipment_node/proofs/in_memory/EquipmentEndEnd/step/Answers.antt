@@ -3,12 +3,12 @@ use Rattle.disk_base.specs.MemDisk.{DiskState}
 use Rattle.disk_base.specs.contracts.mem_disk.MemDiskDisk.TheImpl.{ghosts}
 use Rattle.gem_spool.specs.declared.spool.GemSpool.{GemSpool}
 use Rattle.message_end.specs.Ends.{EndsBy, Leaves, input_of}
-use Rattle.equipment_node.specs.Disk.{stops}
-use Rattle.equipment_node.specs.End.{machine}
-use Rattle.equipment_node.specs.Equipment.{act}
+use Rattle.tool_step.specs.Disk.{stops}
+use Rattle.tool_step.specs.End.{machine}
+use Rattle.tool_step.specs.Equipment.{act}
 use Rattle.equipment_node.specs.InMemory.{anew_over, planned_in}
-use Rattle.equipment_node.specs.Losses.{losses}
-use Rattle.equipment_node.specs.Node.{node_of}
+use Rattle.tool_step.specs.Losses.{losses}
+use Rattle.tool_core.specs.Node.{node_of}
 use Rattle.equipment_node.specs.Stepping.{view_of}
 use Rattle.equipment_node.proofs.in_memory.EquipmentEndEnd.step.Goals as goal
 

@@ -3,7 +3,7 @@
 use Rattle.std.proofs.Common.{Ok, Err, ◌∙◌}
 use Rattle.message_end.specs.Ends.{input_of}
 use Rattle.equipment_node.specs.Held.{view_in}
-use Rattle.equipment_node.specs.Node.{node_of}
+use Rattle.tool_core.specs.Node.{node_of}
 use Rattle.gemline_app.specs.LinkedEquipment.{linked_view}
 use Rattle.gemline_app.proofs.Equipping.{kept_device, stopped_device, stopped_holds, stopped_leaves, stopped_left, uses_one}
 use Rattle.gemline_app.proofs.equipment.LinkedEquipment.step_with.Goals as goal

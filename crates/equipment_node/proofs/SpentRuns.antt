@@ -1,9 +1,0 @@
--- The worked steps whose numbers are spent, computed.
-use Rattle.std.specs.Prelude.{refl}
-use Rattle.equipment_node.specs.Putting.{late_puts}
-use Rattle.equipment_node.specs.Step.{late_parts}
-use Rattle.equipment_node.specs.WorkedSpent.{NumbersEnd}
-
-pub numbers-end : NumbersEnd
-unfolding late_parts late_puts
-numbers-end = record { puts = refl; marked = refl; spooled = refl; enough = refl; wanting = refl; ends = refl }

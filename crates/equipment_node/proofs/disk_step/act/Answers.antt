@@ -1,0 +1,76 @@
+use Rattle.std.proofs.Common.{◌∙◌}
+use Rattle.message_end.specs.Ends.{input_of}
+use Rattle.tool_core.specs.Node.{node_of}
+use Rattle.equipment_node.proofs.Asking.{reserve-fallen, step-asked}
+use Rattle.equipment_node.proofs.HandingBack.{handed-then}
+use Rattle.equipment_node.proofs.OverDisk.{not-opened}
+use Rattle.equipment_node.proofs.StepCalls.{not-called, step-called}
+use Rattle.equipment_node.proofs.StepBreaks.{step-breaks, unopened-breaks}
+use Rattle.equipment_node.proofs.disk_step.act.Goals as goal
+
+pub act_on-requires : goal.act_on-requires
+act_on-requires g c = record {
+  now = c.requires.now;
+  input = c.requires.input;
+  out = record {
+    line = c.in-Ok.ensures.line ∙ c.requires.out.line;
+    notes = c.in-Ok.ensures.notes ∙ c.requires.out.notes;
+  };
+  ready = c.in-Ok.ensures.ready;
+}
+
+pub returns-in-Ok-clause-acts : goal.returns-in-Ok-clause-acts
+returns-in-Ok-clause-acts g c s node_is on told =
+    c.act_on.ensures.acts s (c.in-Ok.ensures.opens s node_is on told)
+
+pub returns-in-Err-clause-acts : goal.returns-in-Err-clause-acts
+returns-in-Err-clause-acts g c s node_is on told =
+    not-opened g.D.Disk s (input_of c.args.input) c.args.now (node_of c.reserve.new.tool) (node_of c.reserve.new.tool)
+    c.reserve.new.out c.in-Err.ended (c.in-Err.ensures.notes ∙ c.requires.out.notes) on.clear.owes
+    (c.in-Err.ensures.opens s node_is on told)
+
+pub returns-in-Ok-clause-asks : goal.returns-in-Ok-clause-asks
+returns-in-Ok-clause-asks g c s node_is on told =
+    let begin = c.in-Ok.ensures.opens s node_is on told in
+    step-asked g.D.Disk s (input_of c.args.input) c.args.now c.args.spool.spool.disk c.in-Ok.spool.spool.disk
+    c.act_on.result begin.went (c.in-Ok.ensures.asks s node_is on told) (c.act_on.ensures.asks s begin)
+
+pub returns-in-Err-clause-asks : goal.returns-in-Err-clause-asks
+returns-in-Err-clause-asks g c s node_is on told =
+    reserve-fallen g.D.Disk s (input_of c.args.input) c.args.now c.args.spool.spool.disk c.in-Err.ended
+    (c.in-Err.ensures.asks s node_is on told)
+
+pub returns-in-Ok-clause-calls : goal.returns-in-Ok-clause-calls
+returns-in-Ok-clause-calls g c s node_is on t told =
+    let begin = c.in-Ok.ensures.opens s node_is on (t, told) in
+    step-called g.D.Disk s (input_of c.args.input) c.args.now c.args.spool.spool.disk c.in-Ok.spool.spool.disk
+    t.now.bytes c.act_on.result begin.went (c.in-Ok.ensures.calls s node_is on t told)
+    (c.act_on.ensures.calls s begin t.now.bytes)
+
+pub returns-in-Err-clause-calls : goal.returns-in-Err-clause-calls
+returns-in-Err-clause-calls g c s node_is on t told =
+    not-called g.D.Disk s (input_of c.args.input) c.args.now c.args.spool.spool.disk t.now.bytes
+    (node_of c.reserve.new.tool) c.in-Err.ended on.clear.owes (c.in-Err.ensures.opens s node_is on (t, told))
+    (c.in-Err.ensures.calls s node_is on t told)
+
+pub returns-in-Ok-clause-disk : goal.returns-in-Ok-clause-disk
+returns-in-Ok-clause-disk g c =
+    handed-then g.D.Disk c.args.spool.spool.disk c.in-Ok.spool.spool.disk c.act_on.result c.in-Ok.ensures.disk
+    c.act_on.ensures.disk
+
+pub returns-in-Err-clause-disk : goal.returns-in-Err-clause-disk
+returns-in-Err-clause-disk g c = c.in-Err.ensures.disk
+
+pub returns-in-Ok-clause-breaks : goal.returns-in-Ok-clause-breaks
+returns-in-Ok-clause-breaks g c s node_is on told =
+    let begin = c.in-Ok.ensures.opens s node_is on told in
+    step-breaks g.D.Disk s (input_of c.args.input) c.args.now c.args.spool.spool.disk c.in-Ok.spool.spool.disk
+    c.act_on.new.out.notes c.act_on.result begin.went begin.told
+    (c.in-Ok.ensures.breaks s node_is on told c.requires.out.notes) (c.act_on.ensures.breaks s begin)
+
+pub returns-in-Err-clause-breaks : goal.returns-in-Err-clause-breaks
+returns-in-Err-clause-breaks g c s node_is on told =
+    unopened-breaks g.D.Disk s (input_of c.args.input) c.args.now c.args.spool.spool.disk c.reserve.new.out.notes
+    (node_of c.reserve.new.tool) c.in-Err.ended on.clear.owes (c.in-Err.ensures.opens s node_is on told)
+    (c.in-Err.ensures.notes ∙ c.requires.out.notes)
+    (c.in-Err.ensures.breaks s node_is on told c.requires.out.notes)

@@ -1,6 +1,0 @@
-use Rattle.equipment_node.proofs.Reporting.{reports-so}
-use Rattle.equipment_node.proofs.laws.reports_are_of_their_events.Goals as goal
-
-pub returns : goal.returns
-returns c = λ plan slots list mark fits can meetings.
-    reports-so plan fits c.tables_are_looked_back_for.ensures slots list mark can meetings

@@ -1,8 +1,0 @@
-use Rattle.equipment_node.proofs.KeptSpool.{spool-is-kept}
-use Rattle.equipment_node.proofs.laws.spool_is_kept.Goals as goal
-
-pub returns-clause-notes : goal.returns-clause-notes
-returns-clause-notes c = spool-is-kept c.tables_are_looked_back_for.ensures
-
-pub returns-clause-tries : goal.returns-clause-tries
-returns-clause-tries c = λ plan base doings s did. did.tried

@@ -1,9 +1,0 @@
-use Rattle.equipment_node.proofs.WritesFew.{none-more, step-few}
-use Rattle.equipment_node.proofs.laws.steps_write_few.Goals as goal
-
-pub returns-clause-steps : goal.returns-clause-steps
-returns-clause-steps c = λ plan fits base doings s did input now bytes.
-    step-few plan fits s (record { own = did.sound.own; list = did.sound.list }) input now bytes
-
-pub returns-clause-more : goal.returns-clause-more
-returns-clause-more c = none-more

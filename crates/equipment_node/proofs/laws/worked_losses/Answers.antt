@@ -1,8 +1,0 @@
-use Rattle.std.proofs.Common.{refl}
-use Rattle.line_end.specs.Frames.{block_in, is_frame, sum_cause}
-use Rattle.equipment_node.specs.Step.{late_parts}
-use Rattle.equipment_node.proofs.laws.worked_losses.Goals as goal
-
-pub returns : goal.returns
-unfolding block_in is_frame late_parts sum_cause
-returns c = record { fronts = refl; new = refl; filled = refl }

@@ -1,0 +1,12 @@
+pub mod BrokenList
+pub mod BrokenPasses
+pub mod BrokenPurge
+pub mod BrokenWorks
+pub mod CallPlaces
+pub mod Called
+pub mod Counted
+pub mod FoundLosses
+pub mod LossCounts
+pub mod Parity
+pub mod RoomKept
+pub mod WritesFew

@@ -1,0 +1,80 @@
+-- The works that a step owes to the disk of a spool, one by one: what is noted by then, what stands behind, and what
+-- they cost (this profile).
+use Rattle.std.specs.Prelude.{ℕ, Bool, true, false, ◌+◌, List, [], ◌∷◌, ◌++◌, fold, if◌then◌else◌}
+use Rattle.gem_spool.specs.declared.works.Work.{Work}
+use Rattle.gem_spool.specs.Standing.{Standing, count_in, file_of}
+use Rattle.gem_spool.specs.Works as spool
+use Rattle.gem_spool.specs.Works.{IsMarked, IsOnWay, reserved as marked, standing_after}
+use Rattle.spool_slots.specs.File.{StandsFor}
+use Rattle.trace_log.specs.Log.{Happening}
+use Rattle.trace_log.specs.Log.Happening.{Leaving, Storing}
+use Rattle.message_end.specs.Ends.{Asked}
+
+-- ---- the works of a step
+
+-- system bytes are reserved; the list changes; the oldest message is read
+pub data DiskWork : Type 0 where
+  Reserve : DiskWork
+  Change : (work : Work) → DiskWork
+  ReadOldest : DiskWork
+
+-- ---- what is noted where the disk fails at one of them
+
+-- a line that stands before a change of the list
+abbrev pub is_before_change : Happening → Bool
+is_before_change (Storing number message) = true
+is_before_change (Leaving number cause) = true
+is_before_change _ = false
+
+-- up to the first such line, and behind it
+abbrev pub up_to_change : List Happening → List Happening
+up_to_change [] = []
+up_to_change (what ∷ rest) = what ∷ (if is_before_change what then [] else up_to_change rest)
+
+abbrev pub behind_change : List Happening → List Happening
+behind_change [] = []
+behind_change (what ∷ rest) = if is_before_change what then rest else behind_change rest
+
+-- of all notes behind those before: at a change all up to its line, at the read all of them
+abbrev pub fronts_of : List Happening → List DiskWork → List Happening → List (List Happening)
+fronts_of before [] notes = []
+fronts_of before (Reserve ∷ works) notes = before ∷ fronts_of before works notes
+fronts_of before (Change work ∷ works) notes =
+    (before ++ up_to_change notes) ∷ fronts_of (before ++ up_to_change notes) works (behind_change notes)
+fronts_of before (ReadOldest ∷ works) notes = (before ++ notes) ∷ fronts_of before works notes
+
+abbrev pub standing_behind : Standing → DiskWork → Standing
+standing_behind st Reserve = marked st
+standing_behind st (Change work) = standing_after st work
+standing_behind st ReadOldest = st
+
+abbrev pub standings_behind : Standing → List DiskWork → Standing
+standings_behind = fold standing_behind
+
+-- what a crash leaves amid a work
+abbrev pub IsAmidWork : Standing → DiskWork → List ℕ → Type 0
+IsAmidWork st Reserve image = IsMarked st image
+IsAmidWork st (Change work) image = IsOnWay st (work ∷ []) image
+IsAmidWork st ReadOldest image = StandsFor image (file_of st)
+
+-- calls of the disk, and bytes that are written
+abbrev pub calls_of : Standing → DiskWork → ℕ
+calls_of st Reserve = 5
+calls_of st (Change work) = spool.calls_of (count_in st) work
+calls_of st ReadOldest = 1
+
+abbrev pub bytes_of : Standing → DiskWork → ℕ
+bytes_of st Reserve = 9
+bytes_of st (Change work) = spool.bytes_of (count_in st) work
+bytes_of st ReadOldest = 0
+
+abbrev pub all_calls : Standing → List DiskWork → ℕ
+all_calls st [] = 0
+all_calls st (work ∷ works) = calls_of st work + all_calls (standing_behind st work) works
+
+abbrev pub all_bytes : Standing → List DiskWork → ℕ
+all_bytes st [] = 0
+all_bytes st (work ∷ works) = bytes_of st work + all_bytes (standing_behind st work) works
+
+abbrev pub reserve_asks : Asked
+reserve_asks = record { calls = 5; bytes = 9 }

@@ -1,0 +1,10 @@
+pub mod Breaking
+pub mod DiskCalls
+pub mod DiskWorks
+pub mod Found
+pub mod HandedBack
+pub mod Marked
+pub mod SpoolLosses
+pub mod WorkLosses
+pub mod WorkedCalls
+pub mod WritesFew

@@ -1,0 +1,46 @@
+-- Where power may be lost in a work of the spool, and that what it leaves is what a start may find (this profile).
+use Rattle.std.specs.Prelude.{◌≡◌, ◌⊎◌, ℕ, Option, Some, None, List}
+use Rattle.disk_base.specs.declared.cut.CutChoice.{CutChoice}
+use Rattle.gem_spool.specs.declared.works.Work.TheVariants as work
+use Rattle.gem_spool.specs.Standing.{Standing}
+use Rattle.message_end.specs.Own.{Has}
+use Rattle.spool_law.specs.Shelf.{IsFoundOf}
+use Rattle.trace_log.specs.Names.{Spooled}
+use Rattle.trace_log.specs.declared.names.Cause.{Cause}
+use Rattle.trace_log.specs.declared.names.Cause.TheVariants as cause
+use Rattle.spool_works.specs.DiskWorks.{DiskWork}
+use Rattle.spool_works.specs.Found.{found_in}
+use Rattle.spool_works.specs.SpoolLosses.{Left, read_calls, reserve_calls, work_calls}
+
+-- the calls of a work, in their order
+abbrev pub calls_at : Standing → DiskWork → List Left
+calls_at st DiskWork.Reserve = reserve_calls st
+calls_at st (DiskWork.Change one) = work_calls st one
+calls_at st DiskWork.ReadOldest = read_calls st
+
+-- ---- what a start finds then
+
+-- the message that is being stored at a work, and why messages leave at it, as its line says
+abbrev pub storing_at : Standing → DiskWork → Option (ℕ × Spooled)
+storing_at st (DiskWork.Change (work.Put stream function body)) =
+    Some (st.next, record { stream = stream; function = function; body = body })
+storing_at st (DiskWork.Change work.DropOldest) = None
+storing_at st (DiskWork.Change work.Purge) = None
+storing_at st DiskWork.Reserve = None
+storing_at st DiskWork.ReadOldest = None
+
+abbrev pub MayLeaveAt : DiskWork → Option Cause → Type 0
+MayLeaveAt (DiskWork.Change (work.Put stream function body)) leaving = Unit {0}
+MayLeaveAt (DiskWork.Change work.DropOldest) leaving =
+    (leaving ≡ Some cause.Confirmed) ⊎ (leaving ≡ Some cause.Overwritten)
+MayLeaveAt (DiskWork.Change work.Purge) leaving = leaving ≡ Some cause.Purged
+MayLeaveAt DiskWork.Reserve leaving = Unit {0}
+MayLeaveAt DiskWork.ReadOldest leaving = Unit {0}
+
+-- at whichever call of a work power is lost, and whatever becomes of the disk, what is left is what the law of the
+-- spool lets a start find
+abbrev pub LossesAreFound : Type 0
+LossesAreFound =
+    (st : Standing) (one : DiskWork) (leaving : Option Cause) → MayLeaveAt one leaving → (left : Left)
+    → Has (calls_at st one) left → (choice : CutChoice)
+    → IsFoundOf (found_in st.list) (storing_at st one) leaving (found_in (left choice).list)

@@ -1,0 +1,15 @@
+pub mod Alarms
+pub mod Commanded
+pub mod Following
+pub mod Heeding
+pub mod Judging
+pub mod Longer
+pub mod Lost
+pub mod Parting
+pub mod Reading
+pub mod Storing
+pub mod Taking
+pub mod Texts
+pub mod ToldLong
+pub mod Trying
+pub mod Turned

@@ -1,0 +1,6 @@
+pub mod Calls
+pub mod Carried
+pub mod Ending
+pub mod Judged
+pub mod Node
+pub mod Starting

@@ -1,0 +1,370 @@
+//! How the equipment treats a whole message of the host.
+
+ghost use Rattle.std.specs.Prelude.{IfOk, ◌≡◌, ◌<◌, ◌^◌, ◌∷◌, [], ◌++◌};
+ghost use Rattle.block_codec.specs.Header.{Fits};
+ghost use Rattle.message_end.specs.Parts.{AreCarried, Takes, after_turn, on_the_way};
+ghost use Rattle.message_end.specs.Core.Went.{Goes};
+ghost use Rattle.trace_log.specs.Text.{printed_note};
+ghost use Rattle.tool_core.specs.Node.{node_of, own_of};
+ghost use Rattle.tool_step.specs.Own.{turn_of};
+ghost use Rattle.tool_core.specs.Judged.{IsShort};
+ghost use Rattle.tool_step.specs.Sent.{answer_duties};
+ghost use Rattle.tool_step.specs.Messages.{answer_turn, control_request_turn, dropped_turn, established_duties, established_turn, is_establish_request, is_online_request, known_turn, message_turn, offline_turn, own_request_commands, own_request_duty, primary_turn, request_turn, stray_turn};
+ghost use Rattle.equipment_tables.specs.Requests.{IsAsked};
+
+use crate::own::Tool;
+use crate::sending::note_dropped;
+use block_codec::Header;
+use equipment_tables::{Answer, bounded, request_of};
+use gem_shapes::{Request, code_item, is_known, is_known_stream};
+use gem_states::{CommsIn, ControlIn, ControlOut};
+use gl_base::NoMemory;
+use message_end::Stop;
+use message_flow::{Message, StepOut};
+use std::alloc::Global;
+use tool_step::Kind;
+use trace_log::Name;
+
+impl Tool {
+    /// A whole message came, the last block of which has this header.
+    pub(crate) fn heed(
+        &mut self,
+        alloc: Global,
+        header: &Header,
+        message: &Message,
+        now: u64,
+        out: &mut StepOut,
+    ) -> Result<(), Stop>
+        requires now { now < 2 ^ 62 }
+        requires header { Fits header.now }
+        ensures does { Takes
+            (message_turn now header.now message.now (own_of self.old.own) self.old.core)
+            (node_of self.old)
+            out.old
+            (node_of self.new)
+            out.new
+            result }
+        ensures line { out.new.line ≡ out.old.line }
+    {
+        if !self.own.is_enabled() {
+            self.drop_message(alloc, message, out)?;
+            return Ok(());
+        }
+        if message.function % 2 == 1 {
+            return self.heed_primary(alloc, header, message, now, out);
+        }
+        self.take_reply(alloc, header, message, now, out)
+    }
+
+    // A whole primary came.
+    fn heed_primary(
+        &mut self,
+        alloc: Global,
+        header: &Header,
+        message: &Message,
+        now: u64,
+        out: &mut StepOut,
+    ) -> Result<(), Stop>
+        requires now { now < 2 ^ 62 }
+        requires header { Fits header.now }
+        ensures does { Takes
+            (primary_turn now header.now message.now (own_of self.old.own))
+            (node_of self.old)
+            out.old
+            (node_of self.new)
+            out.new
+            result }
+        ensures line { out.new.line ≡ out.old.line }
+    {
+        if is_establish_request(message) {
+            return self.establish(alloc, message, now, out);
+        }
+        if !self.own.is_communicating() {
+            return self.drop_stray(alloc, message, now, out);
+        }
+        if !self.own.is_online() && !is_online_request(message) {
+            return self.abort_offline(alloc, message, out);
+        }
+        self.read(alloc, header, message, out)
+    }
+
+    // A message comes while the communication isn't established.
+    fn drop_stray(
+        &mut self,
+        alloc: Global,
+        message: &Message,
+        now: u64,
+        out: &mut StepOut,
+    ) -> Result<(), Stop>
+        requires { now < 2 ^ 62 }
+        ensures does { Takes
+            (stray_turn now message.now (own_of self.old.own))
+            (node_of self.old)
+            out.old
+            (node_of self.new)
+            out.new
+            result }
+        ensures line { out.new.line ≡ out.old.line }
+    {
+        self.drop_message(alloc, message, out)?;
+        self.meet(alloc, CommsIn::OtherMessage, now, out)
+    }
+
+    // A message is dropped.
+    fn drop_message(
+        &self,
+        alloc: Global,
+        message: &Message,
+        out: &mut StepOut,
+    ) -> Result<(), NoMemory>
+        ensures does { IfOk result (λ done. after_turn printed_note
+            (dropped_turn message.now (own_of self.now.own))
+            (on_the_way (node_of self.now) out.old) ≡ Goes (on_the_way (node_of self.now) out.new)) }
+        ensures line { out.new.line ≡ out.old.line }
+    {
+        note_dropped(alloc, Name::of(message), out)
+    }
+
+    // Off-line a request is aborted, and dropped where it awaits no reply.
+    fn abort_offline(
+        &mut self,
+        alloc: Global,
+        message: &Message,
+        out: &mut StepOut,
+    ) -> Result<(), Stop>
+        ensures does { Takes
+            (offline_turn message.now (own_of self.old.own))
+            (node_of self.old)
+            out.old
+            (node_of self.new)
+            out.new
+            result }
+        ensures line { out.new.line ≡ out.old.line }
+    {
+        if message.wait {
+            return self.abort(alloc, message, out);
+        }
+        self.drop_message(alloc, message, out)?;
+        Ok(())
+    }
+
+    // S1F13: the communication is established.
+    fn establish(
+        &mut self,
+        alloc: Global,
+        message: &Message,
+        now: u64,
+        out: &mut StepOut,
+    ) -> Result<(), Stop>
+        requires { now < 2 ^ 62 }
+        ensures does { Takes
+            (established_turn now message.now (own_of self.old.own))
+            (node_of self.old)
+            out.old
+            (node_of self.new)
+            out.new
+            result }
+        ensures line { out.new.line ≡ out.old.line }
+    {
+        self.end_own_request();
+        match self.meet(alloc, CommsIn::HostRequest, now, out) {
+            Ok(()) => self.accept(alloc, message, out),
+            Err(stop) => Err(stop),
+        }
+    }
+
+    // S1F13 is accepted.
+    fn accept(&mut self, alloc: Global, message: &Message, out: &mut StepOut) -> Result<(), Stop>
+        ensures does { Takes
+            (turn_of (own_of self.old.own) (established_duties message.now (own_of self.old.own)))
+            (node_of self.old)
+            out.old
+            (node_of self.new)
+            out.new
+            result }
+        ensures line { out.new.line ≡ out.old.line }
+    {
+        let max_body = self.own.max_body();
+        let answer = self.own.tables.established(alloc, max_body)?;
+        self.answer_by(alloc, answer, message, out)
+    }
+
+    // The equipment's own S1F13 ends, where one is open.
+    fn end_own_request(&mut self)
+        ensures { (out : StepOut) → after_turn printed_note (turn_of (own_of self.old.own) (own_request_duty ∷ []))
+            (on_the_way (node_of self.old) out) ≡ Goes (on_the_way (node_of self.new) out) }
+    {
+        match self.core.first() {
+            Some((header, kind)) => self.end_request(kind, header.system),
+            None => {}
+        }
+    }
+
+    // A primary of this kind with these system bytes ends, where it is S1F13.
+    fn end_request(&mut self, kind: Kind, system: u32)
+        ensures own { own_of self.new.own ≡ own_of self.old.own }
+        ensures ended { (out : StepOut) → AreCarried (own_request_commands kind system)
+            self.old.core out self.new.core out }
+    {
+        match kind {
+            Kind::Establish => {
+                self.core.end(system);
+                self.core.remove(true, system);
+            }
+            Kind::Attempt | Kind::Grant | Kind::Report | Kind::Unload | Kind::UnloadGrant => {}
+        }
+    }
+
+    // Reads a request, and carries it out.
+    fn read(
+        &mut self,
+        alloc: Global,
+        header: &Header,
+        message: &Message,
+        out: &mut StepOut,
+    ) -> Result<(), Stop>
+        requires { Fits header.now }
+        ensures does { Takes
+            (known_turn header.now message.now (own_of self.old.own))
+            (node_of self.old)
+            out.old
+            (node_of self.new)
+            out.new
+            result }
+        ensures line { out.new.line ≡ out.old.line }
+    {
+        if !is_known_stream(message.stream) {
+            return self.report_error(alloc, 3, header, out);
+        }
+        if !is_known(message.stream, message.function) {
+            return self.report_error(alloc, 5, header, out);
+        }
+        let body = message.body.as_slice();
+        match request_of(alloc, message.stream, message.function, body)? {
+            Some(request) => self.fulfil(alloc, &request, message, out),
+            None => self.report_error(alloc, 7, header, out),
+        }
+    }
+
+    // Carries a request out, and answers it.
+    fn fulfil(
+        &mut self,
+        alloc: Global,
+        request: &Request<'_>,
+        message: &Message,
+        out: &mut StepOut,
+    ) -> Result<(), Stop>
+        requires { IsAsked request.now }
+        ensures does { Takes
+            (request_turn request.now message.now (own_of self.old.own))
+            (node_of self.old)
+            out.old
+            (node_of self.new)
+            out.new
+            result }
+        ensures line { out.new.line ≡ out.old.line }
+    {
+        match request {
+            Request::GoOffline => self.ask_control(alloc, ControlIn::RequestOffline, message, out),
+            Request::GoOnline => self.ask_control(alloc, ControlIn::RequestOnline, message, out),
+            Request::TransmitSpool => self.transmit(alloc, message, out),
+            Request::PurgeSpool => self.purge(alloc, message, out),
+            _ => self.answer(alloc, request, message, out),
+        }
+    }
+
+    // The host's request meets the control.
+    fn ask_control(
+        &mut self,
+        alloc: Global,
+        input: ControlIn,
+        message: &Message,
+        out: &mut StepOut,
+    ) -> Result<(), Stop>
+        ensures does { Takes
+            (control_request_turn input message.now (own_of self.old.own))
+            (node_of self.old)
+            out.old
+            (node_of self.new)
+            out.new
+            result }
+        ensures line { out.new.line ≡ out.old.line }
+    {
+        match self.control(alloc, input, out)? {
+            ControlOut::Ack(code) => {
+                let item = code_item(alloc, code)?;
+                let answer = bounded(alloc, &item, self.own.max_body())?;
+                self.answer_by(alloc, answer, message, out)
+            }
+            ControlOut::Abort => self.abort(alloc, message, out),
+            ControlOut::Nothing | ControlOut::SendAttempt => Ok(()),
+        }
+    }
+
+    // The tables carry a request out and answer it.
+    fn answer(
+        &mut self,
+        alloc: Global,
+        request: &Request<'_>,
+        message: &Message,
+        out: &mut StepOut,
+    ) -> Result<(), Stop>
+        requires { IsAsked request.now }
+        ensures does { Takes
+            (answer_turn request.now message.now (own_of self.old.own))
+            (node_of self.old)
+            out.old
+            (node_of self.new)
+            out.new
+            result }
+        ensures line { out.new.line ≡ out.old.line }
+    {
+        let is_local = self.own.is_local();
+        let max_body = self.own.max_body();
+        let notes = &mut out.notes;
+        let answer = self
+            .own
+            .tables
+            .answer(alloc, request, is_local, max_body, notes)?;
+        self.answer_by(alloc, answer, message, out)
+    }
+
+    /// Answers a message.
+    pub(crate) fn answer_by(
+        &mut self,
+        alloc: Global,
+        answer: Answer,
+        message: &Message,
+        out: &mut StepOut,
+    ) -> Result<(), Stop>
+        requires { IsShort answer }
+        ensures does { Takes
+            (turn_of (own_of self.old.own) (answer_duties answer message.now))
+            (node_of self.old)
+            out.old
+            (node_of self.new)
+            out.new
+            result }
+        ensures line { out.new.line ≡ out.old.line }
+    {
+        match answer {
+            Answer::Body(body) => self.reply(alloc, message, body, out),
+            Answer::TooLong => self.abort_long(alloc, message, out),
+            Answer::Abort => self.abort(alloc, message, out),
+        }
+    }
+}
+
+// Whether it is S1F13.
+fn is_establish_request(message: &Message) -> bool
+    ensures { result ≡ is_establish_request message.now }
+{
+    message.stream == 1 && message.function == 13
+}
+
+// Whether it is S1F17, which alone is looked at off-line.
+fn is_online_request(message: &Message) -> bool
+    ensures { result ≡ is_online_request message.now }
+{
+    message.stream == 1 && message.function == 17
+}

@@ -1,0 +1,524 @@
+//! What comes of the transactions that the equipment has begun.
+
+ghost use Rattle.std.specs.Prelude.{◌≡◌, ◌<◌, ◌^◌, false, replicate, if◌then◌else◌, IfOk, Some};
+ghost use Rattle.block_codec.specs.Header.{Fits};
+ghost use Rattle.message_end.specs.Parts.{Takes, TakesAll};
+ghost use Rattle.gem_states.specs.declared.control.ControlIn.TheVariants.{AttemptDone, AttemptFailed};
+ghost use Rattle.tool_step.specs.declared.kind.Kind.TheVariants as kind;
+ghost use Rattle.tool_step.specs.Own.{waiting_report, without_grant};
+ghost use Rattle.tool_step.specs.Spooling.{leave_given_turn, unloaded_own};
+ghost use Rattle.tool_core.specs.Carried.{IsTaken};
+ghost use Rattle.tool_step.specs.Codes.{is_accepted_in, is_accepting, is_granted_in, is_granting, is_zero_in};
+ghost use Rattle.tool_core.specs.Node.{node_of, own_of};
+ghost use Rattle.tool_step.specs.Replies.{block_timer, denied_turn, given_up_turn, granted_turn, loss_turn, reply_timer, reply_turn, secondary_turn, timeout_turn};
+ghost use Rattle.tool_step.specs.States.{control_turn};
+
+use crate::own::Tool;
+use crate::reports::EVENT_NAME;
+use block_codec::Header;
+use gem_states::{CommsIn, ControlIn};
+use gl_base::NoMemory;
+use message_end::Stop;
+use message_flow::{Message, StepOut};
+use secs_items::{Item, check};
+use std::alloc::Global;
+use tool_step::Kind;
+use trace_log::denied_note;
+use transact::Match;
+
+// How many transactions T3 ends in a step, and how many messages T4 drops: as many as there can be.
+const MOST_EXPIRED: u32 = 64;
+
+const MOST_DROPPED: u32 = 16;
+
+impl Tool {
+    /// Ends the transactions on which T3 has run out: at most as many as there can be.
+    pub(crate) fn expire_all(
+        &mut self,
+        alloc: Global,
+        now: u64,
+        out: &mut StepOut,
+    ) -> Result<(), Stop>
+        requires { now < 2 ^ 62 }
+        ensures does { TakesAll
+            (replicate 64 (reply_timer now))
+            (node_of self.old)
+            out.old
+            (node_of self.new)
+            out.new
+            result }
+        ensures line { out.new.line ≡ out.old.line }
+    {
+        self.expire_some(alloc, MOST_EXPIRED, now, out)
+    }
+
+    // Ends so many transactions on which T3 has run out, or all of them.
+    fn expire_some(
+        &mut self,
+        alloc: Global,
+        most: u32,
+        now: u64,
+        out: &mut StepOut,
+    ) -> Result<(), Stop>
+        requires { now < 2 ^ 62 }
+        ensures does { TakesAll
+            (replicate most (reply_timer now))
+            (node_of self.old)
+            out.old
+            (node_of self.new)
+            out.new
+            result }
+        ensures line { out.new.line ≡ out.old.line }
+    {
+        let mut left = most;
+        'transactions: while left > 0 {
+            if !self.expire_one(alloc, now, out)? {
+                return Ok(());
+            }
+            left -= 1;
+        }
+        Ok(())
+    }
+
+    // Ends a transaction on which T3 has run out; `false` where there is none.
+    fn expire_one(&mut self, alloc: Global, now: u64, out: &mut StepOut) -> Result<bool, Stop>
+        requires { now < 2 ^ 62 }
+        ensures does { Takes
+            (reply_timer now (own_of self.old.own) self.old.core)
+            (node_of self.old)
+            out.old
+            (node_of self.new)
+            out.new
+            result }
+        ensures none { IfOk result (λ some. some ≡ false → IsTaken
+            (reply_timer now (own_of self.old.own) self.old.core)
+            (node_of self.old) out.old (node_of self.old) out.old) }
+        ensures line { out.new.line ≡ out.old.line }
+    {
+        match self.core.expire(alloc, now, out) {
+            Ok(Some((header, kind))) => match self.time_out(alloc, &header, kind, now, out) {
+                Ok(()) => Ok(true),
+                Err(stop) => Err(stop),
+            },
+            Ok(None) => Ok(false),
+            Err(stop) => Err(stop),
+        }
+    }
+
+    /// Drops the messages on which T4 has run out, as many as there can be; a reply among them is given up.
+    pub(crate) fn drop_all(
+        &mut self,
+        alloc: Global,
+        now: u64,
+        out: &mut StepOut,
+    ) -> Result<(), Stop>
+        requires { now < 2 ^ 62 }
+        ensures does { TakesAll
+            (replicate 16 (block_timer now))
+            (node_of self.old)
+            out.old
+            (node_of self.new)
+            out.new
+            result }
+        ensures line { out.new.line ≡ out.old.line }
+    {
+        self.drop_some(alloc, MOST_DROPPED, now, out)
+    }
+
+    // Drops so many messages on which T4 has run out, or all of them.
+    fn drop_some(
+        &mut self,
+        alloc: Global,
+        most: u32,
+        now: u64,
+        out: &mut StepOut,
+    ) -> Result<(), Stop>
+        requires { now < 2 ^ 62 }
+        ensures does { TakesAll
+            (replicate most (block_timer now))
+            (node_of self.old)
+            out.old
+            (node_of self.new)
+            out.new
+            result }
+        ensures line { out.new.line ≡ out.old.line }
+    {
+        let mut left = most;
+        'messages: while left > 0 {
+            if !self.drop_one(alloc, now, out)? {
+                return Ok(());
+            }
+            left -= 1;
+        }
+        Ok(())
+    }
+
+    // Drops a message on which T4 has run out; `false` where there is none. A reply is given up.
+    fn drop_one(&mut self, alloc: Global, now: u64, out: &mut StepOut) -> Result<bool, Stop>
+        requires { now < 2 ^ 62 }
+        ensures does { Takes
+            (block_timer now (own_of self.old.own) self.old.core)
+            (node_of self.old)
+            out.old
+            (node_of self.new)
+            out.new
+            result }
+        ensures none { IfOk result (λ some. some ≡ false → IsTaken
+            (block_timer now (own_of self.old.own) self.old.core)
+            (node_of self.old) out.old (node_of self.old) out.old) }
+        ensures line { out.new.line ≡ out.old.line }
+    {
+        match self.core.drop_due(alloc, now, out) {
+            Ok(Some(header)) => match self.give_up(alloc, &header, now, out) {
+                Ok(()) => Ok(true),
+                Err(stop) => Err(stop),
+            },
+            Ok(None) => Ok(false),
+            Err(stop) => Err(stop),
+        }
+    }
+
+    /// A reply whose block has this header is no good: its transaction ends as by T3.
+    pub(crate) fn give_up(
+        &mut self,
+        alloc: Global,
+        header: &Header,
+        now: u64,
+        out: &mut StepOut,
+    ) -> Result<(), Stop>
+        requires { now < 2 ^ 62 }
+        ensures does { Takes
+            (given_up_turn now header.now (own_of self.old.own) self.old.core)
+            (node_of self.old)
+            out.old
+            (node_of self.new)
+            out.new
+            result }
+        ensures line { out.new.line ≡ out.old.line }
+    {
+        match self.core.give_up(alloc, header, out) {
+            Ok(Some((primary, kind))) => self.time_out(alloc, &primary, kind, now, out),
+            Ok(None) => Ok(()),
+            Err(stop) => Err(stop),
+        }
+    }
+
+    // No reply came to the primary whose last block has this header.
+    fn time_out(
+        &mut self,
+        alloc: Global,
+        header: &Header,
+        kind: Kind,
+        now: u64,
+        out: &mut StepOut,
+    ) -> Result<(), Stop>
+        requires now { now < 2 ^ 62 }
+        requires header { Fits header.now }
+        ensures does { Takes
+            (timeout_turn now (Some (header.now, kind)) (own_of self.old.own) self.old.core)
+            (node_of self.old)
+            out.old
+            (node_of self.new)
+            out.new
+            result }
+        ensures line { out.new.line ≡ out.old.line }
+    {
+        match self.lose_reply(alloc, kind, header.system, now, out) {
+            Ok(()) => self.report_error(alloc, 9, header, out),
+            Err(stop) => Err(stop),
+        }
+    }
+
+    // What is lost with a transaction that ended alone.
+    fn lose_reply(
+        &mut self,
+        alloc: Global,
+        kind: Kind,
+        system: u32,
+        now: u64,
+        out: &mut StepOut,
+    ) -> Result<(), Stop>
+        requires { now < 2 ^ 62 }
+        ensures does { Takes
+            (loss_turn now kind system (own_of self.old.own) self.old.core)
+            (node_of self.old)
+            out.old
+            (node_of self.new)
+            out.new
+            result }
+        ensures line { out.new.line ≡ out.old.line }
+    {
+        match kind {
+            Kind::Establish => self.leave(alloc, CommsIn::Denied, None, now, out),
+            Kind::Attempt => self.fail_attempt(alloc, out),
+            Kind::Grant => self.deny(alloc, system, out),
+            Kind::Report => {
+                let _ = self.take_sent(system);
+                Ok(())
+            }
+            Kind::Unload => {
+                self.own.ledger.end_unload();
+                Ok(())
+            }
+            Kind::UnloadGrant => {
+                self.deny_unload(alloc, out)?;
+                Ok(())
+            }
+        }
+    }
+
+    /// An attempt to be on-line has failed.
+    pub(crate) fn fail_attempt(&mut self, alloc: Global, out: &mut StepOut) -> Result<(), Stop>
+        ensures does { Takes
+            (control_turn AttemptFailed (own_of self.old.own))
+            (node_of self.old)
+            out.old
+            (node_of self.new)
+            out.new
+            result }
+        ensures line { out.new.line ≡ out.old.line }
+    {
+        match self.control(alloc, ControlIn::AttemptFailed, out) {
+            Ok(_) => Ok(()),
+            Err(stop) => Err(stop),
+        }
+    }
+
+    // An attempt to be on-line has succeeded.
+    fn end_attempt(&mut self, alloc: Global, out: &mut StepOut) -> Result<(), Stop>
+        ensures does { Takes
+            (control_turn AttemptDone (own_of self.old.own))
+            (node_of self.old)
+            out.old
+            (node_of self.new)
+            out.new
+            result }
+        ensures line { out.new.line ≡ out.old.line }
+    {
+        match self.control(alloc, ControlIn::AttemptDone, out) {
+            Ok(_) => Ok(()),
+            Err(stop) => Err(stop),
+        }
+    }
+
+    // The report whose S6F5 has these system bytes gets no leave.
+    fn deny(&mut self, alloc: Global, system: u32, out: &mut StepOut) -> Result<(), Stop>
+        ensures does { Takes
+            (denied_turn (without_grant system (own_of self.old.own)))
+            (node_of self.old)
+            out.old
+            (node_of self.new)
+            out.new
+            result }
+        ensures line { out.new.line ≡ out.old.line }
+    {
+        let _ = self.take_waiting(system);
+        out.notes.push(denied_note(alloc, EVENT_NAME)?)?;
+        Ok(())
+    }
+
+    // The report whose S6F5 has these system bytes goes.
+    fn grant(&mut self, alloc: Global, system: u32, out: &mut StepOut) -> Result<(), Stop>
+        ensures does { Takes
+            (granted_turn (waiting_report system (own_of self.old.own)) (without_grant system (own_of self.old.own))
+            self.old.core)
+            (node_of self.old)
+            out.old
+            (node_of self.new)
+            out.new
+            result }
+        ensures line { out.new.line ≡ out.old.line }
+    {
+        match self.take_waiting(system) {
+            Some(report) => self.send_report(alloc, report, out),
+            None => Ok(()),
+        }
+    }
+
+    /// A whole secondary came, the last block of which has this header.
+    pub(crate) fn take_reply(
+        &mut self,
+        alloc: Global,
+        header: &Header,
+        message: &Message,
+        now: u64,
+        out: &mut StepOut,
+    ) -> Result<(), Stop>
+        requires { now < 2 ^ 62 }
+        ensures does { Takes
+            (secondary_turn now header.now message.now (own_of self.old.own) self.old.core)
+            (node_of self.old)
+            out.old
+            (node_of self.new)
+            out.new
+            result }
+        ensures line { out.new.line ≡ out.old.line }
+    {
+        match self.core.answer(alloc, header, out) {
+            Ok(Match::Reply(kind)) => self.heed_reply(alloc, kind, message, now, out),
+            Ok(Match::Abort(kind)) => self.lose_reply(alloc, kind, message.system, now, out),
+            Ok(Match::Stranger) => Ok(()),
+            Err(stop) => Err(stop),
+        }
+    }
+
+    // The reply to a primary of this kind has come.
+    fn heed_reply(
+        &mut self,
+        alloc: Global,
+        kind: Kind,
+        message: &Message,
+        now: u64,
+        out: &mut StepOut,
+    ) -> Result<(), Stop>
+        requires { now < 2 ^ 62 }
+        ensures does { Takes
+            (reply_turn now kind message.now.system message.now.body (own_of self.old.own) self.old.core)
+            (node_of self.old)
+            out.old
+            (node_of self.new)
+            out.new
+            result }
+        ensures line { out.new.line ≡ out.old.line }
+    {
+        match kind {
+            Kind::Establish => self.heed_establishing(alloc, message, now, out),
+            Kind::Attempt => self.end_attempt(alloc, out),
+            Kind::Grant => self.heed_leave(alloc, message, out),
+            Kind::Report => {
+                let _ = self.take_sent(message.system);
+                Ok(())
+            }
+            Kind::Unload => {
+                self.own.ledger.confirm(alloc, out)?;
+                Ok(())
+            }
+            Kind::UnloadGrant => self.heed_unload_leave(alloc, message, out),
+        }
+    }
+
+    // The reply to S1F13 has come.
+    fn heed_establishing(
+        &mut self,
+        alloc: Global,
+        message: &Message,
+        now: u64,
+        out: &mut StepOut,
+    ) -> Result<(), Stop>
+        requires { now < 2 ^ 62 }
+        ensures does { Takes
+            (reply_turn now kind.Establish message.now.system message.now.body (own_of self.old.own) self.old.core)
+            (node_of self.old)
+            out.old
+            (node_of self.new)
+            out.new
+            result }
+        ensures line { out.new.line ≡ out.old.line }
+    {
+        if is_accepted(alloc, message.body.as_slice())? {
+            return self.meet(alloc, CommsIn::Accepted, now, out);
+        }
+        self.leave(alloc, CommsIn::Denied, None, now, out)
+    }
+
+    // The reply to S6F5 has come.
+    fn heed_leave(
+        &mut self,
+        alloc: Global,
+        message: &Message,
+        out: &mut StepOut,
+    ) -> Result<(), Stop>
+        ensures does { Takes
+            (if is_granted_in message.now.body
+            then granted_turn
+            (waiting_report message.now.system (own_of self.old.own))
+            (without_grant message.now.system (own_of self.old.own))
+            self.old.core
+            else denied_turn (without_grant message.now.system (own_of self.old.own)))
+            (node_of self.old)
+            out.old
+            (node_of self.new)
+            out.new
+            result }
+        ensures line { out.new.line ≡ out.old.line }
+    {
+        if is_granted(alloc, message.body.as_slice())? {
+            return self.grant(alloc, message.system, out);
+        }
+        self.deny(alloc, message.system, out)
+    }
+
+    // The reply to the S6F5 for a message of the spool has come.
+    fn heed_unload_leave(
+        &mut self,
+        alloc: Global,
+        message: &Message,
+        out: &mut StepOut,
+    ) -> Result<(), Stop>
+        ensures does { Takes
+            (if is_granted_in message.now.body then leave_given_turn (own_of self.old.own) self.old.core
+            else denied_turn (unloaded_own (own_of self.old.own)))
+            (node_of self.old)
+            out.old
+            (node_of self.new)
+            out.new
+            result }
+        ensures line { out.new.line ≡ out.old.line }
+    {
+        if is_granted(alloc, message.body.as_slice())? {
+            return self.let_go(alloc, out);
+        }
+        self.deny_unload(alloc, out)?;
+        Ok(())
+    }
+}
+
+// Whether a text is L,2 of COMMACK 0 and anything.
+fn is_accepted(alloc: Global, body: &[u8]) -> Result<bool, NoMemory>
+    ensures { IfOk result (λ is. is ≡ is_accepted_in body.now) }
+{
+    match check(body) {
+        Ok(view) => Ok(accepts(&view.item(alloc)?)),
+        Err(_) => Ok(false),
+    }
+}
+
+// Whether an item is L,2 of COMMACK 0 and anything.
+fn accepts(item: &Item) -> bool
+    ensures { result ≡ is_accepting item.now }
+{
+    match item {
+        Item::L(items) => is_zero_in(items.as_slice()),
+        _ => false,
+    }
+}
+
+// Whether they are B of one byte 00 and anything.
+fn is_zero_in(items: &[Item]) -> bool
+    ensures { result ≡ is_zero_in items.now }
+{
+    match items {
+        [Item::B(code), _] => code.as_slice() == [0].as_slice(),
+        _ => false,
+    }
+}
+
+// Whether a text is GRANT6 0.
+fn is_granted(alloc: Global, body: &[u8]) -> Result<bool, NoMemory>
+    ensures { IfOk result (λ is. is ≡ is_granted_in body.now) }
+{
+    match check(body) {
+        Ok(view) => Ok(grants(&view.item(alloc)?)),
+        Err(_) => Ok(false),
+    }
+}
+
+// Whether an item is B of one byte 00.
+fn grants(item: &Item) -> bool
+    ensures { result ≡ is_granting item.now }
+{
+    match item {
+        Item::B(code) => code.as_slice() == [0].as_slice(),
+        _ => false,
+    }
+}

@@ -1,0 +1,558 @@
+-- That the equipment keeps the law of an end.
+use Rattle.std.proofs.Common.{append_assoc, ◌⊎◌, inl, inr, ◌≡◌, ◌≢◌, ◌+◌, refl, sym, ap, subst, ◌∙◌, arith, Bool, true, false, not, ℕ, ◌≤◌, ◌==◌, List, [], ◌∷◌, ◌++◌, length, replicate, Option, Some, None, if◌then◌else◌, zero, suc}
+use Rattle.std.specs.Option.{option_map}
+use Rattle.std.proofs.Math.Nat.{le_trans}
+use Rattle.std.specs.Prelude.{IfSome, slice_get}
+use Rattle.std.proofs.lemmas.Bool.Decides.{nat_tests}
+use Rattle.std.proofs.lemmas.List.Elements.{All-nil, All-head}
+use Rattle.disk_base.specs.declared.cut.CutChoice.{CutChoice}
+use Rattle.gem_states.specs.Comms.{asks}
+use Rattle.gem_states.specs.declared.comms.CommsIn.TheVariants as comms_in
+use Rattle.trace_log.specs.Commands.{ToolCommandFits}
+use Rattle.trace_log.specs.Log.{Happening}
+use Rattle.trace_log.specs.Names.{Spooled}
+use Rattle.trace_log.specs.declared.commands.ToolCommand.{ToolCommand}
+use Rattle.trace_log.specs.declared.names.CommsName.TheVariants as comms_name
+use Rattle.transact.specs.Numbers.{IsNumbers, NumbersView, next_number, numbers_from}
+use Rattle.message_end.specs.Calls.{dropped_now, failed_at, took_at}
+use Rattle.message_end.specs.Core.{EndView, IsText, Step, Went, and_then, at_first, carried, draws, noted, sends, step_in}
+use Rattle.message_end.specs.Core.Went.{Goes, Spent}
+use Rattle.message_end.specs.Core.Command.{Abort, DropDue, Note, Take, Tick}
+use Rattle.message_end.specs.Doings.{Doing, own_of}
+use Rattle.message_end.specs.Duties.{all_done}
+use Rattle.message_end.specs.Ends.{HasRestarted, HasStarted, Input, IsFront, KeepsLaw, Loss, LosesAt, MayTake, OnStart}
+use Rattle.message_end.specs.Ends.Input.{Char, Command as Told, Time}
+use Rattle.message_end.specs.Parts.{Node, after_parts, after_turn, core_after, core_step, fixed_turn, went_with, with_own}
+use Rattle.message_end.proofs.Lower.{lower}
+use Rattle.message_end.proofs.Parts.{begins-new, history-says}
+use Rattle.message_end.proofs.Growing.{front-both, front-more, front-same, parts-grow}
+use Rattle.message_end.specs.Own.{Has}
+use Rattle.equipment_tables.specs.declared.answers.Answer.{Answer as Text}
+use Rattle.equipment_tables.specs.declared.answers.Answer.TheVariants as text
+use Rattle.tool_step.specs.Grants.{GrantView}
+use Rattle.tool_step.specs.declared.kind.Kind.{Kind}
+use Rattle.equipment_tables.specs.declared.plan.EquipmentPlan.{EquipmentPlan}
+use Rattle.equipment_tables.specs.Answers.{identity_of}
+use Rattle.tool_step.specs.Own.{OwnView, ToolPart, ToolTurn, quiet_turn, with_comms}
+use Rattle.equipment_tables.specs.Plan.{EquipmentPlanFits}
+use Rattle.tool_step.specs.Replies.{block_timer, reply_timer}
+use Rattle.tool_step.specs.Sent as sent
+use Rattle.tool_law.specs.Sound.{AllCanBeSent, CanBeSent, IsHeld, IsSound}
+use Rattle.tool_step.specs.Spooling.{end_of_spooling, taking_turn}
+use Rattle.tool_law.proofs.SpoolSound.{carried-good, new-good, settled-good}
+use Rattle.spool_works.specs.DiskWorks.{DiskWork, behind_change, fronts_of, is_before_change, up_to_change}
+use Rattle.tool_step.specs.Disk.{stops, works_of}
+use Rattle.tool_step.specs.End.{machine}
+use Rattle.tool_step.specs.Losses.{losses}
+use Rattle.tool_step.specs.Equipment.{EquipmentView, act, begun_step, ended_step, is_marked_out, needs_numbers, new_own, node_step, oldest_of, parts_done, reserved, restarts, settled, settled_step, settled_went, started_on, starts, went_with_file}
+use Rattle.spool_works.specs.Found.{first_in, found_in, spooled_of}
+use Rattle.tool_law.specs.Laws.{DidOf}
+use Rattle.tool_step.specs.Step.{begun, delay_timer, end_plan, first_parts, input_part, last_parts, late_parts, line_timer}
+use Rattle.spool_ledger.specs.declared.ledger.Stand.{Stand}
+use Rattle.spool_ledger.specs.Ledger.{new_ledger}
+use Rattle.spool_slots.specs.Slot.{Message as Kept}
+use Rattle.tool_step.specs.Live.{ReportView}
+use Rattle.tool_law.specs.Tried.{AreInTurn, newest_of}
+use Rattle.tool_law.proofs.TriedCores.{none-tried}
+use Rattle.tool_law.proofs.TriedDoings.{may-say, same-tries, world-free}
+use Rattle.spool_law.specs.Shelf.{change_of}
+use Rattle.spool_law.specs.Tries.{tries_in}
+use Rattle.tool_law.proofs.MildCommands.{sound-self}
+use Rattle.tool_law.proofs.QuietTurns.{comms-quiet}
+use Rattle.tool_law.proofs.QuietMessages.{by-t4-quiet, taking-held, unload-held, ended-quiet}
+use Rattle.tool_law.proofs.QuietCommands.{failed-is-quiet, took-quiet, told-quiet, beginning-quiet, t3-quiet}
+use Rattle.tool_law.proofs.KeptSteps.{goes-on}
+
+-- ---- what is kept stays sound, whatever comes
+
+-- whatever was tried
+abbrev IsAny : Option ℕ → Type 0
+IsAny tried = Unit {0}
+
+module _ (plan : EquipmentPlan) (fits : EquipmentPlanFits plan) (slots : ℕ) (stood : Stand) where
+  any-held : (own : OwnView) → IsSound plan slots stood own → IsHeld plan slots stood IsAny own
+  any-held own sound = record {
+    plan_is = sound.plan_is;
+    texts = sound.texts;
+    reports = sound.reports;
+    ledger = sound.ledger;
+    tried_is = tt;
+  }
+
+  any-sound : (own : OwnView) → IsHeld plan slots stood IsAny own → IsSound plan slots stood own
+  any-sound own held =
+      record { plan_is = held.plan_is; texts = held.texts; reports = held.reports; ledger = held.ledger }
+
+  abbrev pub KeepsSound : ToolPart → Type 0
+  KeepsSound part =
+      (own : OwnView) (e : EndView Kind) → IsSound plan slots stood own → IsSound plan slots stood (part own e).own
+
+  abbrev pub AllKeepSound : List ToolPart → Type 0
+  AllKeepSound [] = Unit {0}
+  AllKeepSound (part ∷ parts) = KeepsSound part × AllKeepSound parts
+
+  both-keep : (first second : List ToolPart) → AllKeepSound first → AllKeepSound second
+      → AllKeepSound (first ++ second)
+  both-keep [] second one two = two
+  both-keep (part ∷ first) second one two = (one.0, both-keep first second one.1 two)
+
+  many-keep : (n : ℕ) (part : ToolPart) → KeepsSound part → AllKeepSound (replicate n part)
+  many-keep zero part one = tt
+  many-keep (suc n) part one = (one, many-keep n part one)
+
+  pub parts-sound :
+      {N : Type 0} (say : Happening → Option N) (parts : List ToolPart) (step : Step (Node OwnView Kind) N)
+      → AllKeepSound parts → IsSound plan slots stood step.next.own
+      → IsSound plan slots stood (step_in (after_parts say parts step)).next.own
+  parts-sound say [] step all sound = sound
+  parts-sound {N} say (part ∷ parts) step all sound =
+      go (all_done say (part step.next.own step.next.core).duties (core_step step))
+      (λ next held. parts-sound say parts next all.1 held)
+    where
+      own : OwnView
+      own = (part step.next.own step.next.core).own
+
+      held : IsSound plan slots stood own
+      held = all.0 step.next.own step.next.core sound
+
+      go : (went : Went (EndView Kind) N)
+          → ((next : Step (Node OwnView Kind) N) → IsSound plan slots stood next.next.own
+          → IsSound plan slots stood (step_in (after_parts say parts next)).next.own)
+          → IsSound plan slots stood (step_in (and_then (went_with own went) (after_parts say parts))).next.own
+      go (Goes next) more = more (with_own own next) held
+      go (Spent next) more = held
+
+  late-sound : (now : ℕ) → AllKeepSound (late_parts now)
+  unfolding late_parts
+  late-sound now =
+      both-keep (replicate 16 (block_timer now)) (replicate 64 (reply_timer now))
+      (many-keep 16 (block_timer now)
+      (λ own e sound.
+      any-sound _ (by-t4-quiet plan IsAny fits slots stood now (dropped_now e now) own (core_after (DropDue now) e)
+      (any-held own sound)).sound))
+      (many-keep 64 (reply_timer now)
+      (λ own e sound. any-sound _ (t3-quiet plan IsAny fits slots stood now own e (any-held own sound)).sound))
+
+  input-sound : (input : Input ToolCommand) (now : ℕ) → KeepsSound (input_part input now)
+  input-sound (Char byte) now own e sound =
+      any-sound _ (took-quiet plan IsAny fits slots stood now (took_at e byte now) own (core_after (Take byte now) e)
+      (any-held own sound)).sound
+  input-sound Time now own e sound = sound
+  input-sound (Told command) now own e sound = any-sound _
+      (told-quiet plan IsAny fits slots stood command now own e (any-held own sound)).sound
+
+  pub first-sound : (input : Input ToolCommand) (now : ℕ) → AllKeepSound (first_parts input now)
+  first-sound input now = (
+    (λ own e sound. any-sound _ (beginning-quiet plan IsAny fits slots stood now own e (any-held own sound)).sound),
+    (
+      (λ own e sound.
+          any-sound _ (failed-is-quiet plan IsAny fits slots stood now (failed_at e now) own (core_after (Tick now) e)
+          (any-held own sound)).sound),
+      both-keep (late_parts now ++ delay_timer now ∷ []) (input_part input now ∷ [])
+          (both-keep (late_parts now) (delay_timer now ∷ []) (late-sound now) (
+            (λ own e sound. any-sound _
+                (comms-quiet plan IsAny fits slots stood comms_in.Time now own (any-held own sound)).sound),
+            tt,
+          ))
+          (input-sound input now, tt),
+    ),
+  )
+
+  pub taking-sound :
+      (number : Option ℕ) (oldest : Option Spooled) → IfSome oldest CanBeSent → KeepsSound (taking_turn number oldest)
+  taking-sound number oldest can own e sound =
+      any-sound _
+      (taking-held plan IsAny fits slots stood (λ system. tt) number oldest can own e (any-held own sound))
+
+  pub ended-sound : KeepsSound end_of_spooling
+  ended-sound own e sound = any-sound _ (ended-quiet plan IsAny fits slots stood own e (any-held own sound)).sound
+
+  pub last-sound : (oldest : Option Spooled) → IfSome oldest CanBeSent → (now : ℕ) → AllKeepSound (last_parts oldest
+      now)
+  last-sound oldest can now = (
+    (λ own e sound. any-sound _
+        (unload-held plan IsAny fits slots stood (λ system. tt) oldest can own e (any-held own sound))),
+    (
+      (λ own e sound. any-sound _ (ended-quiet plan IsAny fits slots stood own e (any-held own sound)).sound),
+      ((λ own e sound. sound), tt),
+    ),
+  )
+
+module _ (plan : EquipmentPlan) (fits : EquipmentPlanFits plan) where
+  -- the equipment with its spool
+  pub record IsGoodView (s : EquipmentView) : Type 0 where
+    pub own : IsSound plan s.node.own.ledger.slots s.node.own.ledger.stood s.node.own
+    pub list : AllCanBeSent s.list
+
+  parts-good : (parts : List ToolPart) (step : Step EquipmentView Happening)
+      → AllKeepSound plan fits step.next.node.own.ledger.slots step.next.node.own.ledger.stood parts
+      → IsGoodView step.next → IsGoodView (step_in (parts_done parts step)).next
+  parts-good parts step all good =
+      go (after_parts Some parts (node_step step))
+      (parts-sound plan fits step.next.node.own.ledger.slots step.next.node.own.ledger.stood Some parts (node_step step)
+      all good.own)
+    where
+      go : (went : Went (Node OwnView Kind) Happening)
+          → IsSound plan step.next.node.own.ledger.slots step.next.node.own.ledger.stood (step_in went).next.own
+          → IsGoodView (step_in (went_with_file step.next went)).next
+      go (Goes next) sound = record { own = sound-self plan _ _ _ sound; list = good.list }
+      go (Spent next) sound = record { own = sound-self plan _ _ _ sound; list = good.list }
+
+  pub settled-view-good : (s : EquipmentView) → IsGoodView s → IsGoodView (settled s)
+  settled-view-good s good = record {
+    own = record {
+      plan_is = good.own.plan_is;
+      texts = good.own.texts;
+      reports = good.own.reports;
+      ledger = carried-good s.node.own.ledger good.own.ledger;
+    };
+    list = settled-good s.node.own.ledger s.list good.own.ledger good.list;
+  }
+
+  pub begun-good : (s : EquipmentView) (input : Input ToolCommand) (now : ℕ) → IsGoodView s
+      → IsGoodView (step_in (begun_step s input now)).next
+  begun-good s input now good = go (needs_numbers s) (is_marked_out s.mark)
+    where
+      go : (needs spent : Bool)
+          → IsGoodView
+          (step_in (and_then
+          (if needs then if spent then Spent (at_first s) else Goes (at_first (reserved s)) else Goes (at_first s))
+          (parts_done (first_parts input now)))).next
+      go true true = good
+      go true false =
+          parts-good (first_parts input now) (at_first (reserved s))
+          (first-sound plan fits s.node.own.ledger.slots s.node.own.ledger.stood input now)
+          (record { own = good.own; list = good.list })
+      go false spent =
+          parts-good (first_parts input now) (at_first s)
+          (first-sound plan fits s.node.own.ledger.slots s.node.own.ledger.stood input now) good
+
+  -- up to the works the list is that of the file, and the disk has what it had
+  pub begun-stood : (s : EquipmentView) (input : Input ToolCommand) (now : ℕ) → IsGoodView s
+      → ((step_in (begun_step s input now)).next.list ≡ s.list)
+      × ((step_in (begun_step s input now)).next.node.own.ledger.stood ≡ s.node.own.ledger.stood)
+  begun-stood s input now good = go (needs_numbers s) (is_marked_out s.mark)
+    where
+      Stays : Step EquipmentView Happening → Type 0
+      Stays step = (step.next.list ≡ s.list) × (step.next.node.own.ledger.stood ≡ s.node.own.ledger.stood)
+
+      by : (file : EquipmentView) (went : Went (Node OwnView Kind) Happening) → file.list ≡ s.list
+          → IsSound plan s.node.own.ledger.slots s.node.own.ledger.stood (step_in went).next.own
+          → Stays (step_in (went_with_file file went))
+      by file (Goes step) same sound = (same, sound.ledger.stood_is)
+      by file (Spent step) same sound = (same, sound.ledger.stood_is)
+
+      sounds : AllKeepSound plan fits s.node.own.ledger.slots s.node.own.ledger.stood (first_parts input now)
+      sounds = first-sound plan fits s.node.own.ledger.slots s.node.own.ledger.stood input now
+
+      go : (needs spent : Bool)
+          → Stays
+          (step_in (and_then
+          (if needs then if spent then Spent (at_first s) else Goes (at_first (reserved s)) else Goes (at_first s))
+          (parts_done (first_parts input now))))
+      go true true = (refl, refl)
+      go true false =
+          by (reserved s) (after_parts Some (first_parts input now) (at_first (reserved s).node)) refl
+          (parts-sound plan fits s.node.own.ledger.slots s.node.own.ledger.stood Some (first_parts input now)
+          (at_first (reserved s).node) sounds good.own)
+      go false spent =
+          by s (after_parts Some (first_parts input now) (at_first s.node)) refl
+          (parts-sound plan fits s.node.own.ledger.slots s.node.own.ledger.stood Some (first_parts input now)
+          (at_first s.node) sounds good.own)
+
+  pub oldest-good : (list : List Kept) → AllCanBeSent list
+      → IfSome (option_map spooled_of (slice_get list 0)) CanBeSent
+  oldest-good [] all = tt
+  oldest-good (first ∷ list) all = All-head (λ (message : Kept). CanBeSent (spooled_of message)) first list all
+
+  pub ended-good : (step : Step EquipmentView Happening) (now : ℕ) → IsGoodView step.next
+      → IsGoodView (step_in (ended_step now step)).next
+  ended-good step now good =
+      parts-good (last_parts (oldest_of step.next) now) step
+      (last-sound plan fits step.next.node.own.ledger.slots step.next.node.own.ledger.stood (oldest_of step.next)
+      (oldest-good step.next.list good.list) now) good
+
+  pub act-good : (s : EquipmentView) (input : Input ToolCommand) (now : ℕ) → IsGoodView s
+      → IsGoodView (step_in (act s input now)).next
+  act-good s input now good = go (begun_step s input now) (begun-good s input now good)
+    where
+      go : (went : Went EquipmentView Happening) → IsGoodView (step_in went).next
+          → IsGoodView (step_in (and_then (settled_went went) (ended_step now))).next
+      go (Goes step) so = ended-good (settled_step step) now (settled-view-good step.next so)
+      go (Spent step) so = settled-view-good step.next so
+
+-- ---- where the disk stops a step
+
+pub split-change : (notes : List Happening) → notes ≡ up_to_change notes ++ behind_change notes
+split-change [] = refl
+split-change (what ∷ rest) = go (is_before_change what) (split-change rest)
+  where
+    go : (is_one : Bool) → rest ≡ up_to_change rest ++ behind_change rest
+        → what ∷ rest
+        ≡ (what ∷ (if is_one then [] else up_to_change rest)) ++ (if is_one then rest else behind_change rest)
+    go true same = refl
+    go false same = ap (λ (ns : List Happening). what ∷ ns) same
+
+pub fronts-are :
+    (works : List DiskWork) (before notes front : List Happening) → Has (fronts_of before works notes) front
+    → IsFront front (before ++ notes)
+fronts-are [] before notes front has = absurd has
+fronts-are (DiskWork.Reserve ∷ works) before notes front (inl same) =
+    subst (λ (f : List Happening). IsFront f (before ++ notes)) (sym same) (front-more before notes)
+fronts-are (DiskWork.Reserve ∷ works) before notes front (inr has) = fronts-are works before notes front has
+fronts-are (DiskWork.Change one ∷ works) before notes front has =
+    go has (λ later. fronts-are works (before ++ up_to_change notes) (behind_change notes) front later)
+  where
+    whole : before ++ notes ≡ (before ++ up_to_change notes) ++ behind_change notes
+    whole =
+        ap (λ (ns : List Happening). before ++ ns) (split-change notes)
+        ∙ sym (append_assoc before (up_to_change notes) (behind_change notes))
+
+    go : (front ≡ before ++ up_to_change notes)
+        ⊎ Has (fronts_of (before ++ up_to_change notes) works (behind_change notes)) front
+        → (Has (fronts_of (before ++ up_to_change notes) works (behind_change notes)) front
+        → IsFront front ((before ++ up_to_change notes) ++ behind_change notes))
+        → IsFront front (before ++ notes)
+    go (inl same) more = record {
+      rest = behind_change notes;
+      whole = whole ∙ ap (λ (ns : List Happening). ns ++ behind_change notes) (sym same);
+    }
+    go (inr has) more = subst (λ (ns : List Happening). IsFront front ns) (sym whole) (more has)
+fronts-are (DiskWork.ReadOldest ∷ works) before notes front (inl same) =
+    subst (λ (f : List Happening). IsFront f (before ++ notes)) (sym same) (front-same (before ++ notes))
+fronts-are (DiskWork.ReadOldest ∷ works) before notes front (inr has) = fronts-are works before notes front has
+
+-- what was noted up to the works stands in front
+pub act-grows : (went : Went EquipmentView Happening) (now : ℕ)
+    → IsFront (step_in went).notes (step_in (and_then (settled_went went) (ended_step now))).notes
+act-grows (Spent step) now = front-same step.notes
+act-grows (Goes step) now =
+    go (after_parts Some parts (node_step (settled_step step))) (parts-grow parts (node_step (settled_step step)))
+  where
+    parts : List ToolPart
+    parts = last_parts (oldest_of (settled step.next)) now
+
+    go : (went : Went (Node OwnView Kind) Happening) → IsFront step.notes (step_in went).notes
+        → IsFront step.notes (step_in (went_with_file (settled step.next) went)).notes
+    go (Goes next) grows = grows
+    go (Spent next) grows = grows
+
+pub stops-are :
+    (s : EquipmentView) (input : Input ToolCommand) (now : ℕ) (front : List Happening) → Has (stops s input now) front
+    → IsFront front (step_in (act s input now)).notes
+stops-are s input now front has =
+    front-both front (step_in (begun_step s input now)).notes (step_in (act s input now)).notes
+    (fronts-are (works_of s input now) [] (step_in (begun_step s input now)).notes front has)
+    (act-grows (begun_step s input now) now)
+
+-- ---- starts
+
+module _ (plan : EquipmentPlan) (fits : EquipmentPlanFits plan) where
+  left-at : (mark : ℕ) → is_marked_out mark ≡ false → IsNumbers (numbers_from mark 4096)
+  left-at mark room =
+      record { ordered = omega arith; four_bytes = grind (arith, nat_tests, room) }
+
+  started-at : (slots : ℕ) (list : List Kept) (mark : ℕ) → AllCanBeSent list → is_marked_out mark ≡ false
+      → DidOf plan mark [] (started_on plan slots list mark).next
+  started-at slots list mark can room =
+      let did = begins-new {S = OwnView} {K = Kind} lower (end_plan plan) fits.line
+      (IsSound plan slots own.ledger.stood) own
+      (numbers_from mark 4096) (left-at mark room) sound in
+      record {
+        sound = record { own = sound; list = can; mark = refl };
+        is = did.is;
+        tried = tt;
+        turn = none-tried (started_on plan slots list mark).next.node.core;
+        last = refl;
+      }
+    where
+      own : OwnView
+      own = new_own plan (new_ledger slots (first_in list) (length list))
+
+      sound : IsSound plan slots own.ledger.stood own
+      sound = record {
+        plan_is = refl;
+        texts = All-nil (λ (one : GrantView). IsText one.body);
+        reports = All-nil (λ (one : ReportView). CanBeSent one.message);
+        ledger = new-good slots (first_in list) (length list);
+      }
+
+  pub starts-at : (slots : ℕ) (list : List Kept) (mark least : ℕ) → AllCanBeSent list → least ≤ mark
+      → OnStart (HasStarted (end_plan plan) (DidOf plan) least) (starts plan slots list mark)
+  starts-at slots list mark least can above = go (is_marked_out mark) refl
+    where
+      go : (spent : Bool) → is_marked_out mark ≡ spent
+          → OnStart (HasStarted (end_plan plan) (DidOf plan) least)
+          (if spent then Spent (at_first (record (started_on plan slots list mark).next { mark = mark }))
+          else Goes (started_on plan slots list mark))
+      go true is = refl
+      go false is =
+          record {
+            base = mark;
+            found = found_in list;
+            is = started-at slots list mark can is;
+            above = above;
+            notes = refl;
+            written = refl;
+          }
+
+  -- a start anew finds what the file stands for, and draws above all that was drawn
+  restarts-at : (base : ℕ) (doings : List Doing) (s : EquipmentView) (now : ℕ) → DidOf plan base doings s
+      → OnStart (HasRestarted (end_plan plan) (DidOf plan) base doings) (restarts s now)
+  restarts-at base doings s now did =
+      go (starts plan s.node.own.ledger.slots s.list s.mark)
+      (starts-at s.node.own.ledger.slots s.list s.mark s.mark did.sound.list (omega arith))
+      (ap (λ (p : EquipmentPlan). starts p s.node.own.ledger.slots s.list s.mark) (sym did.sound.own.plan_is))
+    where
+      numbers : NumbersView
+      numbers = s.node.core.numbers
+
+      under : numbers.next ≤ s.mark
+      under = subst (λ (mark : ℕ). numbers.next ≤ mark) did.sound.mark did.is.core.numbers.left.ordered
+
+      go : (went : Went EquipmentView Happening)
+          → OnStart (HasStarted (end_plan plan) (DidOf plan) s.mark) went
+          → went ≡ restarts s now
+          → OnStart (HasRestarted (end_plan plan) (DidOf plan) base doings) (restarts s now)
+      go went is same =
+          subst (OnStart (HasRestarted (end_plan plan) (DidOf plan) base doings)) same (by went is)
+        where
+          by : (went : Went EquipmentView Happening)
+              → OnStart (HasStarted (end_plan plan) (DidOf plan) s.mark) went
+              → OnStart (HasRestarted (end_plan plan) (DidOf plan) base doings) went
+          by (Goes step) started = record {
+            least = s.mark;
+            no_lower = le_trans did.is.core.numbers.least under;
+            above = λ drawn has. le_trans (did.is.core.numbers.above drawn has) under;
+            started = started;
+          }
+          by (Spent step) none = none
+
+-- ---- the first step of a start has numbers to draw
+
+module _ (plan : EquipmentPlan) (slots : ℕ) (list : List Kept) (mark : ℕ) where
+  first-view : EquipmentView
+  first-view = (started_on plan slots list mark).next
+
+  first-own : OwnView
+  first-own = begun first-view.node.own
+
+  asking-own : OwnView
+  asking-own = with_comms asks.next first-own
+
+  rest-parts : List ToolPart
+  rest-parts = line_timer 0 ∷ ((late_parts 0 ++ delay_timer 0 ∷ []) ++ input_part Time 0 ∷ [])
+
+  -- S1F13 under a number, if there is one
+  asking-went : List ℕ → Option ℕ → Went (Node OwnView Kind) Happening
+  asking-went body next =
+      went_with asking-own
+      (and_then (and_then (draws next (sends Some (sent.establish_request body))
+      (noted Some (Happening.Comms comms_name.WaitCra) (core_step (at_first first-view.node)))) (carried Some []))
+      (all_done Some []))
+
+  -- what comes of the first turn
+  first-turn : (over : Bool) (body : Text) → ToolTurn
+  first-turn over body =
+      if over then quiet_turn first-own
+      else fixed_turn asking-own
+      (Note (Happening.Comms comms_name.WaitCra) ∷ sent.primary_commands sent.establish_request body)
+
+  -- and of the step
+  first-act : Went (Node OwnView Kind) Happening → Went EquipmentView Happening
+  first-act went =
+      and_then (settled_went (went_with_file first-view (and_then went (after_parts Some rest-parts)))) (ended_step 0)
+
+  goes-by :
+      (over : Bool) (body : Text) (step : Step EquipmentView Happening)
+      → first-act (after_turn Some (first-turn over body) (at_first first-view.node)) ≢ Spent step
+  unfolding late_parts first-act first-turn first-view first-own asking-own rest-parts asking-went
+  goes-by true body step same = absurd (cc)
+  goes-by false text.TooLong step same = absurd (cc)
+  goes-by false text.Abort step same = absurd (cc)
+  goes-by false (text.Body body) step same =
+      subst
+      (λ (went : Went (Node OwnView Kind) Happening). first-act went ≢ Spent step)
+      (ap (asking-went body) (sym drawn)) (λ other. absurd (cc)) same
+    where
+      drawn : next_number (numbers_from mark 4096) ≡ Some mark
+      drawn = go (mark == mark + 4096) refl
+        where
+          go : (none : Bool) → (mark == mark + 4096) ≡ none → (if none then None else Some mark) ≡ Some mark
+          go true is = absurd (grind (arith, nat_tests, is))
+          go false is = refl
+
+  first-goes :
+      (step : Step EquipmentView Happening) → act (started_on plan slots list mark).next Time 0 ≢ Spent step
+  unfolding late_parts first-act first-turn first-view first-own asking-own rest-parts asking-went
+  first-goes step same =
+      goes-by (not plan.enable) (sent.text_of first-own (identity_of first-own.tables)) step (starts-by ∙ same)
+    where
+      starts-by :
+          first-act
+          (after_turn Some (first-turn (not plan.enable) (sent.text_of first-own (identity_of first-own.tables)))
+          (at_first first-view.node)) ≡ act first-view Time 0
+      starts-by = go (needs_numbers first-view) refl
+        where
+          go : (needs : Bool) → needs_numbers first-view ≡ needs
+              → first-act
+              (after_turn Some (first-turn (not plan.enable) (sent.text_of first-own (identity_of first-own.tables)))
+              (at_first first-view.node))
+              ≡ and_then (settled_went (and_then
+              (if needs then if is_marked_out first-view.mark then Spent (at_first first-view)
+              else Goes (at_first (reserved first-view)) else Goes (at_first first-view))
+              (parts_done (first_parts Time 0)))) (ended_step 0)
+          go true is = absurd (grind (arith, nat_tests, is))
+          go false is = refl
+
+-- ---- the law
+
+-- wherever its power is lost it starts anew lawfully
+abbrev pub Loses : EquipmentPlan → Type 0
+Loses plan =
+    (base : ℕ) (doings : List Doing) (s : EquipmentView) (input : Input ToolCommand) (now : ℕ)
+    → DidOf plan base doings s → MayTake ToolCommandFits input → (loss : Loss EquipmentView)
+    → Has (losses s input now) loss → (choice : CutChoice)
+    → LosesAt (end_plan plan) (DidOf plan) base doings input now loss.front (restarts (loss.left choice) now)
+
+pub lawful-so :
+    (plan : EquipmentPlan) (slots : ℕ) (list : List Kept) (mark : ℕ) → EquipmentPlanFits plan → AllCanBeSent list
+    → Loses plan → KeepsLaw (end_plan plan) (DidOf plan) ToolCommandFits (starts plan slots list mark) machine
+lawful-so plan slots list mark fits can loses = record {
+  fits = fits.line;
+  starts = starts-at plan fits slots list mark 0 can (omega arith);
+  begins = λ first step is. begins first step is;
+  keeps = λ base doings s did.
+      record { lawful = did.is.lawful; line_is = did.is.line; received = did.is.received };
+  goes_on = λ base doings s input now did may. goes-on plan base fits doings s input now did may;
+  stops = λ base doings s input now did may front has. stops-are s input now front has;
+  says = λ base doings s what did world. record {
+    sound = did.sound;
+    is = history-says (end_plan plan) base doings s.node.core what did.is world;
+    tried = (
+      may-say (own_of (end_plan plan) doings) (tries_in doings) (change_of what) (world-free what world),
+      did.tried,
+    );
+    turn =
+        subst (λ (ts : List ℕ). AreInTurn ts s.node.core)
+        (sym (same-tries (change_of what) (tries_in doings) (world-free what world))) did.turn;
+    last = did.last ∙ ap newest_of (sym (same-tries (change_of what) (tries_in doings) (world-free what world)));
+  };
+  restarts = λ base doings s now did. restarts-at plan fits base doings s now did;
+  loses = λ base doings s input now did may loss has choice. loses base doings s input now did may loss has choice;
+}
+  where
+    begins :
+        (first step : Step EquipmentView Happening) → starts plan slots list mark ≡ Goes first
+        → act first.next Time 0 ≢ Spent step
+    begins first step = go (is_marked_out mark)
+      where
+        go : (spent : Bool)
+            → (if spent then Spent (at_first (record (started_on plan slots list mark).next { mark = mark }))
+            else Goes (started_on plan slots list mark)) ≡ Goes first
+            → act first.next Time 0 ≢ Spent step
+        go true is = absurd (cc)
+        go false is =
+            subst (λ (s : EquipmentView). act s Time 0 ≢ Spent step)
+            (ap (λ (went : Went EquipmentView Happening). (step_in went).next) is)
+            (first-goes plan slots list mark step)

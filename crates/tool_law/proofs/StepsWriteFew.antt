@@ -1,0 +1,87 @@
+-- That the calls of a step write few bytes.
+use Rattle.std.proofs.Common.{arith, ℕ, ◌+◌, ◌&&◌, not, Bool, true, false, List, [], ◌∷◌, ◌++◌, All, map, if◌then◌else◌}
+use Rattle.std.proofs.lemmas.List.Elements.{All-head, All-tail}
+use Rattle.gem_spool.specs.declared.works.Work.{Work}
+use Rattle.gem_spool.specs.declared.works.Work.TheVariants as work
+use Rattle.gem_spool.specs.Standing.{Standing, count_in}
+use Rattle.trace_log.specs.declared.commands.ToolCommand.{ToolCommand}
+use Rattle.trace_log.specs.Log.{Happening}
+use Rattle.message_end.specs.Core.{Went, step_in}
+use Rattle.message_end.specs.Core.Went.{Goes, Spent}
+use Rattle.message_end.specs.Ends.{Input}
+use Rattle.equipment_tables.specs.declared.plan.EquipmentPlan.{EquipmentPlan}
+use Rattle.equipment_tables.specs.Plan.{EquipmentPlanFits}
+use Rattle.spool_works.specs.DiskWorks.{DiskWork, standing_behind}
+use Rattle.tool_step.specs.Disk.{read_works, reserve_works, standing_in, takes_up, works_of}
+use Rattle.spool_works.specs.DiskWorks.DiskWork.{Change, ReadOldest, Reserve}
+use Rattle.spool_works.specs.DiskCalls.{all_disk_calls, disk_calls, oldest_in}
+use Rattle.tool_step.specs.Equipment.{EquipmentView, begun_step, is_marked_out, needs_numbers}
+use Rattle.tool_law.proofs.Lawful.{IsGoodView, begun-good}
+use Rattle.tool_law.specs.Sound.{PutsGood}
+use Rattle.spool_works.specs.WritesFew.{WriteFew}
+use Rattle.spool_works.proofs.WritesFew.{few-both, few-none, purge-few, one-few}
+
+-- ---- works
+
+abbrev IsShort : DiskWork → Type 0
+IsShort (Change one) = PutsGood one
+IsShort _ = Unit {0}
+
+work-few : (bytes : List ℕ) (st : Standing) (one : DiskWork) → IsShort one → WriteFew (disk_calls bytes st one)
+work-few bytes st Reserve is = one-few bytes st Reserve (omega arith) (omega arith)
+work-few bytes st ReadOldest is = one-few bytes st ReadOldest (omega arith) (omega arith)
+work-few bytes st (Change (work.Put stream function body)) is =
+    let short = is.1 in
+    one-few bytes st (Change (work.Put stream function body)) (omega (arith, short)) (omega (arith, short))
+work-few bytes st (Change work.DropOldest) is =
+    one-few bytes st (Change work.DropOldest) (omega arith) (omega arith)
+work-few bytes st (Change work.Purge) is =
+    purge-few (count_in st).slots (oldest_in (count_in st)) (count_in st).len
+
+abbrev AreShort : List DiskWork → Type 0
+AreShort [] = Unit {0}
+AreShort (one ∷ works) = IsShort one × AreShort works
+
+works-few : (bytes : List ℕ) (st : Standing) (works : List DiskWork) → AreShort works
+    → WriteFew (all_disk_calls bytes st works)
+works-few bytes st [] are = few-none
+works-few bytes st (one ∷ works) are =
+    few-both (disk_calls bytes st one) (all_disk_calls bytes (standing_behind st one) works)
+    (work-few bytes st one are.0) (works-few bytes (standing_behind st one) works are.1)
+
+-- ---- a step
+
+short-both : (xs ys : List DiskWork) → AreShort xs → AreShort ys → AreShort (xs ++ ys)
+short-both [] ys first second = second
+short-both (x ∷ xs) ys first second = (first.0, short-both xs ys first.1 second)
+
+reserve-short : (s : EquipmentView) → AreShort (reserve_works s)
+reserve-short s = go (needs_numbers s && not (is_marked_out s.mark))
+  where
+    go : (reserves : Bool) → AreShort (if reserves then Reserve ∷ [] else [])
+    go true = (tt, tt)
+    go false = tt
+
+changes-short : (works : List Work) → All PutsGood works → AreShort (map Change works)
+changes-short [] good = tt
+changes-short (one ∷ works) good =
+    (All-head PutsGood one works good, changes-short works (All-tail PutsGood one works good))
+
+read-short : (begun : Went EquipmentView Happening) → AreShort (read_works begun)
+read-short (Goes step) = go (takes_up step.next.node.own)
+  where
+    go : (takes : Bool) → AreShort (if takes then ReadOldest ∷ [] else [])
+    go true = (tt, tt)
+    go false = tt
+read-short (Spent step) = tt
+
+pub step-few :
+    (plan : EquipmentPlan) (fits : EquipmentPlanFits plan) (s : EquipmentView) → IsGoodView plan fits s
+    → (input : Input ToolCommand) (now : ℕ) (bytes : List ℕ)
+    → WriteFew (all_disk_calls bytes (standing_in s) (works_of s input now))
+step-few plan fits s good input now bytes =
+    works-few bytes (standing_in s) (works_of s input now)
+    (short-both (reserve_works s) _ (reserve-short s)
+    (short-both (map Change (step_in (begun_step s input now)).next.node.own.ledger.works)
+    (read_works (begun_step s input now))
+    (changes-short _ (begun-good plan fits s input now good).own.ledger.works) (read-short (begun_step s input now))))

@@ -1,0 +1,8 @@
+//! That the equipment keeps the law of an end, and that its numbers are spent by cause.
+#![tactic(auto)]
+
+mod laws;
+
+pub use laws::{
+    equipment_keeps_the_law, steps_are_spent_by_cause, steps_write_few, worked_spent_steps,
+};

@@ -1,0 +1,327 @@
+-- That a whole message, and a reply, leave reports as they hold.
+use Rattle.std.proofs.Common.{◌≡◌, refl, ap, ◌∙◌, Bool, true, false, not, ℕ, ◌%◌, ◌==◌, ◌&&◌, List, ◌∷◌, Option, Some, None, if◌then◌else◌}
+use Rattle.std.specs.Option.{option_and_then, option_map}
+use Rattle.block_codec.specs.declared.header.Header.{Header}
+use Rattle.gem_shapes.specs.Elements.{identifier}
+use Rattle.gem_shapes.specs.Primaries.{is_known, is_known_stream, primary_with}
+use Rattle.gem_shapes.specs.Requests.{shape_of}
+use Rattle.gem_shapes.specs.declared.primary.Primary.{Primary}
+use Rattle.gem_shapes.specs.declared.primary.Primary.TheVariants as primary
+use Rattle.gem_shapes.specs.declared.request.Request.{Request}
+use Rattle.gem_shapes.specs.declared.request.Request.TheVariants as request
+use Rattle.gem_states.specs.declared.comms.CommsIn.TheVariants as comms_in
+use Rattle.gem_states.specs.declared.control.ControlIn.TheVariants as control_in
+use Rattle.message_flow.specs.declared.message.Message.{Message}
+use Rattle.message_flow.specs.Message.{is_primary}
+use Rattle.secs_items.specs.declared.item.Item.{Item}
+use Rattle.trace_log.specs.declared.commands.ToolCommand.{ToolCommand}
+use Rattle.trace_log.specs.Log.{Happening, Past}
+use Rattle.transact.specs.declared.transactions.Match.{Match}
+use Rattle.transact.specs.declared.transactions.Match.TheVariants as match
+use Rattle.transact.specs.Transactions.{match_of}
+use Rattle.message_end.specs.Calls.{answered_by}
+use Rattle.message_end.specs.Core.{EndView, noted}
+use Rattle.message_end.specs.Core.Command.{Answer, Reply}
+use Rattle.message_end.specs.Duties.{all_done}
+use Rattle.message_end.specs.Parts.{core_after}
+use Rattle.equipment_tables.specs.declared.plan.EquipmentPlan.{EquipmentPlan}
+use Rattle.equipment_tables.specs.Answers.{event_item, report_item_of, spelled_body}
+use Rattle.equipment_tables.specs.Laws.{TablesAreLookedBackFor}
+use Rattle.equipment_tables.specs.Plan.{EquipmentPlanFits}
+use Rattle.equipment_tables.specs.Requests.{asked_by, item_in, request_of}
+use Rattle.tool_step.specs.declared.kind.Kind.{Kind}
+use Rattle.tool_step.specs.declared.kind.Kind.TheVariants as kind
+use Rattle.tool_step.specs.Codes.{is_accepted_in, is_granted_in}
+use Rattle.tool_step.specs.Messages.{dropped_turn, error_turn, established_turn, is_establish_request, is_online_request, known_turn, message_turn, offline_turn, primary_turn, read_turn, stray_turn}
+use Rattle.tool_step.specs.Own.{OwnView, ToolTurn, is_communicating, is_enabled_in as is_comms_enabled, is_online, waiting_report, without_grant}
+use Rattle.tool_step.specs.Replies.{granted_turn, loss_turn, matched_turn, reply_turn, secondary_turn}
+use Rattle.tool_step.specs.Spooling.{leave_given_turn}
+use Rattle.spool_ledger.specs.Unloading.{confirmed}
+use Rattle.tool_reports.proofs.LeavingReports.{leave-given-keeps, loss-keeps}
+use Rattle.tool_reports.specs.Reported.{past_in}
+use Rattle.tool_step.specs.States as states
+use Rattle.tool_reports.proofs.HeldReports.{Any, any-lasts, Ends, Free, Keeps, KeepsAt, granted-keeps, led-at, noted-so, plain, plain-at, so_far}
+use Rattle.tool_reports.proofs.QuietReports.{Holds}
+use Rattle.tool_reports.proofs.PlainTurns.{booked-plain, comms-plain, confirmed-quiet, control-plain, dropped-plain, error-plain, nothing-plain, offline-plain, stray-plain}
+use Rattle.tool_reports.proofs.QuietNotes.{one-behind}
+use Rattle.tool_law.proofs.CoreSteps.{CoreStep}
+use Rattle.tool_reports.proofs.HostReports.{AsksOf, asks-none, IsNewest, newest-lasts, may-behind, may-establish, is_for_report, named, is-other, requested}
+use Rattle.tool_reports.proofs.HeardReports.{asked-noted, established-plain, request-keeps, answered-at, event-answer, report-answer}
+
+module _
+    (plan : EquipmentPlan) (fits : EquipmentPlanFits plan) (looked : TablesAreLookedBackFor)
+    (said : List ToolCommand) (before : List Happening) where
+  -- ---- a whole message, delivered just now
+
+  module _ (message : Message) (own : OwnView) (earlier : List Happening) (step : CoreStep)
+      (it : AsksOf message step.next.asked)
+      (newest : so_far plan said before step ≡ Happening.Received message ∷ earlier)
+      (holds : Holds plan said own step.next.drawn (so_far plan said before step)) where
+    abbrev KeptBy : ToolTurn → Type 0
+    KeptBy turn = Ends plan said before turn.own (all_done Some turn.duties step)
+
+    errs : (function : ℕ) → (function % 2 == 1) ≡ true → (header : Header) → KeptBy (error_turn function header own)
+    errs function odd header =
+        plain plan said before own (error_turn function header own)
+        (error-plain Free tt Any any-lasts function odd header own) step holds
+
+    -- the step behind the note of the request
+    abbrev next : CoreStep
+    next = noted Some (Happening.Recorded (Past.Asked message)) step
+
+    next-past : past_in (so_far plan said before next) ≡ Past.Asked message ∷ past_in (so_far plan said before step)
+    next-past = ap past_in (one-behind step.notes (Happening.Recorded (Past.Asked message)) before)
+
+    next-holds : (asks : Request) → request_of message.stream message.function message.body ≡ Some asks
+        → Holds plan said (requested asks own) next.next.drawn (so_far plan said before next)
+    next-holds asks is =
+        noted-so plan said before (requested asks own) (Happening.Recorded (Past.Asked message)) step
+        ((asked-noted plan fits looked said before) asks message own (so_far plan said before step) earlier holds newest is)
+
+    abbrev read_by : Option Request → Header → ToolTurn
+    read_by read header = read_turn read header message own
+
+    -- of a primary that no report answers
+    others :
+        (p : Primary) (header : Header) (read : Option Request)
+        → primary_with message.stream message.function ≡ Some p → is_for_report p ≡ false
+        → asked_by (shape_of p) message.body ≡ read → KeptBy (read_by read header)
+    others p header None with_p not_one is = errs 7 refl header
+    others p header (Some asks) with_p not_one is =
+        (request-keeps plan fits looked said before) message (IsNewest message) (newest-lasts message)
+        (may-behind message (is-other p message (named p message with_p) not_one)) asks own next it
+        (past_in (so_far plan said before step), next-past)
+        (next-holds asks
+        (ap (λ (found : Option Primary). option_and_then (λ q. asked_by (shape_of q) message.body) found) with_p
+        ∙ is))
+
+    for-event :
+        (header : Header) → primary_with message.stream message.function ≡ Some primary.S6F15
+        → KeptBy (read_by (asked_by (shape_of primary.S6F15) message.body) header)
+    for-event header with_p = by_item (item_in message.body) refl
+      where
+        found : request_of message.stream message.function message.body
+            ≡ asked_by (shape_of primary.S6F15) message.body
+        found = ap (λ (found : Option Primary). option_and_then (λ q. asked_by (shape_of q) message.body) found)
+            with_p
+
+        by_ceid : (ceid : Option ℕ)
+            → asked_by (shape_of primary.S6F15) message.body ≡ option_map request.EventReport ceid
+            → KeptBy (read_by (option_map request.EventReport ceid) header)
+        by_ceid None is = errs 7 refl header
+        by_ceid (Some ceid) is =
+            (answered-at plan fits looked said before) message (spelled_body own.plan.line.max_body (event_item own.tables ceid 0))
+            (requested (request.EventReport ceid) own) next it (next-holds (request.EventReport ceid) (found ∙ is))
+            (λ body spelled waits.
+            (event-answer plan fits looked said before) ceid own.plan.line.max_body message own body (so_far plan said before next)
+            (past_in (so_far plan said before step)) (named primary.S6F15 message with_p) is
+            (next-holds (request.EventReport ceid) (found ∙ is)).tables_are next-past waits spelled)
+
+        by_item : (o : Option Item) → item_in message.body ≡ o
+            → KeptBy (read_by (option_and_then (λ item. option_map request.EventReport (identifier item)) o) header)
+        by_item None is = errs 7 refl header
+        by_item (Some item) is =
+            by_ceid (identifier item)
+            (ap (λ (o : Option Item). option_and_then (λ item. option_map request.EventReport (identifier item)) o)
+            is)
+
+    for-report :
+        (header : Header) → primary_with message.stream message.function ≡ Some primary.S6F19
+        → KeptBy (read_by (asked_by (shape_of primary.S6F19) message.body) header)
+    for-report header with_p = by_item (item_in message.body) refl
+      where
+        found : request_of message.stream message.function message.body
+            ≡ asked_by (shape_of primary.S6F19) message.body
+        found = ap (λ (found : Option Primary). option_and_then (λ q. asked_by (shape_of q) message.body) found)
+            with_p
+
+        by_rptid : (rptid : Option ℕ)
+            → asked_by (shape_of primary.S6F19) message.body ≡ option_map request.Report rptid
+            → KeptBy (read_by (option_map request.Report rptid) header)
+        by_rptid None is = errs 7 refl header
+        by_rptid (Some rptid) is =
+            (answered-at plan fits looked said before) message (spelled_body own.plan.line.max_body (report_item_of own.tables rptid))
+            (requested (request.Report rptid) own) next it (next-holds (request.Report rptid) (found ∙ is))
+            (λ body spelled waits.
+            (report-answer plan fits looked said before) rptid own.plan.line.max_body message own body (so_far plan said before next)
+            (past_in (so_far plan said before step)) (named primary.S6F19 message with_p) is
+            (next-holds (request.Report rptid) (found ∙ is)).tables_are next-past waits spelled)
+
+        by_item : (o : Option Item) → item_in message.body ≡ o
+            → KeptBy (read_by (option_and_then (λ item. option_map request.Report (identifier item)) o) header)
+        by_item None is = errs 7 refl header
+        by_item (Some item) is =
+            by_rptid (identifier item)
+            (ap (λ (o : Option Item). option_and_then (λ item. option_map request.Report (identifier item)) o) is)
+
+    by-primary :
+        (p : Primary) (header : Header) → primary_with message.stream message.function ≡ Some p
+        → KeptBy (read_by (asked_by (shape_of p) message.body) header)
+    by-primary primary.S6F15 header is = for-event header is
+    by-primary primary.S6F19 header is = for-report header is
+    by-primary primary.S1F1 header is =
+        others primary.S1F1 header (asked_by (shape_of primary.S1F1) message.body) is refl refl
+    by-primary primary.S1F3 header is =
+        others primary.S1F3 header (asked_by (shape_of primary.S1F3) message.body) is refl refl
+    by-primary primary.S1F11 header is =
+        others primary.S1F11 header (asked_by (shape_of primary.S1F11) message.body) is refl refl
+    by-primary primary.S1F13 header is =
+        others primary.S1F13 header (asked_by (shape_of primary.S1F13) message.body) is refl refl
+    by-primary primary.S1F15 header is =
+        others primary.S1F15 header (asked_by (shape_of primary.S1F15) message.body) is refl refl
+    by-primary primary.S1F17 header is =
+        others primary.S1F17 header (asked_by (shape_of primary.S1F17) message.body) is refl refl
+    by-primary primary.S2F13 header is =
+        others primary.S2F13 header (asked_by (shape_of primary.S2F13) message.body) is refl refl
+    by-primary primary.S2F15 header is =
+        others primary.S2F15 header (asked_by (shape_of primary.S2F15) message.body) is refl refl
+    by-primary primary.S2F29 header is =
+        others primary.S2F29 header (asked_by (shape_of primary.S2F29) message.body) is refl refl
+    by-primary primary.S2F33 header is =
+        others primary.S2F33 header (asked_by (shape_of primary.S2F33) message.body) is refl refl
+    by-primary primary.S2F35 header is =
+        others primary.S2F35 header (asked_by (shape_of primary.S2F35) message.body) is refl refl
+    by-primary primary.S2F37 header is =
+        others primary.S2F37 header (asked_by (shape_of primary.S2F37) message.body) is refl refl
+    by-primary primary.S2F39 header is =
+        others primary.S2F39 header (asked_by (shape_of primary.S2F39) message.body) is refl refl
+    by-primary primary.S2F41 header is =
+        others primary.S2F41 header (asked_by (shape_of primary.S2F41) message.body) is refl refl
+    by-primary primary.S2F43 header is =
+        others primary.S2F43 header (asked_by (shape_of primary.S2F43) message.body) is refl refl
+    by-primary primary.S5F3 header is =
+        others primary.S5F3 header (asked_by (shape_of primary.S5F3) message.body) is refl refl
+    by-primary primary.S5F5 header is =
+        others primary.S5F5 header (asked_by (shape_of primary.S5F5) message.body) is refl refl
+    by-primary primary.S5F7 header is =
+        others primary.S5F7 header (asked_by (shape_of primary.S5F7) message.body) is refl refl
+    by-primary primary.S6F23 header is =
+        others primary.S6F23 header (asked_by (shape_of primary.S6F23) message.body) is refl refl
+    by-primary primary.S10F3 header is =
+        others primary.S10F3 header (asked_by (shape_of primary.S10F3) message.body) is refl refl
+    by-primary primary.S10F5 header is =
+        others primary.S10F5 header (asked_by (shape_of primary.S10F5) message.body) is refl refl
+
+    read-keeps : (header : Header)
+        → KeptBy (read_by (request_of message.stream message.function message.body) header)
+    read-keeps header = go (primary_with message.stream message.function) refl
+      where
+        go : (found : Option Primary) → primary_with message.stream message.function ≡ found
+            → KeptBy (read_by (option_and_then (λ q. asked_by (shape_of q) message.body) found) header)
+        go None is = errs 7 refl header
+        go (Some p) is = by-primary p header is
+
+    known-keeps : (header : Header) → KeptBy (known_turn header message own)
+    known-keeps header = go (not (is_known_stream message.stream)) (not (is_known message.stream message.function))
+      where
+        turn_by : Bool → Bool → ToolTurn
+        turn_by strange unknown =
+            if strange then error_turn 3 header own else if unknown then error_turn 5 header own
+            else read_by (request_of message.stream message.function message.body) header
+
+        go : (strange unknown : Bool) → KeptBy (turn_by strange unknown)
+        go true unknown = errs 3 refl header
+        go false true = errs 5 refl header
+        go false false = read-keeps header
+
+    primary-keeps : (now : ℕ) (header : Header) → KeptBy (primary_turn now header message own)
+    primary-keeps now header =
+        go (is_establish_request message) refl (not (is_communicating own))
+        (not (is_online own) && not (is_online_request message))
+      where
+        turn_by : Bool → Bool → Bool → ToolTurn
+        turn_by establishing silent offline =
+            if establishing then established_turn now message own else if silent then stray_turn now message own
+            else if offline then offline_turn message own else known_turn header message own
+
+        go : (establishing : Bool) → is_establish_request message ≡ establishing → (silent offline : Bool)
+            → KeptBy (turn_by establishing silent offline)
+        go true is silent offline =
+            plain-at plan said before (AsksOf message) (asks-none message) Any any-lasts own
+            (established_turn now message own) step
+            ((established-plain plan fits looked said before) message Any any-lasts (may-establish message is) now own) it tt holds
+        go false is true offline =
+            plain plan said before own (stray_turn now message own)
+            (stray-plain Free tt Any any-lasts now message own) step holds
+        go false is false true =
+            plain plan said before own (offline_turn message own)
+            (offline-plain Free tt Any any-lasts message own) step holds
+        go false is false false = known-keeps header
+
+  -- ---- a reply
+
+  replied-keeps :
+      (now : ℕ) (kind : Kind) (system : ℕ) (body : List ℕ) (own : OwnView) (e : EndView Kind)
+      → Keeps plan said before own (reply_turn now kind system body own e)
+  replied-keeps now kind.Establish system body own e = go (is_accepted_in body)
+    where
+      go : (accepted : Bool)
+          → Keeps plan said before own
+          (if accepted then states.comms_turn comms_in.Accepted now own
+          else loss_turn now kind.Establish system own e)
+      go true = plain plan said before own (states.comms_turn comms_in.Accepted now own)
+          (comms-plain Free tt Any any-lasts
+          comms_in.Accepted now own)
+      go false = loss-keeps plan said before now kind.Establish system own e
+  replied-keeps now kind.Attempt system body own e =
+      plain plan said before own (states.control_turn control_in.AttemptDone own) (control-plain Free tt Any any-lasts
+      control_in.AttemptDone own)
+  replied-keeps now kind.Grant system body own e = go (is_granted_in body)
+    where
+      go : (granted : Bool)
+          → Keeps plan said before own
+          (if granted then granted_turn (waiting_report system own) (without_grant system own) e
+          else loss_turn now kind.Grant system own e)
+      go true = granted-keeps plan said before system own e
+      go false = loss-keeps plan said before now kind.Grant system own e
+  replied-keeps now kind.Report system body own e = loss-keeps plan said before now kind.Report system own e
+  replied-keeps now kind.Unload system body own e =
+      plain plan said before own (reply_turn now kind.Unload system body own e)
+      (booked-plain Free tt Any any-lasts own (confirmed own.ledger) (confirmed-quiet own.ledger))
+  replied-keeps now kind.UnloadGrant system body own e = go (is_granted_in body)
+    where
+      go : (granted : Bool)
+          → Keeps plan said before own
+          (if granted then leave_given_turn own e else loss_turn now kind.UnloadGrant system own e)
+      go true = leave-given-keeps plan said before own e
+      go false = loss-keeps plan said before now kind.UnloadGrant system own e
+
+  matched-keeps :
+      (now : ℕ) (found : Match Kind) (message : Message) (own : OwnView) (e : EndView Kind)
+      → Keeps plan said before own (matched_turn now found message own e)
+  matched-keeps now (match.Reply kind) message own e = replied-keeps now kind message.system message.body own e
+  matched-keeps now (match.Abort kind) message own e =
+      loss-keeps plan said before now kind message.system own e
+  matched-keeps now match.Stranger message own e =
+      plain plan said before own (matched_turn now match.Stranger message own e)
+      (nothing-plain Free tt Any any-lasts own)
+
+  secondary-keeps :
+      (now : ℕ) (header : Header) (message : Message) (own : OwnView) (e : EndView Kind)
+      → Keeps plan said before own (secondary_turn now header message own e)
+  secondary-keeps now header message own e step holds =
+      led-at plan said before (Answer header) own
+      (matched_turn now (match_of header (answered_by e header)) message own (core_after (Answer header) e)) step tt
+      (matched-keeps now (match_of header (answered_by e header)) message own (core_after (Answer header) e)) holds
+
+  -- ---- all of them
+
+  pub message-keeps :
+      (now : ℕ) (header : Header) (message : Message) (own : OwnView) (e : EndView Kind) (earlier : List Happening)
+      (step : CoreStep)
+      → AsksOf message step.next.asked → so_far plan said before step ≡ Happening.Received message ∷ earlier
+      → KeepsAt plan said before own (message_turn now header message own e) step
+  message-keeps now header message own e earlier step it newest holds =
+      go (not (is_comms_enabled own.comms.state)) (is_primary message)
+    where
+      turn_by : Bool → Bool → ToolTurn
+      turn_by disabled odd =
+          if disabled then dropped_turn message own else if odd then primary_turn now header message own
+          else secondary_turn now header message own e
+
+      go : (disabled odd : Bool)
+          → Ends plan said before (turn_by disabled odd).own (all_done Some (turn_by disabled odd).duties step)
+      go true odd = plain plan said before own (dropped_turn message own)
+          (dropped-plain Free tt Any any-lasts message own) step holds
+      go false true = primary-keeps message own earlier step it newest holds now header
+      go false false = secondary-keeps now header message own e step holds

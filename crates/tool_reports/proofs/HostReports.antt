@@ -1,0 +1,252 @@
+-- What a message of the host leaves of what holds.
+use Rattle.std.proofs.Common.{◌≡◌, refl, sym, ap, subst, ◌∙◌, Bool, true, false, not, ℕ, ◌%◌, ◌==◌, ◌&&◌, List, [], ◌∷◌, length, map, Option, Some, None, cond, if◌then◌else◌}
+use Rattle.std.specs.List.{find}
+use Rattle.std.proofs.lemmas.Bool.{eqb-true}
+use Rattle.gem_remote.specs.Commands.{ackc10_of}
+use Rattle.gem_remote.specs.declared.remote.Ackc10.{Ackc10}
+use Rattle.gem_remote.specs.declared.remote.Ackc10.TheVariants as ackc10
+use Rattle.gem_shapes.specs.Primaries.{has_function, primaries, primary_with, stream_and_function}
+use Rattle.gem_shapes.specs.declared.primary.Primary.{Primary}
+use Rattle.gem_shapes.specs.declared.primary.Primary.TheVariants as primary
+use Rattle.gem_shapes.specs.declared.request.Request.{Request}
+use Rattle.gem_shapes.specs.declared.request.Request.TheVariants as request
+use Rattle.message_flow.specs.declared.message.Message.{Message}
+use Rattle.trace_log.specs.declared.names.Title.{Title}
+use Rattle.trace_log.specs.Log.{Happening, Past}
+use Rattle.trace_log.specs.Names.{title_of}
+use Rattle.message_end.specs.Core.{reply_function, reply_of}
+use Rattle.message_end.specs.Core.Command.{Note, Reply}
+use Rattle.equipment_tables.specs.Answers.{carried_lines, is_accepted, lines_of, remoted_of_item, shown_lines}
+use Rattle.equipment_tables.specs.Tables.{TablesState, tables_after}
+use Rattle.tool_step.specs.Messages.{is_establish_request}
+use Rattle.tool_step.specs.Own.{OwnView, is_local, with_tables}
+use Rattle.tool_reports.specs.Reported.{past_in, reports_in}
+use Rattle.tool_reports.proofs.HeldReports.{Any, plain}
+use Rattle.tool_reports.proofs.QuietNotes.{IsAsBefore, IsNone, never-live, none-of, none-sent, IsQuietNote, is_report, settled-more}
+use Rattle.tool_reports.proofs.SilentCommands.{AreSilent}
+
+-- ---- who asks
+
+-- the newest primary is this one, if any asks still, and it awaits a reply
+abbrev pub AsksOf : Message → Option Title → Type 0
+AsksOf message asked =
+    (title : Title) → asked ≡ Some title → (title ≡ title_of message) × (message.wait ≡ true)
+
+pub asks-none : (message : Message) → AsksOf message None
+asks-none message title is = absurd (cc)
+
+-- a reply to it is none of which something is said
+abbrev pub IsOther : Message → Type 0
+IsOther message = is_report message.stream (reply_function message.function) ≡ false
+
+-- behind notes of which this holds a reply to the message, which has W, leaves all as it is, whatever its text
+abbrev pub MayReply : (List Happening → Type 0) → Message → Type 0
+MayReply Fact message =
+    (body : List ℕ) (notes : List Happening) → message.wait ≡ true → Fact notes
+    → IsAsBefore notes (Happening.Sent (reply_of (title_of message) (reply_function message.function) body) ∷ notes)
+
+pub other-silent :
+    (message : Message) (Fact : List Happening → Type 0)
+    (lasts : (old new : List Happening) → IsAsBefore old new → Fact old → Fact new)
+    → MayReply Fact message → (body : List ℕ)
+    → AreSilent (AsksOf message) (asks-none message) Fact lasts (Reply body ∷ [])
+other-silent message Fact lasts may body = (
+  λ title asks notes fact.
+      subst
+      (λ (t : Title).
+      IsAsBefore notes (Happening.Sent (reply_of t (reply_function t.name.function) body) ∷ notes))
+      (sym (asks title refl).0) (may body notes (asks title refl).1 fact),
+  tt,
+)
+
+-- the message is the newest entry of the history
+abbrev pub IsNewest : Message → List Happening → Type 0
+IsNewest message notes = (earlier : List Past) × (past_in notes ≡ Past.Asked message ∷ earlier)
+
+pub newest-lasts : (message : Message) (old new : List Happening) → IsAsBefore old new → IsNewest message old
+    → IsNewest message new
+newest-lasts message old new same fact = (fact.0, same.past ∙ fact.1)
+
+pub may-behind : (message : Message) → IsOther message → MayReply (IsNewest message) message
+may-behind message other body notes waits fact = record {
+  past = refl;
+  events = refl;
+  reports =
+      ap (λ (b : Bool). if b then out.body ∷ reports_in notes else reports_in notes)
+      (never-live out notes none.s6f11);
+  next = refl;
+  tries = refl;
+  keeps = λ plan so.
+      settled-more plan (Happening.Sent out) notes refl
+      (record {
+        s6f11 = λ is. let e = never-live out notes none.s6f11 in absurd (cc);
+        s6f16 = λ is. let e = none.s6f16 in absurd (cc);
+        s6f20 = λ is. let e = none.s6f20 in absurd (cc);
+        reply = λ is. record {
+          primary = message;
+          earlier = fact.0;
+          newest = fact.1;
+          awaited = waits;
+          stream = refl;
+          function = refl;
+          wait = refl;
+          system = refl;
+        };
+      })
+      refl so;
+}
+  where
+    out : Message
+    out = reply_of (title_of message) (reply_function message.function) body
+
+    none : IsNone out
+    none = none-of out other
+
+pub may-establish : (message : Message) → is_establish_request message ≡ true → MayReply Any message
+may-establish message is body notes waits any =
+    go (message.stream == 1) (message.function == 13) refl refl is
+  where
+    out : Message
+    out = reply_of (title_of message) (reply_function message.function) body
+
+    go : (a b : Bool) → (message.stream == 1) ≡ a → (message.function == 13) ≡ b → (a && b) ≡ true
+        → IsAsBefore notes (Happening.Sent out ∷ notes)
+    go true true ea eb all =
+        none-sent out
+        (none-of out
+        (ap (λ (s : ℕ). is_report s (reply_function message.function)) (eqb-true message.stream 1 ea)))
+        (ap
+        (λ (s : ℕ).
+        (not (reply_function message.function % 2 == 1) && not (reply_function message.function == 0))
+        && not ((s == 1) && (reply_function message.function == 14))) (eqb-true message.stream 1 ea)
+        ∙ ap
+        (λ (f : ℕ).
+        (not (reply_function f % 2 == 1) && not (reply_function f == 0))
+        && not ((1 == 1) && (reply_function f == 14))) (eqb-true message.function 13 eb)) notes
+    go true false ea eb all = absurd (cc)
+    go false b ea eb all = absurd (cc)
+
+-- ---- what is noted on the way
+
+abbrev AreQuietNotes : List Happening → Type 0
+AreQuietNotes [] = Unit {0}
+AreQuietNotes (what ∷ lines) = IsQuietNote what × AreQuietNotes lines
+
+carried-quiet : (hcack : ℕ) (name : List ℕ) → AreQuietNotes (carried_lines hcack name)
+carried-quiet hcack name = go (is_accepted hcack)
+  where
+    go : (accepted : Bool) → AreQuietNotes (if accepted then Happening.Carried name ∷ [] else [])
+    go true = (tt, tt)
+    go false = tt
+
+shown-quiet : (ackc10 : Ackc10) (tid : ℕ) (texts : List (List ℕ)) → AreQuietNotes (shown_lines ackc10 tid texts)
+shown-quiet ackc10.Accepted tid [] = tt
+shown-quiet ackc10.Accepted tid (first ∷ texts) = (tt, shown-quiet ackc10.Accepted tid texts)
+shown-quiet ackc10.NoTerminal tid texts = tt
+
+pub lines-quiet : (t : TablesState) (is_local : Bool) (request : Request) → AreQuietNotes (lines_of t is_local request)
+lines-quiet t is_local request.GoOffline = tt
+lines-quiet t is_local request.GoOnline = tt
+lines-quiet t is_local request.AreYouThere = tt
+lines-quiet t is_local (request.StatusValues ids) = tt
+lines-quiet t is_local (request.StatusNames ids) = tt
+lines-quiet t is_local request.Establish = tt
+lines-quiet t is_local (request.ConstantValues ids) = tt
+lines-quiet t is_local (request.SetConstants list) = tt
+lines-quiet t is_local (request.ConstantNames ids) = tt
+lines-quiet t is_local (request.Define dataid list) = tt
+lines-quiet t is_local (request.Link dataid list) = tt
+lines-quiet t is_local (request.EnableEvents on ceids) = tt
+lines-quiet t is_local (request.Announce dataid length) = tt
+lines-quiet t is_local (request.Command name params) =
+    carried-quiet (remoted_of_item t is_local name params).hcack name
+lines-quiet t is_local (request.ReplaceRule list) = tt
+lines-quiet t is_local (request.EnableAlarms on alid) = tt
+lines-quiet t is_local (request.Alarms ids) = tt
+lines-quiet t is_local request.EnabledAlarms = tt
+lines-quiet t is_local (request.EventReport ceid) = tt
+lines-quiet t is_local (request.Report rptid) = tt
+lines-quiet t is_local request.TransmitSpool = tt
+lines-quiet t is_local request.PurgeSpool = tt
+lines-quiet t is_local (request.Display tid text) = shown-quiet (ackc10_of t.remote tid) tid (text ∷ [])
+lines-quiet t is_local (request.DisplayLines tid texts) = shown-quiet (ackc10_of t.remote tid) tid texts
+
+pub noted-silent :
+    (Asks : Option Title → Type 0) (none : Asks None) (Fact : List Happening → Type 0)
+    (lasts : (old new : List Happening) → IsAsBefore old new → Fact old → Fact new) (lines : List Happening)
+    → AreQuietNotes lines → AreSilent Asks none Fact lasts (map Note lines)
+noted-silent Asks none Fact lasts [] quiet = tt
+noted-silent Asks none Fact lasts (what ∷ lines) quiet =
+    (quiet.0, noted-silent Asks none Fact lasts lines quiet.1)
+
+-- ---- which primaries are answered by a report
+
+abbrev pub is_for_report : Primary → Bool
+is_for_report primary.S6F15 = true
+is_for_report primary.S6F19 = true
+is_for_report _ = false
+
+literal : (p : Primary)
+    → is_report (stream_and_function p).0 (reply_function (stream_and_function p).1) ≡ is_for_report p
+literal primary.S1F1 = refl
+literal primary.S1F3 = refl
+literal primary.S1F11 = refl
+literal primary.S1F13 = refl
+literal primary.S1F15 = refl
+literal primary.S1F17 = refl
+literal primary.S2F13 = refl
+literal primary.S2F15 = refl
+literal primary.S2F29 = refl
+literal primary.S2F33 = refl
+literal primary.S2F35 = refl
+literal primary.S2F37 = refl
+literal primary.S2F39 = refl
+literal primary.S2F41 = refl
+literal primary.S2F43 = refl
+literal primary.S5F3 = refl
+literal primary.S5F5 = refl
+literal primary.S5F7 = refl
+literal primary.S6F15 = refl
+literal primary.S6F19 = refl
+literal primary.S6F23 = refl
+literal primary.S10F3 = refl
+literal primary.S10F5 = refl
+
+passes : {X : Type 0} (test : X → Bool) (xs : List X) (x : X) → find test xs ≡ Some x → test x ≡ true
+passes test [] x is = absurd (cc)
+passes {X} test (y ∷ ys) x is = go (test y) refl is (passes test ys x)
+  where
+    go : (b : Bool) → test y ≡ b → cond b (Some y) (find test ys) ≡ Some x → (find test ys ≡ Some x → test x ≡ true)
+        → test x ≡ true
+    go true e f next = let same : y ≡ x = cc in ap test (sym same) ∙ e
+    go false e f next = next f
+
+pub record IsNamed (p : Primary) (message : Message) : Type 0 where
+  pub stream : message.stream ≡ (stream_and_function p).0
+  pub function : message.function ≡ (stream_and_function p).1
+
+pub named : (p : Primary) (message : Message) → primary_with message.stream message.function ≡ Some p → IsNamed p message
+named p message is =
+    both ((stream_and_function p).0 == message.stream) ((stream_and_function p).1 == message.function) refl refl
+    (passes (has_function message.stream message.function) primaries p is)
+  where
+    both : (a b : Bool) → ((stream_and_function p).0 == message.stream) ≡ a
+        → ((stream_and_function p).1 == message.function) ≡ b → (a && b) ≡ true → IsNamed p message
+    both true true ea eb all = record {
+      stream = sym (eqb-true (stream_and_function p).0 message.stream ea);
+      function = sym (eqb-true (stream_and_function p).1 message.function eb);
+    }
+    both true false ea eb all = absurd (cc)
+    both false b ea eb all = absurd (cc)
+
+pub is-other : (p : Primary) (message : Message) → IsNamed p message → is_for_report p ≡ false → IsOther message
+is-other p message is plain =
+    ap (λ (s : ℕ). is_report s (reply_function message.function)) is.stream
+    ∙ ap (λ (f : ℕ). is_report (stream_and_function p).0 (reply_function f)) is.function
+    ∙ literal p ∙ plain
+
+-- ---- requests
+
+-- with the tables as a request leaves them
+abbrev pub requested : Request → OwnView → OwnView
+requested request own = with_tables (tables_after request own.tables) own

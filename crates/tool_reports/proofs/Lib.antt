@@ -1,0 +1,12 @@
+pub mod HeardMessages
+pub mod HeardReports
+pub mod HeldReports
+pub mod HostReports
+pub mod LeavingReports
+pub mod PlainTurns
+pub mod QuietNotes
+pub mod QuietReports
+pub mod ReportedParts
+pub mod Reporting
+pub mod SilentCommands
+pub mod ToolReports

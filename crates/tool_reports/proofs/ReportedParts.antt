@@ -1,0 +1,462 @@
+-- That the parts of a step report what holds.
+use Rattle.std.specs.Prelude.{IfSome}
+use Rattle.spool_ledger.specs.Activity.{rested}
+use Rattle.std.proofs.Common.{◌≡◌, ◌⊎◌, inl, inr, append_assoc, refl, sym, ap, subst, ◌∙◌, ◌%◌, ◌==◌, Bool, true, false, not, ℕ, zero, suc, ◌&&◌, ◌||◌, List, [], ◌∷◌, ◌++◌, replicate, Option, Some, None, if◌then◌else◌}
+use Rattle.block_codec.specs.declared.header.Header.{Header}
+use Rattle.gem_states.specs.declared.comms.CommsIn.TheVariants as comms_in
+use Rattle.line_end.specs.declared.event.LineEvent.{LineEvent}
+use Rattle.line_end.specs.declared.event.LineEvent.TheVariants as event
+use Rattle.line_end.specs.Step.{LineCall, line_step}
+use Rattle.message_flow.specs.declared.flow.Flow.{Flow}
+use Rattle.message_flow.specs.declared.flow.Flow.TheVariants as flow
+use Rattle.message_flow.specs.declared.message.Message.{Message}
+use Rattle.message_flow.specs.Assembly.{flow_to, with_block}
+use Rattle.message_flow.specs.Message.{is_primary}
+use Rattle.trace_log.specs.declared.commands.ToolCommand.{ToolCommand}
+use Rattle.trace_log.specs.Log.{Happening, Past}
+use Rattle.trace_log.specs.Names.{Spooled, title_of}
+use Rattle.message_end.specs.Calls.{dropped_now, due_now, failed_as, failed_at, took_by}
+use Rattle.message_end.specs.Core.{EndView, Step, Went, asked_by, calls, carried, held_header, judges, takes_back, tells, with_assembly, with_end}
+use Rattle.message_end.specs.Core.Command.{DropDue, Expire, Halt, Offer, Take, Tick}
+use Rattle.message_end.specs.Core.Went.{Goes, Spent}
+use Rattle.message_end.specs.Course.{noted_behind}
+use Rattle.message_end.specs.Duties.{all_done}
+use Rattle.message_end.specs.Ends.{Input}
+use Rattle.message_end.specs.Own.{Has}
+use Rattle.message_end.specs.Ends.Input.{Char, Command as Told, Time}
+use Rattle.message_end.specs.Parts.{Node, after_parts, after_turn, core_after, core_step, fixed_turn, went_with}
+use Rattle.equipment_tables.specs.declared.plan.EquipmentPlan.{EquipmentPlan}
+use Rattle.equipment_tables.specs.Laws.{TablesAreLookedBackFor}
+use Rattle.equipment_tables.specs.Plan.{EquipmentPlanFits}
+use Rattle.tool_step.specs.declared.kind.Kind.{Kind}
+use Rattle.tool_step.specs.Own.{OwnView, ToolPart, ToolTurn, is_communicating, quiet_turn, turn_of}
+use Rattle.tool_step.specs.Replies.{block_timer, given_up_by_t4, given_up_turn, reply_timer, timeout_turn}
+use Rattle.spool_works.specs.DiskWorks.{DiskWork, behind_change, fronts_of, is_before_change, up_to_change}
+use Rattle.spool_works.specs.DiskWorks.DiskWork.{Change, ReadOldest, Reserve}
+use Rattle.tool_reports.specs.Histories.{with_command}
+use Rattle.tool_step.specs.Sent as sent
+use Rattle.tool_step.specs.States as states
+use Rattle.tool_law.proofs.Lawful.{split-change}
+use Rattle.tool_reports.specs.Reported.{Reported, due_behind}
+use Rattle.tool_step.specs.Spooling.{end_of_spooling, unload_part}
+use Rattle.tool_step.specs.Step.{begun, beginning, character, delay_timer, failed_turn, first_parts, flow_turn, input_part, is_spent, last_parts, late_parts, line_timer, long_turn, offer, took_turn}
+use Rattle.tool_step.specs.Tool.{told_turn}
+use Rattle.tool_reports.proofs.HostReports.{AsksOf}
+use Rattle.tool_reports.proofs.HeardMessages.{message-keeps}
+use Rattle.tool_reports.proofs.ToolReports.{told-keeps}
+use Rattle.tool_reports.proofs.HeldReports.{Any, any-lasts, Ends, Free, Keeps, KeepsAt, led-at, plain, quietly-holds, silent-at, so_far}
+use Rattle.tool_reports.proofs.QuietReports.{Holds}
+use Rattle.tool_reports.proofs.LeavingReports.{by-t4-keeps, given-up-keeps, leaving-keeps, timeout-keeps, unload-keeps}
+use Rattle.tool_reports.proofs.PlainTurns.{IsPlain, booked-plain, comms-plain, error-plain, errors-silent, fixed-plain, itself, led-plain, nothing-plain, rested-quiet}
+use Rattle.tool_reports.proofs.QuietNotes.{AreSettled, adds-quiet, one-behind}
+use Rattle.tool_law.proofs.CoreSteps.{CoreStep, OnEither, either-then}
+use Rattle.tool_reports.proofs.SilentCommands.{told-drawn, told-quiet}
+use Rattle.tool_law.proofs.WorkLines.{behind-both}
+
+asks-newest : (message : Message) → AsksOf message (asked_by message)
+asks-newest message = go (is_primary message) message.wait refl
+  where
+    go : (odd wait : Bool) → message.wait ≡ wait
+        → AsksOf message (if odd && wait then Some (title_of message) else None)
+    go true true waits title is = (cc, waits)
+    go true false waits title is = absurd (cc)
+    go false wait waits title is = absurd (cc)
+
+abbrev pub NodeStep : Type 0
+NodeStep = Step (Node OwnView Kind) Happening
+
+-- ---- where a step breaks off
+
+-- the notes before agree as well
+pub reported-before : (plan : EquipmentPlan) (rest before : List Happening) → Reported plan (noted_behind rest before)
+    → Reported plan before
+reported-before plan [] before is = is
+reported-before plan (what ∷ rest) before is = (reported-before plan rest (what ∷ before) is).2
+
+-- what is noted before a change brings nothing
+change-due : (plan : EquipmentPlan) (what : Happening) (before : List Happening) → is_before_change what ≡ true
+    → due_behind plan (what ∷ before) ≡ None
+change-due plan (Happening.Storing number message) before is = refl
+change-due plan (Happening.Leaving number why) before is = refl
+change-due plan (Happening.EquipmentStarted found base) before is = refl
+change-due plan Happening.HostStarted before is = refl
+change-due plan Happening.Power before is = refl
+change-due plan Happening.Closed before is = refl
+change-due plan (Happening.Sent message) before is = refl
+change-due plan (Happening.Received message) before is = refl
+change-due plan (Happening.Wrote characters) before is = refl
+change-due plan (Happening.Comms state) before is = refl
+change-due plan (Happening.Control state) before is = refl
+change-due plan (Happening.Spool active) before is = refl
+change-due plan (Happening.Set vid) before is = refl
+change-due plan (Happening.Event ceid dataid) before is = refl
+change-due plan (Happening.Alarm alid set) before is = refl
+change-due plan (Happening.Carried rcmd) before is = refl
+change-due plan (Happening.Display tid text) before is = refl
+change-due plan Happening.Refused before is = refl
+change-due plan (Happening.Stored number) before is = refl
+change-due plan (Happening.Gone number) before is = refl
+change-due plan (Happening.Try number system) before is = refl
+change-due plan (Happening.Duplicate header) before is = refl
+change-due plan (Happening.Unexpected header) before is = refl
+change-due plan (Happening.Foreign header) before is = refl
+change-due plan (Happening.TooLongBlock header) before is = refl
+change-due plan (Happening.Crowded header) before is = refl
+change-due plan (Happening.DroppedByT4 header) before is = refl
+change-due plan (Happening.Failed title) before is = refl
+change-due plan (Happening.TimedOut title) before is = refl
+change-due plan (Happening.Stranger title) before is = refl
+change-due plan (Happening.Dropped name) before is = refl
+change-due plan (Happening.Denied name) before is = refl
+change-due plan (Happening.Discarded name) before is = refl
+change-due plan (Happening.TooLong name) before is = refl
+change-due plan (Happening.Full name) before is = refl
+change-due plan (Happening.Recorded (Past.Asked request)) before is = refl
+change-due plan (Happening.Recorded (Past.Commanded command)) before is = absurd (cc)
+
+-- nor does all that is noted up to it, or all, if there is no change
+up-due : (plan : EquipmentPlan) (lines past : List Happening) → due_behind plan (noted_behind lines past) ≡ None
+    → due_behind plan (noted_behind (up_to_change lines) past) ≡ None
+up-due plan [] past none = none
+up-due plan (what ∷ lines) past none =
+    go (is_before_change what) refl (λ later. up-due plan lines (what ∷ past) later)
+  where
+    go : (is : Bool) → is_before_change what ≡ is
+        → (due_behind plan (noted_behind lines (what ∷ past)) ≡ None
+        → due_behind plan (noted_behind (up_to_change lines) (what ∷ past)) ≡ None)
+        → due_behind plan (noted_behind (if is then [] else up_to_change lines) (what ∷ past)) ≡ None
+    go true is more = change-due plan what past is
+    go false is more = more none
+
+-- so of whatever is noted at a work
+pub front-due :
+    (plan : EquipmentPlan) (base : List Happening) (works : List DiskWork) (before notes front : List Happening)
+    → due_behind plan (noted_behind before base) ≡ None → due_behind plan (noted_behind (before ++ notes) base) ≡ None
+    → Has (fronts_of before works notes) front → due_behind plan (noted_behind front base) ≡ None
+front-due plan base [] before notes front none all has = absurd has
+front-due plan base (Reserve ∷ works) before notes front none all (inl same) =
+    ap (λ (ns : List Happening). due_behind plan (noted_behind ns base)) same ∙ none
+front-due plan base (Reserve ∷ works) before notes front none all (inr has) =
+    front-due plan base works before notes front none all has
+front-due plan base (Change one ∷ works) before notes front none all has =
+    go has
+    (λ later.
+    front-due plan base works (before ++ up_to_change notes) (behind_change notes) front here
+    (ap (λ (ns : List Happening). due_behind plan (noted_behind ns base)) (sym whole) ∙ all) later)
+  where
+    whole : before ++ notes ≡ (before ++ up_to_change notes) ++ behind_change notes
+    whole =
+        ap (λ (ns : List Happening). before ++ ns) (split-change notes)
+        ∙ sym (append_assoc before (up_to_change notes) (behind_change notes))
+
+    here : due_behind plan (noted_behind (before ++ up_to_change notes) base) ≡ None
+    here =
+        ap (due_behind plan) (behind-both before (up_to_change notes) base)
+        ∙ up-due plan notes (noted_behind before base)
+        (ap (due_behind plan) (sym (behind-both before notes base)) ∙ all)
+
+    go : (front ≡ before ++ up_to_change notes)
+        ⊎ Has (fronts_of (before ++ up_to_change notes) works (behind_change notes)) front
+        → (Has (fronts_of (before ++ up_to_change notes) works (behind_change notes)) front
+        → due_behind plan (noted_behind front base) ≡ None)
+        → due_behind plan (noted_behind front base) ≡ None
+    go (inl same) more = ap (λ (ns : List Happening). due_behind plan (noted_behind ns base)) same ∙ here
+    go (inr has) more = more has
+front-due plan base (ReadOldest ∷ works) before notes front none all (inl same) =
+    ap (λ (ns : List Happening). due_behind plan (noted_behind ns base)) same ∙ all
+front-due plan base (ReadOldest ∷ works) before notes front none all (inr has) =
+    front-due plan base works before notes front none all has
+
+module _ (plan : EquipmentPlan) (fits : EquipmentPlanFits plan) (looked : TablesAreLookedBackFor) where
+  module _ (said : List ToolCommand) (before : List Happening) where
+    abbrev pub HoldsStep : NodeStep → Type 0
+    HoldsStep step = Holds plan said step.next.own step.next.core.drawn (noted_behind step.notes before)
+
+    abbrev pub IsRight : NodeStep → Type 0
+    IsRight step = AreSettled plan (noted_behind step.notes before)
+
+    abbrev pub NodeEnds : Went (Node OwnView Kind) Happening → Type 0
+    NodeEnds went = OnEither HoldsStep IsRight went
+
+    abbrev pub PartKeeps : ToolPart → Type 0
+    PartKeeps part = (step : NodeStep) → HoldsStep step
+        → NodeEnds (after_turn Some (part step.next.own step.next.core) step)
+
+    abbrev AllKeep : List ToolPart → Type 0
+    AllKeep [] = Unit {0}
+    AllKeep (part ∷ parts) = PartKeeps part × AllKeep parts
+
+    of-ends :
+        (turn : ToolTurn) (step : NodeStep)
+        → Ends plan said before turn.own (all_done Some turn.duties (core_step step))
+        → NodeEnds (after_turn Some turn step)
+    of-ends turn step ends = go (all_done Some turn.duties (core_step step)) ends
+      where
+        go : (went : Went (EndView Kind) Happening) → Ends plan said before turn.own went
+            → NodeEnds (went_with turn.own went)
+        go (Goes next) at = at
+        go (Spent next) at = at
+
+    pub of-turn : (turn : ToolTurn) (step : NodeStep) → KeepsAt plan said before step.next.own turn (core_step step)
+        → HoldsStep step → NodeEnds (after_turn Some turn step)
+    of-turn turn step keeps holds = of-ends turn step (keeps holds)
+
+    pub plain-part : (part : ToolPart)
+        → ((own : OwnView) (e : EndView Kind) → IsPlain Free tt Any any-lasts own (part own e))
+        → PartKeeps part
+    plain-part part are step holds =
+        of-turn (part step.next.own step.next.core) step
+        (plain plan said before step.next.own (part step.next.own step.next.core) (are step.next.own step.next.core)
+        (core_step step)) holds
+
+    parts-keep : (parts : List ToolPart) → AllKeep parts → (step : NodeStep) → HoldsStep step
+        → NodeEnds (after_parts Some parts step)
+    parts-keep [] all step holds = holds
+    parts-keep (part ∷ parts) all step holds =
+        either-then HoldsStep IsRight HoldsStep (after_turn Some (part step.next.own step.next.core) step)
+        (after_parts Some parts) (all.0 step holds) (λ next at. parts-keep parts all.1 next at)
+
+    both-keep : (first second : List ToolPart) → AllKeep first → AllKeep second → AllKeep (first ++ second)
+    both-keep [] second one two = two
+    both-keep (part ∷ first) second one two = (one.0, both-keep first second one.1 two)
+
+    many-keep : (n : ℕ) (part : ToolPart) → PartKeeps part → AllKeep (replicate n part)
+    many-keep zero part one = tt
+    many-keep (suc n) part one = (one, many-keep n part one)
+
+    -- ---- the line
+
+    failed-keeps : (now : ℕ) (failed : Option Header) (own : OwnView) (e : EndView Kind)
+        → Keeps plan said before own (failed_turn now failed own e)
+    failed-keeps now None own e = λ step holds. holds
+    failed-keeps now (Some header) own e =
+        leaving-keeps plan said before comms_in.SendFailed (Some header) now own e
+
+    pub tick-keeps : (now : ℕ) → PartKeeps (line_timer now)
+    tick-keeps now step holds =
+        of-turn (line_timer now step.next.own step.next.core) step
+        (λ held.
+        led-at plan said before (Tick now) step.next.own
+        (failed_turn now (failed_at step.next.core now) step.next.own (core_after (Tick now) step.next.core))
+        (core_step step) tt
+        (failed-keeps now (failed_at step.next.core now) step.next.own (core_after (Tick now) step.next.core)) held)
+        holds
+
+    -- a block has come, and was this
+    came-keeps :
+        (now : ℕ) (header : Header) (came : Flow) (own : OwnView) (e : EndView Kind) (old next : CoreStep)
+        → next ≡ judges Some header came old → Holds plan said own next.next.drawn (so_far plan said before next)
+        → Ends plan said before (flow_turn now header came own e).own
+        (all_done Some (flow_turn now header came own e).duties next)
+    came-keeps now header flow.Part own e old next is =
+        plain plan said before own (quiet_turn own) (nothing-plain Free tt Any any-lasts own) next
+    came-keeps now header (flow.Whole message) own e old next is =
+        message-keeps plan fits looked said before now header message own e (so_far plan said before old) next
+        (subst (λ (s : CoreStep). AsksOf message s.next.asked) (sym is) (asks-newest message))
+        (ap (λ (s : CoreStep). so_far plan said before s) is ∙ one-behind old.notes (Happening.Received message) before)
+    came-keeps now header flow.Duplicate own e old next is =
+        plain plan said before own (quiet_turn own) (nothing-plain Free tt Any any-lasts own) next
+    came-keeps now header (flow.Foreign address) own e old next is =
+        plain plan said before own (turn_of own (sent.error_duty 1 header own ∷ []))
+        (error-plain Free tt Any any-lasts 1 refl header own) next
+    came-keeps now header flow.Unexpected own e old next is = given-up-keeps plan said before now header own e next
+    came-keeps now header flow.TooLong own e old next is = go (is_spent e)
+      where
+        go : (spent : Bool)
+            → Holds plan said own next.next.drawn (so_far plan said before next)
+            → Ends plan said before (long_turn spent header own (given_up_turn now header own e)).own
+            (all_done Some (long_turn spent header own (given_up_turn now header own e)).duties next)
+        go true =
+            plain plan said before own (fixed_turn own (Halt ∷ []))
+            (fixed-plain Free tt Any any-lasts own own (Halt ∷ []) (itself Free tt Any any-lasts own) (tt, tt)) next
+        go false = λ holds.
+            either-then (λ last. Holds plan said own last.next.drawn (so_far plan said before last))
+            (λ last. AreSettled plan (so_far plan said before last))
+            (λ last. Holds plan said (given_up_turn now header own e).own last.next.drawn
+            (so_far plan said before last))
+            (carried Some (sent.error_duty 11 header own next.next) next)
+            (all_done Some (given_up_turn now header own e).duties)
+            (silent-at plan said before own (sent.error_duty 11 header own next.next) next
+            ((errors-silent Free tt Any any-lasts 11 refl header own).0 next.next tt) holds)
+            (λ last at. given-up-keeps plan said before now header own e last at)
+    came-keeps now header flow.Crowded own e old next is = given-up-keeps plan said before now header own e next
+
+    -- the line has told this of a character
+    told-so :
+        (now byte : ℕ) (happened : LineEvent) (own : OwnView) (e : EndView Kind) (step : CoreStep)
+        → Holds plan said own step.next.drawn (so_far plan said before step)
+        → Ends plan said before (took_turn now (took_by step.next happened) own e).own
+        (all_done Some (took_turn now (took_by step.next happened) own e).duties
+        (tells Some (held_header step.next.line.held) happened now (calls (LineCall.Take byte now) step)))
+    told-so now byte happened own e step holds = go happened (at happened)
+      where
+        next : LineEvent → CoreStep
+        next happened = tells Some (held_header step.next.line.held) happened now (calls (LineCall.Take byte now) step)
+
+        at : (happened : LineEvent)
+            → Holds plan said own (next happened).next.drawn (so_far plan said before (next happened))
+        at happened =
+            quietly-holds plan said before own step (next happened)
+            (adds-quiet before step.notes (next happened).notes
+            (told-quiet (held_header step.next.line.held) happened now (calls (LineCall.Take byte now) step)))
+            (told-drawn (held_header step.next.line.held) happened now (calls (LineCall.Take byte now) step)) holds
+
+        failed : (header : Option Header)
+            → Holds plan said own (next event.Failed).next.drawn (so_far plan said before (next event.Failed))
+            → Ends plan said before (took_turn now (failed_as header) own e).own
+            (all_done Some (took_turn now (failed_as header) own e).duties (next event.Failed))
+        failed None = plain plan said before own (quiet_turn own) (nothing-plain Free tt Any any-lasts own)
+            (next event.Failed)
+        failed (Some header) = failed-keeps now (Some header) own e (next event.Failed)
+
+        go : (happened : LineEvent)
+            → Holds plan said own (next happened).next.drawn (so_far plan said before (next happened))
+            → Ends plan said before (took_turn now (took_by step.next happened) own e).own
+            (all_done Some (took_turn now (took_by step.next happened) own e).duties (next happened))
+        go event.Nothing =
+            plain plan said before own (quiet_turn own) (nothing-plain Free tt Any any-lasts own) (next event.Nothing)
+        go event.Sent =
+            plain plan said before own (quiet_turn own) (nothing-plain Free tt Any any-lasts own) (next event.Sent)
+        go (event.Refused cause) =
+            plain plan said before own (quiet_turn own) (nothing-plain Free tt Any any-lasts own)
+            (next (event.Refused cause))
+        go event.Failed = failed (held_header step.next.line.held)
+        go (event.Arrived block) =
+            came-keeps now block.header (flow_to step.next.assembly block) own e
+            (with_end
+            (takes_back block.header now (with_assembly (with_block step.next.assembly block now)
+            (calls (LineCall.Take byte now) step).next)) (calls (LineCall.Take byte now) step))
+            (next (event.Arrived block)) refl
+
+    char-keeps : (byte now : ℕ) → PartKeeps (character byte now)
+    char-keeps byte now step holds =
+        of-turn (character byte now step.next.own step.next.core) step
+        (told-so now byte (line_step step.next.core.line (LineCall.Take byte now)).event step.next.own
+        (core_after (Take byte now) step.next.core) (core_step step)) holds
+
+    -- ---- a step
+
+    pub begin-plain : (now : ℕ) (own : OwnView) (e : EndView Kind)
+        → IsPlain Free tt Any any-lasts own (beginning now own e)
+    begin-plain now own e = go (own.has_begun || not own.plan.enable)
+      where
+        as_begun : (turn : ToolTurn) → IsPlain Free tt Any any-lasts (begun own) turn
+            → IsPlain Free tt Any any-lasts own turn
+        as_begun turn is = record {
+          silent = is.silent;
+          less = record {
+            plan_is = is.less.plan_is;
+            tables_are = is.less.tables_are;
+            events_are = is.less.events_are;
+            fewer = is.less.fewer;
+            live = is.less.live;
+          };
+        }
+
+        go : (over : Bool)
+            → IsPlain Free tt Any any-lasts own (if over then quiet_turn (begun own)
+            else states.comms_turn comms_in.Enable now (begun own))
+        go true = as_begun (quiet_turn (begun own)) (nothing-plain Free tt Any any-lasts (begun own))
+        go false =
+            as_begun (states.comms_turn comms_in.Enable now (begun own))
+            (comms-plain Free tt Any any-lasts comms_in.Enable now
+            (begun own))
+
+    pub t4-keeps : (now : ℕ) → PartKeeps (block_timer now)
+    t4-keeps now step holds =
+        of-turn (block_timer now step.next.own step.next.core) step
+        (λ held.
+        led-at plan said before (DropDue now) step.next.own
+        (given_up_by_t4 now (dropped_now step.next.core now) step.next.own (core_after (DropDue now) step.next.core))
+        (core_step step) tt
+        (by-t4-keeps plan said before now (dropped_now step.next.core now) step.next.own
+        (core_after (DropDue now) step.next.core)) held) holds
+
+    pub t3-keeps : (now : ℕ) → PartKeeps (reply_timer now)
+    t3-keeps now step holds =
+        of-turn (reply_timer now step.next.own step.next.core) step
+        (λ held.
+        led-at plan said before (Expire now) step.next.own
+        (timeout_turn now (due_now step.next.core now) step.next.own (core_after (Expire now) step.next.core))
+        (core_step step) tt
+        (timeout-keeps plan said before now (due_now step.next.core now) step.next.own
+        (core_after (Expire now) step.next.core)) held) holds
+
+    late-keep : (now : ℕ) → AllKeep (late_parts now)
+    unfolding late_parts
+    late-keep now =
+        both-keep (replicate 16 (block_timer now)) (replicate 64 (reply_timer now))
+        (many-keep 16 (block_timer now) (t4-keeps now)) (many-keep 64 (reply_timer now) (t3-keeps now))
+
+    pub offer-plain : (now : ℕ) (own : OwnView) (e : EndView Kind) → IsPlain Free tt Any any-lasts own (offer now own e)
+    offer-plain now own e =
+        led-plain Free tt Any any-lasts own (Offer now) (fixed_turn own []) (tt, tt)
+        (fixed-plain Free tt Any any-lasts own own [] (itself Free tt Any any-lasts own) tt)
+
+  -- some parts, and others behind them
+  parts-then :
+      (said to : List ToolCommand) (before : List Happening) (parts rest : List ToolPart) → AllKeep said before parts
+      → (step : NodeStep) → HoldsStep said before step
+      → ((last : NodeStep) → HoldsStep said before last → NodeEnds to before (after_parts Some rest last))
+      → NodeEnds to before (after_parts Some (parts ++ rest) step)
+  parts-then said to before [] rest all step holds more = more step holds
+  parts-then said to before (part ∷ parts) rest all step holds more =
+      either-then (HoldsStep said before) (IsRight said before) (HoldsStep to before)
+      (after_turn Some (part step.next.own step.next.core) step) (after_parts Some (parts ++ rest)) (all.0 step holds)
+      (λ next at. parts-then said to before parts rest all.1 next at more)
+
+  pub input-keeps :
+      (said : List ToolCommand) (before : List Happening) (input : Input ToolCommand) (now : ℕ) (step : NodeStep)
+      → HoldsStep said before step
+      → NodeEnds (with_command input said) before
+      (after_turn Some (input_part input now step.next.own step.next.core) step)
+  input-keeps said before (Char byte) now step holds = char-keeps said before byte now step holds
+  input-keeps said before Time now step holds =
+      plain-part said before (input_part Time now) (λ own e. nothing-plain Free tt Any any-lasts own) step holds
+  input-keeps said before (Told command) now step holds =
+      of-ends (command ∷ said) before (told_turn command now step.next.own step.next.core) step
+      (told-keeps plan fits looked said before command now step.next.own step.next.core (core_step step) holds)
+
+  -- the first parts of a step
+  pub first-keeps :
+      (said : List ToolCommand) (before : List Happening) (input : Input ToolCommand) (now : ℕ) (step : NodeStep)
+      → HoldsStep said before step
+      → NodeEnds (with_command input said) before (after_parts Some (first_parts input now) step)
+  first-keeps said before input now step holds =
+      parts-then said (with_command input said) before
+      (beginning now ∷ line_timer now ∷ (late_parts now ++ delay_timer now ∷ []))
+      (input_part input now ∷ []) (
+        plain-part said before (beginning now) (begin-plain said before now),
+        (
+          tick-keeps said before now,
+          both-keep said before (late_parts now) (delay_timer now ∷ []) (late-keep said before now) (
+            plain-part said before (delay_timer now)
+                (λ own e. comms-plain Free tt Any any-lasts comms_in.Time now own),
+            tt,
+          ),
+        ),
+      ) step holds
+      (λ last at.
+      either-then (HoldsStep (with_command input said) before) (IsRight said before)
+      (HoldsStep (with_command input said) before)
+      (after_turn Some (input_part input now last.next.own last.next.core) last) (after_parts Some [])
+      (input-keeps said before input now last at) (λ next held. held))
+
+  -- and its last ones
+  pub last-keeps :
+      (said : List ToolCommand) (before : List Happening) (oldest : Option Spooled)
+      → IfSome oldest (λ message. (message.function % 2 == 1) ≡ true) → (now : ℕ) (step : NodeStep)
+      → HoldsStep said before step → NodeEnds said before (after_parts Some (last_parts oldest now) step)
+  last-keeps said before oldest odd now step holds =
+      parts-keep said before (last_parts oldest now) (
+        (λ at held.
+            of-turn said before (unload_part oldest at.next.own at.next.core) at
+            (unload-keeps plan said before oldest odd at.next.own (core_step at)) held),
+        (
+          plain-part said before end_of_spooling
+              (λ own e.
+              booked-plain Free tt Any any-lasts own (rested (is_communicating own) own.ledger)
+              (rested-quiet (is_communicating own) own.ledger)),
+          (plain-part said before (offer now) (offer-plain said before now), tt),
+        ),
+      ) step holds

@@ -1,0 +1,322 @@
+-- That reports are of their events, over all starts.
+use Rattle.std.proofs.lemmas.List.Elements.{All-nil}
+use Rattle.std.specs.Prelude.{IfSome}
+use Rattle.spool_ledger.specs.Ledger.{LedgerView, carried_out, new_ledger}
+use Rattle.spool_slots.specs.Slot.{Message as Kept}
+use Rattle.tool_step.specs.Grants.{GrantView}
+use Rattle.tool_step.specs.Live.{ReportView}
+use Rattle.std.proofs.Common.{◌≡◌, refl, sym, ap, subst, ◌∙◌, ◌%◌, ◌==◌, length, arith, Bool, true, false, ℕ, List, [], ◌∷◌, Option, Some, None, if◌then◌else◌}
+use Rattle.disk_base.specs.declared.cut.CutChoice.{CutChoice}
+use Rattle.trace_log.specs.declared.commands.ToolCommand.{ToolCommand}
+use Rattle.trace_log.specs.Log.{Happening}
+use Rattle.trace_log.specs.Names.{Spooled}
+use Rattle.message_end.specs.Core.{IsText, Step, Went, and_then, at_first, step_in}
+use Rattle.message_end.specs.Core.Went.{Goes, Spent}
+use Rattle.message_end.specs.Course.{Course, Meeting, broken_at, course_of, filled_at, noted_behind, went_on, with_meeting}
+use Rattle.message_end.specs.Course.Course.{Reached, Stopped}
+use Rattle.message_end.specs.Course.Meeting.{Acts, Breaks, Fills, LosesPower, Restarts, Writes}
+use Rattle.message_end.specs.Ends.{Input, IsFront, Loss, call_of}
+use Rattle.message_end.specs.Own.{Has}
+use Rattle.message_end.specs.Parts.{Node, after_parts}
+use Rattle.equipment_tables.specs.declared.plan.EquipmentPlan.{EquipmentPlan}
+use Rattle.equipment_tables.specs.Laws.{TablesAreLookedBackFor}
+use Rattle.equipment_tables.specs.Plan.{EquipmentPlanFits}
+use Rattle.tool_step.specs.declared.kind.Kind.{Kind}
+use Rattle.tool_step.specs.Own.{OwnView}
+use Rattle.tool_step.specs.Disk.{standing_in, stops, works_of}
+use Rattle.tool_reports.specs.Histories.{ReportsHold, commands_behind, commands_broken, commands_met, with_command}
+use Rattle.tool_step.specs.End.{machine}
+use Rattle.tool_step.specs.Equipment.{EquipmentView, act, begun_step, ended_step, is_marked_out, needs_numbers, new_own, node_step, oldest_of, parts_done, reserved, restarts, settled, settled_own, settled_step, settled_went, started_on, starts, went_with_file}
+use Rattle.spool_works.specs.Found.{first_in, found_in}
+use Rattle.tool_law.proofs.Lawful.{IsGoodView, act-good, begun-good, fronts-are, oldest-good, settled-view-good}
+use Rattle.tool_law.proofs.LawfulLosses.{LeavesWell, all-well}
+use Rattle.tool_step.proofs.LossCalls.{IsAtCall, at-call, losses-counted}
+use Rattle.spool_works.proofs.LossCounts.{has-call}
+use Rattle.tool_step.specs.Losses.{losses}
+use Rattle.tool_reports.specs.Reported.{Reported}
+use Rattle.tool_law.specs.Sound.{AllCanBeSent, CanBeSent}
+use Rattle.tool_law.proofs.SpoolSound.{new-good}
+use Rattle.tool_step.specs.Step.{begun, first_parts, last_parts}
+use Rattle.tool_reports.proofs.HeldReports.{Any, any-lasts, Free}
+use Rattle.tool_reports.proofs.QuietReports.{Holds, holds-as, holds-less}
+use Rattle.tool_reports.proofs.PlainTurns.{booked-stays}
+use Rattle.tool_reports.proofs.QuietNotes.{AreSettled, quiet-note, settled-more}
+use Rattle.tool_law.proofs.CoreSteps.{OnEither}
+use Rattle.tool_law.proofs.WorkLines.{behind-both}
+use Rattle.tool_reports.proofs.ReportedParts.{reported-before, front-due, NodeEnds, first-keeps, last-keeps}
+
+module _ (plan : EquipmentPlan) (fits : EquipmentPlanFits plan) (looked : TablesAreLookedBackFor) where
+  -- ---- the whole step
+
+  abbrev FileStep : Type 0
+  FileStep = Step EquipmentView Happening
+
+  abbrev HoldsFile : List ToolCommand → List Happening → FileStep → Type 0
+  HoldsFile said before step =
+      Holds plan said step.next.node.own step.next.node.core.drawn (noted_behind step.notes before)
+
+  abbrev FileIsRight : List Happening → FileStep → Type 0
+  FileIsRight before step = AreSettled plan (noted_behind step.notes before)
+
+  abbrev FileEnds : List ToolCommand → List Happening → Went EquipmentView Happening → Type 0
+  FileEnds said before went = OnEither (HoldsFile said before) (FileIsRight before) went
+
+  with-file :
+      (said : List ToolCommand) (before : List Happening) (s : EquipmentView)
+      (went : Went (Node OwnView Kind) Happening)
+      → (NodeEnds plan fits looked) said before went → FileEnds said before (went_with_file s went)
+  with-file said before s (Goes step) at = at
+  with-file said before s (Spent step) at = at
+
+  settled-so :
+      (said : List ToolCommand) (before : List Happening) (went : Went EquipmentView Happening)
+      → FileEnds said before went → FileEnds said before (settled_went went)
+  settled-so said before (Goes step) at =
+      holds-less plan said step.next.node.own (settled_own step.next.node.own) (noted_behind step.notes before) at
+      (booked-stays Free tt Any any-lasts step.next.node.own (carried_out step.next.node.own.ledger))
+  settled-so said before (Spent step) at = at
+
+  pub odd-of : (oldest : Option Spooled) → IfSome oldest CanBeSent
+      → IfSome oldest (λ message. (message.function % 2 == 1) ≡ true)
+  odd-of None can = tt
+  odd-of (Some message) can = can.odd
+
+  -- all that is noted up to the works of the disk
+  begun-keeps :
+      (said : List ToolCommand) (before : List Happening) (input : Input ToolCommand) (now : ℕ) (s : EquipmentView)
+      → Holds plan said s.node.own s.node.core.drawn before
+      → FileEnds (with_command input said) before (begun_step s input now)
+  begun-keeps said before input now s holds = begun (needs_numbers s) (is_marked_out s.mark)
+    where
+      to : List ToolCommand
+      to = with_command input said
+
+      begun : (needs spent : Bool)
+          → FileEnds to before
+          (and_then
+          (if needs then if spent then Spent (at_first s) else Goes (at_first (reserved s)) else Goes (at_first s))
+          (parts_done (first_parts input now)))
+      begun true true = holds.settled
+      begun true false =
+          with-file to before (reserved s) (after_parts Some (first_parts input now) (at_first (reserved s).node))
+          ((first-keeps plan fits looked) said before input now (at_first (reserved s).node) holds)
+      begun false spent =
+          with-file to before s (after_parts Some (first_parts input now) (at_first s.node))
+          ((first-keeps plan fits looked) said before input now (at_first s.node) holds)
+
+  step-keeps :
+      (said : List ToolCommand) (before : List Happening) (input : Input ToolCommand) (now : ℕ) (s : EquipmentView)
+      → Holds plan said s.node.own s.node.core.drawn before → IsGoodView plan fits s
+      → FileEnds (with_command input said) before (act s input now)
+  step-keeps said before input now s holds good =
+      ends (begun_step s input now) (begun-keeps said before input now s holds) (begun-good plan fits s input now good)
+    where
+      to : List ToolCommand
+      to = with_command input said
+
+      ends : (went : Went EquipmentView Happening) → FileEnds to before went → IsGoodView plan fits (step_in went).next
+          → FileEnds to before (and_then (settled_went went) (ended_step now))
+      ends (Spent step) at so = at
+      ends (Goes step) at so =
+          with-file to before (settled step.next)
+          (after_parts Some (last_parts (oldest_of (settled step.next)) now) (node_step (settled_step step)))
+          ((last-keeps plan fits looked) to before (oldest_of (settled step.next))
+          (odd-of (oldest_of (settled step.next))
+          (oldest-good plan fits (settled step.next).list (settled-view-good plan fits step.next so).list)) now
+          (node_step (settled_step step)) (settled-so to before (Goes step) at))
+
+  -- ---- up to a call of the disk
+
+  settled-of : (said : List ToolCommand) (before : List Happening) (went : Went EquipmentView Happening)
+      → FileEnds said before went → AreSettled plan (noted_behind (step_in went).notes before)
+  settled-of said before (Goes step) at = at.settled
+  settled-of said before (Spent step) at = at
+
+  -- what is noted at a loss is settled
+  front-so :
+      (said : List ToolCommand) (before : List Happening) (input : Input ToolCommand) (now : ℕ) (s : EquipmentView)
+      (front : List Happening) → Holds plan said s.node.own s.node.core.drawn before → Has (stops s input now) front
+      → AreSettled plan (noted_behind front before)
+  front-so said before input now s front holds has = record {
+    reported =
+        reported-before plan first.rest (noted_behind front before)
+        (subst (Reported plan)
+        (ap (λ (ns : List Happening). noted_behind ns before) first.whole ∙ behind-both front first.rest before)
+        all.reported);
+    none_due =
+        front-due plan before (works_of s input now) [] notes front holds.settled.none_due all.none_due has;
+  }
+    where
+      notes : List Happening
+      notes = (step_in (begun_step s input now)).notes
+
+      all : AreSettled plan (noted_behind notes before)
+      all =
+          settled-of (with_command input said) before (begun_step s input now)
+          (begun-keeps said before input now s holds)
+
+      first : IsFront front notes
+      first = fronts-are (works_of s input now) [] notes front has
+
+  -- ---- over all starts
+
+  starts-so :
+      (other : EquipmentPlan) (ledger : LedgerView) (found : List (ℕ × Spooled)) (base : ℕ) (notes : List Happening)
+      → other ≡ plan → AreSettled plan notes
+      → Holds plan [] (new_own other ledger) None (Happening.EquipmentStarted found base ∷ notes)
+  starts-so other ledger found base notes same so =
+      subst
+      (λ (p : EquipmentPlan). Holds plan [] (new_own p ledger) None (Happening.EquipmentStarted found base ∷ notes))
+      (sym same)
+      (record {
+        plan_is = refl;
+        tables_are = sym (looked.first plan);
+        events_are = refl;
+        commanded = refl;
+        waits = λ body. omega arith;
+        live = λ one has is. absurd has;
+        tried = λ number is. absurd (cc);
+        settled = settled-more plan (Happening.EquipmentStarted found base) notes refl tt refl so;
+      })
+
+  pub record IsReachedSo (said : List ToolCommand) (s : EquipmentView) (notes : List Happening) : Type 0 where
+    pub holds : Holds plan said s.node.own s.node.core.drawn notes
+    pub good : IsGoodView plan fits s
+
+  abbrev pub IsCourseSo : List ToolCommand → Course EquipmentView → Type 0
+  IsCourseSo said (Reached s notes) = IsReachedSo said s notes
+  IsCourseSo said (Stopped notes) = AreSettled plan notes
+
+  went-so :
+      (said : List ToolCommand) (before : List Happening) (went : Went EquipmentView Happening)
+      → FileEnds said before went → IsGoodView plan fits (step_in went).next → IsCourseSo said (went_on went before)
+  went-so said before (Goes step) at good = record { holds = at; good = good }
+  went-so said before (Spent step) at good = at
+
+  started-so :
+      (other : EquipmentPlan) (slots : ℕ) (list : List Kept) (mark : ℕ) (notes : List Happening) → other ≡ plan
+      → AllCanBeSent list → AreSettled plan notes
+      → IsCourseSo [] (went_on (starts other slots list mark) notes)
+  started-so other slots list mark notes same can so = go (is_marked_out mark)
+    where
+      go : (spent : Bool)
+          → IsCourseSo []
+          (went_on
+          (if spent then Spent (at_first (record (started_on other slots list mark).next { mark = mark }))
+          else Goes (started_on other slots list mark)) notes)
+      go true = so
+      go false = record {
+        holds =
+            starts-so other (new_ledger slots (first_in list) (length list)) (found_in list) mark notes same so;
+        good = record {
+          own = record {
+            plan_is = same;
+            texts = All-nil (λ (one : GrantView). IsText one.body);
+            reports = All-nil (λ (one : ReportView). CanBeSent one.message);
+            ledger = new-good slots (first_in list) (length list);
+          };
+          list = can;
+        };
+      }
+
+  -- power is lost at a call of the disk
+  broken-keeps :
+      (input : Input ToolCommand) (now call : ℕ) (choice : CutChoice) (said : List ToolCommand) (s : EquipmentView)
+      (notes : List Happening) (found : Option (Loss EquipmentView)) → call_of call (losses s input now) ≡ found
+      → IsReachedSo said s notes
+      → IsCourseSo (commands_broken found said) (broken_at machine now choice s notes found)
+  broken-keeps input now call choice said s notes None is so = so
+  broken-keeps input now call choice said s notes (Some loss) is so =
+      subst
+      (λ (left : EquipmentView).
+      IsCourseSo [] (went_on (restarts left now) (Happening.Power ∷ noted_behind loss.front notes)))
+      (ap (λ (one : Loss EquipmentView). one.left choice) (sym at.is))
+      (started-so s.node.own.plan s.node.own.ledger.slots (at.left choice).list (at.left choice).mark
+      (Happening.Power ∷ noted_behind loss.front notes) so.holds.plan_is (at.at choice).can
+      (settled-more plan Happening.Power (noted_behind loss.front notes) refl tt refl
+      (front-so said notes input now s loss.front so.holds ((losses-counted s input now).1 loss has))))
+    where
+      has : Has (losses s input now) loss
+      has = has-call call (losses s input now) loss is
+
+      at : IsAtCall (LeavesWell s.mark (step_in (act s input now)).next.mark) s loss
+      at =
+          at-call (LeavesWell s.mark (step_in (act s input now)).next.mark) s (works_of s input now) (standing_in s) []
+          (step_in (begun_step s input now)).notes loss (all-well plan fits s input now so.good) has
+
+  -- there is no room for one
+  filled-keeps :
+      (input : Input ToolCommand) (now call : ℕ) (said : List ToolCommand) (s : EquipmentView) (notes : List Happening)
+      (found : Option (Loss EquipmentView)) → call_of call (losses s input now) ≡ found → IsReachedSo said s notes
+      → IsCourseSo said (filled_at s notes found)
+  filled-keeps input now call said s notes None is so = so
+  filled-keeps input now call said s notes (Some loss) is so =
+      front-so said notes input now s loss.front so.holds
+      ((losses-counted s input now).1 loss (has-call call (losses s input now) loss is))
+
+  meeting-keeps :
+      (meeting : Meeting ToolCommand) (said : List ToolCommand) (course : Course EquipmentView)
+      → IsCourseSo said course
+      → IsCourseSo (commands_behind meeting course said) (with_meeting machine meeting course)
+  meeting-keeps meeting said (Stopped notes) so = so
+  meeting-keeps (Acts input now) said (Reached s notes) so =
+      went-so (with_command input said) notes (act s input now) (step-keeps said notes input now s so.holds so.good)
+      (act-good plan fits s input now so.good)
+  meeting-keeps (Restarts now) said (Reached s notes) so =
+      started-so s.node.own.plan s.node.own.ledger.slots s.list s.mark notes so.holds.plan_is so.good.list
+      so.holds.settled
+  meeting-keeps (Writes characters) said (Reached s notes) so = record {
+    holds =
+        holds-as plan said s.node.own notes (Happening.Wrote characters ∷ notes) so.holds
+        (quiet-note (Happening.Wrote characters) tt notes);
+    good = so.good;
+  }
+  meeting-keeps LosesPower said (Reached s notes) so = record {
+    holds =
+        holds-as plan said s.node.own notes (Happening.Power ∷ notes) so.holds (quiet-note Happening.Power tt notes);
+    good = so.good;
+  }
+  meeting-keeps (Breaks input now call choice) said (Reached s notes) so =
+      broken-keeps input now call choice said s notes (call_of call (losses s input now)) refl so
+  meeting-keeps (Fills input now call) said (Reached s notes) so =
+      filled-keeps input now call said s notes (call_of call (losses s input now)) refl so
+
+  pub course-so :
+      (slots : ℕ) (list : List Kept) (mark : ℕ) → AllCanBeSent list → (meetings : List (Meeting ToolCommand))
+      → IsCourseSo (commands_met (started_on plan slots list mark) meetings)
+      (course_of (started_on plan slots list mark) machine meetings)
+  course-so slots list mark can [] = record {
+    holds =
+        starts-so plan (new_ledger slots (first_in list) (length list)) (found_in list) mark [] refl
+        (record { reported = tt; none_due = refl });
+    good = record {
+      own = record {
+        plan_is = refl;
+        texts = All-nil (λ (one : GrantView). IsText one.body);
+        reports = All-nil (λ (one : ReportView). CanBeSent one.message);
+        ledger = new-good slots (first_in list) (length list);
+      };
+      list = can;
+    };
+  }
+  course-so slots list mark can (meeting ∷ meetings) =
+      meeting-keeps meeting (commands_met (started_on plan slots list mark) meetings)
+      (course_of (started_on plan slots list mark) machine meetings) (course-so slots list mark can meetings)
+
+  pub reports-so :
+      (slots : ℕ) (list : List Kept) (mark : ℕ) → AllCanBeSent list → (meetings : List (Meeting ToolCommand))
+      → ReportsHold plan (course_of (started_on plan slots list mark) machine meetings)
+      (commands_met (started_on plan slots list mark) meetings)
+  reports-so slots list mark can meetings =
+      go (course_of (started_on plan slots list mark) machine meetings) (course-so slots list mark can meetings)
+    where
+      said : List ToolCommand
+      said = commands_met (started_on plan slots list mark) meetings
+
+      go : (course : Course EquipmentView) → IsCourseSo said course → ReportsHold plan course said
+      go (Reached s notes) so = record {
+        reported = so.holds.settled.reported;
+        counted = so.holds.commanded;
+        done = so.holds.settled.none_due;
+      }
+      go (Stopped notes) so = record { reported = so.reported; counted = tt; done = so.none_due }

@@ -1,0 +1,6 @@
+//! What the reports of the equipment hold, and that its tables are what was set.
+#![tactic(auto)]
+
+mod laws;
+
+pub use laws::{later_settings_are_not_reported, reports_are_of_their_events};

@@ -1,0 +1,369 @@
+-- That the spool is kept, over all starts.
+use Rattle.std.proofs.Common.{◌≡◌, refl, sym, ap, subst, ◌∙◌, arith, ◌<◌, ◌≤◌, ◌+◌, ◌^◌, ◌&&◌, not, Bool, true, false, ℕ, List, [], ◌∷◌, ◌++◌, length, Option, Some, None, if◌then◌else◌}
+use Rattle.std.proofs.lemmas.List.Elements.{All-nil}
+use Rattle.trace_log.specs.declared.commands.ToolCommand.{ToolCommand}
+use Rattle.trace_log.specs.Log.{Happening}
+use Rattle.message_end.specs.Core.{Went, at_first, noted, step_in}
+use Rattle.message_end.specs.Core.Went.{Goes, Spent}
+use Rattle.message_end.specs.Course.{Course, Meeting, broken_at, course_of, filled_at, noted_behind, notes_of, went_on, with_meeting}
+use Rattle.message_end.specs.Course.Course.{Reached, Stopped}
+use Rattle.message_end.specs.Course.Meeting.{Acts, Breaks, Fills, LosesPower, Restarts, Writes}
+use Rattle.message_end.specs.Ends.{Input, IsFront, Loss, call_of}
+use Rattle.message_end.specs.Own.{Has}
+use Rattle.disk_base.specs.declared.cut.CutChoice.{CutChoice}
+use Rattle.spool_law.specs.Shelf.{KeepsSpool, change_of, shelf_of}
+use Rattle.spool_law.specs.Shelf.Change.{Other}
+use Rattle.spool_ledger.specs.Ledger.{LedgerView, decided_count, next_of, stood_count}
+use Rattle.spool_ledger.specs.declared.ledger.Stand.{Stand}
+use Rattle.spool_slots.specs.Run.{IsRunFrom}
+use Rattle.spool_slots.specs.Slot.{Message as Put}
+use Rattle.gem_spool.specs.Standing.{Standing, count_in}
+use Rattle.gem_spool.specs.Works.{AreDue, counts_after, lists_after, reserved as marked}
+use Rattle.gem_spool.specs.declared.count.Count.{Count}
+use Rattle.gem_spool.specs.declared.works.Work.{Work}
+use Rattle.equipment_tables.specs.declared.plan.EquipmentPlan.{EquipmentPlan}
+use Rattle.equipment_tables.specs.Laws.{TablesAreLookedBackFor}
+use Rattle.equipment_tables.specs.Plan.{EquipmentPlanFits}
+use Rattle.tool_step.specs.End.{machine}
+use Rattle.tool_step.specs.Equipment.{EquipmentView, act, begun_step, is_marked_out, needs_numbers, restarts, settled_list, started_on}
+use Rattle.spool_works.specs.Found.{first_in, found_in, spooled_of}
+use Rattle.tool_step.specs.Disk.{standing_in, works_behind, works_of as step_works}
+use Rattle.spool_works.specs.DiskWorks.DiskWork.{Reserve}
+use Rattle.tool_reports.specs.Histories.{commands_met, with_command}
+use Rattle.tool_step.proofs.LossCalls.{AtEach, IsAtCall, at-call, losses-counted}
+use Rattle.spool_works.proofs.LossCounts.{has-call}
+use Rattle.tool_step.specs.Losses.{losses}
+use Rattle.tool_law.proofs.Lawful.{IsGoodView, begun-stood, fronts-are}
+use Rattle.tool_spool.proofs.Interrupted.{FoundAt, IsFoundAt, StandsWell, WhereGoes, reserve-found, where-as, works-found}
+use Rattle.tool_law.specs.Sound.{CanBeSent}
+use Rattle.tool_spool.specs.SpoolKept.{SpoolIsKept, policy_of}
+use Rattle.tool_step.specs.Step.{begun}
+use Rattle.tool_reports.proofs.QuietReports.{Holds}
+use Rattle.tool_reports.proofs.Reporting.{IsCourseSo as IsReported, course-so as course-reported}
+use Rattle.tool_spool.proofs.ShelvedTurns.{Shelves}
+use Rattle.tool_law.proofs.WorkLines.{Walks, behind-both, same-lines}
+use Rattle.tool_law.proofs.CoreSteps.{OnEither}
+use Rattle.tool_spool.proofs.TakenTurns.{full-so}
+use Rattle.tool_spool.proofs.KeptStarts.{rebased, begun-both, IsBegunSo, begun-so, IsDone, IsKeptFile, step-both, first-run, first-bound, Finds, finds-all, started-shelves}
+
+module _ (plan : EquipmentPlan) (fits : EquipmentPlanFits plan) (looked : TablesAreLookedBackFor) (slots : ℕ) where
+  -- ---- over all starts
+
+  pub record IsSpoolSo (s : EquipmentView) (notes : List Happening) : Type 0 where
+    pub shelves : Shelves plan slots s.list notes notes s.node.own s.node.core notes
+    pub none : s.node.own.ledger.works ≡ []
+
+  abbrev pub IsCourseKept : Course EquipmentView → Type 0
+  IsCourseKept (Reached s notes) = IsSpoolSo s notes
+  IsCourseKept (Stopped notes) = KeepsSpool (policy_of plan slots) notes
+
+  went-so :
+      (said : List ToolCommand) (before : List Happening) (went : Went EquipmentView Happening)
+      → OnEither ((IsDone plan fits looked slots) said before) ((IsKeptFile plan fits looked slots) before) went → IsCourseKept (went_on went before)
+  went-so said before (Goes step) at = record {
+    shelves =
+        (rebased plan fits looked slots) step.next.list at.base before (noted_behind step.notes before) step.next.node.own step.next.node.core
+        (noted_behind step.notes before) at.none at.both.1;
+    none = at.none;
+  }
+  went-so said before (Spent step) at = at
+
+  -- the list as the file has it
+  file-list : (v : LedgerView) (list : List Put) → v.works ≡ [] → settled_list v list ≡ list
+  file-list v list none = ap (λ (works : List Work). lists_after (stood_count v).next list works) none
+
+  module _ (some : 0 < slots) (most : slots < 2 ^ 16) where
+    started-so :
+        (other : EquipmentPlan) (size : ℕ) (list : List Put) (mark : ℕ) (notes : List Happening) → other ≡ plan
+        → size ≡ slots → KeepsSpool (policy_of plan slots) notes → (Finds plan fits looked slots) notes list
+        → IsRunFrom (first_in list) list → length list ≤ slots
+        → first_in list + length list ≤ 2 ^ 63 + 65535
+        → IsSpoolSo (started_on other size list mark).next
+        (noted_behind (started_on other size list mark).notes notes)
+    started-so other size list mark notes same all kept finds run room bound =
+        subst
+        (λ (p : EquipmentPlan).
+        IsSpoolSo (started_on p size list mark).next (noted_behind (started_on p size list mark).notes notes))
+        (sym same)
+        (subst
+        (λ (n : ℕ).
+        IsSpoolSo (started_on plan n list mark).next (noted_behind (started_on plan n list mark).notes notes)) (sym all)
+        (record {
+          shelves =
+              (started-shelves plan fits looked slots) list mark (Happening.EquipmentStarted (found_in list) mark ∷ notes) notes some most kept
+              finds run room bound;
+          none = refl;
+        }))
+
+    noted-so :
+        (s : EquipmentView) (notes : List Happening) (what : Happening) → change_of what ≡ Other → IsSpoolSo s notes
+        → IsSpoolSo s (what ∷ notes)
+    noted-so s notes what other so = record {
+      shelves =
+          (rebased plan fits looked slots) s.list notes notes (what ∷ notes) s.node.own s.node.core (what ∷ notes) so.none
+          (full-so plan slots s.list notes notes s.node.own what (at_first s.node.core) other so.shelves);
+      none = so.none;
+    }
+
+    -- ---- power is lost at a call of the disk
+
+    -- all that is noted in a step up to its works keeps the law, and what is left at each call is what a start may find
+    lost-so :
+        (said : List ToolCommand) (before : List Happening) (input : Input ToolCommand) (now : ℕ) (s : EquipmentView)
+        → Holds plan said s.node.own s.node.core.drawn before → IsGoodView plan fits s → IsSpoolSo s before
+        → KeepsSpool (policy_of plan slots) (noted_behind (step_in (begun_step s input now)).notes before)
+        × AtEach (FoundAt slots before) (standing_in s) [] (step_works s input now)
+        (step_in (begun_step s input now)).notes
+    lost-so said before input now s holds good so =
+        (begun.kept, go (needs_numbers s && not (is_marked_out s.mark)))
+      where
+        went : Went EquipmentView Happening
+        went = begun_step s input now
+
+        notes : List Happening
+        notes = (step_in went).notes
+
+        -- the ledger as the step begins, and at its works
+        w : LedgerView
+        w = s.node.own.ledger
+
+        v : LedgerView
+        v = (step_in went).next.node.own.ledger
+
+        begun : (IsBegunSo plan fits looked slots) before went
+        begun = (begun-so plan fits looked slots) (with_command input said) before went ((begun-both plan fits looked slots) said before input now s holds so.shelves)
+
+        same : settled_list w s.list ≡ s.list
+        same = file-list w s.list so.none
+
+        long : length s.list ≡ w.len
+        long = ap (λ (l : List Put). length l) (sym same) ∙ so.shelves.shelved.long
+
+        well : StandsWell slots (standing_in s)
+        well = record {
+          first = w.first;
+          run = subst (IsRunFrom w.first) same so.shelves.shelved.run;
+          next_is = let l = long in omega (arith, l);
+          room =
+              let is = so.shelves.is.room in let all = so.shelves.all in let l = long in omega (arith, is, all, l);
+          bound = so.shelves.is.bound;
+        }
+
+        reserved-well : StandsWell slots (marked (standing_in s))
+        reserved-well = record {
+          first = well.first;
+          run = well.run;
+          next_is = well.next_is;
+          room = well.room;
+          bound = well.bound;
+        }
+
+        stands : (shelf_of before).stands ≡ found_in s.list
+        stands = so.shelves.shelved.stands ∙ ap found_in same
+
+        stays : ((step_in went).next.list ≡ s.list) × (v.stood ≡ w.stood)
+        stays = begun-stood plan fits s input now good
+
+        -- the disk has what was decided before the step
+        stood-is : stood_count w ≡ decided_count w
+        stood-is =
+            ap (λ (works : List Work). counts_after (stood_count w) works) (sym so.none) ∙ so.shelves.is.come_to
+
+        next-is : v.stood.first + v.stood.len ≡ next_of w
+        next-is =
+            ap (λ (at : Stand). at.first + at.len) stays.1 ∙ ap (λ (c : Count). c.next) stood-is
+
+        due : AreDue (count_in (standing_in s)) v.works
+        due =
+            subst (λ (n : ℕ). AreDue (record { slots = n; next = next_of w; len = length s.list }) v.works)
+            (sym so.shelves.all)
+            (subst (λ (n : ℕ). AreDue (record { slots = slots; next = next_of w; len = n }) v.works)
+            (ap (λ (at : Stand). at.len) stays.1 ∙ ap (λ (c : Count). c.len) stood-is ∙ sym long)
+            (subst (λ (n : ℕ). AreDue (record { slots = slots; next = n; len = v.stood.len }) v.works) next-is
+            begun.due))
+
+        walks : Walks (next_of w) s.list before v.works notes
+        walks =
+            subst (λ (ls : List Happening). Walks (next_of w) s.list before v.works ls)
+            (sym (same-lines notes begun.lines.lines before begun.lines.noted))
+            (subst (λ (list : List Put). Walks (next_of w) list before v.works begun.lines.lines) stays.0
+            (subst
+            (λ (n : ℕ). Walks n (step_in went).next.list before v.works begun.lines.lines) next-is
+            begun.lines.walks))
+
+        ended : WhereGoes slots before went
+            ((shelf_of (noted_behind notes before)).stands ≡ found_in (lists_after (next_of w) s.list v.works))
+        ended =
+            where-as slots before went _ _
+            (λ is.
+            is ∙ ap (λ (n : ℕ). found_in (lists_after n (step_in went).next.list v.works)) next-is
+            ∙ ap (λ (list : List Put). found_in (lists_after (next_of w) list v.works)) stays.0)
+            begun.stands
+
+        go : (reserves : Bool)
+            → AtEach (FoundAt slots before) (standing_in s) []
+            ((if reserves then Reserve ∷ [] else []) ++ works_behind went) notes
+        go true =
+            reserve-found slots before (standing_in s) (works_behind went) notes stands well
+            (works-found slots before v.works went (marked (standing_in s)) [] notes so.shelves.all due reserved-well
+            walks
+            ended)
+        go false =
+            works-found slots before v.works went (standing_in s) [] notes so.shelves.all due well walks ended
+
+    -- the notes before keep it as well
+    kept-before : (rest notes : List Happening) → KeepsSpool (policy_of plan slots) (noted_behind rest notes)
+        → KeepsSpool (policy_of plan slots) notes
+    kept-before [] notes kept = kept
+    kept-before (what ∷ rest) notes kept = (kept-before rest (what ∷ notes) kept).1
+
+    -- so do those at a call of the disk
+    kept-at-call :
+        (input : Input ToolCommand) (now : ℕ) (said : List ToolCommand) (s : EquipmentView) (notes : List Happening)
+        (loss : Loss EquipmentView) → Has (losses s input now) loss
+        → Holds plan said s.node.own s.node.core.drawn notes → IsGoodView plan fits s → IsSpoolSo s notes
+        → KeepsSpool (policy_of plan slots) (noted_behind loss.front notes)
+    kept-at-call input now said s notes loss has holds good so =
+        kept-before first.rest (noted_behind loss.front notes)
+        (subst (KeepsSpool (policy_of plan slots))
+        (ap (λ (ns : List Happening). noted_behind ns notes) first.whole ∙ behind-both loss.front first.rest notes)
+        (lost-so said notes input now s holds good so).0)
+      where
+        first : IsFront loss.front (step_in (begun_step s input now)).notes
+        first =
+            fronts-are (step_works s input now) [] (step_in (begun_step s input now)).notes loss.front
+            ((losses-counted s input now).1 loss has)
+
+    filled-so :
+        (input : Input ToolCommand) (now call : ℕ) (said : List ToolCommand) (s : EquipmentView)
+        (notes : List Happening) (found : Option (Loss EquipmentView)) → call_of call (losses s input now) ≡ found
+        → Holds plan said s.node.own s.node.core.drawn notes → IsGoodView plan fits s → IsSpoolSo s notes
+        → IsCourseKept (filled_at s notes found)
+    filled-so input now call said s notes None is holds good so = so
+    filled-so input now call said s notes (Some loss) is holds good so =
+        kept-at-call input now said s notes loss (has-call call (losses s input now) loss is) holds good so
+
+    broken-so :
+        (input : Input ToolCommand) (now call : ℕ) (choice : CutChoice) (said : List ToolCommand) (s : EquipmentView)
+        (notes : List Happening) (found : Option (Loss EquipmentView)) → call_of call (losses s input now) ≡ found
+        → Holds plan said s.node.own s.node.core.drawn notes → IsGoodView plan fits s → IsSpoolSo s notes
+        → IsCourseKept (broken_at machine now choice s notes found)
+    broken-so input now call choice said s notes None is holds good so = so
+    broken-so input now call choice said s notes (Some loss) is holds good so =
+        subst
+        (λ (left : EquipmentView).
+        IsCourseKept (went_on (restarts left now) (Happening.Power ∷ noted_behind loss.front notes)))
+        (ap (λ (one : Loss EquipmentView). one.left choice) (sym at.is)) (go (is_marked_out st.mark))
+      where
+        has : Has (losses s input now) loss
+        has = has-call call (losses s input now) loss is
+
+        lost : KeepsSpool (policy_of plan slots) (noted_behind (step_in (begun_step s input now)).notes notes)
+            × AtEach (FoundAt slots notes) (standing_in s) [] (step_works s input now)
+            (step_in (begun_step s input now)).notes
+        lost = lost-so said notes input now s holds good so
+
+        at : IsAtCall (FoundAt slots notes) s loss
+        at =
+            at-call (FoundAt slots notes) s (step_works s input now) (standing_in s) []
+            (step_in (begun_step s input now)).notes loss lost.1 has
+
+        st : Standing
+        st = at.left choice
+
+        is-found : IsFoundAt slots (shelf_of (noted_behind loss.front notes)) st
+        is-found = at.at choice
+
+        kept : KeepsSpool (policy_of plan slots) (noted_behind loss.front notes)
+        kept = kept-at-call input now said s notes loss has holds good so
+
+        below : is-found.well.first + length st.list ≤ 2 ^ 63 + 65535
+        below =
+            let next = is-found.well.next_is in let bound = is-found.well.bound in omega (arith, next, bound)
+
+        go : (spent : Bool)
+            → IsCourseKept
+            (went_on
+            (if spent then
+            Spent
+            (at_first
+            (record (started_on s.node.own.plan s.node.own.ledger.slots st.list st.mark).next { mark = st.mark }))
+            else Goes (started_on s.node.own.plan s.node.own.ledger.slots st.list st.mark))
+            (Happening.Power ∷ noted_behind loss.front notes))
+        go true = (tt, kept)
+        go false =
+            started-so s.node.own.plan s.node.own.ledger.slots st.list st.mark
+            (Happening.Power ∷ noted_behind loss.front notes) holds.plan_is so.shelves.all (tt, kept) is-found.found
+            ((first-run plan fits looked slots) is-found.well.first st.list is-found.well.run) is-found.well.room
+            ((first-bound plan fits looked slots) is-found.well.first (2 ^ 63 + 65535) st.list is-found.well.run below)
+
+    meeting-so :
+        (meeting : Meeting ToolCommand) (said : List ToolCommand) (course : Course EquipmentView)
+        → IsReported plan fits looked said course → IsCourseKept course
+        → IsCourseKept (with_meeting machine meeting course)
+    meeting-so meeting said (Stopped notes) reported so = so
+    meeting-so (Acts input now) said (Reached s notes) reported so =
+        went-so (with_command input said) notes (act s input now)
+        ((step-both plan fits looked slots) said notes input now s reported.holds so.shelves reported.good)
+    meeting-so (Restarts now) said (Reached s notes) reported so = go (is_marked_out s.mark)
+      where
+        v : LedgerView
+        v = s.node.own.ledger
+
+        same : settled_list v s.list ≡ s.list
+        same = file-list v s.list so.none
+
+        long : length s.list ≡ v.len
+        long = ap (λ (l : List Put). length l) (sym same) ∙ so.shelves.shelved.long
+
+        run : IsRunFrom v.first s.list
+        run = subst (IsRunFrom v.first) same so.shelves.shelved.run
+
+        room : length s.list ≤ slots
+        room =
+            let is = so.shelves.is.room in let all = so.shelves.all in let l = long in omega (arith, is, all, l)
+
+        bound : v.first + length s.list ≤ 2 ^ 63 + 65535
+        bound = let is = so.shelves.is.bound in let l = long in omega (arith, is, l)
+
+        go : (spent : Bool)
+            → IsCourseKept
+            (went_on
+            (if spent then
+            Spent (at_first (record (started_on s.node.own.plan v.slots s.list s.mark).next { mark = s.mark }))
+            else Goes (started_on s.node.own.plan v.slots s.list s.mark)) notes)
+        go true = so.shelves.shelved.kept
+        go false =
+            started-so s.node.own.plan v.slots s.list s.mark notes reported.holds.plan_is so.shelves.all
+            so.shelves.shelved.kept ((finds-all plan fits looked slots) notes s.list (so.shelves.shelved.stands ∙ ap found_in same))
+            ((first-run plan fits looked slots) v.first s.list run) room ((first-bound plan fits looked slots) v.first (2 ^ 63 + 65535) s.list run bound)
+    meeting-so (Writes characters) said (Reached s notes) reported so =
+        noted-so s notes (Happening.Wrote characters) refl so
+    meeting-so LosesPower said (Reached s notes) reported so = noted-so s notes Happening.Power refl so
+    meeting-so (Breaks input now call choice) said (Reached s notes) reported so =
+        broken-so input now call choice said s notes (call_of call (losses s input now)) refl reported.holds
+        reported.good so
+    meeting-so (Fills input now call) said (Reached s notes) reported so =
+        filled-so input now call said s notes (call_of call (losses s input now)) refl reported.holds reported.good so
+
+    course-kept : (meetings : List (Meeting ToolCommand))
+        → IsCourseKept (course_of (started_on plan slots [] 0) machine meetings)
+    course-kept [] =
+        started-so plan slots [] 0 [] refl refl tt ((finds-all plan fits looked slots) [] [] refl) tt (omega arith) (omega arith)
+    course-kept (meeting ∷ meetings) =
+        meeting-so meeting (commands_met (started_on plan slots [] 0) meetings)
+        (course_of (started_on plan slots [] 0) machine meetings)
+        (course-reported plan fits looked slots [] 0 (All-nil (λ (m : Put). CanBeSent (spooled_of m))) meetings)
+        (course-kept meetings)
+
+    pub kept-so : (meetings : List (Meeting ToolCommand))
+        → KeepsSpool (policy_of plan slots) (notes_of (course_of (started_on plan slots [] 0) machine meetings))
+    kept-so meetings = go (course_of (started_on plan slots [] 0) machine meetings) (course-kept meetings)
+      where
+        go : (course : Course EquipmentView) → IsCourseKept course → KeepsSpool (policy_of plan slots) (notes_of course)
+        go (Reached s notes) so = so.shelves.shelved.kept
+        go (Stopped notes) so = so
+
+-- whatever it meets
+pub spool-is-kept : TablesAreLookedBackFor → SpoolIsKept
+spool-is-kept looked plan slots fits some most meetings = kept-so plan fits looked slots some most meetings

@@ -1,0 +1,17 @@
+pub mod CalmCommands
+pub mod CalmParts
+pub mod CalmTurns
+pub mod Interrupted
+pub mod KeptLedger
+pub mod KeptParts
+pub mod KeptSpool
+pub mod KeptStarts
+pub mod KeptUnload
+pub mod LastWorks
+pub mod Shelved
+pub mod ShelvedTurns
+pub mod SpoolMessages
+pub mod SpoolTurns
+pub mod SpoolUnloads
+pub mod TakenTurns
+pub mod UnloadOpen

@@ -1,0 +1,8 @@
+use Rattle.tool_spool.proofs.KeptSpool.{spool-is-kept}
+use Rattle.tool_spool.proofs.laws.spool_is_kept.Goals as goal
+
+pub returns-clause-notes : goal.returns-clause-notes
+returns-clause-notes c = spool-is-kept c.tables_are_looked_back_for.ensures
+
+pub returns-clause-tries : goal.returns-clause-tries
+returns-clause-tries c = λ plan base doings s did. did.tried

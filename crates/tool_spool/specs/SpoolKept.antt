@@ -1,0 +1,51 @@
+-- That the equipment keeps the laws of its spool: over its notes, and over what it sends.
+use Rattle.std.specs.Prelude.{◌<◌, ◌==◌, ◌&&◌, ◌^◌, ℕ, Bool, true, false, List, [], length, Option, Some}
+use Rattle.gem_shapes.specs.declared.request.Request.{Request}
+use Rattle.gem_shapes.specs.declared.request.Request.TheVariants as request
+use Rattle.trace_log.specs.declared.commands.ToolCommand.{ToolCommand}
+use Rattle.message_end.specs.Course.{Meeting, course_of, notes_of}
+use Rattle.message_end.specs.Doings.{Doing}
+use Rattle.spool_law.specs.Shelf.{KeepsSpool, Policy}
+use Rattle.equipment_tables.specs.declared.plan.EquipmentPlan.{EquipmentPlan}
+use Rattle.equipment_tables.specs.Plan.{EquipmentPlanFits}
+use Rattle.equipment_tables.specs.Requests.{request_of}
+use Rattle.equipment_tables.specs.Tables.{overwrites}
+use Rattle.tool_step.specs.End.{machine}
+use Rattle.tool_step.specs.Equipment.{EquipmentView, started_on}
+use Rattle.tool_law.specs.Laws.{DidOf}
+use Rattle.tool_reports.specs.Reported.{tables_in}
+use Rattle.tool_step.specs.Step.{end_plan}
+use Rattle.tool_law.specs.Tried.{AreTried}
+
+-- ---- what makes room
+
+-- S6F23 of RSDC 1 (SEMI E5, S6F23)
+abbrev pub is_purge : Option Request → Bool
+is_purge (Some request.PurgeSpool) = true
+is_purge _ = false
+
+-- OverWriteSpool as it is looked back for, where all slots are used (SEMI E30, spooling)
+abbrev pub policy_of : EquipmentPlan → ℕ → Policy
+policy_of plan slots = record {
+  purges = λ message. is_purge (request_of message.stream message.function message.body);
+  overwrites = λ notes stands. length stands == slots && overwrites (tables_in plan notes);
+}
+
+-- ---- the laws
+
+-- whatever it meets over all its starts, from an empty spool on: what it stores goes behind all others, what leaves is
+-- the first and has a cause, what is tried is the first and goes out as it was put, and each start finds what stood
+-- (this profile)
+abbrev pub SpoolIsKept : Type 0
+SpoolIsKept =
+    (plan : EquipmentPlan) (slots : ℕ) → EquipmentPlanFits plan → 0 < slots → slots < 2 ^ 16
+    → (meetings : List (Meeting ToolCommand))
+    → KeepsSpool (policy_of plan slots) (notes_of (course_of (started_on plan slots [] 0) machine meetings))
+
+-- whatever it is told: each try has new system bytes, and behind a try no block of an earlier one goes to the line
+-- (this
+-- profile)
+abbrev pub TriesAreInTurn : Type 0
+TriesAreInTurn =
+    (plan : EquipmentPlan) (base : ℕ) (doings : List Doing) (s : EquipmentView) → DidOf plan base doings s
+    → AreTried (end_plan plan) doings

@@ -1,0 +1,6 @@
+//! What the spool of the equipment holds, over all its starts.
+#![tactic(auto)]
+
+mod laws;
+
+pub use laws::spool_is_kept;

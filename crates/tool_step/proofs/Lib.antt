@@ -1,0 +1,2 @@
+pub mod LossCalls
+pub mod SpoolRuns

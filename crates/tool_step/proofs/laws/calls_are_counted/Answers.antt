@@ -1,0 +1,9 @@
+use Rattle.tool_step.specs.Disk.{standing_in, works_of}
+use Rattle.spool_works.proofs.Counted.{works-long, works-written}
+use Rattle.tool_step.proofs.laws.calls_are_counted.Goals as goal
+
+pub returns : goal.returns
+returns c = λ bytes s input now. (
+  works-long bytes (standing_in s) (works_of s input now),
+  works-written bytes (standing_in s) (works_of s input now),
+)

@@ -1,0 +1,157 @@
+-- The equipment with its spool: a step as a whole, its starts, and the equipment as an end.
+use Rattle.std.specs.Prelude.{ℕ, Bool, false, ◌+◌, ◌^◌, nat_lt, List, [], ◌∷◌, length, slice_get, Option, Some, None, if◌then◌else◌}
+use Rattle.std.specs.Option.{option_map}
+use Rattle.gem_spool.specs.Works.{lists_after}
+use Rattle.gem_states.specs.Comms.{comms_after}
+use Rattle.gem_states.specs.Control.{new_control}
+use Rattle.spool_slots.specs.Slot.{Message}
+use Rattle.trace_log.specs.declared.commands.ToolCommand.{ToolCommand}
+use Rattle.trace_log.specs.Log.{Happening}
+use Rattle.trace_log.specs.Log.Happening.{EquipmentStarted}
+use Rattle.trace_log.specs.Names.{Spooled}
+use Rattle.transact.specs.Numbers.{numbers_from}
+use Rattle.message_end.specs.Core.{EndView, Step, Went, and_then, at_first}
+use Rattle.message_end.specs.Core.Command.{More}
+use Rattle.message_end.specs.Core.Went.{Goes, Spent}
+use Rattle.message_end.specs.Ends.{Input}
+use Rattle.message_end.specs.Laws.{new_end}
+use Rattle.message_end.specs.Parts.{Node, after_parts, core_after}
+use Rattle.spool_ledger.specs.Ledger.{LedgerView, carried_out, new_ledger, stood_count}
+use Rattle.equipment_tables.specs.declared.plan.EquipmentPlan.{EquipmentPlan}
+use Rattle.equipment_tables.specs.Tables.{planned_tables}
+use Rattle.tool_step.specs.declared.kind.Kind.{Kind}
+use Rattle.tool_step.specs.Own.{OwnView, ToolPart, with_ledger}
+use Rattle.tool_step.specs.Step.{end_plan, first_parts, last_parts}
+use Rattle.spool_works.specs.Found.{spooled_of, first_in, found_in}
+
+-- the equipment, and what the file of its spool stands for: the messages, each with its number, and the mark, below
+-- which all system bytes lie that it may have drawn
+pub record EquipmentView : Type 0 where
+  pub node : Node OwnView Kind
+  pub list : List Message
+  pub mark : ℕ
+
+-- ---- system bytes
+
+-- a step reserves 4,096 more behind those that are left, where these are fewer than 128 (this profile)
+abbrev pub needs_numbers : EquipmentView → Bool
+needs_numbers s = nat_lt s.node.core.numbers.end (s.node.core.numbers.next + 128)
+
+-- there are no more of four bytes
+abbrev pub is_marked_out : ℕ → Bool
+is_marked_out mark = nat_lt (2 ^ 32) (mark + 4096)
+
+abbrev pub with_core : EndView Kind → Node OwnView Kind → Node OwnView Kind
+with_core core node = record node { core = core }
+
+abbrev pub reserved : EquipmentView → EquipmentView
+reserved s = record {
+  node = with_core (core_after (More 4096) s.node.core) s.node;
+  list = s.list;
+  mark = s.mark + 4096;
+}
+
+abbrev pub reserving : EquipmentView → Went EquipmentView Happening
+reserving s =
+    if needs_numbers s then if is_marked_out s.mark then Spent (at_first s) else Goes (at_first (reserved s))
+    else Goes (at_first s)
+
+-- ---- parts of a step, while the file stays as it is
+
+abbrev pub with_node : EquipmentView → Node OwnView Kind → EquipmentView
+with_node s node = record s { node = node }
+
+abbrev pub node_step : {N : Type 0} → Step EquipmentView N → Step (Node OwnView Kind) N
+node_step step = record { next = step.next.node; notes = step.notes; written = step.written }
+
+abbrev pub file_step : {N : Type 0} → EquipmentView → Step (Node OwnView Kind) N → Step EquipmentView N
+file_step s step = record { next = with_node s step.next; notes = step.notes; written = step.written }
+
+abbrev pub went_with_file :
+    {N : Type 0} → EquipmentView → Went (Node OwnView Kind) N → Went EquipmentView N
+went_with_file s (Goes step) = Goes (file_step s step)
+went_with_file s (Spent step) = Spent (file_step s step)
+
+abbrev pub parts_done : List ToolPart → Step EquipmentView Happening → Went EquipmentView Happening
+parts_done parts step = went_with_file step.next (after_parts Some parts (node_step step))
+
+-- ---- what the spool owes is done
+
+abbrev pub settled_own : OwnView → OwnView
+settled_own own = with_ledger (carried_out own.ledger) own
+
+abbrev pub settled_list : LedgerView → List Message → List Message
+settled_list ledger list = lists_after (stood_count ledger).next list ledger.works
+
+abbrev pub settled : EquipmentView → EquipmentView
+settled s = record {
+  node = record s.node { own = settled_own s.node.own };
+  list = settled_list s.node.own.ledger s.list;
+  mark = s.mark;
+}
+
+abbrev pub settled_step : Step EquipmentView Happening → Step EquipmentView Happening
+settled_step step = record step { next = settled step.next }
+
+-- also where the numbers are spent by then (this profile)
+abbrev pub settled_went : Went EquipmentView Happening → Went EquipmentView Happening
+settled_went (Goes step) = Goes (settled_step step)
+settled_went (Spent step) = Spent (settled_step step)
+
+-- ---- a step
+
+-- more system bytes where few are left, all that is due, and what the equipment is given
+abbrev pub begun_step : EquipmentView → Input ToolCommand → ℕ → Went EquipmentView Happening
+begun_step s input now = and_then (reserving s) (parts_done (first_parts input now))
+
+-- what goes out behind the works of the disk
+abbrev pub oldest_of : EquipmentView → Option Spooled
+oldest_of s = option_map spooled_of (slice_get s.list 0)
+
+abbrev pub ended_step : ℕ → Step EquipmentView Happening → Went EquipmentView Happening
+ended_step now step = parts_done (last_parts (oldest_of step.next) now) step
+
+abbrev pub act : EquipmentView → Input ToolCommand → ℕ → Went EquipmentView Happening
+act s input now = and_then (settled_went (begun_step s input now)) (ended_step now)
+
+-- ---- starts
+
+-- with what the spool holds
+abbrev pub new_own : EquipmentPlan → LedgerView → OwnView
+new_own plan ledger = record {
+  plan = plan;
+  tables = planned_tables plan;
+  comms = comms_after [];
+  control = new_control plan.control;
+  for_grant = [];
+  reports = [];
+  ledger = ledger;
+  tried = None;
+  events = 0;
+  has_begun = false;
+}
+
+-- over a file with so many slots, this list and this mark: the system bytes from the mark on are reserved
+abbrev pub started_on : EquipmentPlan → ℕ → List Message → ℕ → Step EquipmentView Happening
+started_on plan slots list mark = record {
+  next = record {
+    node = record {
+      own = new_own plan (new_ledger slots (first_in list) (length list));
+      core = new_end (end_plan plan) (numbers_from mark 4096);
+    };
+    list = list;
+    mark = mark + 4096;
+  };
+  notes = EquipmentStarted (found_in list) mark ∷ [];
+  written = [];
+}
+
+-- where there are none any more, nothing is noted, and the file stays as it is
+abbrev pub starts : EquipmentPlan → ℕ → List Message → ℕ → Went EquipmentView Happening
+starts plan slots list mark =
+    if is_marked_out mark then Spent (at_first (record (started_on plan slots list mark).next { mark = mark }))
+    else Goes (started_on plan slots list mark)
+
+-- a start anew finds what the file stands for
+abbrev pub restarts : EquipmentView → ℕ → Went EquipmentView Happening
+restarts s now = starts s.node.own.plan s.node.own.ledger.slots s.list s.mark

@@ -1,0 +1,47 @@
+-- Where power may be lost in a step of the equipment, and what that leaves of its spool (this profile).
+use Rattle.std.specs.Prelude.{◌≡◌, ℕ, List, [], ◌∷◌, ◌++◌, length, map}
+use Rattle.gem_spool.specs.Standing.{Standing}
+use Rattle.message_end.specs.Core.{step_in}
+use Rattle.message_end.specs.Ends.{Input, Loss}
+use Rattle.message_end.specs.Own.{Has}
+use Rattle.trace_log.specs.declared.commands.ToolCommand.{ToolCommand}
+use Rattle.trace_log.specs.Log.{Happening}
+use Rattle.spool_works.specs.DiskWorks.{DiskWork, behind_change, standing_behind, up_to_change}
+use Rattle.tool_step.specs.Disk.{asks, standing_in, stops, works_of}
+use Rattle.tool_step.specs.Equipment.{EquipmentView, begun_step}
+use Rattle.spool_works.specs.SpoolLosses.{Left}
+use Rattle.spool_works.specs.WorkLosses.{calls_at}
+
+-- all else is gone with the power, and a start anew asks for none of it but the plan and the count of the slots
+abbrev pub left_as : EquipmentView → Standing → EquipmentView
+left_as s st = record s { list = st.list; mark = st.mark }
+
+abbrev pub loss_at : EquipmentView → List Happening → Left → Loss EquipmentView
+loss_at s front left = record { front = front; left = λ choice. left_as s (left choice) }
+
+-- at each call of these works, with what is noted by then
+abbrev pub losses_of : EquipmentView → Standing → List Happening → List DiskWork → List Happening →
+    List (Loss EquipmentView)
+losses_of s st before [] notes = []
+losses_of s st before (DiskWork.Reserve ∷ works) notes =
+    map (loss_at s before) (calls_at st DiskWork.Reserve)
+    ++ losses_of s (standing_behind st DiskWork.Reserve) before works notes
+losses_of s st before (DiskWork.Change one ∷ works) notes =
+    let front = before ++ up_to_change notes in
+    map (loss_at s front) (calls_at st (DiskWork.Change one))
+    ++ losses_of s (standing_behind st (DiskWork.Change one)) front works (behind_change notes)
+losses_of s st before (DiskWork.ReadOldest ∷ works) notes =
+    map (loss_at s (before ++ notes)) (calls_at st DiskWork.ReadOldest)
+    ++ losses_of s (standing_behind st DiskWork.ReadOldest) before works notes
+
+abbrev pub losses : EquipmentView → Input ToolCommand → ℕ → List (Loss EquipmentView)
+losses s input now =
+    losses_of s (standing_in s) [] (works_of s input now) (step_in (begun_step s input now)).notes
+
+-- a step may be interrupted once at each call that it asks for, with what is noted where the disk fails at that call's
+-- work
+abbrev pub LossesAreCounted : Type 0
+LossesAreCounted =
+    (s : EquipmentView) (input : Input ToolCommand) (now : ℕ)
+    → (length (losses s input now) ≡ (asks s input now).calls)
+    × ((loss : Loss EquipmentView) → Has (losses s input now) loss → Has (stops s input now) loss.front)

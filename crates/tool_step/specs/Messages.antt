@@ -1,0 +1,139 @@
+-- How the equipment treats a whole message of the host.
+use Rattle.std.specs.Prelude.{ℕ, Bool, true, not, ◌==◌, ◌&&◌, List, [], ◌∷◌, ◌++◌, map, slice_get, Option, Some, None, if◌then◌else◌}
+use Rattle.std.specs.Option.{option_map}
+use Rattle.block_codec.specs.declared.header.Header.{Header}
+use Rattle.gem_shapes.specs.declared.request.Request.{Request}
+use Rattle.gem_shapes.specs.declared.request.Request.TheVariants as request
+use Rattle.gem_shapes.specs.Answers.{code_item}
+use Rattle.gem_shapes.specs.Primaries.{is_known, is_known_stream}
+use Rattle.gem_states.specs.declared.comms.CommsIn.TheVariants.{HostRequest, OtherMessage}
+use Rattle.gem_states.specs.declared.control.ControlIn.{ControlIn}
+use Rattle.gem_states.specs.declared.control.ControlIn.TheVariants.{RequestOffline, RequestOnline}
+use Rattle.gem_states.specs.declared.control.ControlOut.{ControlOut}
+use Rattle.gem_states.specs.declared.control.ControlOut.TheVariants.{Abort, Ack}
+use Rattle.gem_states.specs.Control.{control_step}
+use Rattle.message_flow.specs.declared.message.Message.{Message}
+use Rattle.message_flow.specs.Message.{is_primary}
+use Rattle.trace_log.specs.Log.{Happening, Past}
+use Rattle.trace_log.specs.Names.{message_name}
+use Rattle.transact.specs.Transactions.{primary_of}
+use Rattle.message_end.specs.Core.{EndView}
+use Rattle.message_end.specs.Core.Command.{End, Note, Remove}
+use Rattle.message_end.specs.Parts.{fixed_turn, led_turn}
+use Rattle.tool_step.specs.declared.kind.Kind.{Kind}
+use Rattle.tool_step.specs.declared.kind.Kind.TheVariants as kind
+use Rattle.equipment_tables.specs.Answers.{answer_of, established_of, lines_of}
+use Rattle.tool_step.specs.Own.{OwnView, ToolCommands, ToolDuty, ToolTurn, is_communicating, is_enabled_in, is_local, is_online, turn_of, with_control, with_tables}
+use Rattle.tool_step.specs.Replies.{secondary_turn}
+use Rattle.equipment_tables.specs.Requests.{request_of}
+use Rattle.tool_step.specs.Sent.{abort_duty, answer_duties, error_duty, text_of}
+use Rattle.tool_step.specs.Spooling.{purge_turn, transmit_turn}
+use Rattle.tool_step.specs.States.{comms_turn, control_commands}
+use Rattle.equipment_tables.specs.Tables.{tables_after}
+
+-- ---- S1F13
+
+-- the equipment's own S1F13, sent and not answered yet, ends without a note. While it is open no other transaction is
+-- (this profile)
+abbrev pub own_request_commands : Kind → ℕ → ToolCommands
+own_request_commands kind.Establish system = End system ∷ Remove true system ∷ []
+own_request_commands _ system = []
+
+abbrev pub first_request_commands : Option (Header × Kind) → ToolCommands
+first_request_commands None = []
+first_request_commands (Some primary) = own_request_commands primary.1 primary.0.system
+
+abbrev pub own_request_duty : ToolDuty
+own_request_duty e = first_request_commands (option_map primary_of (slice_get e.transactions.begun 0))
+
+abbrev pub established_duties : Message → OwnView → List ToolDuty
+established_duties message own =
+    answer_duties (text_of own (established_of own.tables)) message
+
+abbrev pub established_turn : ℕ → Message → OwnView → ToolTurn
+established_turn now message own =
+    let turn = comms_turn HostRequest now own in
+    turn_of turn.own (own_request_duty ∷ turn.duties ++ established_duties message own)
+
+-- ---- requests that aren't carried out
+
+abbrev pub dropped_turn : Message → OwnView → ToolTurn
+dropped_turn message own = fixed_turn own (Note (Happening.Dropped (message_name message)) ∷ [])
+
+-- where the communication isn't established a message is dropped, and ends WAIT DELAY (SEMI E30, communications state
+-- model)
+abbrev pub stray_turn : ℕ → Message → OwnView → ToolTurn
+stray_turn now message own =
+    led_turn (Note (Happening.Dropped (message_name message))) (comms_turn OtherMessage now own)
+
+-- off-line a request is aborted (SEMI E30, OFF-LINE)
+abbrev pub offline_turn : Message → OwnView → ToolTurn
+offline_turn message own =
+    if message.wait then turn_of own (abort_duty message ∷ []) else dropped_turn message own
+
+abbrev pub error_turn : ℕ → Header → OwnView → ToolTurn
+error_turn function header own = turn_of own (error_duty function header own ∷ [])
+
+-- ---- requests that are carried out
+
+abbrev pub control_answer_duties : ControlOut → Message → OwnView → List ToolDuty
+control_answer_duties (Ack code) message own = answer_duties (text_of own (code_item code)) message
+control_answer_duties Abort message own = abort_duty message ∷ []
+control_answer_duties _ message own = []
+
+-- S1F15 and S1F17 (SEMI E5, OFLACK, ONLACK)
+abbrev pub control_request_turn : ControlIn → Message → OwnView → ToolTurn
+control_request_turn input message own =
+    let outcome = control_step own.control input in
+    turn_of (with_control outcome.next own)
+    ((λ e. control_commands input own.control) ∷ control_answer_duties outcome.output message own)
+
+-- the lines of the action come before the answer (this profile)
+abbrev pub answer_turn : Request → Message → OwnView → ToolTurn
+answer_turn request message own =
+    turn_of (with_tables (tables_after request own.tables) own)
+    ((λ e. map Note (lines_of own.tables (is_local own) request))
+    ∷ answer_duties (answer_of own.tables (is_local own) own.plan.line.max_body request) message)
+
+abbrev pub request_turn : Request → Message → OwnView → ToolTurn
+request_turn request.GoOffline message own = control_request_turn RequestOffline message own
+request_turn request.GoOnline message own = control_request_turn RequestOnline message own
+request_turn request.TransmitSpool message own = transmit_turn message own
+request_turn request.PurgeSpool message own = purge_turn message own
+request_turn request message own = answer_turn request message own
+
+-- a request that has come as far as its action counts when the equipment looks back (this profile)
+abbrev pub read_turn : Option Request → Header → Message → OwnView → ToolTurn
+read_turn None header message own = error_turn 7 header own
+read_turn (Some request) header message own =
+    led_turn (Note (Happening.Recorded (Past.Asked message))) (request_turn request message own)
+
+-- ---- the steps in their order
+
+-- S1F17 alone is looked at off-line (SEMI E30, OFF-LINE)
+abbrev pub is_online_request : Message → Bool
+is_online_request message = (message.stream == 1) && (message.function == 17)
+
+abbrev pub is_establish_request : Message → Bool
+is_establish_request message = (message.stream == 1) && (message.function == 13)
+
+-- a stream and a function that aren't known get S9F3 and S9F5, a text of another shape S9F7 (SEMI E5, stream 9)
+abbrev pub known_turn : Header → Message → OwnView → ToolTurn
+known_turn header message own =
+    if not (is_known_stream message.stream) then error_turn 3 header own
+    else if not (is_known message.stream message.function) then error_turn 5 header own
+    else read_turn (request_of message.stream message.function message.body) header message own
+
+abbrev pub primary_turn : ℕ → Header → Message → OwnView → ToolTurn
+primary_turn now header message own =
+    if is_establish_request message then established_turn now message own
+    else if not (is_communicating own) then stray_turn now message own
+    else if not (is_online own) && not (is_online_request message) then offline_turn message own
+    else known_turn header message own
+
+-- a whole message, the last block of which has this header. DISABLED it is dropped, whatever it is (SEMI E30, DISABLED)
+abbrev pub message_turn : ℕ → Header → Message → OwnView → EndView Kind → ToolTurn
+message_turn now header message own e =
+    if not (is_enabled_in own.comms.state) then dropped_turn message own
+    else if is_primary message then primary_turn now header message own
+    else secondary_turn now header message own e

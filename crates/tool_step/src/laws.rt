@@ -1,0 +1,36 @@
+//! What holds of a step's works, and steps that can be followed by hand.
+
+ghost use Rattle.tool_step.specs.CallsCounted.{CallsAreCounted};
+ghost use Rattle.spool_works.specs.WorkedCalls.{CallsOfWorks};
+ghost use Rattle.tool_step.specs.Losses.{LossesAreCounted};
+ghost use Rattle.tool_step.specs.WorkedLosses.{LosesAtCalls};
+ghost use Rattle.tool_step.specs.WorkedSpool.{FullSpools, LosesInOrder, PutsTheLast, SpoolingBegins, UnloadsInOrder};
+
+/// The disk's calls in a step are as many, and write as many bytes, as is counted of its works.
+pub fn calls_are_counted()
+    ensures { CallsAreCounted }
+{}
+
+/// Examples of a spool. Nobody answers, and spooling begins; a message comes to a full spool, which overwrites or not;
+/// an unload of three messages, of which two may go at a time and the second is not confirmed at first; the
+/// communication is lost as five messages are open; one number is left as three reports are to be put; and the disk's
+/// calls of each kind of work.
+pub fn worked_spool_runs()
+    ensures begins { SpoolingBegins }
+    ensures full { FullSpools }
+    ensures unloads { UnloadsInOrder }
+    ensures loses { LosesInOrder }
+    ensures last { PutsTheLast }
+    ensures calls { CallsOfWorks }
+{}
+
+/// Power may be lost in a step once at each call that it asks of its disk, with what is noted where the disk fails at
+/// the work of that call.
+pub fn losses_are_counted()
+    ensures { LossesAreCounted }
+{}
+
+/// An example of what a loss of power leaves: the line fails, and a report is put.
+pub fn worked_losses()
+    ensures { LosesAtCalls }
+{}

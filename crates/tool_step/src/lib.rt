@@ -1,0 +1,8 @@
+//! What the equipment does in a step: the definition alone.
+#![tactic(auto)]
+
+mod kind;
+mod laws;
+
+pub use kind::Kind;
+pub use laws::{calls_are_counted, losses_are_counted, worked_losses, worked_spool_runs};
