@@ -168,14 +168,14 @@ module _ (plan : EquipmentPlan) (fits : EquipmentPlanFits plan) (looked : Tables
   -- what was noted goes with the works, each of which finds room, or its message; and where the step goes on the shelf
   -- stands as they make the list
   pub record IsBegunSo (before : List Happening) (went : Went EquipmentView Happening) : Type 0 where
-    kept : KeepsSpool (policy_of plan slots) (noted_behind (step_in went).notes before)
-    lines :
+    pub kept : KeepsSpool (policy_of plan slots) (noted_behind (step_in went).notes before)
+    pub lines :
         AreLines (step_in went).next.node.own.ledger (step_in went).next.list before
         (noted_behind (step_in went).notes before)
-    due :
+    pub due :
         AreDue (count_at plan slots (step_in went).next.list before before (step_in went).next.node.own.ledger.stood)
         (step_in went).next.node.own.ledger.works
-    stands :
+    pub stands :
         WhereGoes slots before went
         ((shelf_of (noted_behind (step_in went).notes before)).stands
         ≡ found_in (settled_list (step_in went).next.node.own.ledger (step_in went).next.list))
