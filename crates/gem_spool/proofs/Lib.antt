@@ -5,3 +5,4 @@ pub mod Putting
 pub mod Doing
 pub mod First
 pub mod Stays
+pub mod Answered

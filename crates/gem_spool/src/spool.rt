@@ -244,7 +244,7 @@ impl<D: Disk> GemSpool<D> {
     }
 
     // Puts a message for which there is room.
-    pub(crate) fn store(self, message: &Stored<'_>) -> Result<GemSpool<D>, Spent<D>>
+    fn store(self, message: &Stored<'_>) -> Result<GemSpool<D>, Spent<D>>
         requires function { message.now.function % 2 ≡ 1 }
         requires stream { message.now.stream < 128 }
         requires fits { room_for self.spool (length message.now.body.now) ≡ Fits }

@@ -1,14 +1,16 @@
 //! Changes of the spool that were decided before the disk has them, carried out one after the other.
 
-ghost use Rattle.std.specs.Prelude.{◌≡◌};
+ghost use Rattle.std.specs.Prelude.{◌≡◌, ◌<◌, ◌%◌, length};
+ghost use Rattle.gem_spool.specs.Spool.{Stores, room_for};
 ghost use Rattle.gem_spool.specs.Standing.{count_of};
 ghost use Rattle.gem_spool.specs.Works.{AreDue, CarriesOut, Does, IsDue};
+ghost use Rattle.gem_spool.specs.declared.spool.Room.TheVariants.{Fits};
 ghost use Rattle.gem_spool.specs.declared.works.Work.TheVariants.{DropOldest};
 
 use crate::spool::GemSpool;
 use disk_base::Disk;
 use gl_base::Row;
-use spool_slots::{Dropping, Spent, Stored};
+use spool_slots::{Spent, Stored};
 
 /// A change of the list, which was decided before the disk has it.
 #[derive(Debug, Drop)]
@@ -68,10 +70,23 @@ impl<D: Disk> GemSpool<D> {
                     function: *function,
                     body: body.as_slice(),
                 };
-                self.store(&message)
+                self.with_due(&message)
             }
             Work::DropOldest => self.without_oldest(),
             Work::Purge => self.purge(),
+        }
+    }
+
+    // Puts a message for which there is room.
+    fn with_due(self, message: &Stored<'_>) -> Result<GemSpool<D>, Spent<D>>
+        requires function { message.now.function % 2 ≡ 1 }
+        requires stream { message.now.stream < 128 }
+        requires fits { room_for self.spool (length message.now.body.now) ≡ Fits }
+        ensures { Stores D.Disk self message.now.stream message.now.function message.now.body.now result }
+    {
+        match self.put(message) {
+            Ok((spool, _)) => Ok(spool),
+            Err(spent) => Err(spent),
         }
     }
 
@@ -80,11 +95,10 @@ impl<D: Disk> GemSpool<D> {
         requires some { IsDue (count_of self.spool) DropOldest }
         ensures { Does D.Disk self DropOldest result }
     {
-        let active = self.active;
-        match self.spool.drop_oldest() {
-            Ok(spool) => Ok(GemSpool { spool, active }),
-            Err(Dropping::Empty(spool)) => Ok(GemSpool { spool, active }),
-            Err(Dropping::Failed(spent)) => Err(spent),
+        let oldest = self.first();
+        match self.confirm(oldest) {
+            Ok((spool, _)) => Ok(spool),
+            Err(spent) => Err(spent),
         }
     }
 }
