@@ -4,7 +4,8 @@
 ghost use Rattle.std.specs.Prelude.{◌≡◌};
 ghost use Rattle.gem_spool.specs.Spool.{room_in};
 
-use crate::spool::{BODY_MOST, NUMBERS, Room};
+use crate::spool::Room;
+use spool_slots::{BODY_MOST, NUMBERS};
 
 /// What decides whether there is room, without the disk. Who decides on more than one change keeps one of his own.
 #[derive(Clone, Copy, Debug, PartialEq, Eq)]
@@ -23,7 +24,7 @@ impl Count {
     pub fn room(self, length: usize) -> Room
         ensures { result ≡ room_in self length }
     {
-        if length > BODY_MOST {
+        if length > BODY_MOST as usize {
             return Room::TooLong;
         }
         if self.next >= NUMBERS {

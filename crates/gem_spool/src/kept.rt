@@ -7,10 +7,10 @@ ghost use Rattle.gem_spool.specs.Spool.{HasList};
 ghost use Rattle.gem_spool.specs.Standing.{Standing, Stands};
 ghost use Rattle.spool_slots.specs.Slot.{Message};
 
-use crate::spool::{BODY_MOST, GemSpool};
+use crate::spool::GemSpool;
 use disk_base::Disk;
 use gl_base::Row;
-use spool_slots::{OldestAnswer, SlotHead};
+use spool_slots::{BODY_MOST, OldestAnswer, SLOT_SIZE, SlotHead};
 use std::alloc::Global;
 
 /// A message as it was put.
@@ -48,7 +48,7 @@ impl<D: Disk> GemSpool<D> {
         if self.spool.len() == 0 {
             return Err(Unread::Empty);
         }
-        let mut slot = [0; 4096];
+        let mut slot = [0; SLOT_SIZE];
         match self.spool.oldest(&mut slot) {
             OldestAnswer::Found(head) => kept_in(alloc, head, &slot),
             OldestAnswer::Empty => Err(Unread::Empty),
@@ -58,10 +58,10 @@ impl<D: Disk> GemSpool<D> {
 }
 
 // The message of a slot. A disk may give any bytes, so that its length may be more than there is room for.
-fn kept_in(alloc: Global, head: SlotHead, slot: &[u8; 4096]) -> Result<Kept, Unread>
+fn kept_in(alloc: Global, head: SlotHead, slot: &[u8; SLOT_SIZE]) -> Result<Kept, Unread>
     ensures { KeepsOf head slot.now result }
 {
-    let len = (head.len as usize).min(BODY_MOST);
+    let len = (head.len as usize).min(BODY_MOST as usize);
     let Ok(body) = Row::of(alloc, &slot[15..15 + len]) else {
         return Err(Unread::NoMemory);
     };

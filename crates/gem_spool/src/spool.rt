@@ -16,13 +16,7 @@ ghost use Rattle.spool_slots.specs.Spool.{Rests, next_of};
 
 use crate::count::Count;
 use disk_base::{Disk, MemDisk};
-use spool_slots::{Dropping, OldestAnswer, Reserving, Spent, Spool, Staging, Stored};
-
-// How many bytes a body has at most.
-pub(crate) const BODY_MOST: usize = 4081;
-
-// The number that no message gets any more.
-pub(crate) const NUMBERS: u64 = 1 << 63;
+use spool_slots::{Dropping, OldestAnswer, Reserving, SLOT_SIZE, Spent, Spool, Staging, Stored};
 
 /// The spool of the equipment: a list of messages with their numbers, which a power loss leaves whole, and whether it
 /// is active.
@@ -184,7 +178,7 @@ impl<D: Disk> GemSpool<D> {
     }
 
     /// Looks at the oldest message. Where it is `Found` the buffer has its slot, in which the body begins at place 15.
-    pub fn oldest(&mut self, into: &mut [u8; 4096]) -> OldestAnswer
+    pub fn oldest(&mut self, into: &mut [u8; SLOT_SIZE]) -> OldestAnswer
         ensures looks { Looks D.Disk self.old.spool self.new.spool self.old.spool.first into.old into.new result }
         ensures active { self.new.active ≡ self.old.active }
         ensures list { (list : List Message) → HasList D.Disk self.old.spool list →

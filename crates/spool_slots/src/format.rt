@@ -7,13 +7,13 @@ ghost use Rattle.spool_slots.specs.Format.{ClosesSlots, CountsFirst, StandsEmpty
 ghost use Rattle.spool_slots.specs.Slot.{slot_place as place_of};
 
 use crate::front::MAGIC;
-use crate::slot::CLOSED;
+use crate::slot::{CLOSED, SLOT_SIZE};
 use crate::slots::slot_place;
 use arrayvec::ArrayVec;
 use disk_base::{Disk, DiskAnswer};
 
 /// What stands before the slots.
-pub type Page = ArrayVec<u8, 4096>;
+pub type Page = ArrayVec<u8, SLOT_SIZE>;
 
 /// The first page of a new file: its name, how many slots there are, and no mark yet.
 #[tactic(auto, unfolding(crate::specs::Format::first_page))]

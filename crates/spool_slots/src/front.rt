@@ -10,6 +10,7 @@ ghost use Rattle.spool_slots.specs.Reading.{FrontFits, FrontIs, FrontSays, readi
 ghost use Rattle.spool_slots.specs.Reads.{HasRead};
 
 use crate::reading::{NotSpool, Reading};
+use crate::slots::slot_place;
 use disk_base::{Disk, DiskAnswer};
 
 /// The name at the start of such files.
@@ -136,7 +137,7 @@ fn front_of(front: &[u8], size: u64) -> Reading<Front>
     if slots > SLOTS_MOST {
         return Reading::Broken(break_at(front, 8));
     }
-    if size < 4096 * (slots as u64 + 1) {
+    if size < slot_place(slots) {
         return Reading::Broken(end_break(size));
     }
     let mark = mark(front);

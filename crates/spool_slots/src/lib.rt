@@ -14,7 +14,9 @@ mod states;
 mod stored;
 
 pub use reading::NotSpool;
-pub use slot::SlotHead;
+pub use recovery::MARK_STEP;
+pub use slot::{BODY_MOST, NUMBERS, SLOT_SIZE, SlotHead};
+pub use slots::slot_place;
 pub use spool::Spool;
 pub use staged::Staged;
 pub use states::{Dropping, Formatting, OldestAnswer, Raw, Recovering, Reserving, Spent, Staging};

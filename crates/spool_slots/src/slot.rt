@@ -14,8 +14,8 @@ pub struct SlotHead {
     pub len: u32,
 }
 
-/// The bytes of a slot.
-pub const SLOT_SIZE: u64 = 4096;
+/// How many bytes a slot has, and what stands before the first one.
+pub const SLOT_SIZE: usize = 4096;
 /// The most bytes of a body.
 pub const BODY_MOST: u32 = 4081;
 /// The gate of an open slot.
@@ -56,7 +56,7 @@ pub fn head(start: &[u8; 15]) -> SlotHead
 }
 
 /// What the bytes of a slot say, its gate left aside.
-pub fn head_in(bytes: &[u8; 4096]) -> SlotHead
+pub fn head_in(bytes: &[u8; SLOT_SIZE]) -> SlotHead
     ensures { result ≡ head_of (bytes_at bytes.now 1 14) }
 {
     SlotHead {

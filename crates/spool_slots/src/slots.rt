@@ -23,11 +23,11 @@ pub struct Scan {
     pub behind: u64,
 }
 
-/// Where a slot begins.
+/// Where a slot begins; by the number of slots, how many bytes a file takes.
 pub fn slot_place(slot: u32) -> u64
     ensures { result ≡ place_of slot }
 {
-    SLOT_SIZE * (slot as u64 + 1)
+    SLOT_SIZE as u64 * (slot as u64 + 1)
 }
 
 /// Writes the gate of a number's slot, and syncs.

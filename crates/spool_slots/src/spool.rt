@@ -8,7 +8,7 @@ ghost use Rattle.spool_slots.specs.Spool.{IsSpool, Rests, in_hand};
 use crate::front::MARK_MOST;
 use crate::marking::write_mark;
 use crate::recovery::{Known, MARK_STEP};
-use crate::slot::{BODY_MOST, CLOSED, NUMBERS, head_in, slot_of};
+use crate::slot::{BODY_MOST, CLOSED, NUMBERS, SLOT_SIZE, head_in, slot_of};
 use crate::slots::{settle_gate, settle_parts, slot_place};
 use crate::staged::{Staged, with_parts};
 use crate::states::{Dropping, OldestAnswer, Reserving, Spent, Staging};
@@ -80,7 +80,7 @@ impl<D: Disk> Spool<D> {
 
     /// Looks at the oldest message. Where it is `Found` the buffer has its slot, in which the body begins at place 15.
     /// `Empty` is the answer of an empty spool alone.
-    pub fn oldest(&mut self, into: &mut [u8; 4096]) -> OldestAnswer
+    pub fn oldest(&mut self, into: &mut [u8; SLOT_SIZE]) -> OldestAnswer
         ensures { Looks D.Disk self.old self.new self.old.first into.old into.new result }
     {
         let first = self.known.first;
@@ -88,7 +88,7 @@ impl<D: Disk> Spool<D> {
     }
 
     /// Looks at the message that has this number, likewise. `Empty` is the answer where none has it.
-    pub fn message_at(&mut self, number: u64, into: &mut [u8; 4096]) -> OldestAnswer
+    pub fn message_at(&mut self, number: u64, into: &mut [u8; SLOT_SIZE]) -> OldestAnswer
         ensures { Looks D.Disk self.old self.new number into.old into.new result }
     {
         if number < self.known.first {
