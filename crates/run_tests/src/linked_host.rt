@@ -8,6 +8,7 @@ ghost use Rattle.host_node.specs.Host.{host_machine};
 ghost use Rattle.end_run.specs.Counts.{StepCounts, no_device};
 ghost use Rattle.end_run.specs.Scenes.{Always, NothingLeft, Stays};
 
+use crate::played_program::is_due;
 use arrayvec::ArrayVec;
 use end_run::{Ending, LinkedEnd, run_started};
 use gl_base::{Link, LinkAnswer, LinkEntry, LinkIn, Row, Side, Sink, WriteAnswer};
@@ -125,13 +126,6 @@ pub(crate) const LAST: u64 = 4_611_686_018_427_387_903;
 
 /// The address that each run is given.
 const ADDRESS: &str = "peer";
-
-/// Counts a call, and tells whether it is the one that fails; none is at 0.
-fn is_due(call: &mut u32) -> bool {
-    let due = *call == 1;
-    *call = call.saturating_sub(1);
-    due
-}
 
 /// What is still to come, and whether all that came till now was that.
 #[derive(Drop)]

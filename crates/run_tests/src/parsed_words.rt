@@ -1,21 +1,14 @@
 //! The words after the name of the program: which command they are, or why they are none.
 
+use crate::played_program::words_of;
 use command_words::{Command, WordsFault, command_of};
-use std::alloc::{AllocError, Global};
+use std::alloc::Global;
 
 /// Words, and what they are.
 type Case = (
     &'static [&'static str],
     Result<Command<'static>, WordsFault>,
 );
-
-fn words_of(alloc: Global, words: &[&str]) -> Result<Vec<String>, AllocError> {
-    let mut all = Vec::new(alloc);
-    for word in words {
-        all.push(String::from_str(alloc, word)?)?;
-    }
-    Ok(all)
-}
 
 fn is_answered(alloc: Global, case: &Case) -> bool {
     match words_of(alloc, case.0) {

@@ -39,8 +39,8 @@ impl<'a> Source for TestInput<'a> {
     }
 }
 
-/// Counts a call, and tells whether it is the one.
-fn is_due(call: &mut u32) -> bool {
+/// Counts a call, and tells whether it is the one that fails; none is at 0.
+pub(crate) fn is_due(call: &mut u32) -> bool {
     let due = *call == 1;
     *call = call.saturating_sub(1);
     due
