@@ -1,3 +1,5 @@
+pub mod CheckLaws
+mod CheckedViews
 mod ElementLoop
 mod FaultPlaces
 pub mod Faults
@@ -11,12 +13,15 @@ mod Least
 mod Leaves
 mod Lengths
 mod Numbers
+mod OpenLists
+mod Passing
 pub mod RangeLaws
 pub mod Rows
 mod Shortest
 pub mod SpellLaws
 pub mod SpelledLengths
 mod Stops
+mod Verdicts
 mod ViewSteps
 mod Viewing
 mod Written

@@ -1,3 +1,4 @@
+pub mod Checking
 pub mod Elements
 pub mod Encoding
 pub mod Faults
@@ -7,6 +8,7 @@ pub mod Kinds
 pub mod Layers
 pub mod Limits
 pub mod Measures
+pub mod OpenLists
 pub mod Ranges
 pub mod Reading
 pub mod Spelling

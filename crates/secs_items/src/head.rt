@@ -36,7 +36,7 @@ pub(crate) fn head_of(bytes: &[u8], depth: usize, total: usize) -> Result<Head<'
 
 /// The kind and the number of length bytes that a format byte at a place has.
 #[tactic(auto, unfolding(crate::specs::Reading::format_at))]
-fn format_of(format: u8, depth: usize, at: usize) -> Result<(Kind, usize), ItemFault>
+pub(crate) fn format_of(format: u8, depth: usize, at: usize) -> Result<(Kind, usize), ItemFault>
     ensures gives { Gives (λ x. x) result (format_at at depth format) }
     ensures named { IfErr result (λ e. e ≢ fault.NoMemory) }
     ensures some { IfOk result (λ x. 0 < x.1) }
