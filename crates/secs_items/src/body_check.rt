@@ -54,6 +54,7 @@ impl BodyCheck {
     pub fn feed(&mut self, piece: &[u8])
         // No body of SECS-I is longer.
         requires { self.old.fed + length piece.now ≤ 7995148 }
+        ensures counted { self.new.fed ≡ self.old.fed + length piece.now }
         // The check of what came before becomes that of all.
         ensures stands { (past : List ℕ) → self.old ≡ check_of past → self.new ≡ check_of (past ++ piece.now) }
     {

@@ -1,3 +1,5 @@
+-- The view by a check: there is a head, the rest is whole, and the bytes spell the item.
+
 use Rattle.std.proofs.Common.{ℕ, ◌/◌, [], length, ap, arith, refl}
 use Rattle.secs_items.specs.Heads.{head_view}
 use Rattle.secs_items.specs.Views.{item_in}

@@ -1,3 +1,5 @@
+-- The law, by the lemmas of `Verdicts`.
+
 use Rattle.secs_items.proofs.Verdicts.{broken_is, empty_is, spelled_whole, whole_spelled}
 use Rattle.secs_items.proofs.verdict_laws.verdicts_tell_of_spellings.Goals as goal
 

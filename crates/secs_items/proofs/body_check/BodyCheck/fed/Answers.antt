@@ -1,3 +1,5 @@
+-- How many bytes were fed: as many as those are of which it is the check.
+
 use Rattle.std.proofs.Common.{ap, ◌∙◌}
 use Rattle.secs_items.specs.Checking.{Checking}
 use Rattle.secs_items.proofs.CheckLaws.{fed_is}

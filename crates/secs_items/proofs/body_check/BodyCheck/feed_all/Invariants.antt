@@ -1,3 +1,5 @@
+-- Why the feeding ends, and that what is left leads to the same check.
+
 use Rattle.std.proofs.Common.{◌≡◌, ◌+◌, ◌≤◌, length}
 use Rattle.secs_items.specs.Checking.{fed_with}
 use Rattle.secs_items.proofs.body_check.BodyCheck.feed_all.Given as goal

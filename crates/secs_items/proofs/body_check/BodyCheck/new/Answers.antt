@@ -1,3 +1,5 @@
+-- The check of no bytes.
+
 use Rattle.std.proofs.Common.{ℕ, List, ap, sym, ◌∙◌}
 use Rattle.secs_items.specs.declared.point.Point.TheVariants as point
 use Rattle.secs_items.specs.Checking.{stands_at}

@@ -1,3 +1,5 @@
+-- What the check says is what is to be said of its bytes.
+
 use Rattle.std.proofs.Common.{ap, ◌∙◌}
 use Rattle.secs_items.specs.Checking.{verdict_now}
 use Rattle.secs_items.proofs.CheckLaws.{verdict_is}

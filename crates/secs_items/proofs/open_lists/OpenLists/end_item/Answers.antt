@@ -1,3 +1,5 @@
+-- A list that wants no more is left.
+
 use Rattle.std.proofs.Common.{◌≡◌, ◌<◌, ◌+◌, ◌-◌, length, sym, ◌∙◌, arith}
 use Rattle.std.proofs.Math.ListN.{get_or}
 use Rattle.secs_items.proofs.OpenLists.{behind_none, clear_more}

@@ -1,3 +1,5 @@
+-- Why the leaving of lists ends, and that those left want no more.
+
 use Rattle.std.proofs.Common.{◌≡◌, ◌-◌, ◌≤◌, length, take, drop}
 use Rattle.std.specs.Prelude.{reverse}
 use Rattle.std.proofs.Math.ListN.{replicate}

@@ -1,3 +1,5 @@
+-- Behind one list more all are 0 still.
+
 use Rattle.std.proofs.Common.{◌<◌, ◌+◌, length, ap, ◌∙◌, arith}
 use Rattle.std.proofs.lemmas.List.{drop-set-lt, length-set}
 use Rattle.secs_items.specs.OpenLists.{same_depth}
