@@ -3,6 +3,7 @@
 use super::*;
 use gl_base::{NoMemory, Row};
 use std::alloc::Global;
+use std::mem::size_of;
 
 /// No body has more bytes.
 const MOST: usize = 7_995_148;
@@ -213,4 +214,14 @@ fn is_viewed(bytes: &[u8], len: usize) -> bool {
 fn views_by_a_check(rt: HostRuntime) {
     assert!(rt; is_viewed(&[0x01, 2, 0x01, 0, 0xB1, 4, 0, 0, 0, 7], 2));
     assert!(rt; !is_viewed(&[0x01, 2, 0x01, 0, 0xB1, 4, 0, 0, 0], 2));
+}
+
+/// A check is small, and a copy of it goes on by itself.
+#[test]
+fn checks_are_copied(rt: HostRuntime) {
+    let mut check = BodyCheck::new();
+    assert!(rt; size_of::<BodyCheck>() <= 320 && feed(&mut check, &[0x41, 1]));
+    let mut copy = check;
+    assert!(rt; feed(&mut copy, &[0x41]) && copy.verdict() == Verdict::Whole);
+    assert!(rt; check.fed() == 2 && check.verdict() == broken_short(2));
 }
