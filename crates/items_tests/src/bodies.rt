@@ -1,7 +1,7 @@
 //! Bodies that come in pieces, by their verdicts.
 
-use super::*;
 use gl_base::{NoMemory, Row};
+use secs_items::{BodyCheck, ItemFault, Kind, Verdict, check, view};
 use std::alloc::Global;
 use std::mem::size_of;
 

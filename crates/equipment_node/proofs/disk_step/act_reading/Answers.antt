@@ -34,7 +34,7 @@ returns-in-Err-Empty-clause-ends g c t asked some at =
     subst
     (λ (why : Unread). ReadsOldest g.D.Disk c.args.spool.spool c.oldest_message.new.self.spool (Err why))
     c.in-Err-Empty.field-0-is c.in-Err-Empty.ensures.reads in
-    last-done g.D.Disk c.args.now t (node_of c.args.tool.now) (node_of c.end_with-in-Err-Empty.new.self) c.args.out.now
+    last-done g.D.Disk c.args.now t (node_of c.args.tool.now) (node_of c.end_with-in-Err-Empty.new.tool) c.args.out.now
     c.end_with-in-Err-Empty.new.out c.oldest_message.new.self None
     (read-at g.D.Disk t c.args.out.now c.args.spool c.oldest_message.new.self at
     (c.in-Err-Empty.ensures.stands (standing_in t.next) at.clear.stands)
@@ -72,7 +72,7 @@ returns-in-Err-Empty-clause-asks g c =
     c.in-Err-Empty.field-0-is c.in-Err-Empty.ensures.reads in
     unlooked-asked g.D.Disk c.args.spool.spool c.oldest_message.new.self
     (taking None ∷ end_of_spooling ∷ offer c.args.now ∷ []) (node_of c.args.tool.now)
-    (node_of c.end_with-in-Err-Empty.new.self) c.args.out.now c.end_with-in-Err-Empty.new.out
+    (node_of c.end_with-in-Err-Empty.new.tool) c.args.out.now c.end_with-in-Err-Empty.new.out
     c.end_with-in-Err-Empty.result reads.0 c.end_with-in-Err-Empty.ensures.ends
 
 pub returns-in-Err-Failed-clause-asks : goal.returns-in-Err-Failed-clause-asks
@@ -135,7 +135,7 @@ returns-in-Err-Empty-clause-disk g c =
     handed-then g.D.Disk c.args.spool.spool.disk c.oldest_message.new.self.spool.disk c.end_with-in-Err-Empty.result
     (kept-at g.D.Disk c.args.spool.spool.disk c.oldest_message.new.self.spool.disk (ap (λ v. v.disk) reads.0))
     (last-back g.D.Disk c.oldest_message.new.self (taking None ∷ end_of_spooling ∷ offer c.args.now ∷ [])
-    (node_of c.args.tool.now) (node_of c.end_with-in-Err-Empty.new.self) c.args.out.now
+    (node_of c.args.tool.now) (node_of c.end_with-in-Err-Empty.new.tool) c.args.out.now
     c.end_with-in-Err-Empty.new.out c.end_with-in-Err-Empty.result c.end_with-in-Err-Empty.ensures.ends)
 
 pub returns-in-Err-Failed-clause-disk : goal.returns-in-Err-Failed-clause-disk
