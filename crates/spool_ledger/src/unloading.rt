@@ -1,6 +1,6 @@
 //! An unload by its calls: it begins, takes up a message, which is granted leave and confirmed, and ends.
 
-ghost use Rattle.std.specs.Prelude.{◌≡◌, ◌<◌, ◌++◌, is_some, IfOk, None, Some};
+ghost use Rattle.std.specs.Prelude.{◌≡◌, ◌<◌, ◌++◌, IfOk, None, Some};
 ghost use Rattle.message_end.specs.Ends.{printed};
 ghost use Rattle.spool_ledger.specs.Ledger.{confirmed_of};
 ghost use Rattle.spool_ledger.specs.Unloading.{after_next, confirmed, counted, fresh, is_oldest_tried, let_go, next_number, settled, taken_up, tries, waiting_in, with_each, with_unload};
@@ -13,13 +13,6 @@ use std::alloc::Global;
 use trace_log::{Cause, try_note};
 
 impl Ledger {
-    /// Whether an unload runs.
-    pub fn is_unloading(&self) -> bool
-        ensures { result ≡ is_some self.now.unload }
-    {
-        self.unload.is_some()
-    }
-
     /// Begins an unload. None of its messages is under way or confirmed yet.
     pub fn begin_unload(&mut self)
         ensures { self.new ≡ with_unload (Some fresh) self.old }
