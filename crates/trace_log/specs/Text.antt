@@ -3,16 +3,14 @@ use Rattle.std.specs.Prelude.{◌≡◌, ℕ, Bool, List, [], ◌∷◌, ◌++�
 use Rattle.std.specs.List.{flat_map}
 use Rattle.std.specs.Option.{option_map_or}
 use Rattle.hex.specs.Hex.{encode_upper}
-use Rattle.block_codec.specs.Block.{BlockView}
 use Rattle.block_codec.specs.declared.header.Header.{Header}
 use Rattle.block_codec.specs.Header.{header_bytes}
 use Rattle.gl_base.specs.declared.side.Side.{Side}
-use Rattle.gl_base.specs.declared.side.Side.TheVariants.{Equipment}
 use Rattle.gl_base.specs.Side.{side_letter}
 use Rattle.message_flow.specs.declared.message.Message.{Message}
 use Rattle.message_flow.specs.declared.step.Note.{Note}
 use Rattle.short_text.specs.Shown.{shown_text}
-use Rattle.trace_log.specs.Log.{Entry, Happening, message_of}
+use Rattle.trace_log.specs.Log.{Entry, Happening}
 use Rattle.trace_log.specs.Log.Entry.{Noted, Slipped, Ended}
 use Rattle.trace_log.specs.Log.Happening.{EquipmentStarted, HostStarted, Power, Closed, Sent, Received, Wrote, Comms, Control, Spool, Set, Event, Alarm, Carried, Display, Refused, Storing, Stored, Leaving, Gone, Try, Duplicate, Unexpected, Foreign, TooLongBlock, Crowded, DroppedByT4, Failed, TimedOut, Stranger, Dropped, Denied, Discarded, TooLong, Full, Recorded}
 use Rattle.trace_log.specs.Names.{Spooled, cause_text, comms_text, control_text, name_text, spooled_name, system_text, title_of, title_text}
@@ -109,17 +107,6 @@ entry_text (Noted moment side what) = option_map_or (note_line moment side) (pri
 entry_text (Slipped moment side frame characters) =
     head_text moment side ++ codes "slip " ++ frame_text frame ++ codes " " ++ encode_upper characters ++ codes "\n"
 entry_text (Ended moment) = decimal moment ++ codes " end\n"
-
--- the lines of a start whose spool holds so many messages, and of the failure of a block's message
-abbrev pub IsStartLine : ℕ → ℕ → ℕ → List ℕ → Type 0
-IsStartLine moment len base line =
-    (found : List (ℕ × Spooled)) → length found ≡ len
-    → line ≡ entry_text (Noted moment Equipment (EquipmentStarted found base))
-
-abbrev pub IsFailedLine : ℕ → Side → Header → List ℕ → Type 0
-IsFailedLine moment side header line =
-    (block : BlockView) → block.header ≡ header
-    → line ≡ entry_text (Noted moment side (Failed (title_of (message_of block))))
 
 -- the lines of a log, whose newest entry comes first in it and last in the text
 abbrev pub text_of : List Entry → List ℕ

@@ -89,7 +89,7 @@ fn add_slip(
 }
 
 // Puts the moment and the end, in at most 23 bytes.
-pub(crate) fn put_head<const N: usize>(line: &mut ArrayVec<u8, N>, moment: u64, side: Side)
+fn put_head<const N: usize>(line: &mut ArrayVec<u8, N>, moment: u64, side: Side)
     requires { array_vec_len line.old + 23 ≤ N }
     ensures items { line.new.items ≡ line.old.items ++ head_text moment side }
     ensures len { array_vec_len line.new ≤ array_vec_len line.old + 23 }
@@ -110,7 +110,7 @@ fn side_letter(side: Side) -> u8
 }
 
 // Puts the number of a frame, or what stands for none.
-pub(crate) fn put_frame<const N: usize>(line: &mut ArrayVec<u8, N>, frame: Option<u64>)
+fn put_frame<const N: usize>(line: &mut ArrayVec<u8, N>, frame: Option<u64>)
     requires { array_vec_len line.old + 20 ≤ N }
     ensures items { line.new.items ≡ line.old.items ++ frame_text frame }
     ensures len { array_vec_len line.new ≤ array_vec_len line.old + 20 }

@@ -4,7 +4,6 @@
 mod commands;
 mod entries;
 mod laws;
-mod lines;
 mod names;
 mod notes;
 mod putting;
@@ -12,10 +11,6 @@ mod putting;
 pub use commands::{HostCommand, ToolCommand};
 pub use entries::{put_end, put_note, put_slip};
 pub use laws::notes_are_lines;
-pub use lines::{
-    Line, duplicate_line, end_line, equipment_start_line, failed_line, host_start_line,
-    received_line, sent_line, slip_line, wrote_line,
-};
 pub use names::{Cause, CommsName, ControlName, Name, Title};
 pub use notes::{
     alarm_note, carried_note, closed_note, comms_note, control_note, crowded_note, denied_note,
