@@ -8,17 +8,9 @@ ghost use Rattle.line_end.specs.Plan.{TimesFit};
 
 use crate::{LineCause, LineEvent, Phase, Times};
 use arrayvec::ArrayVec;
-use block_codec::{Block, BlockFault, Frame, Header, block_of, frame_of};
+use block_codec::{ACK, Block, BlockFault, ENQ, EOT, Frame, Header, NAK, block_of, frame_of};
 use gl_base::Side;
 use std::marker::Model;
-
-const ENQ: u8 = 0x05;
-
-const EOT: u8 = 0x04;
-
-const ACK: u8 = 0x06;
-
-const NAK: u8 = 0x15;
 
 /// Characters to be written to the line.
 pub type Chars = ArrayVec<u8, 1024>;
