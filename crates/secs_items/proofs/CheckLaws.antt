@@ -1,5 +1,5 @@
 -- What a check of bytes says: what reading would find from a point on changes with one byte more only as the point does.
-use Rattle.std.proofs.Common.{◌≡◌, ℕ, zero, suc, ◌+◌, ◌-◌, ◌*◌, ◌%◌, ◌<◌, ◌≤◌, Bool, true, false, not, cond, eqb, ltb, ◌&&◌, List, [], ◌∷◌, ◌++◌, length, take, drop, Option, Some, None, Result, Ok, Err, refl, sym, ap, subst, ◌∙◌, arith}
+use Rattle.std.proofs.Common.{◌≡◌, ℕ, zero, suc, ◌+◌, ◌-◌, ◌*◌, ◌%◌, ◌<◌, Bool, true, false, not, cond, eqb, ltb, ◌&&◌, List, [], ◌∷◌, ◌++◌, length, take, drop, Some, Result, Ok, Err, refl, sym, ap, subst, ◌∙◌, arith}
 use Rattle.std.specs.List.{fold}
 use Rattle.std.proofs.lemmas.Bool.{ne_eqb}
 use Rattle.std.proofs.lemmas.Bool.Decides.{nat_tests}
@@ -10,7 +10,7 @@ use Rattle.secs_items.specs.declared.kind.Kind.{Kind}
 use Rattle.secs_items.specs.declared.point.Point.{Point}
 use Rattle.secs_items.specs.declared.point.Point.TheVariants as point
 use Rattle.secs_items.specs.declared.verdict.Verdict.TheVariants as verdict
-use Rattle.secs_items.specs.Checking.{Checking, before_lengths, behind_format, behind_head, behind_item, behind_leaf, check_of, fault_now, fed_with, is_open, open_behind, stands_at, step_at, unfed, verdict_by, verdict_now, verdict_of, with_byte}
+use Rattle.secs_items.specs.Checking.{Checking, before_lengths, behind_format, behind_head, behind_item, behind_leaf, check_of, fault_now, fed_with, step_at, unfed, verdict_by, verdict_now, verdict_of, with_byte}
 use Rattle.secs_items.specs.Kinds.{is_list, unit_of}
 use Rattle.secs_items.specs.Limits.{max_depth}
 use Rattle.secs_items.specs.Reading.{◌>>=◌, Head, after_content, after_each, after_item, fault_after, first_fault, format_at, head_at, size_at}

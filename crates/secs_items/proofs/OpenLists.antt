@@ -1,9 +1,9 @@
 -- Open lists in an array: one more, one less, and one item less of the innermost.
-use Rattle.std.proofs.Common.{◌≡◌, ℕ, zero, suc, ◌+◌, ◌-◌, ◌<◌, ◌≤◌, List, [], ◌∷◌, ◌++◌, length, take, drop, refl, sym, ap, subst, ◌∙◌, arith}
+use Rattle.std.proofs.Common.{◌≡◌, ℕ, zero, suc, ◌+◌, ◌-◌, ◌<◌, ◌≤◌, List, [], ◌∷◌, length, take, drop, sym, ap, ◌∙◌, arith}
 use Rattle.std.specs.Prelude.{reverse}
 use Rattle.std.proofs.Math.ListN.{replicate, set, get_or}
 use Rattle.std.proofs.Math.Seq.{take-suc}
-use Rattle.std.proofs.lemmas.List.{drop-set-lt, drop_more, length-set, reverse-append, take_more_set}
+use Rattle.std.proofs.lemmas.List.{drop_more, reverse-append, take_more_set}
 use Rattle.secs_items.specs.Checking.{open_behind}
 
 -- what is behind those that are open

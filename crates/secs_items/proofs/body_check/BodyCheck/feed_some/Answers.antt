@@ -1,6 +1,6 @@
 -- Bytes that are passed over in one move.
 
-use Rattle.std.proofs.Common.{◌≤◌, length, arith}
+use Rattle.std.proofs.Common.{arith}
 use Rattle.secs_items.proofs.Passing.{passes_front}
 use Rattle.secs_items.proofs.body_check.BodyCheck.feed_some.Goals as goal
 
