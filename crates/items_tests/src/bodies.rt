@@ -21,14 +21,14 @@ fn feed(check: &mut BodyCheck, piece: &[u8]) -> bool {
 /// Feeds all, in pieces of so many bytes.
 fn feed_in(check: &mut BodyCheck, bytes: &[u8], size: usize) -> bool {
     let mut rest = bytes;
-    while rest.len() > size {
-        let (piece, behind) = rest.split_at(size);
+    for _ in 0..bytes.len() {
+        let (piece, behind) = rest.split_at(size.min(rest.len()));
         if !feed(check, piece) {
             return false;
         }
         rest = behind;
     }
-    feed(check, rest)
+    rest.is_empty()
 }
 
 /// Whether this is the verdict of the bytes in pieces of so many, and so many were fed.

@@ -8,7 +8,8 @@ pub same_depth : (left : List ℕ) (depth : ℕ) → depth ≤ 64 → length lef
 same_depth left depth few long =
     length-reverse (take depth left) ∙ length-take-le depth left (subst (λ (n : ℕ). depth ≤ n) (sym long) few)
 
-pub same_left : (left : List ℕ) (depth : ℕ) → depth ≤ 64 → length left ≡ 64 → drop depth left ≡ replicate (64 - depth) 0
+pub same_left : (left : List ℕ) (depth : ℕ) → depth ≤ 64 → length left ≡ 64
+    → drop depth left ≡ replicate (64 - depth) 0
     → reverse (reverse (take depth left)) ++ replicate (64 - length (reverse (take depth left))) 0 ≡ left
 same_left left depth few long clear =
     ap (λ (n : ℕ). reverse (reverse (take depth left)) ++ replicate (64 - n) 0) (same_depth left depth few long)

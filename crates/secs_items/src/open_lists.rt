@@ -23,9 +23,13 @@ impl Model for OpenLists {
 
     ghost view = { λ l. reverse (take l.depth l.left) };
 
-    ghost invariant = { λ l. (l.depth ≤ 64) × (length l.left ≡ 64) × (drop l.depth l.left ≡ replicate (64 - l.depth) 0) };
+    ghost invariant = { λ l.
+        (l.depth ≤ 64) × (length l.left ≡ 64) × (drop l.depth l.left ≡ replicate (64 - l.depth) 0) };
 
-    ghost inverse = { λ lists. record { left = reverse lists ++ replicate (64 - length lists) 0; depth = length lists } };
+    ghost inverse = { λ lists. record {
+      left = reverse lists ++ replicate (64 - length lists) 0;
+      depth = length lists;
+    } };
 
     ghost inverse_ok = { λ l h i. record {
       left = same_left l.left l.depth h.0 h.1 h.2 i;

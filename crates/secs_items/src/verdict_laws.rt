@@ -13,7 +13,7 @@ ghost use Rattle.secs_items.specs.Spelling.{Spells};
 /// told.
 pub fn verdicts_tell_of_spellings()
     ensures spelled { (item : Item) (bytes : List ℕ) → Spells item bytes → verdict_of bytes ≡ verdict.Whole }
-    ensures whole { (bytes : List ℕ) → AllBytes bytes → verdict_of bytes ≡ verdict.Whole → (item : Item) × Spells item bytes }
+    ensures whole { (bs : List ℕ) → AllBytes bs → verdict_of bs ≡ verdict.Whole → (item : Item) × Spells item bs }
     ensures empty { (bytes : List ℕ) → verdict_of bytes ≡ verdict.Empty → bytes ≡ [] }
-    ensures broken { (bytes : List ℕ) (e : ItemFault) → verdict_of bytes ≡ verdict.Broken e → first_fault bytes ≡ Some e }
+    ensures broken { (bs : List ℕ) (e : ItemFault) → verdict_of bs ≡ verdict.Broken e → first_fault bs ≡ Some e }
 {}
