@@ -8,11 +8,13 @@ ghost use Rattle.file_disk.specs.FileDisk.{Counts, answer_of, file_health};
 use disk_base::{AttachedFile, Disk, DiskAnswer};
 use std::fs::{OpenFile, OpenOptions};
 use std::os::unix::fs::FileExt;
+use std::path::Path;
 use std::{io, rt};
 
-/// A real file as a disk, which tells nothing of its bytes. A sync is the system's sync of the file with all that
-/// belongs to it. It counts its faults: a file that can't be opened or made longer, a read or a write that doesn't take
-/// its whole range, a sync that fails, and each call but `attach` where no file is attached.
+/// A real file as a disk, which tells nothing of its bytes. A sync is one sync of the system, of the file with all that
+/// belongs to it. Where bytes are asked for, the file's folder is synced too, for the file may be new there. It counts
+/// its faults: a file that can't be opened or made longer, a folder that can't be synced, a read or a write that doesn't
+/// take its whole range, a sync that fails, and each call but `attach` where no file is attached.
 #[derive(Drop)]
 pub struct FileDisk<R: rt::Files> {
     system: R,
@@ -130,6 +132,9 @@ fn opened<R: rt::Files>(system: &R, name: &str, grow: u64) -> io::Result<(R::Fil
     let mut options = OpenOptions::new();
     options.read(true).write(true).create(grow > 0);
     let file = options.open(system, name)?;
+    if grow > 0 {
+        sync_folder(system, name)?;
+    }
     let size = file.metadata()?.len();
     if size >= grow {
         return Ok((file, size));
@@ -138,9 +143,22 @@ fn opened<R: rt::Files>(system: &R, name: &str, grow: u64) -> io::Result<(R::Fil
     Ok((file, grow))
 }
 
+// Makes the name of a file last in the folder where it stands, through a crash.
+fn sync_folder<R: rt::Files>(system: &R, name: &str) -> io::Result<()> {
+    let folder = match Path::new(name).parent() {
+        Some(folder) if !folder.as_str().is_empty() => folder.as_str(),
+        _ => ".",
+    };
+    OpenOptions::new()
+        .read(true)
+        .open(system, folder)?
+        .sync_all()
+}
+
 #[cfg(test)]
 mod tests {
     use super::*;
+    use crate::counted_files::{CountedFiles, Syncs};
     use std::test::Fail;
     use std::{env, fs, process};
 
@@ -163,6 +181,39 @@ mod tests {
         assert_eq!(rt; made, DiskAnswer::Done);
         assert!(rt; done && into == *b"ab");
         assert_eq!(rt; disk.faults, 1);
+        Ok(())
+    }
+
+    #[test]
+    fn settles_by_one_sync_of_the_system(rt: HostRuntime) -> Result<(), Fail> {
+        let alloc = rt.alloc();
+        let folder = env::temp_dir(&rt)?;
+        let name = format!(in alloc; "file-disk-syncs-{}", process::id(rt.process()))?;
+        let path = folder.join(alloc, name.as_str())?;
+        let syncs = Syncs::none();
+        let mut disk = FileDisk::new(CountedFiles::new(&rt, &syncs));
+        let _missing = disk.attach(path.as_str(), 0);
+        let before = syncs.counts();
+        let made = disk.attach(path.as_str(), 8);
+        let as_made = syncs.counts();
+        let wrote = disk.write(6, b"ab");
+        let as_written = syncs.counts();
+        let settled = disk.sync();
+        let as_settled = syncs.counts();
+        let again = disk.sync();
+        let twice = syncs.counts();
+        let attached = disk.attach(path.as_str(), 0);
+        let as_attached = syncs.counts();
+        fs::remove_file(&rt, path.as_path())?;
+        for answer in [made, wrote, settled, again, attached] {
+            assert_eq!(rt; answer, DiskAnswer::Done);
+        }
+        assert_eq!(rt; before, (0, 0), "no file, and no folder");
+        assert_eq!(rt; as_made, (0, 1), "the folder of a new file");
+        assert_eq!(rt; as_written, (0, 1), "a write alone");
+        assert_eq!(rt; as_settled, (1, 1), "a sync");
+        assert_eq!(rt; twice, (2, 1), "one more, with nothing written");
+        assert_eq!(rt; as_attached, (2, 1), "a file that is there");
         Ok(())
     }
 }
