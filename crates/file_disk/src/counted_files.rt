@@ -1,5 +1,6 @@
 //! A stand-in of the system's files for tests: it has the files of a system, and counts how often one is synced.
 
+use crate::lock_file::LockFile;
 use std::alloc::Allocator;
 use std::cell::Cell;
 use std::fs::{Metadata, OpenFile, OpenOptions};
@@ -130,6 +131,12 @@ impl<'a, F: FileExt> FileExt for CountedFile<'a, F> {
 
     fn write_at(&self, buf: &[u8], offset: u64) -> io::Result<usize> {
         self.file.write_at(buf, offset)
+    }
+}
+
+impl<'a, F: LockFile> LockFile for CountedFile<'a, F> {
+    fn take_lock(&self) -> io::Result<()> {
+        self.file.take_lock()
     }
 }
 

@@ -5,6 +5,7 @@ ghost use Rattle.disk_base.specs.Faults.{Rose};
 ghost use Rattle.disk_base.specs.declared.disk.DiskAnswer.{DiskAnswer};
 ghost use Rattle.file_disk.specs.FileDisk.{Counts, answer_of, file_health};
 
+use crate::lock_file::LockFile;
 use disk_base::{AttachedFile, Disk, DiskAnswer};
 use std::fs::{OpenFile, OpenOptions};
 use std::os::unix::fs::FileExt;
@@ -12,9 +13,14 @@ use std::path::Path;
 use std::{io, rt};
 
 /// A real file as a disk, which tells nothing of its bytes. A sync is one sync of the system, of the file with all that
-/// belongs to it. Where bytes are asked for, the file's folder is synced too, for the file may be new there. It counts
-/// its faults: a file that can't be opened or made longer, a folder that can't be synced, a read or a write that doesn't
-/// take its whole range, a sync that fails, and each call but `attach` where no file is attached.
+/// belongs to it. Where bytes are asked for, the file's folder is synced too, for the file may be new there.
+///
+/// The file is this disk's alone while it is attached, of all that take it by the system's lock. A disk that attaches
+/// anew lets its file go first, also where that fails.
+///
+/// It counts its faults: a file that can't be opened or made longer or that another has, a folder that can't be synced,
+/// a read or a write that doesn't take its whole range, a sync that fails, and each call but `attach` where no file is
+/// attached.
 #[derive(Drop)]
 pub struct FileDisk<R: rt::Files> {
     system: R,
@@ -65,7 +71,7 @@ impl<R: rt::Files> FileDisk<R> {
 
 impl<R: rt::Files> Disk for FileDisk<R>
 where
-    R::File: FileExt,
+    R::File: FileExt + LockFile,
 {
     ghost told = { λ _. None };
 
@@ -85,6 +91,7 @@ where
 
     // The file is made where it isn't there and some bytes are asked for.
     fn attach(&mut self, file: &str, grow: u64) -> DiskAnswer {
+        self.file = None;
         match opened(&self.system, file, grow) {
             Ok((opened, size)) => {
                 self.file = Some(opened);
@@ -125,13 +132,16 @@ where
     }
 }
 
-// The file of a name, with as many bytes as are asked for at least, and how many it has.
+// The file of a name, taken before it is made longer, with as many bytes as are asked for at least, and how many it has.
 fn opened<R: rt::Files>(system: &R, name: &str, grow: u64) -> io::Result<(R::File, u64)>
+where
+    R::File: LockFile,
     ensures { IfOk result (λ opened. grow ≤ opened.1) }
 {
     let mut options = OpenOptions::new();
     options.read(true).write(true).create(grow > 0);
     let file = options.open(system, name)?;
+    file.take_lock()?;
     if grow > 0 {
         sync_folder(system, name)?;
     }
@@ -214,6 +224,36 @@ mod tests {
         assert_eq!(rt; as_settled, (1, 1), "a sync");
         assert_eq!(rt; twice, (2, 1), "one more, with nothing written");
         assert_eq!(rt; as_attached, (2, 1), "a file that is there");
+        Ok(())
+    }
+
+    #[test]
+    fn has_its_file_alone(rt: HostRuntime) -> Result<(), Fail> {
+        let alloc = rt.alloc();
+        let folder = env::temp_dir(&rt)?;
+        let name = format!(in alloc; "file-disk-alone-{}", process::id(rt.process()))?;
+        let path = folder.join(alloc, name.as_str())?;
+        let mut disk = FileDisk::new(&rt);
+        let mut other = FileDisk::new(&rt);
+        let taken = disk.attach(path.as_str(), 8);
+        let refused = other.attach(path.as_str(), 0);
+        let no_longer = other.attach(path.as_str(), 16);
+        let length = fs::metadata(&rt, path.as_path())?.len();
+        let anew = disk.attach(path.as_str(), 0);
+        drop(disk);
+        let let_go = other.attach(path.as_str(), 0);
+        fs::remove_file(&rt, path.as_path())?;
+        assert_eq!(rt; taken, DiskAnswer::Done);
+        assert_eq!(rt; refused, DiskAnswer::Failed);
+        assert_eq!(rt; no_longer, DiskAnswer::Failed);
+        assert_eq!(rt; length, 8, "it was refused before it was made longer");
+        assert_eq!(rt;
+            anew,
+            DiskAnswer::Done,
+            "the disk lets its own file go first"
+        );
+        assert_eq!(rt; let_go, DiskAnswer::Done);
+        assert_eq!(rt; other.faults, 2);
         Ok(())
     }
 }
