@@ -132,7 +132,8 @@ where
     }
 }
 
-// The file of a name, taken before it is made longer, with as many bytes as are asked for at least, and how many it has.
+// The file of a name, with as many bytes as are asked for at least, and how many it has. Where another has the file, it
+// stays as it is.
 fn opened<R: rt::Files>(system: &R, name: &str, grow: u64) -> io::Result<(R::File, u64)>
 where
     R::File: LockFile,

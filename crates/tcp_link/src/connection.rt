@@ -1,4 +1,4 @@
-//! A connection to a peer: its polls, by reads that wait or don't, at moments that never go back.
+//! A connection to a peer: its polls, by reads that wait or don't, at moments of the reads that never go back.
 
 ghost use Rattle.std.specs.Prelude.{◌≡◌, [], IfSome};
 ghost use Rattle.std.specs.Io.KnownBytes.{Keeps, prepend_known};
@@ -32,6 +32,8 @@ pub(crate) struct Connection<S> {
     pub(crate) stream: S,
     start: Instant,
     arrived: Arrived,
+    // the moment behind the read that brought what has arrived
+    came: u64,
 }
 
 // The longest time of one wait, in milliseconds. A longer one is made of several.
@@ -53,10 +55,12 @@ impl<S: Read + OpenStream> Connection<S> {
             stream,
             start,
             arrived: Arrived::none(),
+            came: 0,
         })
     }
 
-    /// Waits for the next character up to the moment `until`. `before` is the moment of the last answer.
+    /// Waits for the next character up to the moment `until`. `before` is the moment of the last answer. A character's
+    /// moment is that of the read that brought it, however much later it is asked for.
     pub(crate) fn poll<C: Clock>(&mut self, clock: &C, before: u64, until: u64) -> LinkIn
         ensures time { IsTimely until before result }
         ensures due { IsDue until result }
@@ -82,17 +86,42 @@ impl<S: Read + OpenStream> Connection<S> {
             (prepend_known self.new.arrived (S.remaining self.new.stream))
             result }
     {
+        let came = self.came.max(before);
+        if came >= 1 << 62 {
+            return Some(LinkIn::Failed);
+        }
+        if let Some(character) = self.arrived.next() {
+            return Some(LinkIn::Char(character, came));
+        }
         let Some(now) = self.moment(clock, before) else {
             return Some(LinkIn::Failed);
         };
-        if let Some(character) = self.arrived.next() {
-            return Some(LinkIn::Char(character, now));
-        }
         match look_of(&self.read_within(until.saturating_sub(now))) {
             Look::Nothing if until <= now => Some(LinkIn::Quiet(now)),
-            Look::Nothing | Look::Again => None,
+            Look::Nothing => None,
+            Look::Again => {
+                if self.date(clock, before) {
+                    None
+                } else {
+                    Some(LinkIn::Failed)
+                }
+            }
             Look::Ended => Some(LinkIn::Closed),
             Look::Failed => Some(LinkIn::Failed),
+        }
+    }
+
+    // What has arrived came by now. It answers whether the clock could tell.
+    fn date<C: Clock>(&mut self, clock: &C, before: u64) -> bool
+        ensures arrived { self.new.arrived ≡ self.old.arrived }
+        ensures stream { self.new.stream ≡ self.old.stream }
+    {
+        match self.moment(clock, before) {
+            Some(moment) => {
+                self.came = moment;
+                true
+            }
+            None => false,
         }
     }
 

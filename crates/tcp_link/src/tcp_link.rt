@@ -16,9 +16,10 @@ use std::net::{Net, OpenListener, OpenStream, TcpListener, TcpStream};
 use std::time::Clock;
 
 /// A connection over TCP as a link, which tells nothing of its characters. The equipment listens and accepts one peer,
-/// the host calls. Its moments are those of the system's clock. It counts its faults: a connection that can't be made,
-/// a clock that can't be read, a read or a write that fails, and a poll or a sending without a connection. A peer that
-/// is gone is no fault of a poll, also where the system says that the connection was reset.
+/// the host calls. Its moments are those of the system's clock, of a character behind the read that brought it. It
+/// counts its faults: a connection that can't be made, a clock that can't be read, a read or a write that fails, and a
+/// poll or a sending without a connection. A peer that is gone is no fault of a poll, also where the system says that
+/// the connection was reset.
 #[derive(Drop)]
 pub struct TcpLink<R: Net> {
     system: R,
@@ -229,6 +230,7 @@ fn faults_of(before: u64, answer: LinkIn) -> u64
 #[cfg(test)]
 mod tests {
     use super::*;
+    use std::alloc::Global;
     use std::test::Fail;
 
     fn has_come(answer: LinkIn, wanted: u8) -> bool {
@@ -241,22 +243,27 @@ mod tests {
         matches!(link.poll(until), LinkIn::Quiet(moment) if until <= moment)
     }
 
-    #[test]
-    fn carries_characters_both_ways(rt: HostRuntime) -> Result<(), Fail> {
-        let alloc = rt.alloc();
-        let mut equipment = TcpLink::new(&rt);
-        let mut host = TcpLink::new(&rt);
-        assert_eq!(rt; equipment.poll(0), LinkIn::Failed);
-        assert_eq!(rt; equipment.listen("127.0.0.1:0"), LinkAnswer::Done);
+    /// A tool and its host, connected.
+    fn connect<R: Net + Clock>(
+        alloc: Global,
+        equipment: &mut TcpLink<R>,
+        host: &mut TcpLink<R>,
+    ) -> Result<bool, Fail> {
+        let listens = equipment.listen("127.0.0.1:0");
         let Some(listener) = &equipment.listener else {
             return Err(Fail::from("it doesn't listen"));
         };
         let address = format!(in alloc; "{}", listener.local_addr()?)?;
-        assert_eq!(rt;
-            host.connect(Side::Host, address.as_str()),
-            LinkAnswer::Done
-        );
-        assert_eq!(rt; equipment.accept(), LinkAnswer::Done);
+        let called = host.connect(Side::Host, address.as_str());
+        Ok([listens, called, equipment.accept()] == [LinkAnswer::Done; 3])
+    }
+
+    #[test]
+    fn carries_characters_both_ways(rt: HostRuntime) -> Result<(), Fail> {
+        let mut equipment = TcpLink::new(&rt);
+        let mut host = TcpLink::new(&rt);
+        assert_eq!(rt; equipment.poll(0), LinkIn::Failed);
+        assert!(rt; connect(rt.alloc(), &mut equipment, &mut host)?);
         assert_eq!(rt; host.send(b"\x05ab"), LinkAnswer::Done);
         assert!(rt; has_come(equipment.poll(9_000), 5));
         assert_eq!(rt; equipment.send(b"\x04"), LinkAnswer::Done);
@@ -272,6 +279,25 @@ mod tests {
         assert!(rt; has_come(equipment.poll(9_000), b'c'));
         assert_eq!(rt; equipment.poll(9_000), LinkIn::Closed);
         assert_eq!(rt; equipment.faults, 1);
+        Ok(())
+    }
+
+    #[test]
+    fn characters_have_the_moment_of_their_read(rt: HostRuntime) -> Result<(), Fail> {
+        let mut equipment = TcpLink::new(&rt);
+        let mut host = TcpLink::new(&rt);
+        assert!(rt; connect(rt.alloc(), &mut equipment, &mut host)?);
+        assert_eq!(rt; host.send(b"abc"), LinkAnswer::Done);
+        let LinkIn::Char(b'a', moment) = equipment.poll(9_000) else {
+            return Err(Fail::from("the first character hasn't come"));
+        };
+        for character in *b"bc" {
+            let limit = host.moment.min(60_000) + 30;
+            assert!(rt; is_quiet(&mut host, limit));
+            assert_eq!(rt; equipment.poll(9_000), LinkIn::Char(character, moment));
+        }
+        let limit = moment.min(60_000) + 60;
+        assert!(rt; is_quiet(&mut equipment, limit));
         Ok(())
     }
 }
