@@ -1,0 +1,4 @@
+mod Empty
+mod History
+mod Numbers
+mod Worked

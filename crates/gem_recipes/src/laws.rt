@@ -1,0 +1,24 @@
+//! What holds of the recipes after every history of changes, and exchanges that can be followed by hand.
+
+ghost use Rattle.gem_recipes.specs.Laws.{DeletesInTurn, NumbersRise, RecipesAreLookedBackFor};
+ghost use Rattle.gem_recipes.specs.Worked.{WorkedExchanges};
+
+/// The body of a name after a history of changes is the one of the newest change that says something of it.
+pub fn recipes_are_looked_back_for()
+    ensures { RecipesAreLookedBackFor }
+{}
+
+/// What is stored gets a number above all others.
+pub fn numbers_rise()
+    ensures { NumbersRise }
+{}
+
+/// A deletion of several recipes is one of each in turn.
+pub fn deletes_in_turn()
+    ensures { DeletesInTurn }
+{}
+
+/// Exchanges that are answered so, and some that aren't.
+pub fn worked_exchanges()
+    ensures { WorkedExchanges }
+{}
