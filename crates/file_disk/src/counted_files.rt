@@ -48,8 +48,8 @@ pub(crate) struct CountedFile<'a, F> {
     count: &'a Cell<u32>,
 }
 
-fn unsupported<T>() -> io::Result<T> {
-    Err(io::Error::from(ErrorKind::Unsupported))
+fn unsupported() -> io::Error {
+    io::Error::from(ErrorKind::Unsupported)
 }
 
 impl<'a, R: rt::Files> rt::Files for CountedFiles<'a, R> {
@@ -81,27 +81,27 @@ impl<'a, R: rt::Files> rt::Files for CountedFiles<'a, R> {
     }
 
     fn copy(&self, _from: &str, _to: &str) -> io::Result<u64> {
-        unsupported()
+        Err(unsupported())
     }
 
     fn rename(&self, _from: &str, _to: &str) -> io::Result<()> {
-        unsupported()
+        Err(unsupported())
     }
 
     fn remove_file(&self, _path: &str) -> io::Result<()> {
-        unsupported()
+        Err(unsupported())
     }
 
     fn create_dir(&self, _path: &str) -> io::Result<()> {
-        unsupported()
+        Err(unsupported())
     }
 
     fn remove_dir(&self, _path: &str) -> io::Result<()> {
-        unsupported()
+        Err(unsupported())
     }
 
     fn remove_dir_all<B: Allocator>(&self, _alloc: B, _path: &str) -> io::Result<()> {
-        unsupported()
+        Err(unsupported())
     }
 }
 
@@ -120,7 +120,7 @@ impl<'a, F: OpenFile> OpenFile for CountedFile<'a, F> {
     }
 
     fn sync_data(&self) -> io::Result<()> {
-        unsupported()
+        Err(unsupported())
     }
 }
 
@@ -144,22 +144,22 @@ impl<'a, F: LockFile> LockFile for CountedFile<'a, F> {
 
 impl<'a, F> Read for CountedFile<'a, F> {
     fn read(&mut self, _buf: &mut [u8]) -> io::Result<usize> {
-        unsupported()
+        Err(unsupported())
     }
 }
 
 impl<'a, F> Write for CountedFile<'a, F> {
     fn write(&mut self, _buf: &[u8]) -> io::Result<usize> {
-        unsupported()
+        Err(unsupported())
     }
 
     fn flush(&mut self) -> io::Result<()> {
-        unsupported()
+        Err(unsupported())
     }
 }
 
 impl<'a, F> Seek for CountedFile<'a, F> {
     fn seek(&mut self, _to: SeekFrom) -> io::Result<u64> {
-        unsupported()
+        Err(unsupported())
     }
 }

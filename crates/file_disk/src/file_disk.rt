@@ -207,7 +207,11 @@ mod tests {
         let before = syncs.counts();
         let made = disk.attach(path.as_str(), 8);
         let as_made = syncs.counts();
-        let wrote = disk.write(6, b"ab");
+        let wrote = if disk.size() == 8 {
+            disk.write(6, b"ab")
+        } else {
+            DiskAnswer::Failed
+        };
         let as_written = syncs.counts();
         let settled = disk.sync();
         let as_settled = syncs.counts();
