@@ -11,6 +11,8 @@ use Rattle.gem_shapes.specs.declared.primary.Primary.{Primary}
 use Rattle.gem_shapes.specs.declared.primary.Primary.TheVariants as primary
 use Rattle.gem_shapes.specs.declared.request.Request.{Request}
 use Rattle.gem_shapes.specs.declared.request.Request.TheVariants as request
+use Rattle.gem_shapes.specs.declared.request.TablesRequest.{TablesRequest}
+use Rattle.gem_shapes.specs.declared.request.TablesRequest.TheVariants as tables_request
 use Rattle.gem_shapes.specs.Elements.{anything, both, code, each, flag, identifier, identifier_or_all, identifiers, setting, small_number, text}
 use Rattle.gem_shapes.specs.Primaries.{primary_with}
 
@@ -48,9 +50,9 @@ pub data Shape : Type 0 where
   Nothing : (asked : Request) → Shape
   OneItem : (read : Item → Option Request) → Shape
 
--- one item, of which the request is made
-abbrev pub item_shape : {T : Type 0} → (T → Request) → (Item → Option T) → Shape
-item_shape make read = OneItem (λ item. option_map make (read item))
+-- one item, of which the request of the tables is made
+abbrev pub item_shape : {T : Type 0} → (T → TablesRequest) → (Item → Option T) → Shape
+item_shape make read = OneItem (λ item. option_map (λ x. request.OfTables (make x)) (read item))
 
 -- what one item is read as, where the shape is one item
 abbrev pub request_in : Shape → Item → Option Request
@@ -58,29 +60,29 @@ request_in (OneItem read) item = read item
 request_in _ item = None
 
 abbrev pub shape_of : Primary → Shape
-shape_of primary.S1F1 = Nothing request.AreYouThere
-shape_of primary.S1F3 = item_shape request.StatusValues (each identifier)
-shape_of primary.S1F11 = item_shape request.StatusNames (each identifier)
+shape_of primary.S1F1 = Nothing (request.OfTables tables_request.AreYouThere)
+shape_of primary.S1F3 = item_shape tables_request.StatusValues (each identifier)
+shape_of primary.S1F11 = item_shape tables_request.StatusNames (each identifier)
 shape_of primary.S1F13 = Anything request.Establish
 shape_of primary.S1F15 = Nothing request.GoOffline
 shape_of primary.S1F17 = Nothing request.GoOnline
-shape_of primary.S2F13 = item_shape request.ConstantValues (each identifier)
-shape_of primary.S2F15 = item_shape request.SetConstants (each (both identifier setting))
-shape_of primary.S2F29 = item_shape request.ConstantNames (each identifier)
-shape_of primary.S2F33 = item_shape (λ x. request.Define x.0 x.1) (both identifier (each definition))
-shape_of primary.S2F35 = item_shape (λ x. request.Link x.0 x.1) (both identifier (each linking))
-shape_of primary.S2F37 = item_shape (λ x. request.EnableEvents x.0 x.1) (both flag (each identifier))
-shape_of primary.S2F39 = item_shape (λ x. request.Announce x.0 x.1) (both identifier identifier)
-shape_of primary.S2F41 = item_shape (λ x. request.Command x.0 x.1) (both text parameters)
-shape_of primary.S2F43 = item_shape request.ReplaceRule (each rule_entry)
-shape_of primary.S5F3 = item_shape (λ x. request.EnableAlarms (enables x.0) x.1) (both code identifier_or_all)
-shape_of primary.S5F5 = item_shape request.Alarms identifiers
-shape_of primary.S5F7 = Nothing request.EnabledAlarms
-shape_of primary.S6F15 = item_shape request.EventReport identifier
-shape_of primary.S6F19 = item_shape request.Report identifier
+shape_of primary.S2F13 = item_shape tables_request.ConstantValues (each identifier)
+shape_of primary.S2F15 = item_shape tables_request.SetConstants (each (both identifier setting))
+shape_of primary.S2F29 = item_shape tables_request.ConstantNames (each identifier)
+shape_of primary.S2F33 = item_shape (λ x. tables_request.Define x.0 x.1) (both identifier (each definition))
+shape_of primary.S2F35 = item_shape (λ x. tables_request.Link x.0 x.1) (both identifier (each linking))
+shape_of primary.S2F37 = item_shape (λ x. tables_request.EnableEvents x.0 x.1) (both flag (each identifier))
+shape_of primary.S2F39 = item_shape (λ x. tables_request.Announce x.0 x.1) (both identifier identifier)
+shape_of primary.S2F41 = item_shape (λ x. tables_request.Command x.0 x.1) (both text parameters)
+shape_of primary.S2F43 = item_shape tables_request.ReplaceRule (each rule_entry)
+shape_of primary.S5F3 = item_shape (λ x. tables_request.EnableAlarms (enables x.0) x.1) (both code identifier_or_all)
+shape_of primary.S5F5 = item_shape tables_request.Alarms identifiers
+shape_of primary.S5F7 = Nothing (request.OfTables tables_request.EnabledAlarms)
+shape_of primary.S6F15 = item_shape tables_request.EventReport identifier
+shape_of primary.S6F19 = item_shape tables_request.Report identifier
 shape_of primary.S6F23 = OneItem (λ item. option_and_then spool_request (small_number item))
-shape_of primary.S10F3 = item_shape (λ x. request.Display x.0 x.1) (both code text)
-shape_of primary.S10F5 = item_shape (λ x. request.DisplayLines x.0 x.1) (both code (each text))
+shape_of primary.S10F3 = item_shape (λ x. tables_request.Display x.0 x.1) (both code text)
+shape_of primary.S10F5 = item_shape (λ x. tables_request.DisplayLines x.0 x.1) (both code (each text))
 
 -- no byte, or an empty list
 abbrev pub IsNothing : List ℕ → Type 0

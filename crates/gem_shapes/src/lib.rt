@@ -16,4 +16,4 @@ pub use laws::a_body_asks_for_one_thing;
 pub use part::{Params, Text};
 pub use primary::{Primary, is_known, is_known_stream};
 pub use reading::read_request;
-pub use request::Request;
+pub use request::{Request, TablesRequest};

@@ -12,7 +12,7 @@ use crate::form::{
 };
 use crate::part::{Part, part_of, two_of};
 use crate::primary::Primary;
-use crate::request::Request;
+use crate::request::{Request, TablesRequest};
 use gl_base::NoMemory;
 use std::alloc::Global;
 
@@ -55,11 +55,17 @@ impl Primary {
         ensures { IfOk result (λ found. IsFound (AsksFor (Some self) body.now) found) }
     {
         match self {
-            Primary::S1F1 => Ok(asked_by_nothing(body, Request::AreYouThere)),
+            Primary::S1F1 => Ok(asked_by_nothing(
+                body,
+                Request::OfTables(TablesRequest::AreYouThere),
+            )),
             Primary::S1F13 => Ok(Some(Request::Establish)),
             Primary::S1F15 => Ok(asked_by_nothing(body, Request::GoOffline)),
             Primary::S1F17 => Ok(asked_by_nothing(body, Request::GoOnline)),
-            Primary::S5F7 => Ok(asked_by_nothing(body, Request::EnabledAlarms)),
+            Primary::S5F7 => Ok(asked_by_nothing(
+                body,
+                Request::OfTables(TablesRequest::EnabledAlarms),
+            )),
             _ => self.request_of_item(alloc, body),
         }
     }
@@ -110,7 +116,7 @@ fn status_values<'a>(alloc: Global, part: &Part<'a>) -> Result<Option<Request<'a
     ensures { IfOk result (λ found. found ≡ request_in (shape_of primary.S1F3) part.now.item) }
 {
     match Each::<Identifier>::read(alloc, part)? {
-        Some(ids) => Ok(Some(Request::StatusValues(ids))),
+        Some(ids) => Ok(Some(Request::OfTables(TablesRequest::StatusValues(ids)))),
         None => Ok(None),
     }
 }
@@ -119,7 +125,7 @@ fn status_names<'a>(alloc: Global, part: &Part<'a>) -> Result<Option<Request<'a>
     ensures { IfOk result (λ found. found ≡ request_in (shape_of primary.S1F11) part.now.item) }
 {
     match Each::<Identifier>::read(alloc, part)? {
-        Some(ids) => Ok(Some(Request::StatusNames(ids))),
+        Some(ids) => Ok(Some(Request::OfTables(TablesRequest::StatusNames(ids)))),
         None => Ok(None),
     }
 }
@@ -128,7 +134,7 @@ fn constant_values<'a>(alloc: Global, part: &Part<'a>) -> Result<Option<Request<
     ensures { IfOk result (λ found. found ≡ request_in (shape_of primary.S2F13) part.now.item) }
 {
     match Each::<Identifier>::read(alloc, part)? {
-        Some(ids) => Ok(Some(Request::ConstantValues(ids))),
+        Some(ids) => Ok(Some(Request::OfTables(TablesRequest::ConstantValues(ids)))),
         None => Ok(None),
     }
 }
@@ -137,7 +143,7 @@ fn set_constants<'a>(alloc: Global, part: &Part<'a>) -> Result<Option<Request<'a
     ensures { IfOk result (λ found. found ≡ request_in (shape_of primary.S2F15) part.now.item) }
 {
     match Each::<Both<Identifier, Setting>>::read(alloc, part)? {
-        Some(list) => Ok(Some(Request::SetConstants(list))),
+        Some(list) => Ok(Some(Request::OfTables(TablesRequest::SetConstants(list)))),
         None => Ok(None),
     }
 }
@@ -146,7 +152,7 @@ fn constant_names<'a>(alloc: Global, part: &Part<'a>) -> Result<Option<Request<'
     ensures { IfOk result (λ found. found ≡ request_in (shape_of primary.S2F29) part.now.item) }
 {
     match Each::<Identifier>::read(alloc, part)? {
-        Some(ids) => Ok(Some(Request::ConstantNames(ids))),
+        Some(ids) => Ok(Some(Request::OfTables(TablesRequest::ConstantNames(ids)))),
         None => Ok(None),
     }
 }
@@ -155,7 +161,7 @@ fn define<'a>(alloc: Global, part: &Part<'a>) -> Result<Option<Request<'a>>, NoM
     ensures { IfOk result (λ found. found ≡ request_in (shape_of primary.S2F33) part.now.item) }
 {
     match Both::<Identifier, Each<Definition>>::read(alloc, part)? {
-        Some((dataid, list)) => Ok(Some(Request::Define { dataid, list })),
+        Some((dataid, list)) => Ok(Some(Request::OfTables(TablesRequest::Define { dataid, list }))),
         None => Ok(None),
     }
 }
@@ -164,7 +170,7 @@ fn link<'a>(alloc: Global, part: &Part<'a>) -> Result<Option<Request<'a>>, NoMem
     ensures { IfOk result (λ found. found ≡ request_in (shape_of primary.S2F35) part.now.item) }
 {
     match Both::<Identifier, Each<Linking>>::read(alloc, part)? {
-        Some((dataid, list)) => Ok(Some(Request::Link { dataid, list })),
+        Some((dataid, list)) => Ok(Some(Request::OfTables(TablesRequest::Link { dataid, list }))),
         None => Ok(None),
     }
 }
@@ -173,7 +179,7 @@ fn enable_events<'a>(alloc: Global, part: &Part<'a>) -> Result<Option<Request<'a
     ensures { IfOk result (λ found. found ≡ request_in (shape_of primary.S2F37) part.now.item) }
 {
     match Both::<Flag, Each<Identifier>>::read(alloc, part)? {
-        Some((on, ceids)) => Ok(Some(Request::EnableEvents { on, ceids })),
+        Some((on, ceids)) => Ok(Some(Request::OfTables(TablesRequest::EnableEvents { on, ceids }))),
         None => Ok(None),
     }
 }
@@ -182,7 +188,10 @@ fn announce<'a>(alloc: Global, part: &Part<'a>) -> Result<Option<Request<'a>>, N
     ensures { IfOk result (λ found. found ≡ request_in (shape_of primary.S2F39) part.now.item) }
 {
     match Both::<Identifier, Identifier>::read(alloc, part)? {
-        Some((dataid, length)) => Ok(Some(Request::Announce { dataid, length })),
+        Some((dataid, length)) => Ok(Some(Request::OfTables(TablesRequest::Announce {
+            dataid,
+            length,
+        }))),
         None => Ok(None),
     }
 }
@@ -191,7 +200,7 @@ fn replace_rule<'a>(alloc: Global, part: &Part<'a>) -> Result<Option<Request<'a>
     ensures { IfOk result (λ found. found ≡ request_in (shape_of primary.S2F43) part.now.item) }
 {
     match Each::<RuleEntry>::read(alloc, part)? {
-        Some(list) => Ok(Some(Request::ReplaceRule(list))),
+        Some(list) => Ok(Some(Request::OfTables(TablesRequest::ReplaceRule(list)))),
         None => Ok(None),
     }
 }
@@ -200,7 +209,7 @@ fn alarms<'a>(alloc: Global, part: &Part<'a>) -> Result<Option<Request<'a>>, NoM
     ensures { IfOk result (λ found. found ≡ request_in (shape_of primary.S5F5) part.now.item) }
 {
     match Identifiers::read(alloc, part)? {
-        Some(ids) => Ok(Some(Request::Alarms(ids))),
+        Some(ids) => Ok(Some(Request::OfTables(TablesRequest::Alarms(ids)))),
         None => Ok(None),
     }
 }
@@ -209,7 +218,7 @@ fn event_report<'a>(alloc: Global, part: &Part<'a>) -> Result<Option<Request<'a>
     ensures { IfOk result (λ found. found ≡ request_in (shape_of primary.S6F15) part.now.item) }
 {
     match Identifier::read(alloc, part)? {
-        Some(ceid) => Ok(Some(Request::EventReport(ceid))),
+        Some(ceid) => Ok(Some(Request::OfTables(TablesRequest::EventReport(ceid)))),
         None => Ok(None),
     }
 }
@@ -218,7 +227,7 @@ fn report<'a>(alloc: Global, part: &Part<'a>) -> Result<Option<Request<'a>>, NoM
     ensures { IfOk result (λ found. found ≡ request_in (shape_of primary.S6F19) part.now.item) }
 {
     match Identifier::read(alloc, part)? {
-        Some(rptid) => Ok(Some(Request::Report(rptid))),
+        Some(rptid) => Ok(Some(Request::OfTables(TablesRequest::Report(rptid)))),
         None => Ok(None),
     }
 }
@@ -227,7 +236,7 @@ fn display<'a>(alloc: Global, part: &Part<'a>) -> Result<Option<Request<'a>>, No
     ensures { IfOk result (λ found. found ≡ request_in (shape_of primary.S10F3) part.now.item) }
 {
     match Both::<Code, Words>::read(alloc, part)? {
-        Some((tid, text)) => Ok(Some(Request::Display { tid, text })),
+        Some((tid, text)) => Ok(Some(Request::OfTables(TablesRequest::Display { tid, text }))),
         None => Ok(None),
     }
 }
@@ -236,7 +245,10 @@ fn display_lines<'a>(alloc: Global, part: &Part<'a>) -> Result<Option<Request<'a
     ensures { IfOk result (λ found. found ≡ request_in (shape_of primary.S10F5) part.now.item) }
 {
     match Both::<Code, Each<Words>>::read(alloc, part)? {
-        Some((tid, texts)) => Ok(Some(Request::DisplayLines { tid, texts })),
+        Some((tid, texts)) => Ok(Some(Request::OfTables(TablesRequest::DisplayLines {
+            tid,
+            texts,
+        }))),
         None => Ok(None),
     }
 }
@@ -253,7 +265,7 @@ fn command<'a>(alloc: Global, part: &Part<'a>) -> Result<Option<Request<'a>>, No
     match Each::<Both<Words, Anything>>::read(alloc, &params)? {
         Some(_) => {
             let params = params.into_params();
-            Ok(Some(Request::Command { name, params }))
+            Ok(Some(Request::OfTables(TablesRequest::Command { name, params })))
         }
         None => Ok(None),
     }
@@ -265,7 +277,7 @@ fn enable_alarms<'a>(alloc: Global, part: &Part<'a>) -> Result<Option<Request<'a
     match Both::<Code, IdentifierOrAll>::read(alloc, part)? {
         Some((aled, alid)) => {
             let on = aled >= 0x80;
-            Ok(Some(Request::EnableAlarms { on, alid }))
+            Ok(Some(Request::OfTables(TablesRequest::EnableAlarms { on, alid })))
         }
         None => Ok(None),
     }

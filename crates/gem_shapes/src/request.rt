@@ -1,24 +1,37 @@
-//! All that a message of the host may ask for, with what it carries.
+//! What a message of the host asks the equipment for: something of its tables, or what it carries out itself.
 
 use crate::entries::{Definition, Linking, RuleEntry};
 use crate::part::{Params, Text};
 use gl_base::Row;
 
-/// What a message of the host asks the equipment for. Identifiers and texts stand in the order of the message.
+/// What a message of the host asks the equipment for. The tables answer most of it; what changes the states, or sends or
+/// purges the spool, stands for itself.
 #[derive(Drop)]
 pub enum Request<'a> {
-    /// S1F1.
-    AreYouThere,
-    /// S1F3: the values of these variables, or of all where there is none.
-    StatusValues(Row<u32>),
-    /// S1F11: the names of these variables, or of all.
-    StatusNames(Row<u32>),
+    /// What the tables answer.
+    OfTables(TablesRequest<'a>),
     /// S1F13.
     Establish,
     /// S1F15.
     GoOffline,
     /// S1F17.
     GoOnline,
+    /// S6F23 with RSDC 0.
+    TransmitSpool,
+    /// S6F23 with RSDC 1.
+    PurgeSpool,
+}
+
+/// What a message of the host asks the tables of the equipment for. Identifiers and texts stand in the order of the
+/// message.
+#[derive(Drop)]
+pub enum TablesRequest<'a> {
+    /// S1F1.
+    AreYouThere,
+    /// S1F3: the values of these variables, or of all where there is none.
+    StatusValues(Row<u32>),
+    /// S1F11: the names of these variables, or of all.
+    StatusNames(Row<u32>),
     /// S2F13: the values of these constants, or of all.
     ConstantValues(Row<u32>),
     /// S2F15: constants with their new values.
@@ -47,10 +60,6 @@ pub enum Request<'a> {
     EventReport(u32),
     /// S6F19: the report of this RPTID.
     Report(u32),
-    /// S6F23 with RSDC 0.
-    TransmitSpool,
-    /// S6F23 with RSDC 1.
-    PurgeSpool,
     /// S10F3.
     Display { tid: u8, text: Text<'a> },
     /// S10F5.

@@ -2,7 +2,8 @@
 
 use crate::spelled::is_spelled;
 use gem_shapes::{
-    Request, code_item, identity_item, is_known, is_known_stream, pair_item, read_request,
+    Request, TablesRequest, code_item, identity_item, is_known, is_known_stream, pair_item,
+    read_request,
 };
 use gl_base::NoMemory;
 use secs_items::Item;
@@ -320,7 +321,7 @@ fn establishes_whatever_the_body(rt: HostRuntime) -> Result<(), Fail> {
 // Whether it is an S2F33 that defines one report, of one variable.
 fn defines(request: &Request<'_>, rptid: u32, vid: u32) -> bool {
     match request {
-        Request::Define { list, .. } => match list.as_slice() {
+        Request::OfTables(TablesRequest::Define { list, .. }) => match list.as_slice() {
             [entry] => entry.rptid == rptid && entry.vids.as_slice() == [vid].as_slice(),
             _ => false,
         },
@@ -330,14 +331,14 @@ fn defines(request: &Request<'_>, rptid: u32, vid: u32) -> bool {
 
 fn sets(request: &Request<'_>, wanted: &[(u32, u32)]) -> bool {
     match request {
-        Request::SetConstants(list) => list.as_slice() == wanted,
+        Request::OfTables(TablesRequest::SetConstants(list)) => list.as_slice() == wanted,
         _ => false,
     }
 }
 
 fn commands(request: &Request<'_>, wanted: &[u8], count: usize) -> bool {
     match request {
-        Request::Command { name, params } => {
+        Request::OfTables(TablesRequest::Command { name, params }) => {
             name.bytes() == wanted && params.view().len() == count
         }
         _ => false,
@@ -346,14 +347,14 @@ fn commands(request: &Request<'_>, wanted: &[u8], count: usize) -> bool {
 
 fn displays(request: &Request<'_>, wanted: &[u8]) -> bool {
     match request {
-        Request::Display { text, .. } => text.bytes() == wanted,
+        Request::OfTables(TablesRequest::Display { text, .. }) => text.bytes() == wanted,
         _ => false,
     }
 }
 
 fn enables(request: &Request<'_>, wanted: Option<u32>) -> bool {
     match request {
-        Request::EnableAlarms { on, alid } => *on && *alid == wanted,
+        Request::OfTables(TablesRequest::EnableAlarms { on, alid }) => *on && *alid == wanted,
         _ => false,
     }
 }
@@ -362,7 +363,7 @@ fn enables(request: &Request<'_>, wanted: Option<u32>) -> bool {
 fn asked<'a>(alloc: Global, stream: u8, function: u8, body: &'a [u8]) -> Request<'a> {
     match read_request(alloc, stream, function, body) {
         Ok(Some(request)) => request,
-        _ => Request::AreYouThere,
+        _ => Request::OfTables(TablesRequest::AreYouThere),
     }
 }
 
