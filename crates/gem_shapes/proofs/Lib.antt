@@ -3,3 +3,4 @@ mod Contents
 mod Fronts
 mod Lists
 mod Raw
+pub mod ReportPrimaries
