@@ -9,8 +9,7 @@ use Rattle.secs_items.specs.Encoding.{encode_fault}
 use Rattle.secs_items.specs.Spelling.{shortest_spelling}
 use Rattle.equipment_tables.specs.declared.answers.Answer.{Answer}
 use Rattle.equipment_tables.specs.declared.answers.Answer.TheVariants as answer
-use Rattle.equipment_tables.specs.Answers.{IsWithin, Reply, answer_by, has_bytes, spelled_body}
-use Rattle.equipment_tables.specs.Answers.Reply.{Body, Nothing}
+use Rattle.equipment_tables.specs.Answers.{IsWithin, has_bytes, spelled_body}
 
 abbrev by_tests : Bool → Bool → Bool → Item → Answer
 by_tests past fault bytes item =
@@ -75,18 +74,8 @@ spelled_within max_body item = go (is_past max_body item) (is_some (encode_fault
     go false false false past = tt
     go false false true past = grind (arith, nat_tests, past)
 
-pub answered_within : (max_body : ℕ) (reply : Reply) → IsWithin max_body (answer_by max_body reply)
-answered_within max_body (Body item) = spelled_within max_body item
-answered_within max_body Nothing = tt
-
 pub body_within :
     {E : Type 0} (max_body : ℕ) (item : Item) (r : Result Answer E) → IfOk r (λ a. a ≡ spelled_body max_body item)
     → IfOk r (IsWithin max_body)
 body_within max_body item (Ok a) is = subst (IsWithin max_body) (sym is) (spelled_within max_body item)
 body_within max_body item (Err e) is = tt
-
-pub answer_within :
-    {E : Type 0} (max_body : ℕ) (reply : Reply) (r : Result Answer E) → IfOk r (λ a. a ≡ answer_by max_body reply)
-    → IfOk r (IsWithin max_body)
-answer_within max_body reply (Ok a) is = subst (IsWithin max_body) (sym is) (answered_within max_body reply)
-answer_within max_body reply (Err e) is = tt

@@ -1,4 +1,5 @@
 pub mod Bodies
+pub mod Lines
 mod Notes
 mod Past
 mod RemoteAnswers

@@ -26,6 +26,8 @@ use Rattle.gem_shapes.specs.declared.entries.Definition.{Definition}
 use Rattle.gem_shapes.specs.declared.entries.Linking.{Linking}
 use Rattle.gem_shapes.specs.declared.request.Request.{Request}
 use Rattle.gem_shapes.specs.declared.request.Request.TheVariants as request
+use Rattle.gem_shapes.specs.declared.request.TablesRequest.{TablesRequest}
+use Rattle.gem_shapes.specs.declared.request.TablesRequest.TheVariants as tables_request
 use Rattle.gem_shapes.specs.declared.entries.RuleEntry.{RuleEntry}
 use Rattle.gem_spool.specs.declared.rule.RuleAnswer.{RuleAnswer}
 use Rattle.gem_spool.specs.declared.rule.RuleAnswer.TheVariants.{Rejected, Replaced}
@@ -125,45 +127,45 @@ module _ (vars : VarsAreLookedBackFor) (reports : ReportsGoByWhatStands) (alarms
   rule_same e (Rejected faults) list = refl
 
   request_same :
-      (e : Entries) (r : Request) → tables_by plan (request_counts plan r e) ≡ tables_after r (tables_by plan e)
-  request_same e (request.SetConstants list) = constants_same e (eac_of (vars_by plan e) list) list
-  request_same e (request.Define dataid list) =
+      (e : Entries) (r : TablesRequest) → tables_by plan (request_counts plan r e) ≡ tables_after r (tables_by plan e)
+  request_same e (tables_request.SetConstants list) = constants_same e (eac_of (vars_by plan e) list) list
+  request_same e (tables_request.Define dataid list) =
       definitions_same e (drack_of (value_in (vars_by plan e)) e.reports list) list
       ∙ ap (λ (a : Drack). definitions_by a list (tables_by plan e))
       (reports.drack (value_in (vars_by plan e)) plan.events e.reports list)
-  request_same e (request.Link dataid list) =
+  request_same e (tables_request.Link dataid list) =
       linkings_same e (lrack_of plan.events e.reports list) list
       ∙ ap (λ (a : Lrack). linkings_by a list (tables_by plan e)) (reports.lrack plan.events e.reports list)
-  request_same e (request.EnableEvents on ceids) =
+  request_same e (tables_request.EnableEvents on ceids) =
       events_same e (erack_of plan.events ceids) on ceids
       ∙ ap (λ (a : Erack). events_by a on ceids (tables_by plan e)) (reports.erack plan.events e.reports ceids)
-  request_same e (request.EnableAlarms on alid) =
+  request_same e (tables_request.EnableAlarms on alid) =
       alarms_same e (ackc5_of (alarms_at plan.alarms e.alarms) alid) alid on
-  request_same e (request.ReplaceRule list) = rule_same e (answer_of list) list
-  request_same e request.AreYouThere = refl
-  request_same e (request.StatusValues ids) = refl
-  request_same e (request.StatusNames ids) = refl
-  request_same e request.Establish = refl
-  request_same e request.GoOffline = refl
-  request_same e request.GoOnline = refl
-  request_same e (request.ConstantValues ids) = refl
-  request_same e (request.ConstantNames ids) = refl
-  request_same e (request.Announce dataid len) = refl
-  request_same e (request.Command name params) = refl
-  request_same e (request.Alarms ids) = refl
-  request_same e request.EnabledAlarms = refl
-  request_same e (request.EventReport ceid) = refl
-  request_same e (request.Report rptid) = refl
-  request_same e request.TransmitSpool = refl
-  request_same e request.PurgeSpool = refl
-  request_same e (request.Display tid text) = refl
-  request_same e (request.DisplayLines tid texts) = refl
+  request_same e (tables_request.ReplaceRule list) = rule_same e (answer_of list) list
+  request_same e tables_request.AreYouThere = refl
+  request_same e (tables_request.StatusValues ids) = refl
+  request_same e (tables_request.StatusNames ids) = refl
+  request_same e (tables_request.ConstantValues ids) = refl
+  request_same e (tables_request.ConstantNames ids) = refl
+  request_same e (tables_request.Announce dataid len) = refl
+  request_same e (tables_request.Command name params) = refl
+  request_same e (tables_request.Alarms ids) = refl
+  request_same e tables_request.EnabledAlarms = refl
+  request_same e (tables_request.EventReport ceid) = refl
+  request_same e (tables_request.Report rptid) = refl
+  request_same e (tables_request.Display tid text) = refl
+  request_same e (tables_request.DisplayLines tid texts) = refl
 
   asked_same :
       (e : Entries) (r : Option Request)
       → tables_by plan (asked_counts plan r e) ≡ asked_after r (tables_by plan e)
   asked_same e None = refl
-  asked_same e (Some r) = request_same e r
+  asked_same e (Some (request.OfTables r)) = request_same e r
+  asked_same e (Some request.Establish) = refl
+  asked_same e (Some request.GoOffline) = refl
+  asked_same e (Some request.GoOnline) = refl
+  asked_same e (Some request.TransmitSpool) = refl
+  asked_same e (Some request.PurgeSpool) = refl
 
   pub entry_same :
       (past : List Past) (entry : Past) → tables_at plan (entry ∷ past) ≡ after_past entry (tables_at plan past)

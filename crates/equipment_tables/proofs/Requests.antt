@@ -17,11 +17,13 @@ use Rattle.gem_shapes.specs.declared.primary.Primary.{Primary}
 use Rattle.gem_shapes.specs.declared.primary.Primary.TheVariants as primary
 use Rattle.gem_shapes.specs.declared.request.Request.{Request}
 use Rattle.gem_shapes.specs.declared.request.Request.TheVariants as request
+use Rattle.gem_shapes.specs.declared.request.TablesRequest.{TablesRequest}
+use Rattle.gem_shapes.specs.declared.request.TablesRequest.TheVariants as tables_request
 use Rattle.gem_shapes.specs.Elements.{both, code, each, flag, identifier, identifier_or_all, identifiers, is_empty_list, setting, small_number, text, two}
 use Rattle.gem_shapes.specs.Primaries.{primary_with}
 use Rattle.gem_shapes.specs.Requests.{Asks, AsksFor, FitsShape, IsFound, IsNothing, Shape, definition, enables, linking, parameters, rule_entry, shape_of, spool_request}
 use Rattle.gem_shapes.specs.Requests.Shape.{Anything, Nothing, OneItem}
-use Rattle.equipment_tables.specs.Requests.{IsAsked, asked_by, is_nothing, item_in, request_of, whole_item}
+use Rattle.equipment_tables.specs.Requests.{IsAsked, IsAskedOfTables, asked_by, is_nothing, item_in, request_of, whole_item}
 
 -- ---- the one item of a body
 
@@ -151,10 +153,10 @@ found_is stream function body None bytes is = go (request_of stream function bod
 -- ---- what is known of a request
 
 made :
-    {T : Type 0} (make : T → Request) → ((t : T) → IsAsked (make t)) → (o : Option T) (r : Request)
-    → option_map make o ≡ Some r → IsAsked r
+    {T : Type 0} (make : T → TablesRequest) → ((t : T) → IsAskedOfTables (make t)) → (o : Option T) (r : Request)
+    → option_map (λ t. request.OfTables (make t)) o ≡ Some r → IsAsked r
 made make each None r is = absurd (cc)
-made make each (Some t) r is = let same : make t ≡ r = cc in subst IsAsked same (each t)
+made make each (Some t) r is = let same : request.OfTables (make t) ≡ r = cc in subst IsAsked same (each t)
 
 spooled : (o : Option ℕ) (r : Request) → option_and_then spool_request o ≡ Some r → IsAsked r
 spooled None r is = absurd (cc)
@@ -166,24 +168,24 @@ spooled (Some n) r is = go (n == 0) (n == 1) is
     go false true here = let same : request.PurgeSpool ≡ r = cc in subst IsAsked same tt
     go false false here = absurd (cc)
 
+abbrev command_of : List ℕ × Item → Request
+command_of x = request.OfTables (tables_request.Command x.0 x.1)
+
 commanded :
     (are : ParametersAreRead) (i : Item) (r : Request)
-    → option_map (λ (x : List ℕ × Item). request.Command x.0 x.1) (both text parameters i) ≡ Some r → IsAsked r
+    → option_map command_of (both text parameters i) ≡ Some r → IsAsked r
 commanded are i r is = go (two i) is
   where
-    make : List ℕ × Item → Request
-    make x = request.Command x.0 x.1
-
     of_two : (n : Option (List ℕ)) (p : Item) (o : Option Item) → parameters p ≡ o
-        → option_map (λ (x : List ℕ × Item). request.Command x.0 x.1) (option_zip n o) ≡ Some r → IsAsked r
+        → option_map command_of (option_zip n o) ≡ Some r → IsAsked r
     of_two None p o given here = absurd (cc)
     of_two (Some name) p None given here = absurd (cc)
     of_two (Some name) p (Some params) given here =
-        let same : request.Command name params ≡ r = cc in
+        let same : request.OfTables (tables_request.Command name params) ≡ r = cc in
         subst IsAsked same (are.listed p params given)
 
     go : (o : Option (Item × Item))
-        → option_map (λ (x : List ℕ × Item). request.Command x.0 x.1)
+        → option_map command_of
         (option_and_then (λ items. option_zip (text items.0) (parameters items.1)) o) ≡ Some r
         → IsAsked r
     go None here = absurd (cc)
@@ -191,35 +193,36 @@ commanded are i r is = go (two i) is
 
 asked_for : (are : ParametersAreRead) (p : Primary) (body : List ℕ) (r : Request) → AsksFor (Some p) body r → IsAsked r
 asked_for are primary.S1F1 body r fits = subst IsAsked (sym fits.1) tt
-asked_for are primary.S1F3 body r fits = made request.StatusValues (λ t. tt) (each identifier fits.0) r fits.2
-asked_for are primary.S1F11 body r fits = made request.StatusNames (λ t. tt) (each identifier fits.0) r fits.2
+asked_for are primary.S1F3 body r fits = made tables_request.StatusValues (λ t. tt) (each identifier fits.0) r fits.2
+asked_for are primary.S1F11 body r fits = made tables_request.StatusNames (λ t. tt) (each identifier fits.0) r fits.2
 asked_for are primary.S1F13 body r fits = subst IsAsked (sym fits) tt
 asked_for are primary.S1F15 body r fits = subst IsAsked (sym fits.1) tt
 asked_for are primary.S1F17 body r fits = subst IsAsked (sym fits.1) tt
-asked_for are primary.S2F13 body r fits = made request.ConstantValues (λ t. tt) (each identifier fits.0) r fits.2
+asked_for are primary.S2F13 body r fits = made tables_request.ConstantValues (λ t. tt) (each identifier fits.0) r fits.2
 asked_for are primary.S2F15 body r fits =
-    made request.SetConstants (λ t. tt) (each (both identifier setting) fits.0) r fits.2
-asked_for are primary.S2F29 body r fits = made request.ConstantNames (λ t. tt) (each identifier fits.0) r fits.2
+    made tables_request.SetConstants (λ t. tt) (each (both identifier setting) fits.0) r fits.2
+asked_for are primary.S2F29 body r fits = made tables_request.ConstantNames (λ t. tt) (each identifier fits.0) r fits.2
 asked_for are primary.S2F33 body r fits =
-    made (λ x. request.Define x.0 x.1) (λ t. tt) (both identifier (each definition) fits.0) r fits.2
+    made (λ x. tables_request.Define x.0 x.1) (λ t. tt) (both identifier (each definition) fits.0) r fits.2
 asked_for are primary.S2F35 body r fits =
-    made (λ x. request.Link x.0 x.1) (λ t. tt) (both identifier (each linking) fits.0) r fits.2
+    made (λ x. tables_request.Link x.0 x.1) (λ t. tt) (both identifier (each linking) fits.0) r fits.2
 asked_for are primary.S2F37 body r fits =
-    made (λ x. request.EnableEvents x.0 x.1) (λ t. tt) (both flag (each identifier) fits.0) r fits.2
+    made (λ x. tables_request.EnableEvents x.0 x.1) (λ t. tt) (both flag (each identifier) fits.0) r fits.2
 asked_for are primary.S2F39 body r fits =
-    made (λ x. request.Announce x.0 x.1) (λ t. tt) (both identifier identifier fits.0) r fits.2
+    made (λ x. tables_request.Announce x.0 x.1) (λ t. tt) (both identifier identifier fits.0) r fits.2
 asked_for are primary.S2F41 body r fits = commanded are fits.0 r fits.2
-asked_for are primary.S2F43 body r fits = made request.ReplaceRule (λ t. tt) (each rule_entry fits.0) r fits.2
+asked_for are primary.S2F43 body r fits = made tables_request.ReplaceRule (λ t. tt) (each rule_entry fits.0) r fits.2
 asked_for are primary.S5F3 body r fits =
-    made (λ x. request.EnableAlarms (enables x.0) x.1) (λ t. tt) (both code identifier_or_all fits.0) r fits.2
-asked_for are primary.S5F5 body r fits = made request.Alarms (λ t. tt) (identifiers fits.0) r fits.2
+    made (λ x. tables_request.EnableAlarms (enables x.0) x.1) (λ t. tt) (both code identifier_or_all fits.0) r fits.2
+asked_for are primary.S5F5 body r fits = made tables_request.Alarms (λ t. tt) (identifiers fits.0) r fits.2
 asked_for are primary.S5F7 body r fits = subst IsAsked (sym fits.1) tt
-asked_for are primary.S6F15 body r fits = made request.EventReport (λ t. tt) (identifier fits.0) r fits.2
-asked_for are primary.S6F19 body r fits = made request.Report (λ t. tt) (identifier fits.0) r fits.2
+asked_for are primary.S6F15 body r fits = made tables_request.EventReport (λ t. tt) (identifier fits.0) r fits.2
+asked_for are primary.S6F19 body r fits = made tables_request.Report (λ t. tt) (identifier fits.0) r fits.2
 asked_for are primary.S6F23 body r fits = spooled (small_number fits.0) r fits.2
-asked_for are primary.S10F3 body r fits = made (λ x. request.Display x.0 x.1) (λ t. tt) (both code text fits.0) r fits.2
+asked_for are primary.S10F3 body r fits =
+    made (λ x. tables_request.Display x.0 x.1) (λ t. tt) (both code text fits.0) r fits.2
 asked_for are primary.S10F5 body r fits =
-    made (λ x. request.DisplayLines x.0 x.1) (λ t. tt) (both code (each text) fits.0) r fits.2
+    made (λ x. tables_request.DisplayLines x.0 x.1) (λ t. tt) (both code (each text) fits.0) r fits.2
 
 -- what was found is a request of some message
 found_asked :

@@ -22,8 +22,8 @@ use Rattle.gem_reports.specs.declared.answers.Lrack.{Lrack}
 use Rattle.gem_reports.specs.declared.answers.Lrack.TheVariants as lrack
 use Rattle.gem_reports.specs.Reporting.{drack_in, erack_in, event_body_in, lrack_in, report_body_in}
 use Rattle.gem_shapes.specs.Answers.{code_item, identity_item, pair_item}
-use Rattle.gem_shapes.specs.declared.request.Request.{Request}
-use Rattle.gem_shapes.specs.declared.request.Request.TheVariants as request
+use Rattle.gem_shapes.specs.declared.request.TablesRequest.{TablesRequest}
+use Rattle.gem_shapes.specs.declared.request.TablesRequest.TheVariants as tables_request
 use Rattle.gem_spool.specs.Reply.{reply_item}
 use Rattle.gem_spool.specs.Rule.{answer_of as rule_answer}
 use Rattle.gem_vars.specs.declared.settings.Eac.{Eac}
@@ -95,41 +95,27 @@ remoted_of_item t is_local name params = remoted_by t.remote is_local name (para
 
 -- ---- rows
 
--- what is replied: a body; or function 0 alone
-pub data Reply : Type 0 where
-  Body : (item : Item) → Reply
-  Nothing : Reply
-
-abbrev pub code_reply : ℕ → Reply
-code_reply code = Body (code_item code)
-
--- The reply to each request, by the tables before it. S1F13, S1F15 and S1F17 are answered by the states, and S6F23 by
--- the spool; the tables have nothing to reply to them (SEMI E5; SEMI E30).
-abbrev pub reply_to : TablesState → Bool → Request → Reply
-reply_to t is_local request.AreYouThere = Body (identity_of t)
-reply_to t is_local (request.StatusValues ids) = Body (status_values_of t.vars ids)
-reply_to t is_local (request.StatusNames ids) = Body (status_names_of t.vars ids)
-reply_to t is_local request.Establish = Nothing
-reply_to t is_local request.GoOffline = Nothing
-reply_to t is_local request.GoOnline = Nothing
-reply_to t is_local (request.ConstantValues ids) = Body (constant_values_of t.vars ids)
-reply_to t is_local (request.SetConstants list) = code_reply (eac_code (eac_of t.vars list))
-reply_to t is_local (request.ConstantNames ids) = Body (constant_names_of t.vars ids)
-reply_to t is_local (request.Define dataid list) = code_reply (drack_code (drack_in (value_of t) t.reports list))
-reply_to t is_local (request.Link dataid list) = code_reply (lrack_code (lrack_in t.reports list))
-reply_to t is_local (request.EnableEvents on ceids) = code_reply (erack_code (erack_in t.reports ceids))
-reply_to t is_local (request.Announce dataid length) = code_reply 0
-reply_to t is_local (request.Command name params) = Body (remoted_of_item t is_local name params).reply
-reply_to t is_local (request.ReplaceRule list) = Body (reply_item (rule_answer list))
-reply_to t is_local (request.EnableAlarms on alid) = code_reply (ackc5_code (ackc5_of t.alarms alid))
-reply_to t is_local (request.Alarms ids) = Body (list_of t.alarms ids)
-reply_to t is_local request.EnabledAlarms = Body (enabled_list_of t.alarms)
-reply_to t is_local (request.EventReport ceid) = Body (event_item t ceid 0)
-reply_to t is_local (request.Report rptid) = Body (report_item_of t rptid)
-reply_to t is_local request.TransmitSpool = Nothing
-reply_to t is_local request.PurgeSpool = Nothing
-reply_to t is_local (request.Display tid text) = code_reply (ackc10_code (ackc10_of t.remote tid))
-reply_to t is_local (request.DisplayLines tid texts) = code_reply (ackc10_code (ackc10_of t.remote tid))
+-- the body of the reply to each request, by the tables before it (SEMI E5; SEMI E30)
+abbrev pub reply_to : TablesState → Bool → TablesRequest → Item
+reply_to t is_local tables_request.AreYouThere = identity_of t
+reply_to t is_local (tables_request.StatusValues ids) = status_values_of t.vars ids
+reply_to t is_local (tables_request.StatusNames ids) = status_names_of t.vars ids
+reply_to t is_local (tables_request.ConstantValues ids) = constant_values_of t.vars ids
+reply_to t is_local (tables_request.SetConstants list) = code_item (eac_code (eac_of t.vars list))
+reply_to t is_local (tables_request.ConstantNames ids) = constant_names_of t.vars ids
+reply_to t is_local (tables_request.Define dataid list) = code_item (drack_code (drack_in (value_of t) t.reports list))
+reply_to t is_local (tables_request.Link dataid list) = code_item (lrack_code (lrack_in t.reports list))
+reply_to t is_local (tables_request.EnableEvents on ceids) = code_item (erack_code (erack_in t.reports ceids))
+reply_to t is_local (tables_request.Announce dataid length) = code_item 0
+reply_to t is_local (tables_request.Command name params) = (remoted_of_item t is_local name params).reply
+reply_to t is_local (tables_request.ReplaceRule list) = reply_item (rule_answer list)
+reply_to t is_local (tables_request.EnableAlarms on alid) = code_item (ackc5_code (ackc5_of t.alarms alid))
+reply_to t is_local (tables_request.Alarms ids) = list_of t.alarms ids
+reply_to t is_local tables_request.EnabledAlarms = enabled_list_of t.alarms
+reply_to t is_local (tables_request.EventReport ceid) = event_item t ceid 0
+reply_to t is_local (tables_request.Report rptid) = report_item_of t rptid
+reply_to t is_local (tables_request.Display tid text) = code_item (ackc10_code (ackc10_of t.remote tid))
+reply_to t is_local (tables_request.DisplayLines tid texts) = code_item (ackc10_code (ackc10_of t.remote tid))
 
 -- ---- what is sent
 
@@ -147,15 +133,10 @@ abbrev pub spelled_body : ℕ → Item → Answer
 spelled_body max_body item =
     if is_too_long max_body item then answer.TooLong else answer.Body (shortest_spelling item)
 
-abbrev pub answer_by : ℕ → Reply → Answer
-answer_by max_body (Body item) = spelled_body max_body item
-answer_by max_body Nothing = answer.Abort
-
 -- a body that is sent has no more bytes than may be sent
 abbrev pub IsWithin : ℕ → Answer → Type 0
 IsWithin max_body (answer.Body bytes) = length bytes ≤ max_body
 IsWithin max_body answer.TooLong = Unit {0}
-IsWithin max_body answer.Abort = Unit {0}
 
 -- ---- what is noted on the way
 
@@ -171,13 +152,13 @@ shown_lines ackc10.Accepted tid texts = map (Displayed tid) texts
 shown_lines ackc10.NoTerminal tid texts = []
 
 -- the remote command that is accepted, or each text that a terminal displays (this profile)
-abbrev pub lines_of : TablesState → Bool → Request → List Happening
-lines_of t is_local (request.Command name params) =
+abbrev pub lines_of : TablesState → Bool → TablesRequest → List Happening
+lines_of t is_local (tables_request.Command name params) =
     carried_lines (remoted_of_item t is_local name params).hcack name
-lines_of t is_local (request.Display tid text) = shown_lines (ackc10_of t.remote tid) tid (text ∷ [])
-lines_of t is_local (request.DisplayLines tid texts) = shown_lines (ackc10_of t.remote tid) tid texts
+lines_of t is_local (tables_request.Display tid text) = shown_lines (ackc10_of t.remote tid) tid (text ∷ [])
+lines_of t is_local (tables_request.DisplayLines tid texts) = shown_lines (ackc10_of t.remote tid) tid texts
 lines_of t is_local _ = []
 
 -- a request's answer, what is noted before it, and what becomes of the tables
-abbrev pub answer_of : TablesState → Bool → ℕ → Request → Answer
-answer_of t is_local max_body request = answer_by max_body (reply_to t is_local request)
+abbrev pub answer_of : TablesState → Bool → ℕ → TablesRequest → Answer
+answer_of t is_local max_body request = spelled_body max_body (reply_to t is_local request)

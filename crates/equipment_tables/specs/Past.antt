@@ -25,6 +25,8 @@ use Rattle.gem_shapes.specs.declared.entries.Linking.{Linking}
 use Rattle.gem_shapes.specs.declared.entries.RuleEntry.{RuleEntry}
 use Rattle.gem_shapes.specs.declared.request.Request.{Request}
 use Rattle.gem_shapes.specs.declared.request.Request.TheVariants as request
+use Rattle.gem_shapes.specs.declared.request.TablesRequest.{TablesRequest}
+use Rattle.gem_shapes.specs.declared.request.TablesRequest.TheVariants as tables_request
 use Rattle.gem_spool.specs.declared.rule.RuleAnswer.{RuleAnswer}
 use Rattle.gem_spool.specs.declared.rule.RuleAnswer.TheVariants.{Rejected, Replaced}
 use Rattle.gem_spool.specs.Rule.{answer_of, rule_of}
@@ -101,21 +103,21 @@ abbrev pub rule_counts : RuleAnswer → List RuleEntry → Entries → Entries
 rule_counts Replaced list e = record e { rules = list ∷ e.rules }
 rule_counts (Rejected faults) list e = e
 
--- so does a request; none but these does
-abbrev pub request_counts : EquipmentPlan → Request → Entries → Entries
-request_counts plan (request.SetConstants list) e = constants_count (eac_of (vars_by plan e) list) list e
-request_counts plan (request.Define dataid list) e =
+-- so does a request of the tables; none but these does
+abbrev pub request_counts : EquipmentPlan → TablesRequest → Entries → Entries
+request_counts plan (tables_request.SetConstants list) e = constants_count (eac_of (vars_by plan e) list) list e
+request_counts plan (tables_request.Define dataid list) e =
     definitions_count (drack_of (value_in (vars_by plan e)) e.reports list) list e
-request_counts plan (request.Link dataid list) e = linkings_count (lrack_of plan.events e.reports list) list e
-request_counts plan (request.EnableEvents on ceids) e = events_count (erack_of plan.events ceids) on ceids e
-request_counts plan (request.ReplaceRule list) e = rule_counts (answer_of list) list e
-request_counts plan (request.EnableAlarms on alid) e =
+request_counts plan (tables_request.Link dataid list) e = linkings_count (lrack_of plan.events e.reports list) list e
+request_counts plan (tables_request.EnableEvents on ceids) e = events_count (erack_of plan.events ceids) on ceids e
+request_counts plan (tables_request.ReplaceRule list) e = rule_counts (answer_of list) list e
+request_counts plan (tables_request.EnableAlarms on alid) e =
     alarms_count (ackc5_of (alarms_at plan.alarms e.alarms) alid) alid on e
 request_counts plan _ e = e
 
 abbrev pub asked_counts : EquipmentPlan → Option Request → Entries → Entries
-asked_counts plan (Some request) e = request_counts plan request e
-asked_counts plan None e = e
+asked_counts plan (Some (request.OfTables asked)) e = request_counts plan asked e
+asked_counts plan _ e = e
 
 abbrev pub entry_counts : EquipmentPlan → Past → Entries → Entries
 entry_counts plan (Commanded command) e = command_counts plan command e

@@ -8,6 +8,8 @@ use Rattle.secs_items.specs.Reading.{item_at}
 use Rattle.gem_remote.specs.Commands.{Param, params_item}
 use Rattle.gem_shapes.specs.declared.request.Request.{Request}
 use Rattle.gem_shapes.specs.declared.request.Request.TheVariants as request
+use Rattle.gem_shapes.specs.declared.request.TablesRequest.{TablesRequest}
+use Rattle.gem_shapes.specs.declared.request.TablesRequest.TheVariants as tables_request
 use Rattle.gem_shapes.specs.Elements.{is_empty_list}
 use Rattle.gem_shapes.specs.Primaries.{primary_with}
 use Rattle.gem_shapes.specs.Requests.{Shape, shape_of}
@@ -37,7 +39,12 @@ abbrev pub request_of : ℕ → ℕ → List ℕ → Option Request
 request_of stream function body =
     option_and_then (λ primary. asked_by (shape_of primary) body) (primary_with stream function)
 
--- A request of some message: the second part of S2F41 lists parameters.
+-- A request that some message asks of the tables: the second part of S2F41 lists parameters.
+abbrev pub IsAskedOfTables : TablesRequest → Type 0
+IsAskedOfTables (tables_request.Command name params) = (all : List Param) × (params ≡ params_item all)
+IsAskedOfTables _ = Unit {0}
+
+-- a request of some message
 abbrev pub IsAsked : Request → Type 0
-IsAsked (request.Command name params) = (all : List Param) × (params ≡ params_item all)
+IsAsked (request.OfTables asked) = IsAskedOfTables asked
 IsAsked _ = Unit {0}

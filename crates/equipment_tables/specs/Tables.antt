@@ -24,6 +24,8 @@ use Rattle.gem_shapes.specs.declared.entries.Definition.{Definition}
 use Rattle.gem_shapes.specs.declared.entries.Linking.{Linking}
 use Rattle.gem_shapes.specs.declared.request.Request.{Request}
 use Rattle.gem_shapes.specs.declared.request.Request.TheVariants as request
+use Rattle.gem_shapes.specs.declared.request.TablesRequest.{TablesRequest}
+use Rattle.gem_shapes.specs.declared.request.TablesRequest.TheVariants as tables_request
 use Rattle.gem_spool.specs.declared.rule.SpoolRule.{SpoolRule}
 use Rattle.gem_spool.specs.Rule.{rule_after, rule_of}
 use Rattle.gem_tables.specs.Rows.{with_row}
@@ -166,21 +168,22 @@ abbrev pub alarms_by : Ackc5 → Option ℕ → Bool → TablesState → TablesS
 alarms_by ackc5.Done alid on t = with_alarms (enabled_by alid on t.alarms) t
 alarms_by _ alid on t = t
 
--- no other request changes a table
-abbrev pub tables_after : Request → TablesState → TablesState
-tables_after (request.SetConstants list) t = constants_by (eac_of t.vars list) list t
-tables_after (request.Define dataid list) t = definitions_by (drack_in (value_of t) t.reports list) list t
-tables_after (request.Link dataid list) t = linkings_by (lrack_in t.reports list) list t
-tables_after (request.EnableEvents on ceids) t = events_by (erack_in t.reports ceids) on ceids t
-tables_after (request.ReplaceRule list) t = with_rule (rule_after list t.rule) t
-tables_after (request.EnableAlarms on alid) t = alarms_by (ackc5_of t.alarms alid) alid on t
+-- no other one changes a table
+abbrev pub tables_after : TablesRequest → TablesState → TablesState
+tables_after (tables_request.SetConstants list) t = constants_by (eac_of t.vars list) list t
+tables_after (tables_request.Define dataid list) t = definitions_by (drack_in (value_of t) t.reports list) list t
+tables_after (tables_request.Link dataid list) t = linkings_by (lrack_in t.reports list) list t
+tables_after (tables_request.EnableEvents on ceids) t = events_by (erack_in t.reports ceids) on ceids t
+tables_after (tables_request.ReplaceRule list) t = with_rule (rule_after list t.rule) t
+tables_after (tables_request.EnableAlarms on alid) t = alarms_by (ackc5_of t.alarms alid) alid on t
 tables_after _ t = t
 
 -- ---- after a history
 
+-- no request but those of the tables changes one
 abbrev pub asked_after : Option Request → TablesState → TablesState
-asked_after (Some request) t = tables_after request t
-asked_after None t = t
+asked_after (Some (request.OfTables asked)) t = tables_after asked t
+asked_after _ t = t
 
 abbrev pub after_past : Past → TablesState → TablesState
 after_past (Commanded command) t = after_command command t

@@ -8,19 +8,20 @@ ghost use Rattle.secs_items.specs.Spelling.{shortest_spelling};
 ghost use Rattle.trace_log.specs.Text.{printed_note};
 ghost use Rattle.gem_alarms.specs.Alarms.{enabled_list_of, list_of};
 ghost use Rattle.gem_remote.specs.Commands.{Param, ackc10_of, params_item};
+ghost use Rattle.gem_shapes.specs.Answers.{code_item};
 ghost use Rattle.gem_spool.specs.Reply.{reply_item};
 ghost use Rattle.gem_spool.specs.Rule.{answer_of as rule_answer, rule_after};
 ghost use Rattle.gem_vars.specs.Listing.{constant_names_of, constant_values_of, status_names_of, status_values_of};
 ghost use Rattle.gem_remote.specs.declared.remote.Ackc10.TheVariants as ackc10;
-ghost use Rattle.equipment_tables.specs.Answers.{IsWithin, ackc10_code, ackc5_code, alarm_item_of, answer_by, answer_of, carried_lines, code_reply, drack_code, eac_code, erack_code, established_of, event_item, identity_of, lines_of, lrack_code, remoted_of_item, report_item_of, shown_lines, spelled_body};
-ghost use Rattle.equipment_tables.specs.Requests.{IsAsked, request_of};
+ghost use Rattle.equipment_tables.specs.Answers.{IsWithin, ackc10_code, ackc5_code, alarm_item_of, answer_of, carried_lines, drack_code, eac_code, erack_code, established_of, event_item, identity_of, lines_of, lrack_code, remoted_of_item, report_item_of, shown_lines, spelled_body};
+ghost use Rattle.equipment_tables.specs.Requests.{IsAsked, IsAskedOfTables, request_of};
 ghost use Rattle.equipment_tables.specs.Tables.{state_of, tables_after, with_rule};
 
 use crate::tables::Tables;
 use gem_alarms::Ackc5;
 use gem_remote::{Ackc10, Remoted, parameters_are_read};
 use gem_reports::{Drack, Erack, Lrack, reports_go_by_what_stands};
-use gem_shapes::{Request, Text, code_item, identity_item, pair_item, read_request};
+use gem_shapes::{Request, TablesRequest, Text, code_item, identity_item, pair_item, read_request};
 use gem_spool::RuleEntry;
 use gem_vars::Eac;
 use gl_base::{NoMemory, Row};
@@ -36,8 +37,6 @@ pub enum Answer {
     Body(Row<u8>),
     /// It would have more bytes than may be sent, or none spell it.
     TooLong,
-    /// There is none: the request is answered with function 0.
-    Abort,
 }
 
 /// What a message asks the equipment for; `None` exactly where the equipment takes no such primary, or where the body
@@ -99,7 +98,7 @@ pub fn bounded(alloc: Global, item: &Item, max_body: u32) -> Result<Answer, NoMe
 }
 
 fn code_answer(alloc: Global, code: u8, max_body: u32) -> Result<Answer, NoMemory>
-    ensures { IfOk result (λ answer. answer ≡ answer_by max_body (code_reply code)) }
+    ensures { IfOk result (λ answer. answer ≡ spelled_body max_body (code_item code)) }
 {
     bounded(alloc, &code_item(alloc, code)?, max_body)
 }
@@ -165,21 +164,20 @@ fn ackc10_code(ackc10: Ackc10) -> u8
 }
 
 impl Tables {
-    /// Answers a request of the host, which a message asked for, and does what it asks for. What the states and the
-    /// spool answer is `Abort` here: S1F13, S1F15, S1F17 and S6F23.
+    /// Answers a request of the host that a message asked of the tables, and does what it asks for.
     ///
     /// Of S2F41 it notes the command where HCACK is 0 or 4, and of S10F3 and S10F5 each text that a terminal displays.
     /// A request that is refused changes nothing.
-    #[tactic(auto, using(crate::proofs::Bodies::answer_within))]
+    #[tactic(auto, using(crate::proofs::Bodies::body_within))]
     pub fn answer(
         &mut self,
         alloc: Global,
-        request: &Request<'_>,
+        request: &TablesRequest<'_>,
         is_local: bool,
         max_body: u32,
         notes: &mut Row<Note>,
     ) -> Result<Answer, NoMemory>
-        requires asked { IsAsked request.now }
+        requires asked { IsAskedOfTables request.now }
         requires limit { 244 ≤ max_body }
         ensures answer { IfOk result (λ answer. answer ≡
             answer_of (state_of self.old) is_local max_body request.now) }
@@ -195,12 +193,12 @@ impl Tables {
     fn replied(
         &mut self,
         alloc: Global,
-        request: &Request<'_>,
+        request: &TablesRequest<'_>,
         is_local: bool,
         max_body: u32,
         notes: &mut Row<Note>,
     ) -> Result<Answer, NoMemory>
-        requires asked { IsAsked request.now }
+        requires asked { IsAskedOfTables request.now }
         requires limit { 244 ≤ max_body }
         ensures answer { IfOk result (λ answer. answer ≡
             answer_of (state_of self.old) is_local max_body request.now) }
@@ -209,44 +207,49 @@ impl Tables {
             notes.old ++ filter_map printed_note (lines_of (state_of self.old) is_local request.now)) }
     {
         match request {
-            Request::AreYouThere => self.identity(alloc, max_body),
-            Request::StatusValues(ids) => self.status_values(alloc, ids.as_slice(), max_body),
-            Request::StatusNames(ids) => self.status_names(alloc, ids.as_slice(), max_body),
-            Request::Establish => Ok(Answer::Abort),
-            Request::GoOffline => Ok(Answer::Abort),
-            Request::GoOnline => Ok(Answer::Abort),
-            Request::ConstantValues(ids) => self.constant_values(alloc, ids.as_slice(), max_body),
-            Request::SetConstants(list) => {
+            TablesRequest::AreYouThere => self.identity(alloc, max_body),
+            TablesRequest::StatusValues(ids) => self.status_values(alloc, ids.as_slice(), max_body),
+            TablesRequest::StatusNames(ids) => self.status_names(alloc, ids.as_slice(), max_body),
+            TablesRequest::ConstantValues(ids) => self.constant_values(
+                alloc,
+                ids.as_slice(),
+                max_body,
+            ),
+            TablesRequest::SetConstants(list) => {
                 code_answer(
                     alloc,
                     eac_code(self.set_constants(list.as_slice())),
                     max_body,
                 )
             }
-            Request::ConstantNames(ids) => self.constant_names(alloc, ids.as_slice(), max_body),
-            Request::Define { list, .. } => {
+            TablesRequest::ConstantNames(ids) => self.constant_names(
+                alloc,
+                ids.as_slice(),
+                max_body,
+            ),
+            TablesRequest::Define { list, .. } => {
                 code_answer(
                     alloc,
                     drack_code(self.define(alloc, list.as_slice())?),
                     max_body,
                 )
             }
-            Request::Link { list, .. } => {
+            TablesRequest::Link { list, .. } => {
                 code_answer(
                     alloc,
                     lrack_code(self.link(alloc, list.as_slice())?),
                     max_body,
                 )
             }
-            Request::EnableEvents { on, ceids } => {
+            TablesRequest::EnableEvents { on, ceids } => {
                 code_answer(
                     alloc,
                     erack_code(self.enable_events(*on, ceids.as_slice())),
                     max_body,
                 )
             }
-            Request::Announce { .. } => code_answer(alloc, 0, max_body),
-            Request::Command { name, params } => {
+            TablesRequest::Announce { .. } => code_answer(alloc, 0, max_body),
+            TablesRequest::Command { name, params } => {
                 self.command(
                     alloc,
                     is_local,
@@ -256,20 +259,18 @@ impl Tables {
                     notes,
                 )
             }
-            Request::ReplaceRule(list) => self.rule_reply(alloc, list.as_slice(), max_body),
-            Request::EnableAlarms { on, alid } => {
+            TablesRequest::ReplaceRule(list) => self.rule_reply(alloc, list.as_slice(), max_body),
+            TablesRequest::EnableAlarms { on, alid } => {
                 code_answer(alloc, ackc5_code(self.enable_alarms(*on, *alid)), max_body)
             }
-            Request::Alarms(ids) => self.alarms(alloc, ids.as_slice(), max_body),
-            Request::EnabledAlarms => self.enabled_alarms(alloc, max_body),
-            Request::EventReport(ceid) => self.event_body(alloc, *ceid, 0, max_body),
-            Request::Report(rptid) => self.report_body(alloc, *rptid, max_body),
-            Request::TransmitSpool => Ok(Answer::Abort),
-            Request::PurgeSpool => Ok(Answer::Abort),
-            Request::Display { tid, text } => {
+            TablesRequest::Alarms(ids) => self.alarms(alloc, ids.as_slice(), max_body),
+            TablesRequest::EnabledAlarms => self.enabled_alarms(alloc, max_body),
+            TablesRequest::EventReport(ceid) => self.event_body(alloc, *ceid, 0, max_body),
+            TablesRequest::Report(rptid) => self.report_body(alloc, *rptid, max_body),
+            TablesRequest::Display { tid, text } => {
                 self.display(alloc, *tid, text.bytes(), max_body, notes)
             }
-            Request::DisplayLines { tid, texts } => {
+            TablesRequest::DisplayLines { tid, texts } => {
                 self.display_lines(alloc, *tid, texts.as_slice(), max_body, notes)
             }
         }
@@ -492,7 +493,7 @@ impl Tables {
         notes: &mut Row<Note>,
     ) -> Result<Answer, NoMemory>
         ensures answer { IfOk result (λ answer. answer ≡
-            answer_by max_body (code_reply (ackc10_code (ackc10_of self.now.remote tid)))) }
+            spelled_body max_body (code_item (ackc10_code (ackc10_of self.now.remote tid)))) }
         ensures notes { OnOk result (notes.new ≡ notes.old
             ++ filter_map printed_note (shown_lines (ackc10_of self.now.remote tid) tid (text.now ∷ []))) }
     {
@@ -513,7 +514,7 @@ impl Tables {
         notes: &mut Row<Note>,
     ) -> Result<Answer, NoMemory>
         ensures answer { IfOk result (λ answer. answer ≡
-            answer_by max_body (code_reply (ackc10_code (ackc10_of self.now.remote tid)))) }
+            spelled_body max_body (code_item (ackc10_code (ackc10_of self.now.remote tid)))) }
         ensures notes { OnOk result (notes.new ≡ notes.old
             ++ filter_map printed_note (shown_lines (ackc10_of self.now.remote tid) tid texts.now)) }
     {

@@ -3,7 +3,7 @@
 use equipment_tables::{Answer, EquipmentPlan, Tables, request_of};
 use gem_alarms::AlarmPlan;
 use gem_remote::{CommandPlan, ParamPlan, RemotePlan};
-use gem_shapes::RuleEntry;
+use gem_shapes::{Request, RuleEntry};
 use gem_states::ControlState;
 use gem_vars::{VariablePlan, VarsPlan};
 use gl_base::{NoMemory, Row};
@@ -109,7 +109,7 @@ fn tables_of(alloc: Global) -> Option<Tables> {
 enum Wanted {
     Body(&'static [u8]),
     TooLong,
-    Abort,
+    Elsewhere,
     Broken,
 }
 
@@ -119,7 +119,6 @@ fn is_wanted(answer: &Answer, wanted: &Wanted) -> bool {
     match (answer, wanted) {
         (Answer::Body(body), Wanted::Body(bytes)) => body.as_slice() == *bytes,
         (Answer::TooLong, Wanted::TooLong) => true,
-        (Answer::Abort, Wanted::Abort) => true,
         _ => false,
     }
 }
@@ -128,10 +127,13 @@ fn goes(alloc: Global, tables: &mut Tables, case: &Case) -> bool {
     let (stream, function, body, wanted, lines) = case;
     let mut notes = Row::new(alloc);
     match request_of(alloc, *stream, *function, body) {
-        Ok(Some(request)) => match tables.answer(alloc, &request, false, 244, &mut notes) {
+        Ok(Some(Request::OfTables(request))) => match tables.answer(
+            alloc, &request, false, 244, &mut notes,
+        ) {
             Ok(answer) => is_wanted(&answer, wanted) && notes.len() == *lines,
             Err(NoMemory) => false,
         },
+        Ok(Some(_)) => matches!(wanted, Wanted::Elsewhere),
         Ok(None) => matches!(wanted, Wanted::Broken),
         Err(NoMemory) => false,
     }
@@ -376,7 +378,7 @@ static COMMANDS: [Case; 8] = [
         2,
     ),
     (2, 43, b"\xA5\x01\x05", Wanted::Broken, 0),
-    (6, 23, b"\xA5\x01\x01", Wanted::Abort, 0),
+    (6, 23, b"\xA5\x01\x01", Wanted::Elsewhere, 0),
 ];
 
 #[test]
