@@ -56,7 +56,6 @@ leave-rests : (text : Answer) (own : OwnView) (e : EndView Kind)
     → HasRested own.ledger (leave_turn text own e).own.ledger
 leave-rests (answer.Body text) own e = crowded-rests (is_crowded_out true e) own
 leave-rests answer.TooLong own e = unload-rests None own.ledger
-leave-rests answer.Abort own e = unload-rests None own.ledger
 
 sent-rests : (message : Spooled) (own : OwnView) (e : EndView Kind)
     → HasRested own.ledger (sent_turn message own e).own.ledger

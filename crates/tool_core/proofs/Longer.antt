@@ -125,7 +125,6 @@ told_still function header own step =
     go true true (answer.Body body) =
         ends (Primary (error_report function body) ∷ []) (sent_still function body step)
     go true true answer.TooLong = refl
-    go true true answer.Abort = refl
 
 core_next :
     (own : OwnView) (went : Went (EndView Kind) Line) → (next_of (went_with own went)).core ≡ next_of went

@@ -63,7 +63,6 @@ error_goes A function header own old new out out_new left =
     go true true (answer.Body body) is =
         sent body (is_crowded_out false old.core) (next_number old.core.numbers) (number_left old.core.numbers left) is
     go true true answer.TooLong is = absurd (cc)
-    go true true answer.Abort is = absurd (cc)
 
 -- where a number is left the host is told, and what is given up is given up
 pub long_goes :

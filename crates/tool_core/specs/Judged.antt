@@ -18,7 +18,6 @@ use Rattle.tool_step.specs.Spooling.{is_spooled}
 abbrev pub IsShort : Answer → Type 0
 IsShort (answer.Body body) = length body ≤ longest_text
 IsShort answer.TooLong = Unit {0}
-IsShort answer.Abort = Unit {0}
 
 -- a report of this name
 abbrev pub report_named : Name → List ℕ → Spooled

@@ -10,13 +10,13 @@ ghost use Rattle.tool_step.specs.Own.{turn_of};
 ghost use Rattle.tool_core.specs.Judged.{IsShort};
 ghost use Rattle.tool_step.specs.Sent.{answer_duties};
 ghost use Rattle.tool_step.specs.Messages.{answer_turn, control_request_turn, dropped_turn, established_duties, established_turn, is_establish_request, is_online_request, known_turn, message_turn, offline_turn, own_request_commands, own_request_duty, primary_turn, request_turn, stray_turn};
-ghost use Rattle.equipment_tables.specs.Requests.{IsAsked};
+ghost use Rattle.equipment_tables.specs.Requests.{IsAsked, IsAskedOfTables};
 
 use crate::own::Tool;
 use crate::sending::note_dropped;
 use block_codec::Header;
 use equipment_tables::{Answer, bounded, request_of};
-use gem_shapes::{Request, code_item, is_known, is_known_stream};
+use gem_shapes::{Request, TablesRequest, code_item, is_known, is_known_stream};
 use gem_states::{CommsIn, ControlIn, ControlOut};
 use gl_base::NoMemory;
 use message_end::Stop;
@@ -246,7 +246,7 @@ impl Tool {
         }
     }
 
-    // Carries a request out, and answers it.
+    // Carries a request out, and answers it. S1F13 doesn't come here.
     fn fulfil(
         &mut self,
         alloc: Global,
@@ -265,11 +265,12 @@ impl Tool {
         ensures line { out.new.line ≡ out.old.line }
     {
         match request {
+            Request::OfTables(asked) => self.answer(alloc, asked, message, out),
+            Request::Establish => self.abort(alloc, message, out),
             Request::GoOffline => self.ask_control(alloc, ControlIn::RequestOffline, message, out),
             Request::GoOnline => self.ask_control(alloc, ControlIn::RequestOnline, message, out),
             Request::TransmitSpool => self.transmit(alloc, message, out),
             Request::PurgeSpool => self.purge(alloc, message, out),
-            _ => self.answer(alloc, request, message, out),
         }
     }
 
@@ -305,11 +306,11 @@ impl Tool {
     fn answer(
         &mut self,
         alloc: Global,
-        request: &Request<'_>,
+        request: &TablesRequest<'_>,
         message: &Message,
         out: &mut StepOut,
     ) -> Result<(), Stop>
-        requires { IsAsked request.now }
+        requires { IsAskedOfTables request.now }
         ensures does { Takes
             (answer_turn request.now message.now (own_of self.old.own))
             (node_of self.old)
@@ -350,7 +351,6 @@ impl Tool {
         match answer {
             Answer::Body(body) => self.reply(alloc, message, body, out),
             Answer::TooLong => self.abort_long(alloc, message, out),
-            Answer::Abort => self.abort(alloc, message, out),
         }
     }
 }

@@ -76,7 +76,6 @@ impl Tool {
                 out.notes.push(too_long_note(alloc, name)?)?;
                 Ok(None)
             }
-            Answer::Abort => Ok(None),
         }
     }
 
@@ -182,7 +181,7 @@ impl Tool {
         let item = grant_item(alloc, dataid, body.len() as u32)?;
         match bounded(alloc, &item, self.own.max_body())? {
             Answer::Body(text) => self.ask_by(alloc, text, body, out),
-            Answer::TooLong | Answer::Abort => Ok(()),
+            Answer::TooLong => Ok(()),
         }
     }
 

@@ -139,7 +139,7 @@ impl Tool {
     {
         match text {
             Answer::Body(body) => self.send(alloc, error_report(function, body), out),
-            Answer::TooLong | Answer::Abort => Ok(()),
+            Answer::TooLong => Ok(()),
         }
     }
 

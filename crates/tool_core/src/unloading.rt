@@ -158,7 +158,7 @@ impl Tool {
                 }
                 Ok(())
             }
-            Answer::TooLong | Answer::Abort => {
+            Answer::TooLong => {
                 self.own.ledger.end_unload();
                 Ok(())
             }

@@ -11,6 +11,7 @@ use Rattle.gem_shapes.specs.Answers.{code_item}
 use Rattle.gem_shapes.specs.Primaries.{is_known, is_known_stream}
 use Rattle.gem_shapes.specs.declared.request.Request.{Request}
 use Rattle.gem_shapes.specs.declared.request.Request.TheVariants as request
+use Rattle.gem_shapes.specs.declared.request.TablesRequest.{TablesRequest}
 use Rattle.gem_states.specs.Comms.{CommsView, comms_row}
 use Rattle.gem_states.specs.Control.{control_next, control_step}
 use Rattle.gem_states.specs.declared.comms.CommsIn.TheVariants as comms_in
@@ -247,7 +248,8 @@ purge-need message own = go (rsda_of own.ledger == 0)
         (booked-free (all_out own.ledger) own) (rsda-free message own))
     go false = free-one (rsda_duties message own) (rsda-free message own)
 
-answer-need : (asks : Request) (message : Message) (own : OwnView) → Needs 1 false (answer_turn asks message own).duties
+answer-need : (asks : TablesRequest) (message : Message) (own : OwnView)
+    → Needs 1 false (answer_turn asks message own).duties
 answer-need asks message own =
     free-one (answer_turn asks message own).duties (
       (λ e. noted-free (lines_of own.tables (is_local own) asks)),
@@ -256,30 +258,12 @@ answer-need asks message own =
 
 request-need : (asks : Request) (message : Message) (own : OwnView)
     → Needs 1 false (request_turn asks message own).duties
+request-need (request.OfTables asked) message own = answer-need asked message own
 request-need request.GoOffline message own = control-request-need control_in.RequestOffline message own
 request-need request.GoOnline message own = control-request-need control_in.RequestOnline message own
 request-need request.TransmitSpool message own = transmit-need message own
 request-need request.PurgeSpool message own = purge-need message own
-request-need request.AreYouThere message own = answer-need request.AreYouThere message own
-request-need (request.StatusValues ids) message own = answer-need (request.StatusValues ids) message own
-request-need (request.StatusNames ids) message own = answer-need (request.StatusNames ids) message own
-request-need request.Establish message own = answer-need request.Establish message own
-request-need (request.ConstantValues ids) message own = answer-need (request.ConstantValues ids) message own
-request-need (request.SetConstants list) message own = answer-need (request.SetConstants list) message own
-request-need (request.ConstantNames ids) message own = answer-need (request.ConstantNames ids) message own
-request-need (request.Define dataid list) message own = answer-need (request.Define dataid list) message own
-request-need (request.Link dataid list) message own = answer-need (request.Link dataid list) message own
-request-need (request.EnableEvents on ceids) message own = answer-need (request.EnableEvents on ceids) message own
-request-need (request.Announce dataid length) message own = answer-need (request.Announce dataid length) message own
-request-need (request.Command name params) message own = answer-need (request.Command name params) message own
-request-need (request.ReplaceRule list) message own = answer-need (request.ReplaceRule list) message own
-request-need (request.EnableAlarms on alid) message own = answer-need (request.EnableAlarms on alid) message own
-request-need (request.Alarms ids) message own = answer-need (request.Alarms ids) message own
-request-need request.EnabledAlarms message own = answer-need request.EnabledAlarms message own
-request-need (request.EventReport ceid) message own = answer-need (request.EventReport ceid) message own
-request-need (request.Report rptid) message own = answer-need (request.Report rptid) message own
-request-need (request.Display tid text) message own = answer-need (request.Display tid text) message own
-request-need (request.DisplayLines tid texts) message own = answer-need (request.DisplayLines tid texts) message own
+request-need request.Establish message own = free-one (sent.abort_duty message ∷ []) (abort-free message)
 
 read-need : (asks : Option Request) (header : Header) (message : Message) (own : OwnView)
     → Needs 1 false (read_turn asks header message own).duties
@@ -509,7 +493,6 @@ sent-need message own e = go (needs_leave message)
     leave (answer.Body text) =
         needs-one 1 false (λ f. Primary (unload_request text) ∷ []) (λ f. primary-spend (unload_request text) [] tt)
     leave answer.TooLong = needs-none 1
-    leave answer.Abort = needs-none 1
 
     go : (needs : Bool)
         → Needs 1 false

@@ -83,7 +83,6 @@ control-free input own = ((λ e. control-lines-free own.control.state (control_n
 sent-spend : (unsent : List ℕ → Unsent Kind) (text : Text) → Spends 1 false (sent.primary_commands unsent text)
 sent-spend unsent (answer.Body body) = primary-spend (unsent body) [] tt
 sent-spend unsent answer.TooLong = spends-one false [] (free-spend [] tt)
-sent-spend unsent answer.Abort = spends-one false [] (free-spend [] tt)
 
 free-spends : (commands : ToolCommands) → AreFree commands → Spends 1 false commands
 free-spends commands free = spends-one false commands (free-spend commands free)
@@ -130,7 +129,6 @@ asking-need : (asked : Text) (body : List ℕ) (own : OwnView) (e : EndView Kind
     → Needs 1 false (sent.asking_turn asked body own e).duties
 asking-need (answer.Body text) body own e = primary-need (sent.granted_own body own e) (sent.grant_request text)
 asking-need answer.TooLong body own e = needs-none 1
-asking-need answer.Abort body own e = needs-none 1
 
 pub going-need : (message : Spooled) (own : OwnView) (e : EndView Kind)
     → Needs 1 false (sent.going_turn message own e).duties
@@ -169,7 +167,6 @@ answers-free answer.TooLong message = ((λ e. go message.wait), abort-free messa
     go : (wait : Bool) → AreFree (if wait then Note (Happening.TooLong (sent.reply_name message)) ∷ [] else [])
     go true = (tt, tt)
     go false = tt
-answers-free answer.Abort message = abort-free message
 
 -- ---- messages that are put
 
@@ -254,7 +251,6 @@ judged-need report going text own goes = online (is_online own)
     by_text : (text : Text) → NeedsFor 1 (text_puts report text own) (text_turn report going text own)
     by_text (answer.Body body) = made body (is_spooled (report body) own) (is_communicating own)
     by_text answer.TooLong = note-need own (Happening.TooLong (spooled_name (report [])))
-    by_text answer.Abort = needs-none 1
 
     online : (is : Bool)
         → NeedsFor 1 (if is then text_puts report text own else puts_none own)

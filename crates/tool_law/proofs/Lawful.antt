@@ -17,7 +17,7 @@ use Rattle.transact.specs.Numbers.{IsNumbers, NumbersView, next_number, numbers_
 use Rattle.message_end.specs.Calls.{dropped_now, failed_at, took_at}
 use Rattle.message_end.specs.Core.{EndView, IsText, Step, Went, and_then, at_first, carried, draws, noted, sends, step_in}
 use Rattle.message_end.specs.Core.Went.{Goes, Spent}
-use Rattle.message_end.specs.Core.Command.{Abort, DropDue, Note, Take, Tick}
+use Rattle.message_end.specs.Core.Command.{DropDue, Note, Take, Tick}
 use Rattle.message_end.specs.Doings.{Doing, own_of}
 use Rattle.message_end.specs.Duties.{all_done}
 use Rattle.message_end.specs.Ends.{HasRestarted, HasStarted, Input, IsFront, KeepsLaw, Loss, LosesAt, MayTake, OnStart}
@@ -469,7 +469,6 @@ module _ (plan : EquipmentPlan) (slots : ℕ) (list : List Kept) (mark : ℕ) wh
   unfolding late_parts first-act first-turn first-view first-own asking-own rest-parts asking-went
   goes-by true body step same = absurd (cc)
   goes-by false text.TooLong step same = absurd (cc)
-  goes-by false text.Abort step same = absurd (cc)
   goes-by false (text.Body body) step same =
       subst
       (λ (went : Went (Node OwnView Kind) Happening). first-act went ≢ Spent step)

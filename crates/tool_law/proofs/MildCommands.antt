@@ -6,8 +6,7 @@ use Rattle.std.proofs.lemmas.Bool.Decides.{nat_tests}
 use Rattle.std.proofs.lemmas.List.Elements.{All-nil, All-cons}
 use Rattle.block_codec.specs.Protocol.{longest_text}
 use Rattle.block_codec.specs.declared.header.Header.{Header}
-use Rattle.gem_shapes.specs.declared.request.Request.{Request}
-use Rattle.gem_shapes.specs.declared.request.Request.TheVariants as request
+use Rattle.gem_shapes.specs.declared.request.TablesRequest.{TablesRequest}
 use Rattle.gem_states.specs.Control.{ControlView, control_next}
 use Rattle.gem_states.specs.declared.comms.CommsState.{CommsState}
 use Rattle.gem_states.specs.declared.control.ControlIn.TheVariants as control_in
@@ -22,7 +21,7 @@ use Rattle.trace_log.specs.Names.{Spooled, header_title}
 use Rattle.trace_log.specs.declared.names.Name.{Name}
 use Rattle.transact.specs.declared.begun.Begun.{Begun}
 use Rattle.message_end.specs.declared.unsent.Unsent.{Unsent}
-use Rattle.message_end.specs.Core.{Command, EndView, IsText, IsUnsent}
+use Rattle.message_end.specs.Core.{EndView, IsText, IsUnsent}
 use Rattle.message_end.specs.Core.Command.{Abort, Note, Reply}
 use Rattle.message_end.specs.Endings.{ends_failed, ends_front, ends_one, notes_failed}
 use Rattle.equipment_tables.specs.declared.answers.Answer.{Answer as Text}
@@ -30,10 +29,7 @@ use Rattle.equipment_tables.specs.declared.answers.Answer.TheVariants as text
 use Rattle.tool_step.specs.declared.kind.Kind.{Kind}
 use Rattle.tool_step.specs.declared.kind.Kind.TheVariants as kind
 use Rattle.equipment_tables.specs.declared.plan.EquipmentPlan.{EquipmentPlan}
-use Rattle.equipment_tables.specs.Answers.{carried_lines, has_bytes, is_accepted, lines_of, remoted_of_item, shown_lines, spelled_body}
-use Rattle.gem_remote.specs.Commands.{ackc10_of}
-use Rattle.gem_remote.specs.declared.remote.Ackc10.{Ackc10}
-use Rattle.gem_remote.specs.declared.remote.Ackc10.TheVariants as ackc10
+use Rattle.equipment_tables.specs.Answers.{has_bytes, lines_of, spelled_body}
 use Rattle.tool_step.specs.Own.{OwnView, ToolCommands, event_report, is_local}
 use Rattle.tool_step.specs.Sent as sent
 use Rattle.tool_law.specs.Sound.{CanBeSent, IsSound}
@@ -43,6 +39,7 @@ use Rattle.tool_step.specs.States as states
 use Rattle.tool_step.specs.Equipment.{is_marked_out}
 use Rattle.tool_step.specs.Step.{begun}
 use Rattle.equipment_tables.specs.Tables.{TablesState}
+use Rattle.equipment_tables.proofs.Lines.{lines_hold}
 use Rattle.spool_ledger.specs.declared.ledger.Stand.{Stand}
 use Rattle.spool_ledger.specs.Storing.{stored}
 use Rattle.tool_law.proofs.TriedDoings.{IsFine, fine-both}
@@ -54,7 +51,6 @@ use Rattle.tool_law.proofs.TriedSteps.{IsMild}
 abbrev pub IsSpelled : Text → Type 0
 IsSpelled (text.Body body) = IsText body
 IsSpelled text.TooLong = Unit {0}
-IsSpelled text.Abort = Unit {0}
 
 are-bytes : (bytes : List ℕ) → list_all (λ byte. nat_lt byte 256) bytes ≡ true → All (λ byte. byte < 256) bytes
 are-bytes [] all = All-nil (λ (byte : ℕ). byte < 256)
@@ -99,7 +95,6 @@ pub sent-quiet :
     → IsSpelled body → IsMild (sent.primary_commands unsent body)
 sent-quiet unsent may (text.Body body) is = record { calls = (tt, tt); may = (may body is, tt) }
 sent-quiet unsent may text.TooLong is = none-quiet
-sent-quiet unsent may text.Abort is = none-quiet
 
 pub may-establish : (body : List ℕ) → IsText body → IsUnsent (sent.establish_request body)
 may-establish body is = record { stream = omega arith; function = omega arith; odd = refl; body = is }
@@ -239,43 +234,11 @@ long-quiet message = go message.wait
     go false = none-quiet
 
 -- what was accepted, and texts that a terminal displays
-carried-plain : (hcack : ℕ) (name : List ℕ) → AllPlain (carried_lines hcack name)
-carried-plain hcack name = go (is_accepted hcack)
-  where
-    go : (accepted : Bool) → AllPlain (if accepted then Happening.Carried name ∷ [] else [])
-    go true = (tt, tt)
-    go false = tt
-
-shown-plain : (ackc10 : Ackc10) (tid : ℕ) (texts : List (List ℕ)) → AllPlain (shown_lines ackc10 tid texts)
-shown-plain ackc10.Accepted tid [] = tt
-shown-plain ackc10.Accepted tid (one ∷ texts) = (tt, shown-plain ackc10.Accepted tid texts)
-shown-plain ackc10.NoTerminal tid texts = tt
-
-pub lines-plain : (t : TablesState) (is_local : Bool) (request : Request) → AllPlain (lines_of t is_local request)
-lines-plain t is_local (request.Command name params) = carried-plain (remoted_of_item t is_local name params).hcack name
-lines-plain t is_local (request.Display tid one) = shown-plain (ackc10_of t.remote tid) tid (one ∷ [])
-lines-plain t is_local (request.DisplayLines tid texts) = shown-plain (ackc10_of t.remote tid) tid texts
-lines-plain t is_local request.GoOffline = tt
-lines-plain t is_local request.GoOnline = tt
-lines-plain t is_local request.AreYouThere = tt
-lines-plain t is_local (request.StatusValues ids) = tt
-lines-plain t is_local (request.StatusNames ids) = tt
-lines-plain t is_local request.Establish = tt
-lines-plain t is_local (request.ConstantValues ids) = tt
-lines-plain t is_local (request.SetConstants list) = tt
-lines-plain t is_local (request.ConstantNames ids) = tt
-lines-plain t is_local (request.Define dataid list) = tt
-lines-plain t is_local (request.Link dataid list) = tt
-lines-plain t is_local (request.EnableEvents on ceids) = tt
-lines-plain t is_local (request.Announce dataid length) = tt
-lines-plain t is_local (request.ReplaceRule list) = tt
-lines-plain t is_local (request.EnableAlarms on alid) = tt
-lines-plain t is_local (request.Alarms ids) = tt
-lines-plain t is_local request.EnabledAlarms = tt
-lines-plain t is_local (request.EventReport ceid) = tt
-lines-plain t is_local (request.Report rptid) = tt
-lines-plain t is_local request.TransmitSpool = tt
-lines-plain t is_local request.PurgeSpool = tt
+pub lines-plain : (t : TablesState) (is_local : Bool) (request : TablesRequest)
+    → AllPlain (lines_of t is_local request)
+lines-plain =
+    lines_hold AllPlain tt (λ name. (tt, tt))
+    (λ tid text lines rest. (tt, rest))
 
 pub lines-quiet : (lines : List Happening) → AllPlain lines → IsMild (map Note lines)
 lines-quiet [] plain = none-quiet

@@ -128,7 +128,6 @@ module _ (plan : EquipmentPlan) (TriedIs : Option ℕ → Type 0) (fits : Equipm
         made-quiet going (report body) (can body is) own sound (goes body is)
     text-quiet report going can goes text.TooLong is own sound =
         (note-quiet plan TriedIs fits slots stood) own (Happening.TooLong (spooled_name (report []))) sound tt
-    text-quiet report going can goes text.Abort is own sound = (nothing-quiet plan TriedIs fits slots stood) own sound
 
     judged-quiet :
         (report : List ℕ → Spooled) (going : Spooled → ToolTurn)
@@ -179,7 +178,6 @@ module _ (plan : EquipmentPlan) (TriedIs : Option ℕ → Type 0) (fits : Equipm
         (asked-sound body is own e sound)
         (record { calls = (tt, tt); may = (may-ask asked may, tt) })
     asking-quiet text.TooLong may body is own e sound = (nothing-quiet plan TriedIs fits slots stood) own sound
-    asking-quiet text.Abort may body is own e sound = (nothing-quiet plan TriedIs fits slots stood) own sound
 
     event-quiet :
         (dataid : ℕ) (own : OwnView) (e : EndView Kind) → (Sound plan TriedIs fits slots stood) own → (body : List ℕ) → IsText body

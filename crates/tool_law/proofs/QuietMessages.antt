@@ -7,6 +7,7 @@ use Rattle.gem_shapes.specs.Answers.{code_item}
 use Rattle.gem_shapes.specs.Primaries.{is_known, is_known_stream}
 use Rattle.gem_shapes.specs.declared.request.Request.{Request}
 use Rattle.gem_shapes.specs.declared.request.Request.TheVariants as request
+use Rattle.gem_shapes.specs.declared.request.TablesRequest.{TablesRequest}
 use Rattle.gem_states.specs.Control.{control_step}
 use Rattle.gem_states.specs.declared.comms.CommsIn.TheVariants as comms_in
 use Rattle.gem_states.specs.declared.control.ControlIn.{ControlIn}
@@ -22,7 +23,7 @@ use Rattle.transact.specs.declared.transactions.Match.TheVariants as match
 use Rattle.transact.specs.Numbers.{next_number}
 use Rattle.transact.specs.Transactions.{match_of, primary_of as primary_with_kind}
 use Rattle.message_end.specs.Calls.{answered_by}
-use Rattle.message_end.specs.Core.{Command, EndView, IsText, is_crowded_out}
+use Rattle.message_end.specs.Core.{EndView, IsText, is_crowded_out}
 use Rattle.message_end.specs.Core.Command.{Abort, Answer, Draw, DrawnPrimary, GiveUp, Note, Primary, Remove, Reply}
 use Rattle.message_end.specs.Parts.{core_after, leads}
 use Rattle.equipment_tables.specs.declared.answers.Answer.{Answer as Text}
@@ -30,7 +31,7 @@ use Rattle.equipment_tables.specs.declared.answers.Answer.TheVariants as text
 use Rattle.tool_step.specs.declared.kind.Kind.{Kind}
 use Rattle.tool_step.specs.declared.kind.Kind.TheVariants as kind
 use Rattle.equipment_tables.specs.declared.plan.EquipmentPlan.{EquipmentPlan}
-use Rattle.equipment_tables.specs.Answers.{Reply as AnswerReply, answer_by, answer_of, established_of, lines_of, reply_to}
+use Rattle.equipment_tables.specs.Answers.{answer_of, established_of, lines_of, reply_to}
 use Rattle.tool_step.specs.Codes.{is_accepted_in, is_granted_in}
 use Rattle.tool_step.specs.Own.{OwnView, event_report, is_communicating, is_enabled_in as is_comms_enabled, is_local, is_online, turn_before, turn_of, waiting_report, with_control, with_ledger, with_tables, with_tried, without_grant, without_report}
 use Rattle.tool_step.specs.Messages.{answer_turn, control_answer_duties, control_request_turn, dropped_turn, error_turn, established_duties, established_turn, is_establish_request, first_request_commands, is_online_request, known_turn, message_turn, offline_turn, own_request_commands, primary_turn, read_turn, request_turn, stray_turn}
@@ -50,8 +51,8 @@ use Rattle.spool_ledger.specs.Storing.{all_out}
 use Rattle.spool_ledger.specs.Unloading.{after_next, confirmed, fresh, let_go, next_number as next_unloaded, taken_up, waiting_in, with_each, with_unload}
 use Rattle.tool_step.specs.Live.{ReportView}
 use Rattle.tool_law.proofs.TriedSteps.{IsMild}
-use Rattle.tool_law.proofs.MildCommands.{IsSpelled, spelled, none-quiet, one-note, sent-quiet, may-report, may-unload, may-ask-unload, can-event, IsOdd, may-tell, control-lines, abort-quiet, body-quiet, long-quiet, lines-plain, lines-quiet}
-use Rattle.tool_law.proofs.QuietTurns.{Sound, Quiet, AreQuiet, most, text-is, kept, ungranted, unreported, booked-sound, unloaded-sound, waiting-can, kept-or-ended, fixed-quiet, nothing-quiet, note-quiet, led-quiet, both-quiet, before-quiet, booked-quiet, comms-quiet, control-quiet, leaving-quiet}
+use Rattle.tool_law.proofs.MildCommands.{IsSpelled, none-quiet, one-note, sent-quiet, may-report, may-unload, may-ask-unload, can-event, IsOdd, may-tell, control-lines, abort-quiet, body-quiet, long-quiet, lines-plain, lines-quiet}
+use Rattle.tool_law.proofs.QuietTurns.{Sound, Quiet, AreQuiet, text-is, kept, ungranted, unreported, booked-sound, unloaded-sound, waiting-can, kept-or-ended, fixed-quiet, nothing-quiet, note-quiet, led-quiet, both-quiet, before-quiet, booked-quiet, comms-quiet, control-quiet, leaving-quiet}
 
 module _ (plan : EquipmentPlan) (TriedIs : Option ℕ → Type 0) (fits : EquipmentPlanFits plan) (slots : ℕ)
     (stood : Stand)
@@ -83,7 +84,6 @@ module _ (plan : EquipmentPlan) (TriedIs : Option ℕ → Type 0) (fits : Equipm
         → (AreQuiet plan TriedIs fits slots stood) (sent.answer_duties answer message)
     answers-quiet (text.Body body) is message = ((λ e. body-quiet body message e is), tt)
     answers-quiet text.TooLong is message = ((λ e. long-quiet message), ((λ e. abort-quiet message e), tt))
-    answers-quiet text.Abort is message = ((λ e. abort-quiet message e), tt)
 
     -- ---- what comes of the equipment's own transactions
 
@@ -176,7 +176,6 @@ module _ (plan : EquipmentPlan) (TriedIs : Option ℕ → Type 0) (fits : Equipm
         ((kept-or-ended plan TriedIs fits slots stood) (is_crowded_out true e) own sound)
         (record { calls = (tt, tt); may = (may-ask-unload asked is, tt) })
     leave-quiet text.TooLong is own e sound = (nothing-quiet plan TriedIs fits slots stood) (unloaded_own own) ((unloaded-sound plan TriedIs fits slots stood) own sound)
-    leave-quiet text.Abort is own e sound = (nothing-quiet plan TriedIs fits slots stood) (unloaded_own own) ((unloaded-sound plan TriedIs fits slots stood) own sound)
 
     pub out-quiet :
         (message : Spooled) → CanBeSent message → (own : OwnView) (e : EndView Kind) → (Sound plan TriedIs fits slots stood) own
@@ -374,19 +373,15 @@ module _ (plan : EquipmentPlan) (TriedIs : Option ℕ → Type 0) (fits : Equipm
       sound = (kept plan TriedIs fits slots stood) own (with_control (control_step own.control input).next own) sound refl refl refl refl refl;
     }
 
-    answer-is : (own : OwnView) → (Sound plan TriedIs fits slots stood) own → (reply : AnswerReply)
-        → IsSpelled (answer_by own.plan.line.max_body reply)
-    answer-is own sound (AnswerReply.Body item) = spelled own.plan.line.max_body ((most plan TriedIs fits slots stood) own sound) item
-    answer-is own sound AnswerReply.Nothing = tt
-
-    answer-quiet : (request : Request) (message : Message) (own : OwnView) → (Sound plan TriedIs fits slots stood) own
+    answer-quiet : (request : TablesRequest) (message : Message) (own : OwnView) → (Sound plan TriedIs fits slots stood) own
         → (Quiet plan TriedIs fits slots stood) (answer_turn request message own)
     answer-quiet request message own sound = record {
       quiet = (
         (λ e. lines-quiet (lines_of own.tables (is_local own) request)
             (lines-plain own.tables (is_local own) request)),
         answers-quiet (answer_of own.tables (is_local own) own.plan.line.max_body request)
-            (answer-is own sound (reply_to own.tables (is_local own) request)) message,
+            ((text-is plan TriedIs fits slots stood) own sound (reply_to own.tables (is_local own) request))
+            message,
       );
       sound = (kept plan TriedIs fits slots stood) own (with_tables (tables_after request own.tables) own) sound refl refl refl refl refl;
     }
@@ -426,47 +421,14 @@ module _ (plan : EquipmentPlan) (TriedIs : Option ℕ → Type 0) (fits : Equipm
 
     request-is-quiet : (request : Request) (message : Message) (own : OwnView) → (Sound plan TriedIs fits slots stood) own
         → (Quiet plan TriedIs fits slots stood) (request_turn request message own)
+    request-is-quiet (request.OfTables asked) message own sound = answer-quiet asked message own sound
     request-is-quiet request.GoOffline message own sound =
         control-request-quiet control_in.RequestOffline message own sound
     request-is-quiet request.GoOnline message own sound =
         control-request-quiet control_in.RequestOnline message own sound
-    request-is-quiet request.AreYouThere message own sound = answer-quiet request.AreYouThere message own sound
-    request-is-quiet (request.StatusValues ids) message own sound =
-        answer-quiet (request.StatusValues ids) message own sound
-    request-is-quiet (request.StatusNames ids) message own sound =
-        answer-quiet (request.StatusNames ids) message own sound
-    request-is-quiet request.Establish message own sound = answer-quiet request.Establish message own sound
-    request-is-quiet (request.ConstantValues ids) message own sound =
-        answer-quiet (request.ConstantValues ids) message own sound
-    request-is-quiet (request.SetConstants list) message own sound =
-        answer-quiet (request.SetConstants list) message own sound
-    request-is-quiet (request.ConstantNames ids) message own sound =
-        answer-quiet (request.ConstantNames ids) message own sound
-    request-is-quiet (request.Define dataid list) message own sound =
-        answer-quiet (request.Define dataid list) message own sound
-    request-is-quiet (request.Link dataid list) message own sound =
-        answer-quiet (request.Link dataid list) message own sound
-    request-is-quiet (request.EnableEvents on ceids) message own sound =
-        answer-quiet (request.EnableEvents on ceids) message own sound
-    request-is-quiet (request.Announce dataid length) message own sound =
-        answer-quiet (request.Announce dataid length) message own sound
-    request-is-quiet (request.Command name params) message own sound =
-        answer-quiet (request.Command name params) message own sound
-    request-is-quiet (request.ReplaceRule list) message own sound =
-        answer-quiet (request.ReplaceRule list) message own sound
-    request-is-quiet (request.EnableAlarms on alid) message own sound =
-        answer-quiet (request.EnableAlarms on alid) message own sound
-    request-is-quiet (request.Alarms ids) message own sound = answer-quiet (request.Alarms ids) message own sound
-    request-is-quiet request.EnabledAlarms message own sound = answer-quiet request.EnabledAlarms message own sound
-    request-is-quiet (request.EventReport ceid) message own sound =
-        answer-quiet (request.EventReport ceid) message own sound
-    request-is-quiet (request.Report rptid) message own sound = answer-quiet (request.Report rptid) message own sound
+    request-is-quiet request.Establish message own sound = record { quiet = abort-is-quiet message; sound = sound }
     request-is-quiet request.TransmitSpool message own sound = transmit-quiet message own sound
     request-is-quiet request.PurgeSpool message own sound = purge-quiet message own sound
-    request-is-quiet (request.Display tid text) message own sound =
-        answer-quiet (request.Display tid text) message own sound
-    request-is-quiet (request.DisplayLines tid texts) message own sound =
-        answer-quiet (request.DisplayLines tid texts) message own sound
 
     -- an error of stream 9
     pub error-is-quiet :

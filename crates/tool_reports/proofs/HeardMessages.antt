@@ -8,12 +8,12 @@ use Rattle.gem_shapes.specs.Requests.{shape_of}
 use Rattle.gem_shapes.specs.declared.primary.Primary.{Primary}
 use Rattle.gem_shapes.specs.declared.primary.Primary.TheVariants as primary
 use Rattle.gem_shapes.specs.declared.request.Request.{Request}
-use Rattle.gem_shapes.specs.declared.request.Request.TheVariants as request
 use Rattle.gem_states.specs.declared.comms.CommsIn.TheVariants as comms_in
 use Rattle.gem_states.specs.declared.control.ControlIn.TheVariants as control_in
 use Rattle.message_flow.specs.declared.message.Message.{Message}
 use Rattle.message_flow.specs.Message.{is_primary}
 use Rattle.secs_items.specs.declared.item.Item.{Item}
+use Rattle.gem_shapes.proofs.ReportPrimaries.{asks_for_report, each_primary}
 use Rattle.trace_log.specs.declared.commands.ToolCommand.{ToolCommand}
 use Rattle.trace_log.specs.Log.{Happening, Past}
 use Rattle.transact.specs.declared.transactions.Match.{Match}
@@ -45,7 +45,7 @@ use Rattle.tool_reports.proofs.QuietReports.{Holds}
 use Rattle.tool_reports.proofs.PlainTurns.{booked-plain, comms-plain, confirmed-quiet, control-plain, dropped-plain, error-plain, nothing-plain, offline-plain, stray-plain}
 use Rattle.tool_reports.proofs.QuietNotes.{one-behind}
 use Rattle.tool_law.proofs.CoreSteps.{CoreStep}
-use Rattle.tool_reports.proofs.HostReports.{AsksOf, asks-none, IsNewest, newest-lasts, may-behind, may-establish, is_for_report, named, is-other, requested}
+use Rattle.tool_reports.proofs.HostReports.{AsksOf, asks-none, IsNewest, newest-lasts, may-behind, may-establish, named, is-other, requested, event_asked, report_asked}
 use Rattle.tool_reports.proofs.HeardReports.{asked-noted, established-plain, request-keeps, answered-at, event-answer, report-answer}
 
 module _
@@ -84,7 +84,7 @@ module _
     -- of a primary that no report answers
     others :
         (p : Primary) (header : Header) (read : Option Request)
-        → primary_with message.stream message.function ≡ Some p → is_for_report p ≡ false
+        → primary_with message.stream message.function ≡ Some p → asks_for_report p ≡ false
         → asked_by (shape_of p) message.body ≡ read → KeptBy (read_by read header)
     others p header None with_p not_one is = errs 7 refl header
     others p header (Some asks) with_p not_one is =
@@ -106,23 +106,23 @@ module _
             with_p
 
         by_ceid : (ceid : Option ℕ)
-            → asked_by (shape_of primary.S6F15) message.body ≡ option_map request.EventReport ceid
-            → KeptBy (read_by (option_map request.EventReport ceid) header)
+            → asked_by (shape_of primary.S6F15) message.body ≡ option_map event_asked ceid
+            → KeptBy (read_by (option_map event_asked ceid) header)
         by_ceid None is = errs 7 refl header
         by_ceid (Some ceid) is =
             (answered-at plan fits looked said before) message (spelled_body own.plan.line.max_body (event_item own.tables ceid 0))
-            (requested (request.EventReport ceid) own) next it (next-holds (request.EventReport ceid) (found ∙ is))
+            (requested (event_asked ceid) own) next it (next-holds (event_asked ceid) (found ∙ is))
             (λ body spelled waits.
             (event-answer plan fits looked said before) ceid own.plan.line.max_body message own body (so_far plan said before next)
             (past_in (so_far plan said before step)) (named primary.S6F15 message with_p) is
-            (next-holds (request.EventReport ceid) (found ∙ is)).tables_are next-past waits spelled)
+            (next-holds (event_asked ceid) (found ∙ is)).tables_are next-past waits spelled)
 
         by_item : (o : Option Item) → item_in message.body ≡ o
-            → KeptBy (read_by (option_and_then (λ item. option_map request.EventReport (identifier item)) o) header)
+            → KeptBy (read_by (option_and_then (λ item. option_map event_asked (identifier item)) o) header)
         by_item None is = errs 7 refl header
         by_item (Some item) is =
             by_ceid (identifier item)
-            (ap (λ (o : Option Item). option_and_then (λ item. option_map request.EventReport (identifier item)) o)
+            (ap (λ (o : Option Item). option_and_then (λ item. option_map event_asked (identifier item)) o)
             is)
 
     for-report :
@@ -136,71 +136,33 @@ module _
             with_p
 
         by_rptid : (rptid : Option ℕ)
-            → asked_by (shape_of primary.S6F19) message.body ≡ option_map request.Report rptid
-            → KeptBy (read_by (option_map request.Report rptid) header)
+            → asked_by (shape_of primary.S6F19) message.body ≡ option_map report_asked rptid
+            → KeptBy (read_by (option_map report_asked rptid) header)
         by_rptid None is = errs 7 refl header
         by_rptid (Some rptid) is =
             (answered-at plan fits looked said before) message (spelled_body own.plan.line.max_body (report_item_of own.tables rptid))
-            (requested (request.Report rptid) own) next it (next-holds (request.Report rptid) (found ∙ is))
+            (requested (report_asked rptid) own) next it (next-holds (report_asked rptid) (found ∙ is))
             (λ body spelled waits.
             (report-answer plan fits looked said before) rptid own.plan.line.max_body message own body (so_far plan said before next)
             (past_in (so_far plan said before step)) (named primary.S6F19 message with_p) is
-            (next-holds (request.Report rptid) (found ∙ is)).tables_are next-past waits spelled)
+            (next-holds (report_asked rptid) (found ∙ is)).tables_are next-past waits spelled)
 
         by_item : (o : Option Item) → item_in message.body ≡ o
-            → KeptBy (read_by (option_and_then (λ item. option_map request.Report (identifier item)) o) header)
+            → KeptBy (read_by (option_and_then (λ item. option_map report_asked (identifier item)) o) header)
         by_item None is = errs 7 refl header
         by_item (Some item) is =
             by_rptid (identifier item)
-            (ap (λ (o : Option Item). option_and_then (λ item. option_map request.Report (identifier item)) o) is)
+            (ap (λ (o : Option Item). option_and_then (λ item. option_map report_asked (identifier item)) o) is)
 
-    by-primary :
-        (p : Primary) (header : Header) → primary_with message.stream message.function ≡ Some p
+    abbrev KeepsFor : Header → Primary → Type 0
+    KeepsFor header p =
+        primary_with message.stream message.function ≡ Some p
         → KeptBy (read_by (asked_by (shape_of p) message.body) header)
-    by-primary primary.S6F15 header is = for-event header is
-    by-primary primary.S6F19 header is = for-report header is
-    by-primary primary.S1F1 header is =
-        others primary.S1F1 header (asked_by (shape_of primary.S1F1) message.body) is refl refl
-    by-primary primary.S1F3 header is =
-        others primary.S1F3 header (asked_by (shape_of primary.S1F3) message.body) is refl refl
-    by-primary primary.S1F11 header is =
-        others primary.S1F11 header (asked_by (shape_of primary.S1F11) message.body) is refl refl
-    by-primary primary.S1F13 header is =
-        others primary.S1F13 header (asked_by (shape_of primary.S1F13) message.body) is refl refl
-    by-primary primary.S1F15 header is =
-        others primary.S1F15 header (asked_by (shape_of primary.S1F15) message.body) is refl refl
-    by-primary primary.S1F17 header is =
-        others primary.S1F17 header (asked_by (shape_of primary.S1F17) message.body) is refl refl
-    by-primary primary.S2F13 header is =
-        others primary.S2F13 header (asked_by (shape_of primary.S2F13) message.body) is refl refl
-    by-primary primary.S2F15 header is =
-        others primary.S2F15 header (asked_by (shape_of primary.S2F15) message.body) is refl refl
-    by-primary primary.S2F29 header is =
-        others primary.S2F29 header (asked_by (shape_of primary.S2F29) message.body) is refl refl
-    by-primary primary.S2F33 header is =
-        others primary.S2F33 header (asked_by (shape_of primary.S2F33) message.body) is refl refl
-    by-primary primary.S2F35 header is =
-        others primary.S2F35 header (asked_by (shape_of primary.S2F35) message.body) is refl refl
-    by-primary primary.S2F37 header is =
-        others primary.S2F37 header (asked_by (shape_of primary.S2F37) message.body) is refl refl
-    by-primary primary.S2F39 header is =
-        others primary.S2F39 header (asked_by (shape_of primary.S2F39) message.body) is refl refl
-    by-primary primary.S2F41 header is =
-        others primary.S2F41 header (asked_by (shape_of primary.S2F41) message.body) is refl refl
-    by-primary primary.S2F43 header is =
-        others primary.S2F43 header (asked_by (shape_of primary.S2F43) message.body) is refl refl
-    by-primary primary.S5F3 header is =
-        others primary.S5F3 header (asked_by (shape_of primary.S5F3) message.body) is refl refl
-    by-primary primary.S5F5 header is =
-        others primary.S5F5 header (asked_by (shape_of primary.S5F5) message.body) is refl refl
-    by-primary primary.S5F7 header is =
-        others primary.S5F7 header (asked_by (shape_of primary.S5F7) message.body) is refl refl
-    by-primary primary.S6F23 header is =
-        others primary.S6F23 header (asked_by (shape_of primary.S6F23) message.body) is refl refl
-    by-primary primary.S10F3 header is =
-        others primary.S10F3 header (asked_by (shape_of primary.S10F3) message.body) is refl refl
-    by-primary primary.S10F5 header is =
-        others primary.S10F5 header (asked_by (shape_of primary.S10F5) message.body) is refl refl
+
+    by-primary : (p : Primary) (header : Header) → KeepsFor header p
+    by-primary p header =
+        each_primary (KeepsFor header) (for-event header) (for-report header)
+        (λ q other is. others q header (asked_by (shape_of q) message.body) is other refl) p
 
     read-keeps : (header : Header)
         → KeptBy (read_by (request_of message.stream message.function message.body) header)

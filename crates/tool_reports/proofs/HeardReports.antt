@@ -7,6 +7,7 @@ use Rattle.gem_shapes.specs.Requests.{shape_of}
 use Rattle.gem_shapes.specs.declared.primary.Primary.TheVariants as primary
 use Rattle.gem_shapes.specs.declared.request.Request.{Request}
 use Rattle.gem_shapes.specs.declared.request.Request.TheVariants as request
+use Rattle.gem_shapes.specs.declared.request.TablesRequest.{TablesRequest}
 use Rattle.gem_states.specs.Control.{control_step}
 use Rattle.gem_states.specs.declared.comms.CommsIn.TheVariants as comms_in
 use Rattle.gem_states.specs.declared.control.ControlIn.{ControlIn}
@@ -29,7 +30,7 @@ use Rattle.equipment_tables.specs.Answers.{answer_of, established_of, event_item
 use Rattle.equipment_tables.specs.Laws.{TablesAreLookedBackFor}
 use Rattle.equipment_tables.specs.Plan.{EquipmentPlanFits}
 use Rattle.equipment_tables.specs.Requests.{asked_by, request_of}
-use Rattle.equipment_tables.specs.Tables.{TablesState, asked_after, tables_after}
+use Rattle.equipment_tables.specs.Tables.{TablesState, asked_after}
 use Rattle.tool_step.specs.Messages.{answer_turn, control_answer_duties, control_request_turn, established_duties, established_turn, request_turn}
 use Rattle.tool_step.specs.Own.{OwnView, ToolCommands, ToolDuty, ToolTurn, is_local, turn_before, turn_of, with_ledger, with_tables}
 use Rattle.tool_step.specs.Spooling.{booked_turn, purge_turn, rsda_duties, transmit_turn}
@@ -45,7 +46,7 @@ use Rattle.tool_reports.proofs.PlainTurns.{IsPlain, count_waiting, answers-silen
 use Rattle.tool_reports.proofs.QuietNotes.{AreSettled, IsAsBefore, never-live, quiet-note, settled-more}
 use Rattle.tool_reports.proofs.SilentCommands.{AreSilentDuties, both-duties}
 use Rattle.tool_law.proofs.CoreSteps.{CoreStep, either-then}
-use Rattle.tool_reports.proofs.HostReports.{AsksOf, asks-none, MayReply, other-silent, lines-quiet, noted-silent, IsNamed, requested}
+use Rattle.tool_reports.proofs.HostReports.{AsksOf, asks-none, MayReply, other-silent, lines-quiet, noted-silent, IsNamed, requested, event_asked, report_asked}
 
 module _
     (plan : EquipmentPlan) (fits : EquipmentPlanFits plan) (looked : TablesAreLookedBackFor)
@@ -60,7 +61,7 @@ module _
   asked-noted asks message own notes earlier holds newest is = record {
     plan_is = holds.plan_is;
     tables_are =
-        ap (λ (t : TablesState). tables_after asks t) holds.tables_are
+        ap (λ (t : TablesState). asked_after (Some asks) t) holds.tables_are
         ∙ sym (ap (λ (r : Option Request). asked_after r (tables_in plan notes)) is)
         ∙ sym (looked.next plan (past_in notes) (Past.Asked message) fits);
     events_are = holds.events_are;
@@ -113,7 +114,8 @@ module _
       };
     }
 
-    answer-plain : (asks : Request) (own : OwnView) → Plain (requested asks own) (answer_turn asks message own)
+    answer-plain : (asks : TablesRequest) (own : OwnView)
+        → Plain (requested (request.OfTables asks) own) (answer_turn asks message own)
     answer-plain asks own = record {
       silent = (
         (λ e silent.
@@ -121,7 +123,7 @@ module _
             (lines-quiet own.tables (is_local own) asks)),
         answers-of (answer_of own.tables (is_local own) own.plan.line.max_body asks),
       );
-      less = itself (AsksOf message) (asks-none message) Fact lasts (requested asks own);
+      less = itself (AsksOf message) (asks-none message) Fact lasts (requested (request.OfTables asks) own);
     }
 
     -- S6F23
@@ -158,30 +160,15 @@ module _
         go false = record { silent = rsda-of own; less = itself (AsksOf message) (asks-none message) Fact lasts own }
 
     request-plain : (asks : Request) (own : OwnView) → Plain (requested asks own) (request_turn asks message own)
+    request-plain (request.OfTables asked) own = answer-plain asked own
     request-plain request.GoOffline own = control-request-plain control_in.RequestOffline own
     request-plain request.GoOnline own = control-request-plain control_in.RequestOnline own
-    request-plain request.AreYouThere own = answer-plain request.AreYouThere own
-    request-plain (request.StatusValues ids) own = answer-plain (request.StatusValues ids) own
-    request-plain (request.StatusNames ids) own = answer-plain (request.StatusNames ids) own
-    request-plain request.Establish own = answer-plain request.Establish own
-    request-plain (request.ConstantValues ids) own = answer-plain (request.ConstantValues ids) own
-    request-plain (request.SetConstants list) own = answer-plain (request.SetConstants list) own
-    request-plain (request.ConstantNames ids) own = answer-plain (request.ConstantNames ids) own
-    request-plain (request.Define dataid list) own = answer-plain (request.Define dataid list) own
-    request-plain (request.Link dataid list) own = answer-plain (request.Link dataid list) own
-    request-plain (request.EnableEvents on ceids) own = answer-plain (request.EnableEvents on ceids) own
-    request-plain (request.Announce dataid length) own = answer-plain (request.Announce dataid length) own
-    request-plain (request.Command name params) own = answer-plain (request.Command name params) own
-    request-plain (request.ReplaceRule list) own = answer-plain (request.ReplaceRule list) own
-    request-plain (request.EnableAlarms on alid) own = answer-plain (request.EnableAlarms on alid) own
-    request-plain (request.Alarms ids) own = answer-plain (request.Alarms ids) own
-    request-plain request.EnabledAlarms own = answer-plain request.EnabledAlarms own
-    request-plain (request.EventReport ceid) own = answer-plain (request.EventReport ceid) own
-    request-plain (request.Report rptid) own = answer-plain (request.Report rptid) own
+    request-plain request.Establish own = record {
+      silent = abort-silent (AsksOf message) (asks-none message) Fact lasts message;
+      less = itself (AsksOf message) (asks-none message) Fact lasts own;
+    }
     request-plain request.TransmitSpool own = transmit-plain own
     request-plain request.PurgeSpool own = purge-plain own
-    request-plain (request.Display tid text) own = answer-plain (request.Display tid text) own
-    request-plain (request.DisplayLines tid texts) own = answer-plain (request.DisplayLines tid texts) own
 
     pub established-plain : (now : ℕ) (own : OwnView) → Plain own (established_turn now message own)
     established-plain now own =
@@ -326,16 +313,13 @@ module _
       by_text answer.TooLong is =
           silent (sent.long_duties message)
           (long-silent (AsksOf message) (asks-none message) Any any-lasts message)
-      by_text answer.Abort is =
-          silent (sent.abort_duty message ∷ [])
-          (abort-silent (AsksOf message) (asks-none message) Any any-lasts message)
 
   -- S6F15 and S6F19, noted just now
   pub event-answer :
       (ceid max : ℕ) (message : Message) (own : OwnView) (text : List ℕ) (notes : List Happening) (earlier : List
       Past)
       → IsNamed primary.S6F15 message
-      → asked_by (shape_of primary.S6F15) message.body ≡ Some (request.EventReport ceid)
+      → asked_by (shape_of primary.S6F15) message.body ≡ Some (event_asked ceid)
       → own.tables ≡ tables_in plan notes → past_in notes ≡ Past.Asked message ∷ earlier → message.wait ≡ true
       → spelled_body max (event_item own.tables ceid 0) ≡ answer.Body text → MayAnswer message text notes
   event-answer ceid max message own text notes earlier is asks tables newest waits spelled = record {
@@ -388,7 +372,7 @@ module _
   pub report-answer :
       (rptid max : ℕ) (message : Message) (own : OwnView) (text : List ℕ) (notes : List Happening) (earlier : List
       Past)
-      → IsNamed primary.S6F19 message → asked_by (shape_of primary.S6F19) message.body ≡ Some (request.Report rptid)
+      → IsNamed primary.S6F19 message → asked_by (shape_of primary.S6F19) message.body ≡ Some (report_asked rptid)
       → own.tables ≡ tables_in plan notes → past_in notes ≡ Past.Asked message ∷ earlier → message.wait ≡ true
       → spelled_body max (report_item_of own.tables rptid) ≡ answer.Body text → MayAnswer message text notes
   report-answer rptid max message own text notes earlier is asks tables newest waits spelled = record {

@@ -1,28 +1,28 @@
 -- What a message of the host leaves of what holds.
-use Rattle.std.proofs.Common.{◌≡◌, refl, sym, ap, subst, ◌∙◌, Bool, true, false, not, ℕ, ◌%◌, ◌==◌, ◌&&◌, List, [], ◌∷◌, length, map, Option, Some, None, cond, if◌then◌else◌}
+use Rattle.std.proofs.Common.{◌≡◌, refl, sym, ap, subst, ◌∙◌, Bool, true, false, not, ℕ, ◌%◌, ◌==◌, ◌&&◌, List, [], ◌∷◌, map, Option, Some, None, cond, if◌then◌else◌}
 use Rattle.std.specs.List.{find}
 use Rattle.std.proofs.lemmas.Bool.{eqb-true}
-use Rattle.gem_remote.specs.Commands.{ackc10_of}
-use Rattle.gem_remote.specs.declared.remote.Ackc10.{Ackc10}
-use Rattle.gem_remote.specs.declared.remote.Ackc10.TheVariants as ackc10
 use Rattle.gem_shapes.specs.Primaries.{has_function, primaries, primary_with, stream_and_function}
 use Rattle.gem_shapes.specs.declared.primary.Primary.{Primary}
-use Rattle.gem_shapes.specs.declared.primary.Primary.TheVariants as primary
 use Rattle.gem_shapes.specs.declared.request.Request.{Request}
 use Rattle.gem_shapes.specs.declared.request.Request.TheVariants as request
+use Rattle.gem_shapes.specs.declared.request.TablesRequest.{TablesRequest}
+use Rattle.gem_shapes.specs.declared.request.TablesRequest.TheVariants as tables_request
+use Rattle.gem_shapes.proofs.ReportPrimaries.{asks_for_report, is_report, other_reply}
 use Rattle.message_flow.specs.declared.message.Message.{Message}
 use Rattle.trace_log.specs.declared.names.Title.{Title}
 use Rattle.trace_log.specs.Log.{Happening, Past}
 use Rattle.trace_log.specs.Names.{title_of}
 use Rattle.message_end.specs.Core.{reply_function, reply_of}
 use Rattle.message_end.specs.Core.Command.{Note, Reply}
-use Rattle.equipment_tables.specs.Answers.{carried_lines, is_accepted, lines_of, remoted_of_item, shown_lines}
-use Rattle.equipment_tables.specs.Tables.{TablesState, tables_after}
+use Rattle.equipment_tables.specs.Answers.{lines_of}
+use Rattle.equipment_tables.specs.Tables.{TablesState, asked_after}
+use Rattle.equipment_tables.proofs.Lines.{lines_hold}
 use Rattle.tool_step.specs.Messages.{is_establish_request}
 use Rattle.tool_step.specs.Own.{OwnView, is_local, with_tables}
 use Rattle.tool_reports.specs.Reported.{past_in, reports_in}
-use Rattle.tool_reports.proofs.HeldReports.{Any, plain}
-use Rattle.tool_reports.proofs.QuietNotes.{IsAsBefore, IsNone, never-live, none-of, none-sent, IsQuietNote, is_report, settled-more}
+use Rattle.tool_reports.proofs.HeldReports.{Any}
+use Rattle.tool_reports.proofs.QuietNotes.{IsAsBefore, IsNone, never-live, none-of, none-sent, IsQuietNote, settled-more}
 use Rattle.tool_reports.proofs.SilentCommands.{AreSilent}
 
 -- ---- who asks
@@ -132,44 +132,11 @@ abbrev AreQuietNotes : List Happening → Type 0
 AreQuietNotes [] = Unit {0}
 AreQuietNotes (what ∷ lines) = IsQuietNote what × AreQuietNotes lines
 
-carried-quiet : (hcack : ℕ) (name : List ℕ) → AreQuietNotes (carried_lines hcack name)
-carried-quiet hcack name = go (is_accepted hcack)
-  where
-    go : (accepted : Bool) → AreQuietNotes (if accepted then Happening.Carried name ∷ [] else [])
-    go true = (tt, tt)
-    go false = tt
-
-shown-quiet : (ackc10 : Ackc10) (tid : ℕ) (texts : List (List ℕ)) → AreQuietNotes (shown_lines ackc10 tid texts)
-shown-quiet ackc10.Accepted tid [] = tt
-shown-quiet ackc10.Accepted tid (first ∷ texts) = (tt, shown-quiet ackc10.Accepted tid texts)
-shown-quiet ackc10.NoTerminal tid texts = tt
-
-pub lines-quiet : (t : TablesState) (is_local : Bool) (request : Request) → AreQuietNotes (lines_of t is_local request)
-lines-quiet t is_local request.GoOffline = tt
-lines-quiet t is_local request.GoOnline = tt
-lines-quiet t is_local request.AreYouThere = tt
-lines-quiet t is_local (request.StatusValues ids) = tt
-lines-quiet t is_local (request.StatusNames ids) = tt
-lines-quiet t is_local request.Establish = tt
-lines-quiet t is_local (request.ConstantValues ids) = tt
-lines-quiet t is_local (request.SetConstants list) = tt
-lines-quiet t is_local (request.ConstantNames ids) = tt
-lines-quiet t is_local (request.Define dataid list) = tt
-lines-quiet t is_local (request.Link dataid list) = tt
-lines-quiet t is_local (request.EnableEvents on ceids) = tt
-lines-quiet t is_local (request.Announce dataid length) = tt
-lines-quiet t is_local (request.Command name params) =
-    carried-quiet (remoted_of_item t is_local name params).hcack name
-lines-quiet t is_local (request.ReplaceRule list) = tt
-lines-quiet t is_local (request.EnableAlarms on alid) = tt
-lines-quiet t is_local (request.Alarms ids) = tt
-lines-quiet t is_local request.EnabledAlarms = tt
-lines-quiet t is_local (request.EventReport ceid) = tt
-lines-quiet t is_local (request.Report rptid) = tt
-lines-quiet t is_local request.TransmitSpool = tt
-lines-quiet t is_local request.PurgeSpool = tt
-lines-quiet t is_local (request.Display tid text) = shown-quiet (ackc10_of t.remote tid) tid (text ∷ [])
-lines-quiet t is_local (request.DisplayLines tid texts) = shown-quiet (ackc10_of t.remote tid) tid texts
+pub lines-quiet : (t : TablesState) (is_local : Bool) (request : TablesRequest)
+    → AreQuietNotes (lines_of t is_local request)
+lines-quiet =
+    lines_hold AreQuietNotes tt (λ name. (tt, tt))
+    (λ tid text lines rest. (tt, rest))
 
 pub noted-silent :
     (Asks : Option Title → Type 0) (none : Asks None) (Fact : List Happening → Type 0)
@@ -178,39 +145,6 @@ pub noted-silent :
 noted-silent Asks none Fact lasts [] quiet = tt
 noted-silent Asks none Fact lasts (what ∷ lines) quiet =
     (quiet.0, noted-silent Asks none Fact lasts lines quiet.1)
-
--- ---- which primaries are answered by a report
-
-abbrev pub is_for_report : Primary → Bool
-is_for_report primary.S6F15 = true
-is_for_report primary.S6F19 = true
-is_for_report _ = false
-
-literal : (p : Primary)
-    → is_report (stream_and_function p).0 (reply_function (stream_and_function p).1) ≡ is_for_report p
-literal primary.S1F1 = refl
-literal primary.S1F3 = refl
-literal primary.S1F11 = refl
-literal primary.S1F13 = refl
-literal primary.S1F15 = refl
-literal primary.S1F17 = refl
-literal primary.S2F13 = refl
-literal primary.S2F15 = refl
-literal primary.S2F29 = refl
-literal primary.S2F33 = refl
-literal primary.S2F35 = refl
-literal primary.S2F37 = refl
-literal primary.S2F39 = refl
-literal primary.S2F41 = refl
-literal primary.S2F43 = refl
-literal primary.S5F3 = refl
-literal primary.S5F5 = refl
-literal primary.S5F7 = refl
-literal primary.S6F15 = refl
-literal primary.S6F19 = refl
-literal primary.S6F23 = refl
-literal primary.S10F3 = refl
-literal primary.S10F5 = refl
 
 passes : {X : Type 0} (test : X → Bool) (xs : List X) (x : X) → find test xs ≡ Some x → test x ≡ true
 passes test [] x is = absurd (cc)
@@ -239,14 +173,21 @@ named p message is =
     both true false ea eb all = absurd (cc)
     both false b ea eb all = absurd (cc)
 
-pub is-other : (p : Primary) (message : Message) → IsNamed p message → is_for_report p ≡ false → IsOther message
-is-other p message is plain =
+pub is-other : (p : Primary) (message : Message) → IsNamed p message → asks_for_report p ≡ false → IsOther message
+is-other p message is other =
     ap (λ (s : ℕ). is_report s (reply_function message.function)) is.stream
     ∙ ap (λ (f : ℕ). is_report (stream_and_function p).0 (reply_function f)) is.function
-    ∙ literal p ∙ plain
+    ∙ other_reply p other
 
 -- ---- requests
 
+-- S6F15 and S6F19
+abbrev pub event_asked : ℕ → Request
+event_asked ceid = request.OfTables (tables_request.EventReport ceid)
+
+abbrev pub report_asked : ℕ → Request
+report_asked rptid = request.OfTables (tables_request.Report rptid)
+
 -- with the tables as a request leaves them
 abbrev pub requested : Request → OwnView → OwnView
-requested request own = with_tables (tables_after request own.tables) own
+requested request own = with_tables (asked_after (Some request) own.tables) own

@@ -350,9 +350,6 @@ module _ (plan : EquipmentPlan) (said : List ToolCommand) (before : List Happeni
   leave-keeps answer.TooLong own e = λ step holds.
       holds-less plan said own (unloaded_own own) (so_far plan said before step) holds
       (booked-stays Free tt Any any-lasts own (with_unload None own.ledger))
-  leave-keeps answer.Abort own e = λ step holds.
-      holds-less plan said own (unloaded_own own) (so_far plan said before step) holds
-      (booked-stays Free tt Any any-lasts own (with_unload None own.ledger))
 
   out-keeps :
       (message : Spooled) → (message.function % 2 == 1) ≡ true → (own : OwnView) (e : EndView Kind)

@@ -2,6 +2,7 @@
 use Rattle.std.proofs.Common.{◌≡◌, refl, sym, ap, subst, inl, inr, ◌⊎◌, arith, ◌≤◌, ◌+◌, ◌%◌, ◌==◌, ◌&&◌, not, Bool, true, false, ℕ, List, [], ◌∷◌, ◌++◌, length, Option, Some, None, cond, if◌then◌else◌}
 use Rattle.std.specs.Option.{option_map_or}
 use Rattle.std.specs.Prelude.{IfSome, bytes_eq, filter, flat_map}
+use Rattle.gem_shapes.proofs.ReportPrimaries.{is_report}
 use Rattle.block_codec.specs.declared.header.Header.{Header}
 use Rattle.gem_states.specs.Comms.{CommsOutcome}
 use Rattle.gem_states.specs.Control.{ControlView, control_next}
@@ -52,7 +53,7 @@ use Rattle.spool_ledger.specs.Storing.{all_out, oldest_out, stored, stored_by}
 use Rattle.spool_ledger.specs.Unloading.{confirmed, counted as counted_once, is_oldest_tried, settled, with_each}
 use Rattle.tool_step.specs.Sent as sent
 use Rattle.tool_step.specs.States as states
-use Rattle.tool_reports.proofs.QuietNotes.{IsAsBefore, IsQuietNote, counted, is_report}
+use Rattle.tool_reports.proofs.QuietNotes.{IsAsBefore, IsQuietNote, counted}
 use Rattle.tool_reports.proofs.SilentCommands.{AreSilent, AreSilentDuties, both-duties, both-silent}
 
 -- ---- what the law reads of what the equipment keeps
@@ -276,7 +277,6 @@ module _
       → Silent (sent.primary_commands unsent body)
   sent-silent unsent other (answer.Body body) = (other body, tt)
   sent-silent unsent other answer.TooLong = tt
-  sent-silent unsent other answer.Abort = tt
 
   -- a change of the ledger with lines of which nothing is said
   pub booked-plain : (own : OwnView) (booked : Booked) → AreQuietLines booked.lines
@@ -332,7 +332,6 @@ module _
       by_text : (text : Text) → IsPlain own (text_turn report going text own)
       by_text (answer.Body body) = made body
       by_text answer.TooLong = note-plain own (Happening.TooLong (spooled_name (report []))) tt
-      by_text answer.Abort = nothing-plain own
 
       go : (online : Bool)
           → IsPlain own
@@ -521,4 +520,3 @@ module _
   answers-silent (answer.Body body) message other =
       ((λ e asks. replied-silent message (sent.reply_name message) (Reply body ∷ []) e (other body)), tt)
   answers-silent answer.TooLong message other = long-silent message
-  answers-silent answer.Abort message other = abort-silent message

@@ -2,6 +2,7 @@
 use Rattle.std.proofs.Common.{not, nat_eq, ◌≡◌, refl, sym, ap, subst, ◌∙◌, inl, inr, ◌⊎◌, ◌<◌, ◌+◌, arith, Bool, true, false, ℕ, ◌==◌, ◌&&◌, ◌||◌, List, [], ◌∷◌, ◌++◌, length, Some, None, cond, if◌then◌else◌}
 use Rattle.std.specs.List.{list_any}
 use Rattle.std.specs.Prelude.{filter}
+use Rattle.gem_shapes.proofs.ReportPrimaries.{is_report}
 use Rattle.message_flow.specs.declared.message.Message.{Message}
 use Rattle.trace_log.specs.Log.{Happening}
 use Rattle.message_end.specs.Course.{noted_behind}
@@ -10,9 +11,6 @@ use Rattle.equipment_tables.specs.declared.plan.EquipmentPlan.{EquipmentPlan}
 use Rattle.tool_reports.specs.Reported.{HoldsItsValues, IsReported, Reported, due_behind, events_in, is_answer, is_brought, is_event_report, is_live, is_of, next_dataid, past_in, reports_in, tries_in}
 
 -- ---- the messages of which something is said
-
-abbrev pub is_report : ℕ → ℕ → Bool
-is_report stream function = (stream == 6) && ((function == 11) || ((function == 16) || (function == 20)))
 
 -- none of the three
 pub record IsNone (message : Message) : Type 0 where

@@ -2,6 +2,7 @@
 use Rattle.std.proofs.Common.{◌≡◌, refl, ap, ◌∙◌, inl, inr, Bool, true, false, not, ℕ, ◌%◌, ◌==◌, ◌&&◌, nat_le, List, [], ◌∷◌, ◌++◌, length, Option, Some, None, if◌then◌else◌}
 use Rattle.std.specs.List.{find}
 use Rattle.std.specs.Prelude.{is_some}
+use Rattle.gem_shapes.proofs.ReportPrimaries.{is_report}
 use Rattle.block_codec.specs.Block.{BlockView}
 use Rattle.block_codec.specs.declared.header.Header.{Header}
 use Rattle.line_end.specs.declared.event.LineEvent.{LineEvent}
@@ -28,7 +29,7 @@ use Rattle.message_end.specs.Duties.{all_done}
 use Rattle.tool_step.specs.declared.kind.Kind.{Kind}
 use Rattle.tool_step.specs.Own.{ToolCommands, ToolDuty}
 use Rattle.tool_reports.specs.Reported.{is_answer, is_of}
-use Rattle.tool_reports.proofs.QuietNotes.{AddsQuiet, Follows, follows, none-of, none-sent, quiet-note, IsAsBefore, IsQuietNote, as-before-both, as-it-was, is_report}
+use Rattle.tool_reports.proofs.QuietNotes.{AddsQuiet, Follows, follows, none-of, none-sent, quiet-note, IsAsBefore, IsQuietNote, as-before-both, as-it-was}
 use Rattle.tool_law.proofs.CoreSteps.{OnEither, either-then, CoreStep}
 
 pub either-less :

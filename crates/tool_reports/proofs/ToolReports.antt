@@ -245,7 +245,6 @@ module _
       go true = holds
       go false = with-waiting plan said own (so_far plan said before step) text (next_number e.numbers) holds spare
   asked-keeps answer.TooLong text own e step holds spare = holds
-  asked-keeps answer.Abort text own e step holds spare = holds
 
   event-keeps :
       (dataid : ℕ) (text : List ℕ) (own : OwnView) (e : EndView Kind) (step : CoreStep)
@@ -306,8 +305,6 @@ module _
       by_text answer.TooLong is =
           plain plan said before own (fixed_turn own (Note (Happening.TooLong states.event_name) ∷ []))
           (note-plain Free tt Any any-lasts own (Happening.TooLong states.event_name) tt) step holds
-      by_text answer.Abort is =
-          plain plan said before own (quiet_turn own) (nothing-plain Free tt Any any-lasts own) step holds
 
       online_turn_by : Bool → ToolTurn
       online_turn_by b =

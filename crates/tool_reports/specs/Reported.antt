@@ -6,8 +6,9 @@ use Rattle.std.specs.Prelude.{◌≡◌, ◌<◌, ◌^◌, ◌%◌, ◌+◌, ◌
 use Rattle.std.specs.List.{list_any}
 use Rattle.gem_alarms.specs.Alarms.{alarm_in}
 use Rattle.gem_reports.specs.Reporting.{is_enabled_in, is_planned}
-use Rattle.gem_shapes.specs.declared.request.Request.{Request}
 use Rattle.gem_shapes.specs.declared.request.Request.TheVariants as request
+use Rattle.gem_shapes.specs.declared.request.TablesRequest.{TablesRequest}
+use Rattle.gem_shapes.specs.declared.request.TablesRequest.TheVariants as tables_request
 use Rattle.gem_vars.specs.Settings.{refusal_of}
 use Rattle.message_flow.specs.declared.message.Message.{Message}
 use Rattle.secs_items.specs.declared.item.Item.{Item}
@@ -143,26 +144,26 @@ IsKeptReport plan message before = is_event_report message ≡ true → IsOfEven
 -- it answers the newest request that counts, a primary of stream 6 with this function that asks for this; and its text
 -- is that of the item
 pub record IsAnswer
-    (function : ℕ) (request : Request) (item : Item) (message : Message) (past : List Past) : Type 0 where
+    (function : ℕ) (asked : TablesRequest) (item : Item) (message : Message) (past : List Past) : Type 0 where
   pub primary : Message
   pub earlier : List Past
   pub newest : past ≡ Past.Asked primary ∷ earlier
   pub stream : primary.stream ≡ 6
   pub function_is : primary.function ≡ function
   pub system : message.system ≡ primary.system
-  pub asks : request_of 6 function primary.body ≡ Some request
+  pub asks : request_of 6 function primary.body ≡ Some (request.OfTables asked)
   pub body : IsTextOf item message.body
 
 -- S6F16 and S6F20 hold what the variables hold at the answer (SEMI E5, S6F15 and S6F19)
 abbrev pub AnswersForEvent : EquipmentPlan → Message → List Happening → Type 0
 AnswersForEvent plan message before =
     (ceid : ℕ)
-    × IsAnswer 15 (request.EventReport ceid) (event_item (tables_in plan before) ceid 0) message (past_in before)
+    × IsAnswer 15 (tables_request.EventReport ceid) (event_item (tables_in plan before) ceid 0) message (past_in before)
 
 abbrev pub AnswersForReport : EquipmentPlan → Message → List Happening → Type 0
 AnswersForReport plan message before =
     (rptid : ℕ)
-    × IsAnswer 19 (request.Report rptid) (report_item_of (tables_in plan before) rptid) message (past_in before)
+    × IsAnswer 19 (tables_request.Report rptid) (report_item_of (tables_in plan before) rptid) message (past_in before)
 
 -- a reply that answers a request: any but S1F14, whose request changes no table, and function 0 (SEMI E5, function)
 abbrev pub is_answer : Message → Bool

@@ -3,12 +3,8 @@ use Rattle.std.proofs.Common.{◌≡◌, refl, sym, subst, inl, inr, ◌⊎◌, 
 use Rattle.std.specs.Prelude.{flat_map, slice_get}
 use Rattle.std.specs.Option.{option_map}
 use Rattle.block_codec.specs.declared.header.Header.{Header}
-use Rattle.gem_remote.specs.Commands.{ackc10_of}
-use Rattle.gem_remote.specs.declared.remote.Ackc10.{Ackc10}
-use Rattle.gem_remote.specs.declared.remote.Ackc10.TheVariants as ackc10
 use Rattle.gem_shapes.specs.Answers.{code_item}
-use Rattle.gem_shapes.specs.declared.request.Request.{Request}
-use Rattle.gem_shapes.specs.declared.request.Request.TheVariants as request
+use Rattle.gem_shapes.specs.declared.request.TablesRequest.{TablesRequest}
 use Rattle.gem_states.specs.Control.{ControlView, control_next, control_step}
 use Rattle.gem_states.specs.declared.comms.CommsIn.{CommsIn}
 use Rattle.gem_states.specs.declared.comms.CommsIn.TheVariants as comms_in
@@ -37,8 +33,9 @@ use Rattle.message_end.specs.Own.{Has}
 use Rattle.message_end.specs.Parts.{fixed_turn, led_turn}
 use Rattle.equipment_tables.specs.declared.answers.Answer.{Answer as Text}
 use Rattle.equipment_tables.specs.declared.answers.Answer.TheVariants as answer
-use Rattle.equipment_tables.specs.Answers.{answer_of, carried_lines, established_of, identity_of, is_accepted, lines_of, remoted_of_item, shown_lines}
+use Rattle.equipment_tables.specs.Answers.{answer_of, established_of, identity_of, lines_of}
 use Rattle.equipment_tables.specs.Tables.{TablesState, tables_after}
+use Rattle.equipment_tables.proofs.Lines.{lines_hold}
 use Rattle.spool_ledger.specs.Activity.{rsda_of}
 use Rattle.tool_step.specs.declared.kind.Kind.{Kind}
 use Rattle.tool_step.specs.declared.kind.Kind.TheVariants as kind
@@ -123,7 +120,6 @@ pub sent-calm :
     → AreCalm false (sent.primary_commands unsent body)
 sent-calm unsent other (answer.Body body) = (other body, tt)
 sent-calm unsent other answer.TooLong = tt
-sent-calm unsent other answer.Abort = tt
 
 pub error-calm : (function : ℕ) (header : Header) (own : OwnView) (e : EndView Kind)
     → AreCalm false (sent.error_duty function header own e)
@@ -166,7 +162,6 @@ asking-calm (answer.Body text) body own e =
     go false None = likes own
     go false (Some system) = like-as own (sent.with_asked (Some system) body own) refl refl
 asking-calm answer.TooLong body own e = nothing-calm own
-asking-calm answer.Abort body own e = nothing-calm own
 
 pub event-calm : (dataid : ℕ) (body : List ℕ) (own : OwnView) (e : EndView Kind)
     → IsCalmTurn own (sent.event_turn dataid body own e)
@@ -313,7 +308,6 @@ pub answers-calm : (answer : Text) (message : Message) → AreCalmDuties false (
 answers-calm (answer.Body body) message =
     ((λ e. replied-calm message (sent.reply_name message) (Reply body ∷ []) e (tt, tt)), tt)
 answers-calm answer.TooLong message = long-calm message
-answers-calm answer.Abort message = abort-calm message
 
 -- ---- messages
 
@@ -382,47 +376,14 @@ control-request-calm input message own = record {
 abbrev AreOther : List Happening → Type 0
 AreOther lines = AreCalm false (map Note lines)
 
-carried-other : (hcack : ℕ) (name : List ℕ) → AreOther (carried_lines hcack name)
-carried-other hcack name = go (is_accepted hcack)
-  where
-    go : (accepted : Bool) → AreOther (if accepted then Happening.Carried name ∷ [] else [])
-    go true = (((λ told. tt), λ notes. refl), tt)
-    go false = tt
+lines-other : (t : TablesState) (is_local : Bool) (request : TablesRequest)
+    → AreOther (lines_of t is_local request)
+lines-other =
+    lines_hold AreOther tt (λ name. (((λ told. tt), λ notes. refl), tt))
+    (λ tid text lines rest. (((λ told. tt), λ notes. refl), rest))
 
-shown-other : (ackc10 : Ackc10) (tid : ℕ) (texts : List (List ℕ)) → AreOther (shown_lines ackc10 tid texts)
-shown-other ackc10.Accepted tid [] = tt
-shown-other ackc10.Accepted tid (first ∷ texts) =
-    (((λ told. tt), λ notes. refl), shown-other ackc10.Accepted tid texts)
-shown-other ackc10.NoTerminal tid texts = tt
-
-lines-other : (t : TablesState) (is_local : Bool) (request : Request) → AreOther (lines_of t is_local request)
-lines-other t is_local request.GoOffline = tt
-lines-other t is_local request.GoOnline = tt
-lines-other t is_local request.AreYouThere = tt
-lines-other t is_local (request.StatusValues ids) = tt
-lines-other t is_local (request.StatusNames ids) = tt
-lines-other t is_local request.Establish = tt
-lines-other t is_local (request.ConstantValues ids) = tt
-lines-other t is_local (request.SetConstants list) = tt
-lines-other t is_local (request.ConstantNames ids) = tt
-lines-other t is_local (request.Define dataid list) = tt
-lines-other t is_local (request.Link dataid list) = tt
-lines-other t is_local (request.EnableEvents on ceids) = tt
-lines-other t is_local (request.Announce dataid length) = tt
-lines-other t is_local (request.Command name params) =
-    carried-other (remoted_of_item t is_local name params).hcack name
-lines-other t is_local (request.ReplaceRule list) = tt
-lines-other t is_local (request.EnableAlarms on alid) = tt
-lines-other t is_local (request.Alarms ids) = tt
-lines-other t is_local request.EnabledAlarms = tt
-lines-other t is_local (request.EventReport ceid) = tt
-lines-other t is_local (request.Report rptid) = tt
-lines-other t is_local request.TransmitSpool = tt
-lines-other t is_local request.PurgeSpool = tt
-lines-other t is_local (request.Display tid text) = shown-other (ackc10_of t.remote tid) tid (text ∷ [])
-lines-other t is_local (request.DisplayLines tid texts) = shown-other (ackc10_of t.remote tid) tid texts
-
-pub answer-calm : (asks : Request) (message : Message) (own : OwnView) → IsCalmTurn own (answer_turn asks message own)
+pub answer-calm : (asks : TablesRequest) (message : Message) (own : OwnView)
+    → IsCalmTurn own (answer_turn asks message own)
 answer-calm asks message own = record {
   duties = (
     (λ e. lines-other own.tables (is_local own) asks),

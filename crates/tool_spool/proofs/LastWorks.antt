@@ -122,7 +122,6 @@ error-stays function header own step = go (is_communicating own) (sent.has_room 
         one (carry Some (Primary (sent.error_report function body)) step)
         (crowded body (is_crowded_out false step.next))
     by_text answer.TooLong = refl
-    by_text answer.Abort = refl
 
     go : (communicating room : Bool)
         → Stays
@@ -206,7 +205,6 @@ unload-works oldest own e = go (next_unloaded (most_transmitted own.tables) own.
     leaves : (text : Text) (own : OwnView) (e : EndView Kind) → works_of (leave_turn text own e) ≡ own.ledger.works
     leaves (answer.Body text) own e = ended-works (is_crowded_out true e) own
     leaves answer.TooLong own e = refl
-    leaves answer.Abort own e = refl
 
     sends-it : (message : Spooled) (own : OwnView) (e : EndView Kind)
         → works_of (sent_turn message own e) ≡ own.ledger.works

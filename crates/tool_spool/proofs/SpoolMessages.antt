@@ -13,6 +13,7 @@ use Rattle.gem_reports.specs.Reporting.{is_enabled_in, is_planned}
 use Rattle.gem_shapes.specs.Primaries.{is_known, is_known_stream}
 use Rattle.gem_shapes.specs.declared.request.Request.{Request}
 use Rattle.gem_shapes.specs.declared.request.Request.TheVariants as request
+use Rattle.gem_shapes.specs.declared.request.TablesRequest.{TablesRequest}
 use Rattle.gem_states.specs.declared.comms.CommsIn.TheVariants as comms_in
 use Rattle.gem_states.specs.declared.control.ControlIn.TheVariants as control_in
 use Rattle.gem_vars.specs.Settings.{refusal_of}
@@ -57,7 +58,7 @@ use Rattle.tool_step.specs.Spooling.{booked_turn, leave_given_turn, rsda_duties}
 use Rattle.tool_spool.specs.SpoolKept.{is_purge, policy_of}
 use Rattle.tool_step.specs.States as states
 use Rattle.tool_step.specs.Tool.{alarm_report_turn, alarm_turn, command_turn, enabled_turn, known_event_turn, online_turn, refused_turn, set_turn, told_turn, with_event}
-use Rattle.tool_spool.proofs.CalmParts.{answer-calm, comms-calm, control-calm, control-request-calm, dropped-calm, error-turn-calm, established-calm, event-calm, fixed-calm, going-calm, like-as, likes, offline-calm, online-calm, refused-calm, rsda-calm, stray-calm, unreported-like}
+use Rattle.tool_spool.proofs.CalmParts.{abort-calm, answer-calm, comms-calm, control-calm, control-request-calm, dropped-calm, error-turn-calm, established-calm, event-calm, fixed-calm, going-calm, like-as, likes, offline-calm, online-calm, refused-calm, rsda-calm, stray-calm, unreported-like}
 use Rattle.tool_spool.proofs.KeptLedger.{one-call}
 use Rattle.tool_reports.proofs.QuietNotes.{one-behind}
 use Rattle.tool_spool.proofs.ShelvedTurns.{calm-keeps, like-it, purge-keeps}
@@ -250,7 +251,7 @@ module _ (plan : EquipmentPlan) (slots : ℕ) (list : List Put) (base before : L
   abbrev pub IsNewest : Message → CoreStep → Type 0
   IsNewest message step = (earlier : List Message) × (received_since (notes_at step) ≡ message ∷ earlier)
 
-  answered : (asks : Request) (message : Message) (own : OwnView) (step : CoreStep)
+  answered : (asks : TablesRequest) (message : Message) (own : OwnView) (step : CoreStep)
       → ShelvesAt plan slots list base before own step
       → TurnEnds plan slots list base before (answer_turn asks message own) step
   answered asks message own step holds =
@@ -261,6 +262,7 @@ module _ (plan : EquipmentPlan) (slots : ℕ) (list : List Put) (base before : L
       → request_of message.stream message.function message.body ≡ Some asks → IsNewest message step
       → ShelvesAt plan slots list base before own step → TurnEnds plan slots list base before
       (request_turn asks message own) step
+  asked-turn (request.OfTables asked) message own step is newest holds = answered asked message own step holds
   asked-turn request.GoOffline message own step is newest holds =
       calm-turn plan slots list base before own (request_turn request.GoOffline message own) step
       (control-request-calm control_in.RequestOffline message own) holds
@@ -303,44 +305,9 @@ module _ (plan : EquipmentPlan) (slots : ℕ) (list : List Put) (base before : L
       go false =
           calm-keeps plan slots list base before false own own (rsda_duties message own) step (likes own)
           (rsda-calm message own) holds
-  asked-turn request.AreYouThere message own step is newest holds = answered request.AreYouThere message own step holds
-  asked-turn (request.StatusValues ids) message own step is newest holds =
-      answered (request.StatusValues ids) message own step holds
-  asked-turn (request.StatusNames ids) message own step is newest holds =
-      answered (request.StatusNames ids) message own step holds
-  asked-turn request.Establish message own step is newest holds = answered request.Establish message own step holds
-  asked-turn (request.ConstantValues ids) message own step is newest holds =
-      answered (request.ConstantValues ids) message own step holds
-  asked-turn (request.SetConstants entries) message own step is newest holds =
-      answered (request.SetConstants entries) message own step holds
-  asked-turn (request.ConstantNames ids) message own step is newest holds =
-      answered (request.ConstantNames ids) message own step holds
-  asked-turn (request.Define dataid entries) message own step is newest holds =
-      answered (request.Define dataid entries) message own step holds
-  asked-turn (request.Link dataid entries) message own step is newest holds =
-      answered (request.Link dataid entries) message own step holds
-  asked-turn (request.EnableEvents on ceids) message own step is newest holds =
-      answered (request.EnableEvents on ceids) message own step holds
-  asked-turn (request.Announce dataid len) message own step is newest holds =
-      answered (request.Announce dataid len) message own step holds
-  asked-turn (request.Command name params) message own step is newest holds =
-      answered (request.Command name params) message own step holds
-  asked-turn (request.ReplaceRule entries) message own step is newest holds =
-      answered (request.ReplaceRule entries) message own step holds
-  asked-turn (request.EnableAlarms on alid) message own step is newest holds =
-      answered (request.EnableAlarms on alid) message own step holds
-  asked-turn (request.Alarms ids) message own step is newest holds =
-      answered (request.Alarms ids) message own step holds
-  asked-turn request.EnabledAlarms message own step is newest holds =
-      answered request.EnabledAlarms message own step holds
-  asked-turn (request.EventReport ceid) message own step is newest holds =
-      answered (request.EventReport ceid) message own step holds
-  asked-turn (request.Report rptid) message own step is newest holds =
-      answered (request.Report rptid) message own step holds
-  asked-turn (request.Display tid text) message own step is newest holds =
-      answered (request.Display tid text) message own step holds
-  asked-turn (request.DisplayLines tid texts) message own step is newest holds =
-      answered (request.DisplayLines tid texts) message own step holds
+  asked-turn request.Establish message own step is newest holds =
+      calm-keeps plan slots list base before false own own (sent.abort_duty message ∷ []) step (likes own)
+      (abort-calm message) holds
 
   read-keeps :
       (header : Header) (message : Message) (own : OwnView) (step : CoreStep) → IsNewest message step

@@ -554,7 +554,6 @@ module _ (plan : EquipmentPlan) (slots : ℕ) (list : List Put) (base before : L
       by_text answer.TooLong =
           calm-turn own (text_turn report going answer.TooLong own) step
           (too-long-calm (spooled_name (report [])) own) holds.shelves
-      by_text answer.Abort = holds.shelves
 
       online : (is : Bool)
           → TurnEnds

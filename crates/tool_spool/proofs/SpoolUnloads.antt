@@ -171,9 +171,6 @@ module _ (plan : EquipmentPlan) (slots : ℕ) (list : List Put) (base before : L
       leaves needs answer.TooLong =
           end-keeps plan slots list base before own step.next (so_far plan slots list base before step) is.none
           is.shelves
-      leaves needs answer.Abort =
-          end-keeps plan slots list base before own step.next (so_far plan slots list base before step) is.none
-          is.shelves
 
       go : (needs : Bool) → needs_leave message ≡ needs
           → TurnEnds plan slots list base before

@@ -4,6 +4,7 @@ use Rattle.std.specs.Option.{option_map}
 use Rattle.block_codec.specs.declared.header.Header.{Header}
 use Rattle.gem_shapes.specs.declared.request.Request.{Request}
 use Rattle.gem_shapes.specs.declared.request.Request.TheVariants as request
+use Rattle.gem_shapes.specs.declared.request.TablesRequest.{TablesRequest}
 use Rattle.gem_shapes.specs.Answers.{code_item}
 use Rattle.gem_shapes.specs.Primaries.{is_known, is_known_stream}
 use Rattle.gem_states.specs.declared.comms.CommsIn.TheVariants.{HostRequest, OtherMessage}
@@ -89,18 +90,20 @@ control_request_turn input message own =
     ((λ e. control_commands input own.control) ∷ control_answer_duties outcome.output message own)
 
 -- the lines of the action come before the answer (this profile)
-abbrev pub answer_turn : Request → Message → OwnView → ToolTurn
+abbrev pub answer_turn : TablesRequest → Message → OwnView → ToolTurn
 answer_turn request message own =
     turn_of (with_tables (tables_after request own.tables) own)
     ((λ e. map Note (lines_of own.tables (is_local own) request))
     ∷ answer_duties (answer_of own.tables (is_local own) own.plan.line.max_body request) message)
 
+-- S1F13 doesn't come here: before any request is read it establishes the communication
 abbrev pub request_turn : Request → Message → OwnView → ToolTurn
+request_turn (request.OfTables asked) message own = answer_turn asked message own
+request_turn request.Establish message own = turn_of own (abort_duty message ∷ [])
 request_turn request.GoOffline message own = control_request_turn RequestOffline message own
 request_turn request.GoOnline message own = control_request_turn RequestOnline message own
 request_turn request.TransmitSpool message own = transmit_turn message own
 request_turn request.PurgeSpool message own = purge_turn message own
-request_turn request message own = answer_turn request message own
 
 -- a request that has come as far as its action counts when the equipment looks back (this profile)
 abbrev pub read_turn : Option Request → Header → Message → OwnView → ToolTurn

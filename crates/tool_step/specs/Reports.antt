@@ -7,7 +7,7 @@ use Rattle.message_end.specs.Core.{EndView}
 use Rattle.message_end.specs.Core.Command.{Note}
 use Rattle.message_end.specs.Parts.{fixed_turn}
 use Rattle.tool_step.specs.declared.kind.Kind.{Kind}
-use Rattle.tool_step.specs.Own.{OwnView, ToolTurn, is_communicating, is_online, quiet_turn}
+use Rattle.tool_step.specs.Own.{OwnView, ToolTurn, is_communicating, is_online}
 use Rattle.tool_step.specs.Sent.{going_turn}
 use Rattle.tool_step.specs.Spooling.{is_spooled, stored_turn}
 use Rattle.equipment_tables.specs.declared.answers.Answer.{Answer}
@@ -28,7 +28,6 @@ made_turn going message own =
 abbrev pub text_turn : (List ℕ → Spooled) → (Spooled → ToolTurn) → Answer → OwnView → ToolTurn
 text_turn report going (answer.Body body) own = made_turn going (report body) own
 text_turn report going answer.TooLong own = fixed_turn own (Note (Happening.TooLong (spooled_name (report []))) ∷ [])
-text_turn report going answer.Abort own = quiet_turn own
 
 -- off-line a report is dropped, whatever its text; else one that is too long (SEMI E30, OFF-LINE; the order is this
 -- profile's)

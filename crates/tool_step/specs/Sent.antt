@@ -134,7 +134,6 @@ long_duties message =
 abbrev pub answer_duties : Answer → Message → List ToolDuty
 answer_duties (answer.Body body) message = body_duty body message ∷ []
 answer_duties answer.TooLong message = long_duties message
-answer_duties answer.Abort message = abort_duty message ∷ []
 
 -- ---- reports
 

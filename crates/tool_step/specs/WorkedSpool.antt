@@ -1,7 +1,7 @@
 -- Runs of the equipment with its spool that can be followed by hand.
 use Rattle.std.specs.Prelude.{◌≡◌, ◌-◌, ◌^◌, ℕ, true, false, List, [], ◌∷◌, ◌++◌, codes, drop, length, map, replicate, slice_index, take, None, Some}
 use Rattle.block_codec.specs.Frame.{frame_bytes}
-use Rattle.gem_shapes.specs.declared.request.Request.TheVariants as request
+use Rattle.gem_shapes.specs.declared.request.TablesRequest.TheVariants as tables_request
 use Rattle.gem_spool.specs.declared.works.Work.TheVariants.{Put}
 use Rattle.gem_states.specs.declared.comms.CommsIn.TheVariants.{SendFailed}
 use Rattle.gem_states.specs.declared.comms.CommsState.TheVariants.{Communicating, WaitCra}
@@ -68,9 +68,9 @@ plan_with overwrites most = record {
 -- the event is linked to a report of the variable, and enabled
 abbrev pub reporting : TablesState → TablesState
 reporting t =
-    tables_after (request.EnableEvents true [])
-    (tables_after (request.Link 0 (record { ceid = 1; rptids = 10 ∷ [] } ∷ []))
-    (tables_after (request.Define 0 (record { rptid = 10; vids = 1 ∷ [] } ∷ [])) t))
+    tables_after (tables_request.EnableEvents true [])
+    (tables_after (tables_request.Link 0 (record { ceid = 1; rptids = 10 ∷ [] } ∷ []))
+    (tables_after (tables_request.Define 0 (record { rptid = 10; vids = 1 ∷ [] } ∷ [])) t))
 
 abbrev pub with_own : (OwnView → OwnView) → EquipmentView → EquipmentView
 with_own change s = record s { node = record s.node { own = change s.node.own } }
