@@ -4,3 +4,4 @@ pub mod Ending
 pub mod Judged
 pub mod Node
 pub mod Starting
+pub mod Turns

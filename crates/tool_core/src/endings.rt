@@ -5,14 +5,15 @@ ghost use Rattle.gem_states.specs.Control.{ControlView, control_next};
 ghost use Rattle.gem_states.specs.declared.control.ControlIn.TheVariants.{AttemptFailed};
 ghost use Rattle.message_end.specs.Core.{EndView};
 ghost use Rattle.message_end.specs.Endings.{ends_begun, ends_open, notes_failed};
-ghost use Rattle.message_end.specs.Parts.{AreCarried, AreDone, Takes};
+ghost use Rattle.message_end.specs.Parts.{AreCarried, AreDone};
 ghost use Rattle.equipment_tables.specs.Tables.{may_spool};
 ghost use Rattle.tool_step.specs.declared.kind.Kind.{Kind};
 ghost use Rattle.tool_core.specs.Carried.{FailsAlike};
 ghost use Rattle.tool_core.specs.Ending.{all_stored, as_list, ends_with, stores_turn, with_active};
-ghost use Rattle.tool_core.specs.Node.{node_of, own_of};
+ghost use Rattle.tool_core.specs.Node.{own_of};
 ghost use Rattle.tool_step.specs.Own.{with_control};
 ghost use Rattle.tool_step.specs.States.{begins_spooling, control_after_loss, control_commands, ending_commands, is_attempt_kind, leaving_turn, notes_unsent, stored_by, without_open};
+ghost use Rattle.tool_core.specs.Turns.{TakesPart, TakesTurn};
 
 use crate::own::{Own, Tool};
 use crate::report::Report;
@@ -41,9 +42,7 @@ impl Tool {
         out: &mut StepOut,
     ) -> Result<(), Stop>
         requires { now < 2 ^ 62 }
-        ensures does { Takes
-            (leaving_turn input failed now (own_of self.old.own) self.old.core)
-            (node_of self.old) out.old (node_of self.new) out.new result }
+        ensures does { TakesPart (leaving_turn input failed now) self.old out.old self.new out.new result }
         ensures line { out.new.line ≡ out.old.line }
     {
         let old = self.own.comms.state();
@@ -135,9 +134,7 @@ impl Tool {
         reports: VecDeque<Report>,
         out: &mut StepOut,
     ) -> Result<(), Stop>
-        ensures does { Takes
-            (stores_turn reports.items (own_of self.old.own))
-            (node_of self.old) out.old (node_of self.new) out.new result }
+        ensures does { TakesTurn (stores_turn reports.items) self.old out.old self.new out.new result }
         ensures line { out.new.line ≡ out.old.line }
     {
         let mut reports = reports;

@@ -2,7 +2,7 @@
 
 ghost use Rattle.std.specs.Prelude.{IfOk, ◌≡◌, ◌<◌, ◌^◌, ◌∷◌, [], ◌++◌};
 ghost use Rattle.block_codec.specs.Header.{Fits};
-ghost use Rattle.message_end.specs.Parts.{AreCarried, Takes, after_turn, on_the_way};
+ghost use Rattle.message_end.specs.Parts.{AreCarried, after_turn, on_the_way};
 ghost use Rattle.message_end.specs.Core.Went.{Goes};
 ghost use Rattle.trace_log.specs.Text.{printed_note};
 ghost use Rattle.tool_core.specs.Node.{node_of, own_of};
@@ -11,6 +11,7 @@ ghost use Rattle.tool_core.specs.Judged.{IsShort};
 ghost use Rattle.tool_step.specs.Sent.{answer_duties};
 ghost use Rattle.tool_step.specs.Messages.{answer_turn, control_request_turn, dropped_turn, established_duties, established_turn, is_establish_request, is_online_request, known_turn, message_turn, offline_turn, own_request_commands, own_request_duty, primary_turn, request_turn, stray_turn};
 ghost use Rattle.equipment_tables.specs.Requests.{IsAsked, IsAskedOfTables};
+ghost use Rattle.tool_core.specs.Turns.{TakesPart, TakesTurn};
 
 use crate::own::Tool;
 use crate::sending::note_dropped;
@@ -37,13 +38,7 @@ impl Tool {
     ) -> Result<(), Stop>
         requires now { now < 2 ^ 62 }
         requires header { Fits header.now }
-        ensures does { Takes
-            (message_turn now header.now message.now (own_of self.old.own) self.old.core)
-            (node_of self.old)
-            out.old
-            (node_of self.new)
-            out.new
-            result }
+        ensures does { TakesPart (message_turn now header.now message.now) self.old out.old self.new out.new result }
         ensures line { out.new.line ≡ out.old.line }
     {
         if !self.own.is_enabled() {
@@ -67,13 +62,7 @@ impl Tool {
     ) -> Result<(), Stop>
         requires now { now < 2 ^ 62 }
         requires header { Fits header.now }
-        ensures does { Takes
-            (primary_turn now header.now message.now (own_of self.old.own))
-            (node_of self.old)
-            out.old
-            (node_of self.new)
-            out.new
-            result }
+        ensures does { TakesTurn (primary_turn now header.now message.now) self.old out.old self.new out.new result }
         ensures line { out.new.line ≡ out.old.line }
     {
         if is_establish_request(message) {
@@ -97,13 +86,7 @@ impl Tool {
         out: &mut StepOut,
     ) -> Result<(), Stop>
         requires { now < 2 ^ 62 }
-        ensures does { Takes
-            (stray_turn now message.now (own_of self.old.own))
-            (node_of self.old)
-            out.old
-            (node_of self.new)
-            out.new
-            result }
+        ensures does { TakesTurn (stray_turn now message.now) self.old out.old self.new out.new result }
         ensures line { out.new.line ≡ out.old.line }
     {
         self.drop_message(alloc, message, out)?;
@@ -132,13 +115,7 @@ impl Tool {
         message: &Message,
         out: &mut StepOut,
     ) -> Result<(), Stop>
-        ensures does { Takes
-            (offline_turn message.now (own_of self.old.own))
-            (node_of self.old)
-            out.old
-            (node_of self.new)
-            out.new
-            result }
+        ensures does { TakesTurn (offline_turn message.now) self.old out.old self.new out.new result }
         ensures line { out.new.line ≡ out.old.line }
     {
         if message.wait {
@@ -157,13 +134,7 @@ impl Tool {
         out: &mut StepOut,
     ) -> Result<(), Stop>
         requires { now < 2 ^ 62 }
-        ensures does { Takes
-            (established_turn now message.now (own_of self.old.own))
-            (node_of self.old)
-            out.old
-            (node_of self.new)
-            out.new
-            result }
+        ensures does { TakesTurn (established_turn now message.now) self.old out.old self.new out.new result }
         ensures line { out.new.line ≡ out.old.line }
     {
         self.end_own_request();
@@ -175,13 +146,8 @@ impl Tool {
 
     // S1F13 is accepted.
     fn accept(&mut self, alloc: Global, message: &Message, out: &mut StepOut) -> Result<(), Stop>
-        ensures does { Takes
-            (turn_of (own_of self.old.own) (established_duties message.now (own_of self.old.own)))
-            (node_of self.old)
-            out.old
-            (node_of self.new)
-            out.new
-            result }
+        ensures does { TakesTurn (λ own. turn_of own (established_duties message.now own))
+            self.old out.old self.new out.new result }
         ensures line { out.new.line ≡ out.old.line }
     {
         let max_body = self.own.max_body();
@@ -224,13 +190,7 @@ impl Tool {
         out: &mut StepOut,
     ) -> Result<(), Stop>
         requires { Fits header.now }
-        ensures does { Takes
-            (known_turn header.now message.now (own_of self.old.own))
-            (node_of self.old)
-            out.old
-            (node_of self.new)
-            out.new
-            result }
+        ensures does { TakesTurn (known_turn header.now message.now) self.old out.old self.new out.new result }
         ensures line { out.new.line ≡ out.old.line }
     {
         if !is_known_stream(message.stream) {
@@ -255,13 +215,7 @@ impl Tool {
         out: &mut StepOut,
     ) -> Result<(), Stop>
         requires { IsAsked request.now }
-        ensures does { Takes
-            (request_turn request.now message.now (own_of self.old.own))
-            (node_of self.old)
-            out.old
-            (node_of self.new)
-            out.new
-            result }
+        ensures does { TakesTurn (request_turn request.now message.now) self.old out.old self.new out.new result }
         ensures line { out.new.line ≡ out.old.line }
     {
         match request {
@@ -282,13 +236,7 @@ impl Tool {
         message: &Message,
         out: &mut StepOut,
     ) -> Result<(), Stop>
-        ensures does { Takes
-            (control_request_turn input message.now (own_of self.old.own))
-            (node_of self.old)
-            out.old
-            (node_of self.new)
-            out.new
-            result }
+        ensures does { TakesTurn (control_request_turn input message.now) self.old out.old self.new out.new result }
         ensures line { out.new.line ≡ out.old.line }
     {
         match self.control(alloc, input, out)? {
@@ -311,13 +259,7 @@ impl Tool {
         out: &mut StepOut,
     ) -> Result<(), Stop>
         requires { IsAskedOfTables request.now }
-        ensures does { Takes
-            (answer_turn request.now message.now (own_of self.old.own))
-            (node_of self.old)
-            out.old
-            (node_of self.new)
-            out.new
-            result }
+        ensures does { TakesTurn (answer_turn request.now message.now) self.old out.old self.new out.new result }
         ensures line { out.new.line ≡ out.old.line }
     {
         let is_local = self.own.is_local();
@@ -339,13 +281,8 @@ impl Tool {
         out: &mut StepOut,
     ) -> Result<(), Stop>
         requires { IsShort answer }
-        ensures does { Takes
-            (turn_of (own_of self.old.own) (answer_duties answer message.now))
-            (node_of self.old)
-            out.old
-            (node_of self.new)
-            out.new
-            result }
+        ensures does { TakesTurn (λ own. turn_of own (answer_duties answer message.now))
+            self.old out.old self.new out.new result }
         ensures line { out.new.line ≡ out.old.line }
     {
         match answer {

@@ -2,7 +2,6 @@
 
 ghost use Rattle.std.specs.Prelude.{◌≡◌, ◌<◌, ◌^◌, false, replicate, if◌then◌else◌, IfOk, Some};
 ghost use Rattle.block_codec.specs.Header.{Fits};
-ghost use Rattle.message_end.specs.Parts.{Takes, TakesAll};
 ghost use Rattle.gem_states.specs.declared.control.ControlIn.TheVariants.{AttemptDone, AttemptFailed};
 ghost use Rattle.tool_step.specs.declared.kind.Kind.TheVariants as kind;
 ghost use Rattle.tool_step.specs.Own.{waiting_report, without_grant};
@@ -12,6 +11,7 @@ ghost use Rattle.tool_step.specs.Codes.{is_accepted_in, is_accepting, is_granted
 ghost use Rattle.tool_core.specs.Node.{node_of, own_of};
 ghost use Rattle.tool_step.specs.Replies.{block_timer, denied_turn, given_up_turn, granted_turn, loss_turn, reply_timer, reply_turn, secondary_turn, timeout_turn};
 ghost use Rattle.tool_step.specs.States.{control_turn};
+ghost use Rattle.tool_core.specs.Turns.{TakesPart, TakesParts, TakesTurn};
 
 use crate::own::Tool;
 use crate::reports::EVENT_NAME;
@@ -40,13 +40,7 @@ impl Tool {
         out: &mut StepOut,
     ) -> Result<(), Stop>
         requires { now < 2 ^ 62 }
-        ensures does { TakesAll
-            (replicate 64 (reply_timer now))
-            (node_of self.old)
-            out.old
-            (node_of self.new)
-            out.new
-            result }
+        ensures does { TakesParts (replicate 64 (reply_timer now)) self.old out.old self.new out.new result }
         ensures line { out.new.line ≡ out.old.line }
     {
         self.expire_some(alloc, MOST_EXPIRED, now, out)
@@ -61,13 +55,7 @@ impl Tool {
         out: &mut StepOut,
     ) -> Result<(), Stop>
         requires { now < 2 ^ 62 }
-        ensures does { TakesAll
-            (replicate most (reply_timer now))
-            (node_of self.old)
-            out.old
-            (node_of self.new)
-            out.new
-            result }
+        ensures does { TakesParts (replicate most (reply_timer now)) self.old out.old self.new out.new result }
         ensures line { out.new.line ≡ out.old.line }
     {
         let mut left = most;
@@ -83,13 +71,7 @@ impl Tool {
     // Ends a transaction on which T3 has run out; `false` where there is none.
     fn expire_one(&mut self, alloc: Global, now: u64, out: &mut StepOut) -> Result<bool, Stop>
         requires { now < 2 ^ 62 }
-        ensures does { Takes
-            (reply_timer now (own_of self.old.own) self.old.core)
-            (node_of self.old)
-            out.old
-            (node_of self.new)
-            out.new
-            result }
+        ensures does { TakesPart (reply_timer now) self.old out.old self.new out.new result }
         ensures none { IfOk result (λ some. some ≡ false → IsTaken
             (reply_timer now (own_of self.old.own) self.old.core)
             (node_of self.old) out.old (node_of self.old) out.old) }
@@ -113,13 +95,7 @@ impl Tool {
         out: &mut StepOut,
     ) -> Result<(), Stop>
         requires { now < 2 ^ 62 }
-        ensures does { TakesAll
-            (replicate 16 (block_timer now))
-            (node_of self.old)
-            out.old
-            (node_of self.new)
-            out.new
-            result }
+        ensures does { TakesParts (replicate 16 (block_timer now)) self.old out.old self.new out.new result }
         ensures line { out.new.line ≡ out.old.line }
     {
         self.drop_some(alloc, MOST_DROPPED, now, out)
@@ -134,13 +110,7 @@ impl Tool {
         out: &mut StepOut,
     ) -> Result<(), Stop>
         requires { now < 2 ^ 62 }
-        ensures does { TakesAll
-            (replicate most (block_timer now))
-            (node_of self.old)
-            out.old
-            (node_of self.new)
-            out.new
-            result }
+        ensures does { TakesParts (replicate most (block_timer now)) self.old out.old self.new out.new result }
         ensures line { out.new.line ≡ out.old.line }
     {
         let mut left = most;
@@ -156,13 +126,7 @@ impl Tool {
     // Drops a message on which T4 has run out; `false` where there is none. A reply is given up.
     fn drop_one(&mut self, alloc: Global, now: u64, out: &mut StepOut) -> Result<bool, Stop>
         requires { now < 2 ^ 62 }
-        ensures does { Takes
-            (block_timer now (own_of self.old.own) self.old.core)
-            (node_of self.old)
-            out.old
-            (node_of self.new)
-            out.new
-            result }
+        ensures does { TakesPart (block_timer now) self.old out.old self.new out.new result }
         ensures none { IfOk result (λ some. some ≡ false → IsTaken
             (block_timer now (own_of self.old.own) self.old.core)
             (node_of self.old) out.old (node_of self.old) out.old) }
@@ -187,13 +151,7 @@ impl Tool {
         out: &mut StepOut,
     ) -> Result<(), Stop>
         requires { now < 2 ^ 62 }
-        ensures does { Takes
-            (given_up_turn now header.now (own_of self.old.own) self.old.core)
-            (node_of self.old)
-            out.old
-            (node_of self.new)
-            out.new
-            result }
+        ensures does { TakesPart (given_up_turn now header.now) self.old out.old self.new out.new result }
         ensures line { out.new.line ≡ out.old.line }
     {
         match self.core.give_up(alloc, header, out) {
@@ -214,13 +172,7 @@ impl Tool {
     ) -> Result<(), Stop>
         requires now { now < 2 ^ 62 }
         requires header { Fits header.now }
-        ensures does { Takes
-            (timeout_turn now (Some (header.now, kind)) (own_of self.old.own) self.old.core)
-            (node_of self.old)
-            out.old
-            (node_of self.new)
-            out.new
-            result }
+        ensures does { TakesPart (timeout_turn now (Some (header.now, kind))) self.old out.old self.new out.new result }
         ensures line { out.new.line ≡ out.old.line }
     {
         match self.lose_reply(alloc, kind, header.system, now, out) {
@@ -239,13 +191,7 @@ impl Tool {
         out: &mut StepOut,
     ) -> Result<(), Stop>
         requires { now < 2 ^ 62 }
-        ensures does { Takes
-            (loss_turn now kind system (own_of self.old.own) self.old.core)
-            (node_of self.old)
-            out.old
-            (node_of self.new)
-            out.new
-            result }
+        ensures does { TakesPart (loss_turn now kind system) self.old out.old self.new out.new result }
         ensures line { out.new.line ≡ out.old.line }
     {
         match kind {
@@ -269,13 +215,7 @@ impl Tool {
 
     /// An attempt to be on-line has failed.
     pub(crate) fn fail_attempt(&mut self, alloc: Global, out: &mut StepOut) -> Result<(), Stop>
-        ensures does { Takes
-            (control_turn AttemptFailed (own_of self.old.own))
-            (node_of self.old)
-            out.old
-            (node_of self.new)
-            out.new
-            result }
+        ensures does { TakesTurn (control_turn AttemptFailed) self.old out.old self.new out.new result }
         ensures line { out.new.line ≡ out.old.line }
     {
         match self.control(alloc, ControlIn::AttemptFailed, out) {
@@ -286,13 +226,7 @@ impl Tool {
 
     // An attempt to be on-line has succeeded.
     fn end_attempt(&mut self, alloc: Global, out: &mut StepOut) -> Result<(), Stop>
-        ensures does { Takes
-            (control_turn AttemptDone (own_of self.old.own))
-            (node_of self.old)
-            out.old
-            (node_of self.new)
-            out.new
-            result }
+        ensures does { TakesTurn (control_turn AttemptDone) self.old out.old self.new out.new result }
         ensures line { out.new.line ≡ out.old.line }
     {
         match self.control(alloc, ControlIn::AttemptDone, out) {
@@ -303,13 +237,8 @@ impl Tool {
 
     // The report whose S6F5 has these system bytes gets no leave.
     fn deny(&mut self, alloc: Global, system: u32, out: &mut StepOut) -> Result<(), Stop>
-        ensures does { Takes
-            (denied_turn (without_grant system (own_of self.old.own)))
-            (node_of self.old)
-            out.old
-            (node_of self.new)
-            out.new
-            result }
+        ensures does { TakesTurn (λ own. denied_turn (without_grant system own))
+            self.old out.old self.new out.new result }
         ensures line { out.new.line ≡ out.old.line }
     {
         let _ = self.take_waiting(system);
@@ -319,14 +248,8 @@ impl Tool {
 
     // The report whose S6F5 has these system bytes goes.
     fn grant(&mut self, alloc: Global, system: u32, out: &mut StepOut) -> Result<(), Stop>
-        ensures does { Takes
-            (granted_turn (waiting_report system (own_of self.old.own)) (without_grant system (own_of self.old.own))
-            self.old.core)
-            (node_of self.old)
-            out.old
-            (node_of self.new)
-            out.new
-            result }
+        ensures does { TakesPart (λ own core. granted_turn (waiting_report system own) (without_grant system own) core)
+            self.old out.old self.new out.new result }
         ensures line { out.new.line ≡ out.old.line }
     {
         match self.take_waiting(system) {
@@ -345,13 +268,7 @@ impl Tool {
         out: &mut StepOut,
     ) -> Result<(), Stop>
         requires { now < 2 ^ 62 }
-        ensures does { Takes
-            (secondary_turn now header.now message.now (own_of self.old.own) self.old.core)
-            (node_of self.old)
-            out.old
-            (node_of self.new)
-            out.new
-            result }
+        ensures does { TakesPart (secondary_turn now header.now message.now) self.old out.old self.new out.new result }
         ensures line { out.new.line ≡ out.old.line }
     {
         match self.core.answer(alloc, header, out) {
@@ -372,13 +289,8 @@ impl Tool {
         out: &mut StepOut,
     ) -> Result<(), Stop>
         requires { now < 2 ^ 62 }
-        ensures does { Takes
-            (reply_turn now kind message.now.system message.now.body (own_of self.old.own) self.old.core)
-            (node_of self.old)
-            out.old
-            (node_of self.new)
-            out.new
-            result }
+        ensures does { TakesPart (reply_turn now kind message.now.system message.now.body)
+            self.old out.old self.new out.new result }
         ensures line { out.new.line ≡ out.old.line }
     {
         match kind {
@@ -406,13 +318,8 @@ impl Tool {
         out: &mut StepOut,
     ) -> Result<(), Stop>
         requires { now < 2 ^ 62 }
-        ensures does { Takes
-            (reply_turn now kind.Establish message.now.system message.now.body (own_of self.old.own) self.old.core)
-            (node_of self.old)
-            out.old
-            (node_of self.new)
-            out.new
-            result }
+        ensures does { TakesPart (reply_turn now kind.Establish message.now.system message.now.body)
+            self.old out.old self.new out.new result }
         ensures line { out.new.line ≡ out.old.line }
     {
         if is_accepted(alloc, message.body.as_slice())? {
@@ -428,18 +335,11 @@ impl Tool {
         message: &Message,
         out: &mut StepOut,
     ) -> Result<(), Stop>
-        ensures does { Takes
-            (if is_granted_in message.now.body
-            then granted_turn
-            (waiting_report message.now.system (own_of self.old.own))
-            (without_grant message.now.system (own_of self.old.own))
-            self.old.core
-            else denied_turn (without_grant message.now.system (own_of self.old.own)))
-            (node_of self.old)
-            out.old
-            (node_of self.new)
-            out.new
-            result }
+        ensures does { TakesPart
+            (λ own core. if is_granted_in message.now.body
+            then granted_turn (waiting_report message.now.system own) (without_grant message.now.system own) core
+            else denied_turn (without_grant message.now.system own))
+            self.old out.old self.new out.new result }
         ensures line { out.new.line ≡ out.old.line }
     {
         if is_granted(alloc, message.body.as_slice())? {
@@ -455,14 +355,10 @@ impl Tool {
         message: &Message,
         out: &mut StepOut,
     ) -> Result<(), Stop>
-        ensures does { Takes
-            (if is_granted_in message.now.body then leave_given_turn (own_of self.old.own) self.old.core
-            else denied_turn (unloaded_own (own_of self.old.own)))
-            (node_of self.old)
-            out.old
-            (node_of self.new)
-            out.new
-            result }
+        ensures does { TakesPart
+            (λ own core. if is_granted_in message.now.body then leave_given_turn own core
+            else denied_turn (unloaded_own own))
+            self.old out.old self.new out.new result }
         ensures line { out.new.line ≡ out.old.line }
     {
         if is_granted(alloc, message.body.as_slice())? {

@@ -4,11 +4,12 @@ ghost use Rattle.std.specs.Prelude.{◌≡◌, ◌<◌, ◌≤◌, ◌%◌, ◌�
 ghost use Rattle.std.specs.List.{position};
 ghost use Rattle.block_codec.specs.Protocol.{longest_text};
 ghost use Rattle.message_end.specs.Core.Command.{Primary};
-ghost use Rattle.message_end.specs.Parts.{Takes, fixed_turn};
+ghost use Rattle.message_end.specs.Parts.{fixed_turn};
 ghost use Rattle.tool_core.specs.Judged.{IsJudged, IsShort, report_named};
 ghost use Rattle.tool_core.specs.Node.{node_of, own_of};
-ghost use Rattle.tool_step.specs.Own.{event_report, is_granted_by, is_online, is_report_of, sent_report, waiting_report, without_grant, without_report};
+ghost use Rattle.tool_step.specs.Own.{is_granted_by, is_online, is_report_of, sent_report, waiting_report, without_grant, without_report};
 ghost use Rattle.tool_step.specs.Sent.{event_turn, going_turn, grant_request, grant_turn, granted_own};
+ghost use Rattle.tool_core.specs.Turns.{TakesPart};
 
 use crate::own::{Own, Tool};
 use crate::primaries::{grant_item, grant_request};
@@ -118,13 +119,7 @@ impl Tool {
         report: Report,
         out: &mut StepOut,
     ) -> Result<(), Stop>
-        ensures does { Takes
-            (going_turn report (own_of self.old.own) self.old.core)
-            (node_of self.old)
-            out.old
-            (node_of self.new)
-            out.new
-            result }
+        ensures does { TakesPart (going_turn report) self.old out.old self.new out.new result }
         ensures line { out.new.line ≡ out.old.line }
     {
         let system = self.core.next();
@@ -145,13 +140,7 @@ impl Tool {
         out: &mut StepOut,
     ) -> Result<(), Stop>
         requires { length body ≤ longest_text }
-        ensures does { Takes
-            (event_turn dataid body (own_of self.old.own) self.old.core)
-            (node_of self.old)
-            out.old
-            (node_of self.new)
-            out.new
-            result }
+        ensures does { TakesPart (event_turn dataid body) self.old out.old self.new out.new result }
         ensures line { out.new.line ≡ out.old.line }
     {
         if body.len() <= ONE_BLOCK {
@@ -169,13 +158,7 @@ impl Tool {
         out: &mut StepOut,
     ) -> Result<(), Stop>
         requires { length body ≤ longest_text }
-        ensures does { Takes
-            (grant_turn dataid body (own_of self.old.own) self.old.core)
-            (node_of self.old)
-            out.old
-            (node_of self.new)
-            out.new
-            result }
+        ensures does { TakesPart (grant_turn dataid body) self.old out.old self.new out.new result }
         ensures line { out.new.line ≡ out.old.line }
     {
         let item = grant_item(alloc, dataid, body.len() as u32)?;
@@ -195,13 +178,9 @@ impl Tool {
     ) -> Result<(), Stop>
         requires text { length text ≤ longest_text }
         requires body { length body ≤ longest_text }
-        ensures does { Takes
-            (fixed_turn (granted_own body (own_of self.old.own) self.old.core) (Primary (grant_request text) ∷ []))
-            (node_of self.old)
-            out.old
-            (node_of self.new)
-            out.new
-            result }
+        ensures does { TakesPart
+            (λ own core. fixed_turn (granted_own body own core) (Primary (grant_request text) ∷ []))
+            self.old out.old self.new out.new result }
         ensures line { out.new.line ≡ out.old.line }
     {
         let system = self.core.next();

@@ -6,14 +6,15 @@ ghost use Rattle.block_codec.specs.Protocol.{longest_text};
 ghost use Rattle.message_end.specs.Calls.{FitsLine};
 ghost use Rattle.message_end.specs.Core.Command.{Primary};
 ghost use Rattle.message_end.specs.Core.Went.{Goes};
-ghost use Rattle.message_end.specs.Parts.{Node, Takes, after_turn, fixed_turn, on_the_way};
+ghost use Rattle.message_end.specs.Parts.{Node, after_turn, fixed_turn, on_the_way};
 ghost use Rattle.trace_log.specs.Text.{printed_note};
 ghost use Rattle.tool_step.specs.declared.kind.Kind.{Kind};
-ghost use Rattle.tool_core.specs.Node.{node_of, own_of};
+ghost use Rattle.tool_core.specs.Node.{own_of};
 ghost use Rattle.tool_step.specs.Own.{OwnView, turn_of};
 ghost use Rattle.tool_core.specs.Judged.{IsShort};
 ghost use Rattle.tool_step.specs.Reports.{unreported_turn};
 ghost use Rattle.tool_step.specs.Sent.{abort_duty, abort_name, body_duty, error_duty, error_item, error_name, error_report, has_room, long_duties, primary_commands, reply_name, text_of};
+ghost use Rattle.tool_core.specs.Turns.{TakesTurn};
 
 use crate::own::Tool;
 use crate::primaries::{error_item, error_report};
@@ -88,13 +89,8 @@ impl Tool {
     ) -> Result<(), Stop>
         requires odd { function % 2 ≡ 1 }
         requires header { Fits header.now }
-        ensures does { Takes
-            (turn_of (own_of self.old.own) (error_duty function header.now (own_of self.old.own) ∷ []))
-            (node_of self.old)
-            out.old
-            (node_of self.new)
-            out.new
-            result }
+        ensures does { TakesTurn (λ own. turn_of own (error_duty function header.now own ∷ []))
+            self.old out.old self.new out.new result }
         ensures line { out.new.line ≡ out.old.line }
     {
         if !self.own.is_communicating() {
@@ -128,13 +124,8 @@ impl Tool {
     ) -> Result<(), Stop>
         requires odd { function % 2 ≡ 1 }
         requires short { IsShort text }
-        ensures does { Takes
-            (fixed_turn (own_of self.old.own) (primary_commands (error_report function) text))
-            (node_of self.old)
-            out.old
-            (node_of self.new)
-            out.new
-            result }
+        ensures does { TakesTurn (λ own. fixed_turn own (primary_commands (error_report function) text))
+            self.old out.old self.new out.new result }
         ensures line { out.new.line ≡ out.old.line }
     {
         match text {
@@ -151,13 +142,8 @@ impl Tool {
         out: &mut StepOut,
     ) -> Result<(), Stop>
         requires { FitsLine unsent }
-        ensures does { Takes
-            (fixed_turn (own_of self.old.own) (Primary unsent ∷ []))
-            (node_of self.old)
-            out.old
-            (node_of self.new)
-            out.new
-            result }
+        ensures does { TakesTurn (λ own. fixed_turn own (Primary unsent ∷ []))
+            self.old out.old self.new out.new result }
         ensures line { out.new.line ≡ out.old.line }
     {
         match self.core.primary(alloc, unsent, out) {
@@ -175,13 +161,8 @@ impl Tool {
         out: &mut StepOut,
     ) -> Result<(), Stop>
         requires { length body ≤ longest_text }
-        ensures does { Takes
-            (turn_of (own_of self.old.own) (body_duty body message.now ∷ []))
-            (node_of self.old)
-            out.old
-            (node_of self.new)
-            out.new
-            result }
+        ensures does { TakesTurn (λ own. turn_of own (body_duty body message.now ∷ []))
+            self.old out.old self.new out.new result }
         ensures line { out.new.line ≡ out.old.line }
     {
         if !message.wait {
@@ -201,13 +182,8 @@ impl Tool {
         message: &Message,
         out: &mut StepOut,
     ) -> Result<(), Stop>
-        ensures does { Takes
-            (turn_of (own_of self.old.own) (abort_duty message.now ∷ []))
-            (node_of self.old)
-            out.old
-            (node_of self.new)
-            out.new
-            result }
+        ensures does { TakesTurn (λ own. turn_of own (abort_duty message.now ∷ []))
+            self.old out.old self.new out.new result }
         ensures line { out.new.line ≡ out.old.line }
     {
         if !message.wait {
@@ -227,13 +203,8 @@ impl Tool {
         message: &Message,
         out: &mut StepOut,
     ) -> Result<(), Stop>
-        ensures does { Takes
-            (turn_of (own_of self.old.own) (long_duties message.now))
-            (node_of self.old)
-            out.old
-            (node_of self.new)
-            out.new
-            result }
+        ensures does { TakesTurn (λ own. turn_of own (long_duties message.now))
+            self.old out.old self.new out.new result }
         ensures line { out.new.line ≡ out.old.line }
     {
         if !message.wait {

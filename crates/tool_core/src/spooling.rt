@@ -1,15 +1,15 @@
 //! What is decided of the spool: which reports are stored, and what the host is answered that asks for it. The disk
 //! follows in the same step.
 
-ghost use Rattle.std.specs.Prelude.{◌≡◌, ◌&&◌, ◌∷◌, [], IfOk};
-ghost use Rattle.message_end.specs.Parts.{Takes};
+ghost use Rattle.std.specs.Prelude.{◌≡◌, ◌&&◌, ◌∷◌, IfOk};
 ghost use Rattle.gem_shapes.specs.Answers as shapes;
 ghost use Rattle.gem_spool.specs.Rule.{covered};
 ghost use Rattle.tool_core.specs.Judged.{IsShort};
-ghost use Rattle.tool_core.specs.Node.{node_of, own_of};
+ghost use Rattle.tool_core.specs.Node.{own_of};
 ghost use Rattle.tool_step.specs.Own.{turn_of};
 ghost use Rattle.tool_step.specs.Sent.{answer_duties, text_of};
 ghost use Rattle.tool_step.specs.Spooling.{is_covered, purge_turn, stored_turn, transmit_turn};
+ghost use Rattle.tool_core.specs.Turns.{TakesTurn};
 
 use crate::own::{Own, Tool};
 use crate::report::Report;
@@ -46,13 +46,7 @@ impl Tool {
         report: Report,
         out: &mut StepOut,
     ) -> Result<(), Stop>
-        ensures does { Takes
-            (stored_turn report (own_of self.old.own))
-            (node_of self.old)
-            out.old
-            (node_of self.new)
-            out.new
-            result }
+        ensures does { TakesTurn (stored_turn report) self.old out.old self.new out.new result }
         ensures line { out.new.line ≡ out.old.line }
     {
         let overwrites = self.own.tables.overwrites();
@@ -73,13 +67,7 @@ impl Tool {
         message: &Message,
         out: &mut StepOut,
     ) -> Result<(), Stop>
-        ensures does { Takes
-            (transmit_turn message.now (own_of self.old.own))
-            (node_of self.old)
-            out.old
-            (node_of self.new)
-            out.new
-            result }
+        ensures does { TakesTurn (transmit_turn message.now) self.old out.old self.new out.new result }
         ensures line { out.new.line ≡ out.old.line }
     {
         let rsda = self.own.ledger.rsda();
@@ -96,13 +84,7 @@ impl Tool {
         message: &Message,
         out: &mut StepOut,
     ) -> Result<(), Stop>
-        ensures does { Takes
-            (purge_turn message.now (own_of self.old.own))
-            (node_of self.old)
-            out.old
-            (node_of self.new)
-            out.new
-            result }
+        ensures does { TakesTurn (purge_turn message.now) self.old out.old self.new out.new result }
         ensures line { out.new.line ≡ out.old.line }
     {
         let rsda = self.own.ledger.rsda();
@@ -120,14 +102,8 @@ impl Tool {
         message: &Message,
         out: &mut StepOut,
     ) -> Result<(), Stop>
-        ensures does { Takes
-            (turn_of (own_of self.old.own)
-            (answer_duties (text_of (own_of self.old.own) (shapes.code_item code)) message.now))
-            (node_of self.old)
-            out.old
-            (node_of self.new)
-            out.new
-            result }
+        ensures does { TakesTurn (λ own. turn_of own (answer_duties (text_of own (shapes.code_item code)) message.now))
+            self.old out.old self.new out.new result }
         ensures line { out.new.line ≡ out.old.line }
     {
         let answer = self.code_text(alloc, code)?;

@@ -3,11 +3,11 @@
 ghost use Rattle.std.specs.Prelude.{IfOk, ◌≡◌, ◌<◌, ◌^◌, ◌++◌};
 ghost use Rattle.gem_states.specs.Control.{control_step};
 ghost use Rattle.message_end.specs.Core.{EndView};
-ghost use Rattle.message_end.specs.Parts.{AreCarried, Takes, fixed_turn};
+ghost use Rattle.message_end.specs.Parts.{AreCarried, fixed_turn};
 ghost use Rattle.tool_step.specs.declared.kind.Kind.{Kind};
-ghost use Rattle.tool_core.specs.Node.{node_of, own_of};
 ghost use Rattle.tool_step.specs.Sent.{establish_commands};
 ghost use Rattle.tool_step.specs.States.{comms_lines, comms_named, comms_turn, control_lines, control_named, control_turn, is_same_comms, is_same_control, request_commands};
+ghost use Rattle.tool_core.specs.Turns.{TakesTurn};
 
 use crate::own::Tool;
 use crate::primaries::establish_request;
@@ -29,13 +29,7 @@ impl Tool {
         out: &mut StepOut,
     ) -> Result<(), Stop>
         requires { now < 2 ^ 62 }
-        ensures does { Takes
-            (comms_turn input now (own_of self.old.own))
-            (node_of self.old)
-            out.old
-            (node_of self.new)
-            out.new
-            result }
+        ensures does { TakesTurn (comms_turn input now) self.old out.old self.new out.new result }
         ensures line { out.new.line ≡ out.old.line }
     {
         let old = self.own.comms.state();
@@ -52,14 +46,9 @@ impl Tool {
         output: CommsOut,
         out: &mut StepOut,
     ) -> Result<(), Stop>
-        ensures does { Takes
-            (fixed_turn (own_of self.old.own) (comms_lines old self.old.own.comms.state
-            ++ request_commands output (own_of self.old.own)))
-            (node_of self.old)
-            out.old
-            (node_of self.new)
-            out.new
-            result }
+        ensures does { TakesTurn
+            (λ own. fixed_turn own (comms_lines old self.old.own.comms.state ++ request_commands output own))
+            self.old out.old self.new out.new result }
         ensures line { out.new.line ≡ out.old.line }
     {
         note_comms(alloc, old, self.own.comms.state(), out)?;
@@ -73,13 +62,8 @@ impl Tool {
         output: CommsOut,
         out: &mut StepOut,
     ) -> Result<(), Stop>
-        ensures does { Takes
-            (fixed_turn (own_of self.old.own) (request_commands output (own_of self.old.own)))
-            (node_of self.old)
-            out.old
-            (node_of self.new)
-            out.new
-            result }
+        ensures does { TakesTurn (λ own. fixed_turn own (request_commands output own))
+            self.old out.old self.new out.new result }
         ensures line { out.new.line ≡ out.old.line }
     {
         match output {
@@ -90,13 +74,8 @@ impl Tool {
 
     // Sends S1F13.
     fn ask(&mut self, alloc: Global, out: &mut StepOut) -> Result<(), Stop>
-        ensures does { Takes
-            (fixed_turn (own_of self.old.own) (establish_commands (own_of self.old.own)))
-            (node_of self.old)
-            out.old
-            (node_of self.new)
-            out.new
-            result }
+        ensures does { TakesTurn (λ own. fixed_turn own (establish_commands own))
+            self.old out.old self.new out.new result }
         ensures line { out.new.line ≡ out.old.line }
     {
         let max_body = self.own.max_body();
@@ -113,13 +92,7 @@ impl Tool {
         input: ControlIn,
         out: &mut StepOut,
     ) -> Result<ControlOut, Stop>
-        ensures does { Takes
-            (control_turn input (own_of self.old.own))
-            (node_of self.old)
-            out.old
-            (node_of self.new)
-            out.new
-            result }
+        ensures does { TakesTurn (control_turn input) self.old out.old self.new out.new result }
         ensures output { IfOk result (λ output. output ≡ (control_step self.old.own.control input).output) }
         ensures line { out.new.line ≡ out.old.line }
     {

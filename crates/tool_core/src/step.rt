@@ -8,13 +8,13 @@ ghost use Rattle.trace_log.specs.Commands.{ToolCommandFits};
 ghost use Rattle.trace_log.specs.Text.{printed_note};
 ghost use Rattle.message_end.specs.Core.Went.{Goes};
 ghost use Rattle.message_end.specs.Ends.{MayTake, input_of};
-ghost use Rattle.message_end.specs.Parts.{Takes, TakesAll, after_turn, on_the_way};
-ghost use Rattle.tool_core.specs.Calls.{Reaches, ReachesAll};
+ghost use Rattle.message_end.specs.Parts.{Takes, after_turn, on_the_way};
 ghost use Rattle.tool_core.specs.Node.{node_of, own_of};
 ghost use Rattle.tool_step.specs.Tool.{told_turn};
 ghost use Rattle.tool_step.specs.Spooling.{end_of_spooling};
 ghost use Rattle.tool_step.specs.Step.{beginning, character, delay_timer, due_parts, first_parts, flow_turn, input_part, is_spent, late_parts, line_timer, offer};
 ghost use Rattle.tool_step.specs.Taking.{taking};
+ghost use Rattle.tool_core.specs.Turns.{ReachesPart, ReachesParts, TakesPart};
 
 use crate::own::Tool;
 use crate::report::Report;
@@ -38,13 +38,7 @@ impl Tool {
         requires now { now < 2 ^ 62 }
         requires input { MayTake ToolCommandFits (input_of input) }
         requires room { array_vec_len out.old.line ≡ 0 }
-        ensures does { ReachesAll
-            (first_parts (input_of input.entry) now)
-            (node_of self.old)
-            out.old
-            (node_of self.new)
-            out.new
-            result }
+        ensures does { ReachesParts (first_parts (input_of input.entry) now) self.old out.old self.new out.new result }
         ensures at_most { array_vec_len out.new.line ≤ 514 }
     {
         match self.begin(alloc, now, out) {
@@ -64,13 +58,8 @@ impl Tool {
         requires now { now < 2 ^ 62 }
         requires input { MayTake ToolCommandFits (input_of input) }
         requires room { array_vec_len out.old.line ≡ 0 }
-        ensures does { ReachesAll
-            (due_parts now ++ input_part (input_of input.entry) now ∷ [])
-            (node_of self.old)
-            out.old
-            (node_of self.new)
-            out.new
-            result }
+        ensures does { ReachesParts (due_parts now ++ input_part (input_of input.entry) now ∷ [])
+            self.old out.old self.new out.new result }
         ensures at_most { array_vec_len out.new.line ≤ 514 }
     {
         match self.do_due(alloc, now, out) {
@@ -90,13 +79,8 @@ impl Tool {
     ) -> Result<(), Stop>
         requires now { now < 2 ^ 62 }
         requires room { array_vec_len out.old.line ≤ 514 }
-        ensures does { ReachesAll
-            (taking oldest ∷ end_of_spooling ∷ offer now ∷ [])
-            (node_of self.old)
-            out.old
-            (node_of self.new)
-            out.new
-            result }
+        ensures does { ReachesParts (taking oldest ∷ end_of_spooling ∷ offer now ∷ [])
+            self.old out.old self.new out.new result }
     {
         match self.unload(alloc, oldest, out) {
             Ok(()) => self.end_step(alloc, now, out),
@@ -111,13 +95,7 @@ impl Tool {
         oldest: Option<(u64, Report)>,
         out: &mut StepOut,
     ) -> Result<(), Stop>
-        ensures does { Takes
-            (taking oldest (own_of self.old.own) self.old.core)
-            (node_of self.old)
-            out.old
-            (node_of self.new)
-            out.new
-            result }
+        ensures does { TakesPart (taking oldest) self.old out.old self.new out.new result }
         ensures line { out.new.line ≡ out.old.line }
     {
         match oldest {
@@ -130,13 +108,7 @@ impl Tool {
     fn end_step(&mut self, alloc: Global, now: u64, out: &mut StepOut) -> Result<(), Stop>
         requires now { now < 2 ^ 62 }
         requires room { array_vec_len out.old.line ≤ 514 }
-        ensures does { ReachesAll
-            (end_of_spooling ∷ offer now ∷ [])
-            (node_of self.old)
-            out.old
-            (node_of self.new)
-            out.new
-            result }
+        ensures does { ReachesParts (end_of_spooling ∷ offer now ∷ []) self.old out.old self.new out.new result }
     {
         match self.end_spooling(alloc, out) {
             Ok(()) => {
@@ -150,13 +122,7 @@ impl Tool {
     // In the first step the communication is enabled where the plan says so.
     fn begin(&mut self, alloc: Global, now: u64, out: &mut StepOut) -> Result<(), Stop>
         requires { now < 2 ^ 62 }
-        ensures does { Takes
-            (beginning now (own_of self.old.own) self.old.core)
-            (node_of self.old)
-            out.old
-            (node_of self.new)
-            out.new
-            result }
+        ensures does { TakesPart (beginning now) self.old out.old self.new out.new result }
         ensures line { out.new.line ≡ out.old.line }
     {
         let has_begun = self.own.has_begun;
@@ -171,7 +137,7 @@ impl Tool {
     fn do_due(&mut self, alloc: Global, now: u64, out: &mut StepOut) -> Result<(), Stop>
         requires now { now < 2 ^ 62 }
         requires room { array_vec_len out.old.line + 257 ≤ 1024 }
-        ensures does { ReachesAll (due_parts now) (node_of self.old) out.old (node_of self.new) out.new result }
+        ensures does { ReachesParts (due_parts now) self.old out.old self.new out.new result }
         ensures at_most { array_vec_len out.new.line ≤ array_vec_len out.old.line + 257 }
     {
         match self.tick(alloc, now, out) {
@@ -183,13 +149,7 @@ impl Tool {
     // What comes too late ends, and the delay.
     fn do_late(&mut self, alloc: Global, now: u64, out: &mut StepOut) -> Result<(), Stop>
         requires { now < 2 ^ 62 }
-        ensures does { ReachesAll
-            (late_parts now ++ delay_timer now ∷ [])
-            (node_of self.old)
-            out.old
-            (node_of self.new)
-            out.new
-            result }
+        ensures does { ReachesParts (late_parts now ++ delay_timer now ∷ []) self.old out.old self.new out.new result }
         ensures line { out.new.line ≡ out.old.line }
     {
         match self.end_late(alloc, now, out) {
@@ -202,13 +162,7 @@ impl Tool {
     fn tick(&mut self, alloc: Global, now: u64, out: &mut StepOut) -> Result<(), Stop>
         requires now { now < 2 ^ 62 }
         requires room { array_vec_len out.old.line + 257 ≤ 1024 }
-        ensures does { Takes
-            (line_timer now (own_of self.old.own) self.old.core)
-            (node_of self.old)
-            out.old
-            (node_of self.new)
-            out.new
-            result }
+        ensures does { TakesPart (line_timer now) self.old out.old self.new out.new result }
         ensures at_most { array_vec_len out.new.line ≤ array_vec_len out.old.line + 257 }
     {
         match self.core.tick(now, out) {
@@ -220,7 +174,7 @@ impl Tool {
     // Ends what comes too late.
     fn end_late(&mut self, alloc: Global, now: u64, out: &mut StepOut) -> Result<(), Stop>
         requires { now < 2 ^ 62 }
-        ensures does { ReachesAll (late_parts now) (node_of self.old) out.old (node_of self.new) out.new result }
+        ensures does { ReachesParts (late_parts now) self.old out.old self.new out.new result }
         ensures line { out.new.line ≡ out.old.line }
     {
         match self.drop_all(alloc, now, out) {
@@ -240,13 +194,7 @@ impl Tool {
         requires now { now < 2 ^ 62 }
         requires input { MayTake ToolCommandFits (input_of input) }
         requires room { array_vec_len out.old.line + 257 ≤ 1024 }
-        ensures does { Reaches
-            (input_part (input_of input.entry) now (own_of self.old.own) self.old.core)
-            (node_of self.old)
-            out.old
-            (node_of self.new)
-            out.new
-            result }
+        ensures does { ReachesPart (input_part (input_of input.entry) now) self.old out.old self.new out.new result }
         ensures at_most { array_vec_len out.new.line ≤ array_vec_len out.old.line + 257 }
     {
         match input {
@@ -265,13 +213,7 @@ impl Tool {
         out: &mut StepOut,
     ) -> Result<(), Stop>
         requires { now < 2 ^ 62 }
-        ensures does { Reaches
-            (told_turn command.now now (own_of self.old.own) self.old.core)
-            (node_of self.old)
-            out.old
-            (node_of self.new)
-            out.new
-            result }
+        ensures does { ReachesPart (told_turn command.now now) self.old out.old self.new out.new result }
         ensures line { out.new.line ≡ out.old.line }
     {
         self.obey(alloc, command, now, out)
@@ -281,13 +223,7 @@ impl Tool {
     fn take(&mut self, alloc: Global, byte: u8, now: u64, out: &mut StepOut) -> Result<(), Stop>
         requires now { now < 2 ^ 62 }
         requires room { array_vec_len out.old.line + 257 ≤ 1024 }
-        ensures does { Reaches
-            (character byte now (own_of self.old.own) self.old.core)
-            (node_of self.old)
-            out.old
-            (node_of self.new)
-            out.new
-            result }
+        ensures does { ReachesPart (character byte now) self.old out.old self.new out.new result }
         ensures at_most { array_vec_len out.new.line ≤ array_vec_len out.old.line + 257 }
     {
         match self.core.take(alloc, byte, now, out) {
@@ -311,13 +247,7 @@ impl Tool {
     ) -> Result<(), Stop>
         requires now { now < 2 ^ 62 }
         requires header { Fits header.now }
-        ensures does { Reaches
-            (flow_turn now header.now flow (own_of self.old.own) self.old.core)
-            (node_of self.old)
-            out.old
-            (node_of self.new)
-            out.new
-            result }
+        ensures does { ReachesPart (flow_turn now header.now flow) self.old out.old self.new out.new result }
         ensures line { out.new.line ≡ out.old.line }
     {
         match flow {
@@ -342,13 +272,7 @@ impl Tool {
     ) -> Result<(), Stop>
         requires now { now < 2 ^ 62 }
         requires header { Fits header.now }
-        ensures does { Takes
-            (flow_turn now header.now flow.TooLong (own_of self.old.own) self.old.core)
-            (node_of self.old)
-            out.old
-            (node_of self.new)
-            out.new
-            result }
+        ensures does { TakesPart (flow_turn now header.now flow.TooLong) self.old out.old self.new out.new result }
         ensures line { out.new.line ≡ out.old.line }
     {
         if self.is_spent() {

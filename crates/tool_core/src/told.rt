@@ -1,8 +1,7 @@
 //! The commands of the tool.
 
-ghost use Rattle.std.specs.Prelude.{IfOk, true, ◌≡◌, ◌<◌, ◌^◌, ◌∷◌, [], ◌++◌};
-ghost use Rattle.message_end.specs.Parts.{Takes};
-ghost use Rattle.tool_core.specs.Node.{node_of, own_of};
+ghost use Rattle.std.specs.Prelude.{IfOk, true, ◌≡◌, ◌<◌, ◌^◌, ◌∷◌, ◌++◌};
+ghost use Rattle.tool_core.specs.Node.{own_of};
 ghost use Rattle.gem_alarms.specs.Alarms.{step_of};
 ghost use Rattle.gem_reports.specs.Reporting.{is_planned};
 ghost use Rattle.gem_vars.specs.Settings.{refusal_of};
@@ -12,6 +11,7 @@ ghost use Rattle.tool_step.specs.Reports.{report_turn};
 ghost use Rattle.tool_step.specs.Sent.{terminal_item, terminal_report, text_of};
 ghost use Rattle.tool_step.specs.States.{control_turn};
 ghost use Rattle.tool_step.specs.Tool.{alarm_report_turn, alarm_turn, attempt_turn, command_turn, enabled_turn, known_event_turn, online_turn, set_turn, terminal_turn, told_turn};
+ghost use Rattle.tool_core.specs.Turns.{TakesPart, TakesTurn};
 
 use crate::own::Tool;
 use crate::primaries::{online_request, terminal_item};
@@ -38,13 +38,7 @@ impl Tool {
         out: &mut StepOut,
     ) -> Result<(), Stop>
         requires { now < 2 ^ 62 }
-        ensures does { Takes
-            (told_turn command.now now (own_of self.old.own) self.old.core)
-            (node_of self.old)
-            out.old
-            (node_of self.new)
-            out.new
-            result }
+        ensures does { TakesPart (told_turn command.now now) self.old out.old self.new out.new result }
         ensures line { out.new.line ≡ out.old.line }
     {
         self.follow(alloc, command, now, out)
@@ -59,13 +53,7 @@ impl Tool {
         out: &mut StepOut,
     ) -> Result<(), Stop>
         requires { now < 2 ^ 62 }
-        ensures does { Takes
-            (command_turn command.now now (own_of self.old.own) self.old.core)
-            (node_of self.old)
-            out.old
-            (node_of self.new)
-            out.new
-            result }
+        ensures does { TakesPart (command_turn command.now now) self.old out.old self.new out.new result }
         ensures line { out.new.line ≡ out.old.line }
     {
         match command {
@@ -84,13 +72,8 @@ impl Tool {
 
     // Sets a variable.
     fn set(&mut self, alloc: Global, vid: u32, value: &Item, out: &mut StepOut) -> Result<(), Stop>
-        ensures does { Takes
-            (set_turn (refusal_of self.old.own.tables.vars vid value.now) vid value.now (own_of self.old.own))
-            (node_of self.old)
-            out.old
-            (node_of self.new)
-            out.new
-            result }
+        ensures does { TakesTurn (set_turn (refusal_of self.old.own.tables.vars vid value.now) vid value.now)
+            self.old out.old self.new out.new result }
         ensures line { out.new.line ≡ out.old.line }
     {
         if !self.own.tables.set(alloc, vid, value)? {
@@ -103,14 +86,8 @@ impl Tool {
 
     // An event happens.
     fn happen(&mut self, alloc: Global, ceid: u32, out: &mut StepOut) -> Result<(), Stop>
-        ensures does { Takes
-            (known_event_turn (is_planned (own_of self.old.own).tables.reports ceid) ceid (own_of self.old.own)
-            self.old.core)
-            (node_of self.old)
-            out.old
-            (node_of self.new)
-            out.new
-            result }
+        ensures does { TakesPart (λ own core. known_event_turn (is_planned own.tables.reports ceid) ceid own core)
+            self.old out.old self.new out.new result }
         ensures line { out.new.line ≡ out.old.line }
     {
         if !self.own.tables.is_event(ceid) {
@@ -134,13 +111,7 @@ impl Tool {
         dataid: u32,
         out: &mut StepOut,
     ) -> Result<(), Stop>
-        ensures does { Takes
-            (enabled_turn true ceid dataid (own_of self.old.own) self.old.core)
-            (node_of self.old)
-            out.old
-            (node_of self.new)
-            out.new
-            result }
+        ensures does { TakesPart (enabled_turn true ceid dataid) self.old out.old self.new out.new result }
         ensures line { out.new.line ≡ out.old.line }
     {
         if !self.own.is_online() {
@@ -163,14 +134,8 @@ impl Tool {
         is_set: bool,
         out: &mut StepOut,
     ) -> Result<(), Stop>
-        ensures does { Takes
-            (alarm_turn (step_of self.old.own.tables.alarms alid is_set) alid is_set (own_of self.old.own)
-            self.old.core)
-            (node_of self.old)
-            out.old
-            (node_of self.new)
-            out.new
-            result }
+        ensures does { TakesPart (alarm_turn (step_of self.old.own.tables.alarms alid is_set) alid is_set)
+            self.old out.old self.new out.new result }
         ensures line { out.new.line ≡ out.old.line }
     {
         match self.own.tables.change(alid, is_set) {
@@ -197,13 +162,7 @@ impl Tool {
         alid: u32,
         out: &mut StepOut,
     ) -> Result<(), Stop>
-        ensures does { Takes
-            (alarm_report_turn enabled alid (own_of self.old.own) self.old.core)
-            (node_of self.old)
-            out.old
-            (node_of self.new)
-            out.new
-            result }
+        ensures does { TakesPart (alarm_report_turn enabled alid) self.old out.old self.new out.new result }
         ensures line { out.new.line ≡ out.old.line }
     {
         if !enabled {
@@ -223,13 +182,7 @@ impl Tool {
 
     // The operator of a terminal has a text for the host.
     fn write(&mut self, alloc: Global, tid: u8, text: &[u8], out: &mut StepOut) -> Result<(), Stop>
-        ensures does { Takes
-            (terminal_turn tid text.now (own_of self.old.own) self.old.core)
-            (node_of self.old)
-            out.old
-            (node_of self.new)
-            out.new
-            result }
+        ensures does { TakesPart (terminal_turn tid text.now) self.old out.old self.new out.new result }
         ensures line { out.new.line ≡ out.old.line }
     {
         if !self.own.is_online() {
@@ -244,13 +197,7 @@ impl Tool {
     fn send_terminal(&mut self, alloc: Global, text: Answer, out: &mut StepOut) -> Result<(), Stop>
         requires short { IsShort text }
         requires online { is_online (own_of self.old.own) ≡ true }
-        ensures does { Takes
-            (report_turn terminal_report text (own_of self.old.own) self.old.core)
-            (node_of self.old)
-            out.old
-            (node_of self.new)
-            out.new
-            result }
+        ensures does { TakesPart (report_turn terminal_report text) self.old out.old self.new out.new result }
         ensures line { out.new.line ≡ out.old.line }
     {
         match self.judge_text(alloc, TERMINAL_NAME, text, out)? {
@@ -270,13 +217,7 @@ impl Tool {
 
     // The operator wants to be on-line.
     fn go_online(&mut self, alloc: Global, out: &mut StepOut) -> Result<(), Stop>
-        ensures does { Takes
-            (online_turn (own_of self.old.own) self.old.core)
-            (node_of self.old)
-            out.old
-            (node_of self.new)
-            out.new
-            result }
+        ensures does { TakesPart online_turn self.old out.old self.new out.new result }
         ensures line { out.new.line ≡ out.old.line }
     {
         let communicating = self.own.is_communicating();
@@ -288,13 +229,7 @@ impl Tool {
 
     // Attempts to be on-line.
     fn attempt(&mut self, alloc: Global, out: &mut StepOut) -> Result<(), Stop>
-        ensures does { Takes
-            (attempt_turn (own_of self.old.own) self.old.core)
-            (node_of self.old)
-            out.old
-            (node_of self.new)
-            out.new
-            result }
+        ensures does { TakesPart attempt_turn self.old out.old self.new out.new result }
         ensures line { out.new.line ≡ out.old.line }
     {
         if self.core.primary(alloc, online_request(alloc), out)? {
@@ -305,13 +240,7 @@ impl Tool {
 
     // The operator moves a switch of control.
     fn switch(&mut self, alloc: Global, input: ControlIn, out: &mut StepOut) -> Result<(), Stop>
-        ensures does { Takes
-            (control_turn input (own_of self.old.own))
-            (node_of self.old)
-            out.old
-            (node_of self.new)
-            out.new
-            result }
+        ensures does { TakesTurn (control_turn input) self.old out.old self.new out.new result }
         ensures line { out.new.line ≡ out.old.line }
     {
         self.control(alloc, input, out)?;

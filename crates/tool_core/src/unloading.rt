@@ -1,20 +1,19 @@
 //! An unload: messages of the spool go to the host.
 
 ghost use Rattle.std.specs.Prelude.{◌≡◌, ◌≤◌, true, length, IfOk, Some};
-ghost use Rattle.block_codec.specs.Protocol.{longest_text};
 ghost use Rattle.message_end.specs.Core.{is_crowded_out};
-ghost use Rattle.message_end.specs.Parts.{Takes};
 ghost use Rattle.gem_shapes.specs.Elements.{identifier};
 ghost use Rattle.equipment_tables.specs.Tables.{most_transmitted};
 ghost use Rattle.spool_ledger.specs.Unloading.{after_next, next_number};
-ghost use Rattle.tool_core.specs.Carried.{IsTaken, IsTakenBack, drawing_turn};
+ghost use Rattle.tool_core.specs.Carried.{IsTakenBack, drawing_turn};
 ghost use Rattle.tool_core.specs.Judged.{IsShort};
-ghost use Rattle.tool_core.specs.Node.{node_of, own_of};
+ghost use Rattle.tool_core.specs.Node.{own_of};
 ghost use Rattle.tool_step.specs.Own.{with_ledger};
 ghost use Rattle.tool_step.specs.Replies.{denied_turn};
 ghost use Rattle.tool_step.specs.Sent.{grant_item, text_of};
 ghost use Rattle.tool_step.specs.Spooling.{dataid_in, end_of_spooling, first_number, leave_given_turn, leave_turn, needs_leave, taking_turn, unloaded_own, unloading_turn};
 ghost use Rattle.tool_step.specs.Taking.{waiting_turn};
+ghost use Rattle.tool_core.specs.Turns.{HasTakenPart, TakesPart};
 
 use crate::own::Tool;
 use crate::primaries::{grant_item, unload_request};
@@ -51,13 +50,7 @@ impl Tool {
         report: Report,
         out: &mut StepOut,
     ) -> Result<(), Stop>
-        ensures does { Takes
-            (taking_turn (Some number) (Some report) (own_of self.old.own) self.old.core)
-            (node_of self.old)
-            out.old
-            (node_of self.new)
-            out.new
-            result }
+        ensures does { TakesPart (taking_turn (Some number) (Some report)) self.old out.old self.new out.new result }
         ensures line { out.new.line ≡ out.old.line }
     {
         self.stop_last();
@@ -85,13 +78,7 @@ impl Tool {
         report: Report,
         out: &mut StepOut,
     ) -> Result<(), Stop>
-        ensures does { Takes
-            (drawing_turn number report (own_of self.old.own) self.old.core)
-            (node_of self.old)
-            out.old
-            (node_of self.new)
-            out.new
-            result }
+        ensures does { TakesPart (drawing_turn number report) self.old out.old self.new out.new result }
         ensures line { out.new.line ≡ out.old.line }
     {
         let system = self.core.draw(out)?;
@@ -112,13 +99,7 @@ impl Tool {
         report: Report,
         out: &mut StepOut,
     ) -> Result<(), Stop>
-        ensures does { Takes
-            (waiting_turn number system report (own_of self.old.own) self.old.core)
-            (node_of self.old)
-            out.old
-            (node_of self.new)
-            out.new
-            result }
+        ensures does { TakesPart (waiting_turn number system report) self.old out.old self.new out.new result }
         ensures line { out.new.line ≡ out.old.line }
     {
         let text = self.leave_text(alloc, &report)?;
@@ -142,13 +123,7 @@ impl Tool {
     // Asks by this text for leave to send the message that was taken up.
     fn ask_for_unload(&mut self, alloc: Global, text: Answer, out: &mut StepOut) -> Result<(), Stop>
         requires { IsShort text }
-        ensures does { Takes
-            (leave_turn text (own_of self.old.own) self.old.core)
-            (node_of self.old)
-            out.old
-            (node_of self.new)
-            out.new
-            result }
+        ensures does { TakesPart (leave_turn text) self.old out.old self.new out.new result }
         ensures line { out.new.line ≡ out.old.line }
     {
         match text {
@@ -172,13 +147,7 @@ impl Tool {
         report: Report,
         out: &mut StepOut,
     ) -> Result<(), Stop>
-        ensures does { Takes
-            (unloading_turn report (own_of self.old.own) self.old.core)
-            (node_of self.old)
-            out.old
-            (node_of self.new)
-            out.new
-            result }
+        ensures does { TakesPart (unloading_turn report) self.old out.old self.new out.new result }
         ensures line { out.new.line ≡ out.old.line }
     {
         let crowded = self.is_crowded();
@@ -199,13 +168,7 @@ impl Tool {
 
     /// The message under way has got leave to go.
     pub(crate) fn let_go(&mut self, alloc: Global, out: &mut StepOut) -> Result<(), Stop>
-        ensures does { Takes
-            (leave_given_turn (own_of self.old.own) self.old.core)
-            (node_of self.old)
-            out.old
-            (node_of self.new)
-            out.new
-            result }
+        ensures does { TakesPart leave_given_turn self.old out.old self.new out.new result }
         ensures line { out.new.line ≡ out.old.line }
     {
         match self.own.ledger.granted() {
@@ -218,9 +181,8 @@ impl Tool {
 
     /// The message under way gets no leave: the unload ends, and the message stays.
     pub(crate) fn deny_unload(&mut self, alloc: Global, out: &mut StepOut) -> Result<(), NoMemory>
-        ensures does { IfOk result (λ done. IsTaken
-            (denied_turn (unloaded_own (own_of self.old.own)))
-            (node_of self.old) out.old (node_of self.new) out.new) }
+        ensures does { IfOk result (λ done. HasTakenPart
+            (λ own core. denied_turn (unloaded_own own)) self.old out.old self.new out.new) }
         ensures line { out.new.line ≡ out.old.line }
     {
         self.own.ledger.end_unload();
@@ -229,9 +191,7 @@ impl Tool {
 
     /// Where nothing is left of the spool, spooling ends.
     pub(crate) fn end_spooling(&mut self, alloc: Global, out: &mut StepOut) -> Result<(), NoMemory>
-        ensures does { IfOk result (λ done. IsTaken
-            (end_of_spooling (own_of self.old.own) self.old.core)
-            (node_of self.old) out.old (node_of self.new) out.new) }
+        ensures does { IfOk result (λ done. HasTakenPart end_of_spooling self.old out.old self.new out.new) }
         ensures line { out.new.line ≡ out.old.line }
     {
         let communicating = self.own.is_communicating();
