@@ -2,7 +2,6 @@
 #![tactic(auto)]
 
 mod endings;
-mod kept;
 mod messages;
 mod own;
 mod primaries;

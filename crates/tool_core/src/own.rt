@@ -1,10 +1,21 @@
-//! What the equipment is between two calls.
+//! What the equipment is between two calls, and what is read off it.
+
+ghost use Rattle.std.specs.Prelude.{◌≡◌, ◌≤◌, ◌++◌, ◌∷◌, [], IfOk, OnOk};
+ghost use Rattle.block_codec.specs.Protocol.{longest_text};
+ghost use Rattle.line_end.specs.Plan.{LinePlanFits};
+ghost use Rattle.tool_core.specs.Node.{own_of};
+ghost use Rattle.tool_step.specs.Equipment.{new_own};
+ghost use Rattle.tool_step.specs.Own.{is_communicating_in, is_enabled_in, is_local_in, is_online_in, with_for_grant, with_reports};
+ghost use Rattle.equipment_tables.specs.Plan.{EquipmentPlanFits};
 
 use crate::report::{ForGrant, Live};
 use equipment_tables::{EquipmentPlan, Tables};
-use gem_states::{Comms, Control};
+use gem_states::{Comms, CommsState, Control, ControlState};
+use gl_base::NoMemory;
+use line_end::LinePlan;
 use message_end::MessageEnd;
 use spool_ledger::Ledger;
+use std::alloc::Global;
 use std::marker::Model;
 use tool_step::Kind;
 
@@ -50,4 +61,122 @@ pub struct Own {
     pub tried: Option<u32>,
     pub events: u32,
     pub has_begun: bool,
+}
+
+impl Planned {
+    /// A plan that fits, by what its caller knows of it.
+    pub fn of(plan: EquipmentPlan) -> Planned
+        requires { EquipmentPlanFits plan }
+        ensures { result ≡ plan }
+    {
+        Planned { plan }
+    }
+
+    /// The plan.
+    pub fn get(&self) -> &EquipmentPlan
+        ensures value { result.now ≡ self.now }
+        ensures fits { EquipmentPlanFits self.now }
+    {
+        &self.plan
+    }
+
+    /// The line's part of the plan.
+    pub(crate) fn line(&self) -> LinePlan
+        ensures value { result ≡ self.now.line }
+        ensures fits { LinePlanFits result }
+    {
+        self.plan.line
+    }
+
+    /// Whether the communication is enabled from the start.
+    pub(crate) fn is_enabling(&self) -> bool
+        ensures { result ≡ self.now.enable }
+    {
+        self.plan.enable
+    }
+}
+
+impl Own {
+    /// What is kept at a start, with what is known of the spool.
+    pub(crate) fn new(alloc: Global, plan: EquipmentPlan, ledger: Ledger) -> Result<Own, NoMemory>
+        requires { EquipmentPlanFits plan }
+        ensures { IfOk result (λ own. own_of own ≡ new_own plan ledger) }
+    {
+        let tables = Tables::new(alloc, &plan)?;
+        let control = Control::new(plan.control);
+        Ok(Own {
+            plan: Planned::of(plan),
+            tables,
+            comms: Comms::new(),
+            control,
+            for_grant: Vec::new(alloc),
+            reports: Vec::new(alloc),
+            ledger,
+            tried: None,
+            events: 0,
+            has_begun: false,
+        })
+    }
+
+    /// The most bytes of a text.
+    pub(crate) fn max_body(&self) -> u32
+        ensures value { result ≡ self.now.plan.line.max_body }
+        ensures least { 244 ≤ result }
+        ensures most { result ≤ longest_text }
+    {
+        self.plan.line().max_body
+    }
+
+    /// Whether the communication is enabled.
+    pub(crate) fn is_enabled(&self) -> bool
+        ensures { result ≡ is_enabled_in self.now.comms.state }
+    {
+        !matches!(self.comms.state(), CommsState::Disabled)
+    }
+
+    /// Whether the communication is established.
+    pub(crate) fn is_communicating(&self) -> bool
+        ensures { result ≡ is_communicating_in self.now.comms.state }
+    {
+        matches!(self.comms.state(), CommsState::Communicating)
+    }
+
+    /// Whether the equipment is on-line.
+    pub(crate) fn is_online(&self) -> bool
+        ensures { result ≡ is_online_in self.now.control.state }
+    {
+        matches!(
+            self.control.state(),
+            ControlState::Local | ControlState::Remote
+        )
+    }
+
+    /// Whether the operator has the equipment on-line by himself.
+    pub(crate) fn is_local(&self) -> bool
+        ensures { result ≡ is_local_in self.now.control.state }
+    {
+        matches!(self.control.state(), ControlState::Local)
+    }
+
+    /// A report waits for leave to go.
+    pub(crate) fn keep(&mut self, waiting: ForGrant) -> Result<(), NoMemory>
+        ensures { OnOk result (own_of self.new ≡
+            with_for_grant (self.old.for_grant.items ++ waiting ∷ []) (own_of self.old)) }
+    {
+        match self.for_grant.push(waiting) {
+            Ok(()) => Ok(()),
+            Err(_failed) => Err(NoMemory),
+        }
+    }
+
+    /// A report was sent, and awaits its answer.
+    pub(crate) fn await_answer(&mut self, live: Live) -> Result<(), NoMemory>
+        ensures { OnOk result (own_of self.new ≡
+            with_reports (self.old.reports.items ++ live ∷ []) (own_of self.old)) }
+    {
+        match self.reports.push(live) {
+            Ok(()) => Ok(()),
+            Err(_failed) => Err(NoMemory),
+        }
+    }
 }
