@@ -16,8 +16,8 @@ ghost use Rattle.tool_step.specs.States.{begins_spooling, control_after_loss, co
 ghost use Rattle.tool_core.specs.Turns.{TakesPart, TakesTurn};
 
 use crate::own::{Own, Tool};
-use crate::report::Report;
-use crate::reports::EVENT_NAME;
+use crate::routing::EVENT_NAME;
+use crate::spoolable::Spoolable;
 use crate::states::{is_same_comms, note_comms, note_control};
 use block_codec::Header;
 use gem_states::{CommsIn, CommsState, ControlIn, ControlState};
@@ -33,7 +33,7 @@ impl Tool {
     /// The communication meets an input by which all open messages end, where it changes the state. A block with the
     /// header that is given failed. An unload ends, and spooling begins where the communication is lost or can't be
     /// established.
-    pub(crate) fn leave(
+    pub(crate) fn end_communication(
         &mut self,
         alloc: Global,
         input: CommsIn,
@@ -74,7 +74,7 @@ impl Tool {
         active: bool,
         failed: Option<Header>,
         out: &mut StepOut,
-    ) -> Result<VecDeque<Report>, NoMemory>
+    ) -> Result<VecDeque<Spoolable>, NoMemory>
         ensures own { IfOk result (λ reports. own_of self.new.own ≡ without_open (own_of self.old.own) self.old.core) }
         ensures does { IfOk result (λ reports. AreDone
             (ends_open (ends_with active (own_of self.old.own)) self.old.core failed)
@@ -104,7 +104,7 @@ impl Tool {
         alloc: Global,
         active: bool,
         out: &mut StepOut,
-    ) -> Result<VecDeque<Report>, NoMemory>
+    ) -> Result<VecDeque<Spoolable>, NoMemory>
         ensures own { IfOk result (λ reports. own_of self.new.own
             ≡ with_control (control_after_loss self.old.own.control self.old.core) (own_of self.old.own)) }
         ensures does { IfOk result (λ reports. AreCarried
@@ -131,7 +131,7 @@ impl Tool {
     fn store_all(
         &mut self,
         alloc: Global,
-        reports: VecDeque<Report>,
+        reports: VecDeque<Spoolable>,
         out: &mut StepOut,
     ) -> Result<(), Stop>
         ensures does { TakesTurn (stores_turn reports.items) self.old out.old self.new out.new result }
@@ -168,7 +168,7 @@ impl Own {
         active: bool,
         kind: Kind,
         system: u32,
-    ) -> Result<Option<Report>, NoMemory>
+    ) -> Result<Option<Spoolable>, NoMemory>
         ensures { IfOk result (λ report. report
             ≡ stored_by (with_active active (own_of self.now)) kind system) }
     {
@@ -193,7 +193,7 @@ impl Own {
         alloc: Global,
         header: &Header,
         kind: Kind,
-        stored: &Option<Report>,
+        stored: &Option<Spoolable>,
         first: ControlState,
         out: &mut StepOut,
     ) -> Result<(), NoMemory>
@@ -252,7 +252,7 @@ impl Own {
 }
 
 // Puts a report behind others, if there is one.
-fn put_behind(reports: &mut VecDeque<Report>, report: Option<Report>) -> Result<(), NoMemory>
+fn put_behind(reports: &mut VecDeque<Spoolable>, report: Option<Spoolable>) -> Result<(), NoMemory>
     ensures { OnOk result (reports.new.items ≡ reports.old.items ++ as_list report) }
 {
     match report {

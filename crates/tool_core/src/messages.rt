@@ -194,15 +194,15 @@ impl Tool {
         ensures line { out.new.line ≡ out.old.line }
     {
         if !is_known_stream(message.stream) {
-            return self.report_error(alloc, 3, header, out);
+            return self.tell_error(alloc, 3, header, out);
         }
         if !is_known(message.stream, message.function) {
-            return self.report_error(alloc, 5, header, out);
+            return self.tell_error(alloc, 5, header, out);
         }
         let body = message.body.as_slice();
         match request_of(alloc, message.stream, message.function, body)? {
             Some(request) => self.fulfil(alloc, &request, message, out),
-            None => self.report_error(alloc, 7, header, out),
+            None => self.tell_error(alloc, 7, header, out),
         }
     }
 

@@ -8,7 +8,7 @@ ghost use Rattle.tool_step.specs.Equipment.{new_own};
 ghost use Rattle.tool_step.specs.Own.{is_communicating_in, is_enabled_in, is_local_in, is_online_in, with_for_grant, with_reports};
 ghost use Rattle.equipment_tables.specs.Plan.{EquipmentPlanFits};
 
-use crate::report::{ForGrant, Live};
+use crate::spoolable::{ForGrant, Live};
 use equipment_tables::{EquipmentPlan, Tables};
 use gem_states::{Comms, CommsState, Control, ControlState};
 use gl_base::NoMemory;

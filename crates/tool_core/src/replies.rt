@@ -14,7 +14,7 @@ ghost use Rattle.tool_step.specs.States.{control_turn};
 ghost use Rattle.tool_core.specs.Turns.{TakesPart, TakesParts, TakesTurn};
 
 use crate::own::Tool;
-use crate::reports::EVENT_NAME;
+use crate::routing::EVENT_NAME;
 use block_codec::Header;
 use gem_states::{CommsIn, ControlIn};
 use gl_base::NoMemory;
@@ -176,7 +176,7 @@ impl Tool {
         ensures line { out.new.line ≡ out.old.line }
     {
         match self.lose_reply(alloc, kind, header.system, now, out) {
-            Ok(()) => self.report_error(alloc, 9, header, out),
+            Ok(()) => self.tell_error(alloc, 9, header, out),
             Err(stop) => Err(stop),
         }
     }
@@ -195,7 +195,7 @@ impl Tool {
         ensures line { out.new.line ≡ out.old.line }
     {
         match kind {
-            Kind::Establish => self.leave(alloc, CommsIn::Denied, None, now, out),
+            Kind::Establish => self.end_communication(alloc, CommsIn::Denied, None, now, out),
             Kind::Attempt => self.fail_attempt(alloc, out),
             Kind::Grant => self.deny(alloc, system, out),
             Kind::Report => {
@@ -296,7 +296,7 @@ impl Tool {
         match kind {
             Kind::Establish => self.heed_establishing(alloc, message, now, out),
             Kind::Attempt => self.end_attempt(alloc, out),
-            Kind::Grant => self.heed_leave(alloc, message, out),
+            Kind::Grant => self.heed_grant(alloc, message, out),
             Kind::Report => {
                 let _ = self.take_sent(message.system);
                 Ok(())
@@ -305,7 +305,7 @@ impl Tool {
                 self.own.ledger.confirm(alloc, out)?;
                 Ok(())
             }
-            Kind::UnloadGrant => self.heed_unload_leave(alloc, message, out),
+            Kind::UnloadGrant => self.heed_unload_grant(alloc, message, out),
         }
     }
 
@@ -325,11 +325,11 @@ impl Tool {
         if is_accepted(alloc, message.body.as_slice())? {
             return self.meet(alloc, CommsIn::Accepted, now, out);
         }
-        self.leave(alloc, CommsIn::Denied, None, now, out)
+        self.end_communication(alloc, CommsIn::Denied, None, now, out)
     }
 
     // The reply to S6F5 has come.
-    fn heed_leave(
+    fn heed_grant(
         &mut self,
         alloc: Global,
         message: &Message,
@@ -349,7 +349,7 @@ impl Tool {
     }
 
     // The reply to the S6F5 for a message of the spool has come.
-    fn heed_unload_leave(
+    fn heed_unload_grant(
         &mut self,
         alloc: Global,
         message: &Message,

@@ -80,7 +80,7 @@ impl Tool {
     }
 
     /// Tells the host of an error about a block with this header, in COMMUNICATING.
-    pub(crate) fn report_error(
+    pub(crate) fn tell_error(
         &mut self,
         alloc: Global,
         function: u8,

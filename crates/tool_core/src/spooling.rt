@@ -12,7 +12,7 @@ ghost use Rattle.tool_step.specs.Spooling.{is_covered, purge_turn, stored_turn, 
 ghost use Rattle.tool_core.specs.Turns.{TakesTurn};
 
 use crate::own::{Own, Tool};
-use crate::report::Report;
+use crate::spoolable::Spoolable;
 use equipment_tables::{Answer, bounded};
 use gem_shapes::code_item;
 use gl_base::NoMemory;
@@ -31,7 +31,7 @@ impl Own {
     }
 
     /// Whether the rule covers a report.
-    pub(crate) fn is_covered(&self, report: &Report) -> bool
+    pub(crate) fn is_covered(&self, report: &Spoolable) -> bool
         ensures { result ≡ is_covered report.now (own_of self.now) }
     {
         self.tables.covers(report.stream, report.function)
@@ -43,14 +43,14 @@ impl Tool {
     pub(crate) fn store(
         &mut self,
         alloc: Global,
-        report: Report,
+        report: Spoolable,
         out: &mut StepOut,
     ) -> Result<(), Stop>
         ensures does { TakesTurn (stored_turn report) self.old out.old self.new out.new result }
         ensures line { out.new.line ≡ out.old.line }
     {
         let overwrites = self.own.tables.overwrites();
-        let Report {
+        let Spoolable {
             stream,
             function,
             body,

@@ -17,7 +17,7 @@ ghost use Rattle.tool_step.specs.Taking.{taking};
 ghost use Rattle.tool_core.specs.Turns.{ReachesPart, ReachesParts, TakesPart};
 
 use crate::own::Tool;
-use crate::report::Report;
+use crate::spoolable::Spoolable;
 use block_codec::Header;
 use gem_states::CommsIn;
 use gl_base::NoMemory;
@@ -73,7 +73,7 @@ impl Tool {
     pub fn do_last(
         &mut self,
         alloc: Global,
-        oldest: Option<(u64, Report)>,
+        oldest: Option<(u64, Spoolable)>,
         now: u64,
         out: &mut StepOut,
     ) -> Result<(), Stop>
@@ -92,7 +92,7 @@ impl Tool {
     fn unload(
         &mut self,
         alloc: Global,
-        oldest: Option<(u64, Report)>,
+        oldest: Option<(u64, Spoolable)>,
         out: &mut StepOut,
     ) -> Result<(), Stop>
         ensures does { TakesPart (taking oldest) self.old out.old self.new out.new result }
@@ -166,7 +166,7 @@ impl Tool {
         ensures at_most { array_vec_len out.new.line ≤ array_vec_len out.old.line + 257 }
     {
         match self.core.tick(now, out) {
-            Some(header) => self.leave(alloc, CommsIn::SendFailed, Some(header), now, out),
+            Some(header) => self.end_communication(alloc, CommsIn::SendFailed, Some(header), now, out),
             None => Ok(()),
         }
     }
@@ -229,7 +229,7 @@ impl Tool {
         match self.core.take(alloc, byte, now, out) {
             Ok(Took::Nothing) => Ok(()),
             Ok(Took::Failed(header)) => {
-                self.leave(alloc, CommsIn::SendFailed, Some(header), now, out)
+                self.end_communication(alloc, CommsIn::SendFailed, Some(header), now, out)
             }
             Ok(Took::Came(header, flow)) => self.judge(alloc, &header, flow, now, out),
             Err(stop) => Err(stop),
@@ -254,7 +254,7 @@ impl Tool {
             Flow::Part => Ok(()),
             Flow::Whole(message) => self.heed(alloc, header, &message, now, out),
             Flow::Duplicate => Ok(()),
-            Flow::Foreign(_) => self.report_error(alloc, 1, header, out),
+            Flow::Foreign(_) => self.tell_error(alloc, 1, header, out),
             Flow::Unexpected => self.give_up(alloc, header, now, out),
             Flow::TooLong => self.give_up_long(alloc, header, now, out),
             Flow::Crowded => self.give_up(alloc, header, now, out),
@@ -278,7 +278,7 @@ impl Tool {
         if self.is_spent() {
             return Err(Stop::NumbersSpent);
         }
-        match self.report_error(alloc, 11, header, out) {
+        match self.tell_error(alloc, 11, header, out) {
             Ok(()) => self.give_up(alloc, header, now, out),
             Err(stop) => Err(stop),
         }

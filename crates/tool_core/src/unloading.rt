@@ -17,8 +17,8 @@ ghost use Rattle.tool_core.specs.Turns.{HasTakenPart, TakesPart};
 
 use crate::own::Tool;
 use crate::primaries::{grant_item, unload_request};
-use crate::report::Report;
-use crate::reports::{EVENT_NAME, ONE_BLOCK};
+use crate::routing::{EVENT_NAME, ONE_BLOCK};
+use crate::spoolable::Spoolable;
 use equipment_tables::{Answer, bounded};
 use gl_base::NoMemory;
 use message_end::Stop;
@@ -47,7 +47,7 @@ impl Tool {
         &mut self,
         alloc: Global,
         number: u64,
-        report: Report,
+        report: Spoolable,
         out: &mut StepOut,
     ) -> Result<(), Stop>
         ensures does { TakesPart (taking_turn (Some number) (Some report)) self.old out.old self.new out.new result }
@@ -75,7 +75,7 @@ impl Tool {
         &mut self,
         alloc: Global,
         number: u64,
-        report: Report,
+        report: Spoolable,
         out: &mut StepOut,
     ) -> Result<(), Stop>
         ensures does { TakesPart (drawing_turn number report) self.old out.old self.new out.new result }
@@ -96,13 +96,13 @@ impl Tool {
         alloc: Global,
         number: u64,
         system: u32,
-        report: Report,
+        report: Spoolable,
         out: &mut StepOut,
     ) -> Result<(), Stop>
         ensures does { TakesPart (waiting_turn number system report) self.old out.old self.new out.new result }
         ensures line { out.new.line ≡ out.old.line }
     {
-        let text = self.leave_text(alloc, &report)?;
+        let text = self.grant_text(alloc, &report)?;
         let waiting = WaitingText::new(report.into_body());
         self.own
             .ledger
@@ -111,7 +111,7 @@ impl Tool {
     }
 
     // The text that asks for leave to send a report.
-    fn leave_text(&self, alloc: Global, report: &Report) -> Result<Answer, NoMemory>
+    fn grant_text(&self, alloc: Global, report: &Spoolable) -> Result<Answer, NoMemory>
         ensures text { IfOk result (λ text. text
             ≡ text_of (own_of self.now.own) (grant_item (dataid_in report.now.body) (length report.now.body))) }
         ensures short { IfOk result IsShort }
@@ -144,7 +144,7 @@ impl Tool {
     fn send_unloaded(
         &mut self,
         alloc: Global,
-        report: Report,
+        report: Spoolable,
         out: &mut StepOut,
     ) -> Result<(), Stop>
         ensures does { TakesPart (unloading_turn report) self.old out.old self.new out.new result }
@@ -173,7 +173,7 @@ impl Tool {
     {
         match self.own.ledger.granted() {
             Some(waiting) => {
-                self.send_unloaded(alloc, Report::of_event(waiting.into_body()), out)
+                self.send_unloaded(alloc, Spoolable::of_event(waiting.into_body()), out)
             }
             None => Ok(()),
         }
@@ -200,7 +200,7 @@ impl Tool {
 }
 
 // Whether it is an S6F11 of several blocks.
-fn needs_leave(report: &Report) -> bool
+fn needs_leave(report: &Spoolable) -> bool
     ensures { result ≡ needs_leave report.now }
 {
     report.stream == 6 && report.function == 11 && report.body.len() > ONE_BLOCK

@@ -19,7 +19,7 @@ returns-in-Ok-clause-does c =
     long_goes {A = Unit {0}} c.args.header.now given (node_of c.args.self.now) (node_of c.give_up.new.self)
     c.args.out.now c.give_up.new.out c.give_up.result (sym c.is_spent.ensures ∙ c.if-is_spent.false)
     (given_up_behind (Unit {0}) c.args.now 11 c.args.header.now (node_of c.args.self.now)
-    (node_of c.report_error.new.self) (node_of c.give_up.new.self) c.args.out.now c.report_error.new.out
+    (node_of c.tell_error.new.self) (node_of c.give_up.new.self) c.args.out.now c.tell_error.new.out
     c.give_up.new.out c.give_up.result c.in-Ok.ensures.does c.give_up.ensures.does)
 
 pub returns-in-Err-clause-does : goal.returns-in-Err-clause-does
@@ -27,5 +27,5 @@ returns-in-Err-clause-does c =
     let own = own_of c.args.self.now.own in
     long_stops (Unit {0}) (Unit {0}) c.args.header.now
     (flow_turn c.args.now c.args.header.now flow.TooLong own c.args.self.now.core) (node_of c.args.self.now)
-    (node_of c.report_error.new.self) c.args.out.now c.report_error.new.out c.in-Err.stop
+    (node_of c.tell_error.new.self) c.args.out.now c.tell_error.new.out c.in-Err.stop
     (sym c.is_spent.ensures ∙ c.if-is_spent.false) c.in-Err.ensures.does

@@ -10,8 +10,8 @@ returns-in-Whole-clause-does c =
 pub returns-in-Foreign-clause-does : goal.returns-in-Foreign-clause-does
 returns-in-Foreign-clause-does c =
     rw c.in-Foreign.is
-    (reached (Unit {0}) _ (node_of c.report_error.new.self) c.report_error.new.out c.report_error.result
-    c.report_error.ensures.does)
+    (reached (Unit {0}) _ (node_of c.tell_error.new.self) c.tell_error.new.out c.tell_error.result
+    c.tell_error.ensures.does)
 
 pub returns-in-Unexpected-clause-does : goal.returns-in-Unexpected-clause-does
 returns-in-Unexpected-clause-does c =

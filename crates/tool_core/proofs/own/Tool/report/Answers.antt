@@ -27,7 +27,7 @@ returns-in_err-body-clause-does c =
     rw (p.1, p.2)
     (judged_stops event_report (λ message. event_turn c.args.dataid message.body own c.args.self.now.core)
     c.in_ok-text.text (text_of own (event_item own.tables c.args.ceid c.args.dataid)) (node_of c.args.self.now)
-    (node_of c.judge_text.new.self) c.args.out.now c.judge_text.new.out _
+    (node_of c.route_text.new.self) c.args.out.now c.route_text.new.out _
     (c.in_ok-text.ensures.body
     ∙ ap (λ (most : ℕ). spelled_body most (event_item own.tables c.args.ceid c.args.dataid))
     c.max_body-max_body.ensures.value)
@@ -38,8 +38,8 @@ returns-in-Some-clause-does c =
     let own : OwnView = own_of c.args.self.now.own in
     judged_sent event_report (λ message. event_turn c.args.dataid message.body) c.in_ok-text.text
     (text_of own (event_item own.tables c.args.ceid c.args.dataid)) c.in_ok-body.field-0 c.in-Some.body
-    (node_of c.args.self.now) (node_of c.judge_text.new.self) (node_of c.report_event.new.self) c.args.out.now
-    c.judge_text.new.out c.report_event.new.out c.report_event.result
+    (node_of c.args.self.now) (node_of c.route_text.new.self) (node_of c.report_event.new.self) c.args.out.now
+    c.route_text.new.out c.report_event.new.out c.report_event.result
     (c.in_ok-text.ensures.body
     ∙ ap (λ (most : ℕ). spelled_body most (event_item own.tables c.args.ceid c.args.dataid))
     c.max_body-max_body.ensures.value)
@@ -50,7 +50,7 @@ returns-in-None-clause-does c =
     let own : OwnView = own_of c.args.self.now.own in
     judged_none event_report (λ message. event_turn c.args.dataid message.body own c.args.self.now.core)
     c.in_ok-text.text (text_of own (event_item own.tables c.args.ceid c.args.dataid)) c.in_ok-body.field-0
-    (node_of c.args.self.now) (node_of c.judge_text.new.self) c.args.out.now c.judge_text.new.out
+    (node_of c.args.self.now) (node_of c.route_text.new.self) c.args.out.now c.route_text.new.out
     (c.in_ok-text.ensures.body
     ∙ ap (λ (most : ℕ). spelled_body most (event_item own.tables c.args.ceid c.args.dataid))
     c.max_body-max_body.ensures.value)

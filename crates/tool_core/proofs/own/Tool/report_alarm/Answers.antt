@@ -27,7 +27,7 @@ returns-in_err-body-clause-does c =
     let own : OwnView = own_of c.args.self.now.own in
     rw (p.1, p.2)
     (alarm_stops c.args.enabled c.args.alid c.in_ok-text.text (node_of c.args.self.now)
-    (node_of c.judge_text.new.self) c.args.out.now c.judge_text.new.out _ c.if-not-enabled.false
+    (node_of c.route_text.new.self) c.args.out.now c.route_text.new.out _ c.if-not-enabled.false
     (c.in_ok-text.ensures.body
     ∙ ap (λ (most : ℕ). spelled_body most (alarm_item_of own.tables c.args.alid)) c.max_body-max_body.ensures.value)
     c.in_err-body.ensures.judged)
@@ -36,7 +36,7 @@ pub returns-in-None-clause-does : goal.returns-in-None-clause-does
 returns-in-None-clause-does c =
     let own : OwnView = own_of c.args.self.now.own in
     alarm_none c.args.enabled c.args.alid c.in_ok-text.text c.in_ok-body.field-0 (node_of c.args.self.now)
-    (node_of c.judge_text.new.self) c.args.out.now c.judge_text.new.out c.if-not-enabled.false
+    (node_of c.route_text.new.self) c.args.out.now c.route_text.new.out c.if-not-enabled.false
     (c.in_ok-text.ensures.body
     ∙ ap (λ (most : ℕ). spelled_body most (alarm_item_of own.tables c.args.alid)) c.max_body-max_body.ensures.value)
     c.in_ok-body.ensures.judged c.in-None.is

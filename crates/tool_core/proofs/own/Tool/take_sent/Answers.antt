@@ -20,7 +20,7 @@ pub returns-clause-found : goal.returns-clause-found
 unfolding message_of
 returns-clause-found c =
     let sent = c.args.self.now.own.reports.items in
-    ap (λ (report : Spooled). Some report) c.into_report.ensures
+    ap (λ (report : Spooled). Some report) c.into_message.ensures
     ∙ ap message_of
     (read-found (is_report_of c.args.system) sent sent c.in-Some.place c.remove.result refl
     c.remove.ensures.value (sym c.in-Some.is ∙ c.place_of_sent.ensures.place))

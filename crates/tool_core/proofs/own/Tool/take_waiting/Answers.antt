@@ -20,7 +20,7 @@ pub returns-clause-found : goal.returns-clause-found
 unfolding report_of
 returns-clause-found c =
     let waiting = c.args.self.now.own.for_grant.items in
-    ap (λ (report : Spooled). Some report) c.into_report.ensures
+    ap (λ (report : Spooled). Some report) c.into_message.ensures
     ∙ ap report_of
     (read-found (is_granted_by c.args.system) waiting waiting c.in-Some.place c.remove.result refl
     c.remove.ensures.value (sym c.in-Some.is ∙ c.place_of_waiting.ensures.place))

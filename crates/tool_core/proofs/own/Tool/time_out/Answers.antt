@@ -9,8 +9,8 @@ pub returns-in-Ok-clause-does : goal.returns-in-Ok-clause-does
 returns-in-Ok-clause-does c =
     let old = node_of c.args.self.now in
     told_so c.args.header.now (loss_turn c.args.now c.args.kind c.args.header.now.system old.own old.core) old
-    (node_of c.lose_reply.new.self) (node_of c.report_error.new.self) c.args.out.now c.lose_reply.new.out
-    c.report_error.new.out c.report_error.result c.in-Ok.ensures.does c.report_error.ensures.does
+    (node_of c.lose_reply.new.self) (node_of c.tell_error.new.self) c.args.out.now c.lose_reply.new.out
+    c.tell_error.new.out c.tell_error.result c.in-Ok.ensures.does c.tell_error.ensures.does
 
 pub returns-in-Err-clause-does : goal.returns-in-Err-clause-does
 returns-in-Err-clause-does c =

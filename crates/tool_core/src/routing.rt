@@ -13,8 +13,8 @@ ghost use Rattle.tool_core.specs.Turns.{TakesPart};
 
 use crate::own::{Own, Tool};
 use crate::primaries::{grant_item, grant_request};
-use crate::report::{ForGrant, Live, Report};
 use crate::sending::note_dropped;
+use crate::spoolable::{ForGrant, Live, Spoolable};
 use equipment_tables::{Answer, bounded};
 use gl_base::{NoMemory, Row};
 use message_end::Stop;
@@ -51,7 +51,7 @@ impl Tool {
     /// A report of this name was made, on-line, with this text. One that is too long is noted. While the spool is
     /// active it is stored there, where the rule covers it. Else its body is the answer, to go to the host, where the
     /// communication is established, and it is dropped where it isn't.
-    pub(crate) fn judge_text(
+    pub(crate) fn route_text(
         &mut self,
         alloc: Global,
         name: Name,
@@ -72,7 +72,7 @@ impl Tool {
         ensures line { out.new.line ≡ out.old.line }
     {
         match text {
-            Answer::Body(body) => self.judge_body(alloc, name, body, out),
+            Answer::Body(body) => self.route_body(alloc, name, body, out),
             Answer::TooLong => {
                 out.notes.push(too_long_note(alloc, name)?)?;
                 Ok(None)
@@ -81,7 +81,7 @@ impl Tool {
     }
 
     // A report that isn't too long.
-    fn judge_body(
+    fn route_body(
         &mut self,
         alloc: Global,
         name: Name,
@@ -102,7 +102,7 @@ impl Tool {
         ensures line { out.new.line ≡ out.old.line }
     {
         if self.own.is_spooled(name) {
-            self.store(alloc, Report::named(name, body), out)?;
+            self.store(alloc, Spoolable::named(name, body), out)?;
             return Ok(None);
         }
         if self.own.is_communicating() {
@@ -116,7 +116,7 @@ impl Tool {
     pub(crate) fn send_report(
         &mut self,
         alloc: Global,
-        report: Report,
+        report: Spoolable,
         out: &mut StepOut,
     ) -> Result<(), Stop>
         ensures does { TakesPart (going_turn report) self.old out.old self.new out.new result }
@@ -144,13 +144,13 @@ impl Tool {
         ensures line { out.new.line ≡ out.old.line }
     {
         if body.len() <= ONE_BLOCK {
-            return self.send_report(alloc, Report::named(EVENT_NAME, body), out);
+            return self.send_report(alloc, Spoolable::named(EVENT_NAME, body), out);
         }
-        self.ask_for_leave(alloc, dataid, body, out)
+        self.ask_for_grant(alloc, dataid, body, out)
     }
 
     // Asks for leave to send the report of an event.
-    fn ask_for_leave(
+    fn ask_for_grant(
         &mut self,
         alloc: Global,
         dataid: u32,
@@ -192,7 +192,7 @@ impl Tool {
     }
 
     /// The report whose S6F5 has these system bytes waits for leave no more.
-    pub(crate) fn take_waiting(&mut self, system: u32) -> Option<Report>
+    pub(crate) fn take_waiting(&mut self, system: u32) -> Option<Spoolable>
         ensures found { result ≡ waiting_report system (own_of self.old.own) }
         ensures rest { own_of self.new.own ≡ without_grant system (own_of self.old.own) }
         ensures core { self.new.core ≡ self.old.core }
@@ -200,7 +200,7 @@ impl Tool {
         let Some(place) = self.place_of_waiting(system) else {
             return None;
         };
-        Some(self.own.for_grant.remove(place).into_report())
+        Some(self.own.for_grant.remove(place).into_message())
     }
 
     // The place of the report whose S6F5 has these system bytes.
@@ -216,7 +216,7 @@ impl Tool {
     }
 
     /// The report with these system bytes awaits its answer no more.
-    pub(crate) fn take_sent(&mut self, system: u32) -> Option<Report>
+    pub(crate) fn take_sent(&mut self, system: u32) -> Option<Spoolable>
         ensures found { result ≡ sent_report system (own_of self.old.own) }
         ensures rest { own_of self.new.own ≡ without_report system (own_of self.old.own) }
         ensures core { self.new.core ≡ self.old.core }
@@ -224,7 +224,7 @@ impl Tool {
         let Some(place) = self.place_of_sent(system) else {
             return None;
         };
-        Some(self.own.reports.remove(place).into_report())
+        Some(self.own.reports.remove(place).into_message())
     }
 
     // The place of the report with these system bytes.
@@ -242,7 +242,11 @@ impl Tool {
 
 impl Own {
     /// A copy of the report that was sent with these system bytes and awaits its answer.
-    pub(crate) fn copy_sent(&self, alloc: Global, system: u32) -> Result<Option<Report>, NoMemory>
+    pub(crate) fn copy_sent(
+        &self,
+        alloc: Global,
+        system: u32,
+    ) -> Result<Option<Spoolable>, NoMemory>
         ensures { IfOk result (λ report. report ≡ sent_report system (own_of self.now)) }
     {
         let system = u64::from(system);
@@ -257,7 +261,7 @@ impl Own {
         &self,
         alloc: Global,
         system: u32,
-    ) -> Result<Option<Report>, NoMemory>
+    ) -> Result<Option<Spoolable>, NoMemory>
         ensures { IfOk result (λ report. report ≡ waiting_report system (own_of self.now)) }
     {
         let system = u64::from(system);

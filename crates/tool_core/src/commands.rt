@@ -15,9 +15,9 @@ ghost use Rattle.tool_core.specs.Turns.{TakesPart, TakesTurn};
 
 use crate::own::Tool;
 use crate::primaries::{online_request, terminal_item};
-use crate::report::Report;
-use crate::reports::{ALARM_NAME, EVENT_NAME, TERMINAL_NAME};
+use crate::routing::{ALARM_NAME, EVENT_NAME, TERMINAL_NAME};
 use crate::sending::note_dropped;
+use crate::spoolable::Spoolable;
 use equipment_tables::{Answer, bounded};
 use gem_alarms::AlarmStep;
 use gem_states::{CommsIn, ControlIn, ControlOut};
@@ -61,7 +61,7 @@ impl Tool {
             ToolCommand::Event(ceid) => self.happen(alloc, *ceid, out),
             ToolCommand::Alarm(alid, is_set) => self.alarm(alloc, *alid, *is_set, out),
             ToolCommand::Enable => self.meet(alloc, CommsIn::Enable, now, out),
-            ToolCommand::Disable => self.leave(alloc, CommsIn::Disable, None, now, out),
+            ToolCommand::Disable => self.end_communication(alloc, CommsIn::Disable, None, now, out),
             ToolCommand::Online => self.go_online(alloc, out),
             ToolCommand::Offline => self.switch(alloc, ControlIn::Offline, out),
             ToolCommand::Local => self.switch(alloc, ControlIn::ToLocal, out),
@@ -120,7 +120,7 @@ impl Tool {
         }
         let max_body = self.own.max_body();
         let text = self.own.tables.event_body(alloc, ceid, dataid, max_body)?;
-        match self.judge_text(alloc, EVENT_NAME, text, out)? {
+        match self.route_text(alloc, EVENT_NAME, text, out)? {
             Some(body) => self.report_event(alloc, dataid, body, out),
             None => Ok(()),
         }
@@ -174,8 +174,8 @@ impl Tool {
         }
         let max_body = self.own.max_body();
         let text = self.own.tables.alarm_body(alloc, alid, max_body)?;
-        match self.judge_text(alloc, ALARM_NAME, text, out)? {
-            Some(body) => self.send_report(alloc, Report::named(ALARM_NAME, body), out),
+        match self.route_text(alloc, ALARM_NAME, text, out)? {
+            Some(body) => self.send_report(alloc, Spoolable::named(ALARM_NAME, body), out),
             None => Ok(()),
         }
     }
@@ -200,8 +200,8 @@ impl Tool {
         ensures does { TakesPart (report_turn terminal_report text) self.old out.old self.new out.new result }
         ensures line { out.new.line ≡ out.old.line }
     {
-        match self.judge_text(alloc, TERMINAL_NAME, text, out)? {
-            Some(body) => self.send_report(alloc, Report::named(TERMINAL_NAME, body), out),
+        match self.route_text(alloc, TERMINAL_NAME, text, out)? {
+            Some(body) => self.send_report(alloc, Spoolable::named(TERMINAL_NAME, body), out),
             None => Ok(()),
         }
     }

@@ -17,13 +17,13 @@ use trace_log::Name;
 
 /// A primary with W by which the equipment tells its host something, and which may be spooled: S5F1, S6F11 or S10F1.
 #[derive(Debug, Drop)]
-pub struct Report {
+pub struct Spoolable {
     pub(crate) stream: u8,
     pub(crate) function: u8,
     pub(crate) body: Row<u8>,
 }
 
-impl Model for Report {
+impl Model for Spoolable {
     ghost use Rattle.std.specs.Prelude.{◌≡◌, ◌<◌, ◌≤◌, ◌%◌, length};
     ghost use Rattle.block_codec.specs.Protocol.{longest_text};
     ghost use Rattle.trace_log.specs.Names.{Spooled};
@@ -36,15 +36,15 @@ impl Model for Report {
         (inside.stream < 128) × ((inside.function % 2 ≡ 1) × (length inside.body ≤ longest_text)) };
 }
 
-impl Report {
+impl Spoolable {
     /// One of this name.
-    pub(crate) fn named(name: Name, body: Row<u8>) -> Report
+    pub(crate) fn named(name: Name, body: Row<u8>) -> Spoolable
         requires stream { name.stream < 128 }
         requires function { name.function % 2 ≡ 1 }
         requires short { length body ≤ longest_text }
         ensures { result ≡ report_named name body }
     {
-        Report {
+        Spoolable {
             stream: name.stream,
             function: name.function,
             body,
@@ -52,11 +52,11 @@ impl Report {
     }
 
     /// S6F11.
-    pub(crate) fn of_event(body: Row<u8>) -> Report
+    pub(crate) fn of_event(body: Row<u8>) -> Spoolable
         requires { length body ≤ longest_text }
         ensures { result ≡ event_report body }
     {
-        Report {
+        Spoolable {
             stream: 6,
             function: 11,
             body,
@@ -65,13 +65,13 @@ impl Report {
 
     /// One that was read from the spool. A disk may give any bytes, so the function of a reply is taken as that of its
     /// primary.
-    pub fn of_kept(kept: Kept) -> Report
+    pub fn of_kept(kept: Kept) -> Spoolable
         requires stream { kept.stream < 128 }
         requires short { length kept.body ≤ longest_text }
         ensures { kept.function % 2 ≡ 1 → result
             ≡ record { stream = kept.stream; function = kept.function; body = kept.body } }
     {
-        Report {
+        Spoolable {
             stream: kept.stream,
             function: primary_function(kept.function),
             body: kept.body,
@@ -105,10 +105,10 @@ impl Report {
     }
 
     /// An equal one.
-    pub(crate) fn copy(&self, alloc: Global) -> Result<Report, NoMemory>
+    pub(crate) fn copy(&self, alloc: Global) -> Result<Spoolable, NoMemory>
         ensures { IfOk result (λ copy. copy ≡ self.now) }
     {
-        Ok(Report {
+        Ok(Spoolable {
             stream: self.stream,
             function: self.function,
             body: Row::of(alloc, self.body.as_slice())?,
@@ -175,11 +175,11 @@ impl ForGrant {
     }
 
     /// A copy of the report that waits.
-    pub(crate) fn copy(&self, alloc: Global) -> Result<Report, NoMemory>
+    pub(crate) fn copy(&self, alloc: Global) -> Result<Spoolable, NoMemory>
         ensures { IfOk result (λ copy. copy ≡ event_report self.now.body) }
     {
         let body = Row::of(alloc, self.body.as_slice())?;
-        Ok(Report {
+        Ok(Spoolable {
             stream: 6,
             function: 11,
             body,
@@ -187,10 +187,10 @@ impl ForGrant {
     }
 
     /// The report that waited.
-    pub(crate) fn into_report(self) -> Report
+    pub(crate) fn into_message(self) -> Spoolable
         ensures { result ≡ event_report self.body }
     {
-        Report::of_event(self.body)
+        Spoolable::of_event(self.body)
     }
 }
 
@@ -198,7 +198,7 @@ impl ForGrant {
 #[derive(Debug, Drop)]
 pub struct Live {
     system: u64,
-    report: Report,
+    report: Spoolable,
 }
 
 impl Model for Live {
@@ -210,7 +210,7 @@ impl Model for Live {
 }
 
 impl Live {
-    pub(crate) fn new(system: u64, report: Report) -> Live
+    pub(crate) fn new(system: u64, report: Spoolable) -> Live
         ensures { result ≡ record { system = system; message = report } }
     {
         Live { system, report }
@@ -223,13 +223,13 @@ impl Live {
     }
 
     /// A copy of the report.
-    pub(crate) fn copy(&self, alloc: Global) -> Result<Report, NoMemory>
+    pub(crate) fn copy(&self, alloc: Global) -> Result<Spoolable, NoMemory>
         ensures { IfOk result (λ copy. copy ≡ self.now.message) }
     {
         self.report.copy(alloc)
     }
 
-    pub(crate) fn into_report(self) -> Report
+    pub(crate) fn into_message(self) -> Spoolable
         ensures { result ≡ self.message }
     {
         self.report

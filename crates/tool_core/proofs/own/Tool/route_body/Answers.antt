@@ -10,7 +10,7 @@ use Rattle.tool_step.specs.Reports.{unreported_turn}
 use Rattle.tool_step.specs.Spooling.{stored_turn}
 use Rattle.tool_core.proofs.Judging.{so_judged, stops_judged}
 use Rattle.tool_core.proofs.Texts.{made_stored, made_unreported}
-use Rattle.tool_core.proofs.own.Tool.judge_body.Goals as goal
+use Rattle.tool_core.proofs.own.Tool.route_body.Goals as goal
 
 pub returns-in_err-store-clause-judged : goal.returns-in_err-store-clause-judged
 returns-in_err-store-clause-judged c =
