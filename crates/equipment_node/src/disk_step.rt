@@ -40,7 +40,7 @@ use message_end::Stop;
 use message_flow::{NodeInput, StepOut};
 use spool_works::Ended;
 use std::alloc::Global;
-use tool_core::{MORE, Report, Tool, primary_function};
+use tool_core::{MORE, Spoolable, Tool, primary_function};
 use trace_log::ToolCommand;
 
 // Fewer system bytes than a step may need.
@@ -77,7 +77,7 @@ pub(crate) fn step_on<D: Disk>(
         out.new.notes result }
     ensures disk { HandsBack D.Disk spool.spool.disk result }
 {
-    match act(tool, alloc, spool, input, now, out) {
+    match from_reserve(tool, alloc, spool, input, now, out) {
         Ok(spool) => Ok(spool),
         Err(ended) => {
             out.line.clear();
@@ -87,7 +87,7 @@ pub(crate) fn step_on<D: Disk>(
 }
 
 // All of a step.
-fn act<D: Disk>(
+fn from_reserve<D: Disk>(
     tool: &mut Tool,
     alloc: Global,
     spool: GemSpool<D>,
@@ -115,7 +115,7 @@ fn act<D: Disk>(
     ensures disk { HandsBack D.Disk spool.spool.disk result }
 {
     match reserve(tool, spool, out) {
-        Ok(spool) => act_on(tool, alloc, spool, input, now, out),
+        Ok(spool) => from_input(tool, alloc, spool, input, now, out),
         Err(ended) => Err(ended),
     }
 }
@@ -193,7 +193,7 @@ fn reserve_more<D: Disk>(
 }
 
 // All of a step that has system bytes enough.
-fn act_on<D: Disk>(
+fn from_input<D: Disk>(
     tool: &mut Tool,
     alloc: Global,
     spool: GemSpool<D>,
@@ -224,13 +224,13 @@ fn act_on<D: Disk>(
     ensures disk { HandsBack D.Disk spool.spool.disk result }
 {
     match tool.do_first(alloc, input, now, out) {
-        Ok(()) => act_behind(tool, alloc, spool, now, out),
+        Ok(()) => from_works(tool, alloc, spool, now, out),
         Err(stop) => Err(end_early(tool, alloc, spool, stop, out)),
     }
 }
 
 // The works, and what comes behind them.
-fn act_behind<D: Disk>(
+fn from_works<D: Disk>(
     tool: &mut Tool,
     alloc: Global,
     spool: GemSpool<D>,
@@ -264,7 +264,7 @@ fn act_behind<D: Disk>(
     ensures disk { HandsBack D.Disk spool.spool.disk result }
 {
     match carry_out(tool, alloc, spool, out) {
-        Ok(spool) => act_last(tool, alloc, spool, now, out),
+        Ok(spool) => from_read(tool, alloc, spool, now, out),
         Err(ended) => Err(ended),
     }
 }
@@ -366,7 +366,7 @@ fn carry_out<D: Disk>(
 }
 
 // What comes behind the works.
-fn act_last<D: Disk>(
+fn from_read<D: Disk>(
     tool: &mut Tool,
     alloc: Global,
     spool: GemSpool<D>,
@@ -390,13 +390,13 @@ fn act_last<D: Disk>(
     ensures disk { HandsBack D.Disk spool.spool.disk result }
 {
     match tool.next_unload() {
-        Some(number) => act_reading(tool, alloc, spool, number, now, out),
+        Some(number) => end_reading(tool, alloc, spool, number, now, out),
         None => end_with(tool, alloc, spool, None, now, out),
     }
 }
 
 // The oldest message is read, which is to be taken up under this number, and goes to the host.
-fn act_reading<D: Disk>(
+fn end_reading<D: Disk>(
     tool: &mut Tool,
     alloc: Global,
     spool: GemSpool<D>,
@@ -439,7 +439,7 @@ fn end_with<D: Disk>(
     tool: &mut Tool,
     alloc: Global,
     spool: GemSpool<D>,
-    oldest: Option<(u64, Report)>,
+    oldest: Option<(u64, Spoolable)>,
     now: u64,
     out: &mut StepOut,
 ) -> Result<GemSpool<D>, Ended<D>>
@@ -486,7 +486,7 @@ fn carry_all<D: Disk>(
 }
 
 // What was read, as a report that can be sent. A disk may give any bytes.
-fn report_of(kept: Kept) -> Report
+fn report_of(kept: Kept) -> Spoolable
     ensures can { CanBeSent result }
     ensures is { kept.stream < 128 → kept.function % 2 ≡ 1 → length kept.body ≤ 4081
         → result ≡ record { stream = kept.stream; function = kept.function; body = kept.body } }
@@ -498,7 +498,7 @@ fn report_of(kept: Kept) -> Report
     } = kept;
     body.truncate(BODY_MOST);
     are_bytes(body.as_slice());
-    Report::of_kept(Kept {
+    Spoolable::of_kept(Kept {
         stream: stream % 128,
         function: primary_function(function),
         body,

@@ -61,7 +61,7 @@ impl Tool {
             ToolCommand::Event(ceid) => self.happen(alloc, *ceid, out),
             ToolCommand::Alarm(alid, is_set) => self.alarm(alloc, *alid, *is_set, out),
             ToolCommand::Enable => self.meet(alloc, CommsIn::Enable, now, out),
-            ToolCommand::Disable => self.end_communication(alloc, CommsIn::Disable, None, now, out),
+            ToolCommand::Disable => self.end_talk(alloc, CommsIn::Disable, None, now, out),
             ToolCommand::Online => self.go_online(alloc, out),
             ToolCommand::Offline => self.switch(alloc, ControlIn::Offline, out),
             ToolCommand::Local => self.switch(alloc, ControlIn::ToLocal, out),

@@ -33,7 +33,7 @@ impl Tool {
     /// The communication meets an input by which all open messages end, where it changes the state. A block with the
     /// header that is given failed. An unload ends, and spooling begins where the communication is lost or can't be
     /// established.
-    pub(crate) fn end_communication(
+    pub(crate) fn end_talk(
         &mut self,
         alloc: Global,
         input: CommsIn,

@@ -195,7 +195,7 @@ impl Tool {
         ensures line { out.new.line ≡ out.old.line }
     {
         match kind {
-            Kind::Establish => self.end_communication(alloc, CommsIn::Denied, None, now, out),
+            Kind::Establish => self.end_talk(alloc, CommsIn::Denied, None, now, out),
             Kind::Attempt => self.fail_attempt(alloc, out),
             Kind::Grant => self.deny(alloc, system, out),
             Kind::Report => {
@@ -325,7 +325,7 @@ impl Tool {
         if is_accepted(alloc, message.body.as_slice())? {
             return self.meet(alloc, CommsIn::Accepted, now, out);
         }
-        self.end_communication(alloc, CommsIn::Denied, None, now, out)
+        self.end_talk(alloc, CommsIn::Denied, None, now, out)
     }
 
     // The reply to S6F5 has come.

@@ -166,7 +166,7 @@ impl Tool {
         ensures at_most { array_vec_len out.new.line ≤ array_vec_len out.old.line + 257 }
     {
         match self.core.tick(now, out) {
-            Some(header) => self.end_communication(alloc, CommsIn::SendFailed, Some(header), now, out),
+            Some(header) => self.end_talk(alloc, CommsIn::SendFailed, Some(header), now, out),
             None => Ok(()),
         }
     }
@@ -229,7 +229,7 @@ impl Tool {
         match self.core.take(alloc, byte, now, out) {
             Ok(Took::Nothing) => Ok(()),
             Ok(Took::Failed(header)) => {
-                self.end_communication(alloc, CommsIn::SendFailed, Some(header), now, out)
+                self.end_talk(alloc, CommsIn::SendFailed, Some(header), now, out)
             }
             Ok(Took::Came(header, flow)) => self.judge(alloc, &header, flow, now, out),
             Err(stop) => Err(stop),
@@ -261,8 +261,8 @@ impl Tool {
         }
     }
 
-    // A block made its message too long: the host is told so, and a reply is given up. (That a number is wanting is looked
-    // at before all else: what is kept then is what it was.)
+    // A block made its message too long: the host is told so, and a reply is given up. (That a number is wanting is
+    // looked at before all else: what is kept then is what it was.)
     fn give_up_long(
         &mut self,
         alloc: Global,

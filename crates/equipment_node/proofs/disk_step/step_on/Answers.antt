@@ -21,7 +21,8 @@ returns-in-Ok-clause-steps g c s node_is on told =
 
 pub returns-in-Err-clause-steps : goal.returns-in-Err-clause-steps
 returns-in-Err-clause-steps g c s node_is on told =
-    c.in-Err.ensures.acts s node_is on told (record { line = c.clear.new.self; notes = c.act.new.out.notes }) refl
+    c.in-Err.ensures.acts s node_is on told
+    (record { line = c.clear.new.self; notes = c.from_reserve.new.out.notes }) refl
     c.clear.ensures
 
 pub returns-in-Ok-clause-asks : goal.returns-in-Ok-clause-asks

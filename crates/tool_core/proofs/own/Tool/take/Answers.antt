@@ -20,14 +20,14 @@ returns-in-Ok-Failed-clause-does c =
     let core : EndView Kind = c.args.self.now.core in
     leads_reached (Unit {0}) own (Take c.args.byte c.args.now)
     (took_turn c.args.now (took_at core c.args.byte c.args.now) own) core c.take.new.self c.args.out.now c.take.new.out
-    (node_of c.end_communication.new.self) c.end_communication.new.out c.end_communication.result c.in-Ok-Failed.ensures.carries
+    (node_of c.end_talk.new.self) c.end_talk.new.out c.end_talk.result c.in-Ok-Failed.ensures.carries
     (after-take printed_note c.args.byte c.args.now (on_the_way core c.args.out.now)
     (on_the_way c.take.new.self c.take.new.out) c.in-Ok-Failed.ensures.carries)
     (subst
     (λ (brought : Took). Reaches (took_turn c.args.now brought own c.take.new.self) (node own c.take.new.self)
-    c.take.new.out (node_of c.end_communication.new.self) c.end_communication.new.out c.end_communication.result)
+    c.take.new.out (node_of c.end_talk.new.self) c.end_talk.new.out c.end_talk.result)
     (sym c.in-Ok-Failed.field-0-is ∙ c.in-Ok-Failed.ensures.took)
-    (reached (Unit {0}) _ (node_of c.end_communication.new.self) c.end_communication.new.out c.end_communication.result c.end_communication.ensures.does))
+    (reached (Unit {0}) _ (node_of c.end_talk.new.self) c.end_talk.new.out c.end_talk.result c.end_talk.ensures.does))
 
 pub returns-in-Ok-Came-clause-does : goal.returns-in-Ok-Came-clause-does
 returns-in-Ok-Came-clause-does c =

@@ -19,10 +19,11 @@ returns-in-Some-clause-does c =
     let own : OwnView = own_of c.args.self.now.own in
     let core : EndView Kind = c.args.self.now.core in
     leads_so own (Tick c.args.now) (failed_turn c.args.now (failed_at core c.args.now) own) core c.tick.new.self
-    c.args.out.now c.tick.new.out (node_of c.end_communication.new.self) c.end_communication.new.out c.end_communication.result c.tick.ensures.carries
+    c.args.out.now c.tick.new.out (node_of c.end_talk.new.self) c.end_talk.new.out c.end_talk.result
+    c.tick.ensures.carries
     (after-tick printed_note c.args.now (on_the_way core c.args.out.now) (on_the_way c.tick.new.self c.tick.new.out)
     c.tick.ensures.carries)
     (subst
     (λ (failed : Option Header). Takes (failed_turn c.args.now failed own c.tick.new.self) (node own c.tick.new.self)
-    c.tick.new.out (node_of c.end_communication.new.self) c.end_communication.new.out c.end_communication.result)
-    (sym c.in-Some.is ∙ c.tick.ensures.failed) c.end_communication.ensures.does)
+    c.tick.new.out (node_of c.end_talk.new.self) c.end_talk.new.out c.end_talk.result)
+    (sym c.in-Some.is ∙ c.tick.ensures.failed) c.end_talk.ensures.does)

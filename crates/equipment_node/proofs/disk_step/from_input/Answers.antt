@@ -3,10 +3,10 @@ use Rattle.message_end.specs.Ends.{input_of}
 use Rattle.tool_core.specs.Node.{node_of}
 use Rattle.equipment_node.proofs.FirstParts.{begun-of, first-ready, spent-count, stops-of}
 use Rattle.equipment_node.proofs.HandingBack.{reached-not-failed}
-use Rattle.equipment_node.proofs.disk_step.act_on.Goals as goal
+use Rattle.equipment_node.proofs.disk_step.from_input.Goals as goal
 
-pub act_behind-requires : goal.act_behind-requires
-act_behind-requires g c = record {
+pub from_works-requires : goal.from_works-requires
+from_works-requires g c = record {
   now = c.requires.now;
   ready =
       first-ready (input_of c.args.input) c.args.now (node_of c.args.tool.now) (node_of c.do_first.new.self)
@@ -17,7 +17,7 @@ act_behind-requires g c = record {
 
 pub returns-in-Ok-clause-acts : goal.returns-in-Ok-clause-acts
 returns-in-Ok-clause-acts g c s begin =
-    c.act_behind.ensures.acts s (input_of c.args.input)
+    c.from_works.ensures.acts s (input_of c.args.input)
     (begun-of (input_of c.args.input) c.args.now (node_of c.args.tool.now) (node_of c.do_first.new.self)
     c.args.out.now c.do_first.new.out c.requires.out c.requires.ready.sound g.D.Disk s c.args.spool begin
     c.in-Ok.ensures.does)
@@ -41,7 +41,7 @@ returns-in-Err-clause-acts g c s begin =
 
 pub returns-in-Ok-clause-asks : goal.returns-in-Ok-clause-asks
 returns-in-Ok-clause-asks g c s begin =
-    c.act_behind.ensures.asks s (input_of c.args.input)
+    c.from_works.ensures.asks s (input_of c.args.input)
     (begun-of (input_of c.args.input) c.args.now (node_of c.args.tool.now) (node_of c.do_first.new.self)
     c.args.out.now c.do_first.new.out c.requires.out c.requires.ready.sound g.D.Disk s c.args.spool begin
     c.in-Ok.ensures.does)
@@ -57,7 +57,7 @@ returns-in-Err-clause-asks g c s begin =
 
 pub returns-in-Ok-clause-calls : goal.returns-in-Ok-clause-calls
 returns-in-Ok-clause-calls g c s begin bytes =
-    c.act_behind.ensures.calls s (input_of c.args.input)
+    c.from_works.ensures.calls s (input_of c.args.input)
     (begun-of (input_of c.args.input) c.args.now (node_of c.args.tool.now) (node_of c.do_first.new.self)
     c.args.out.now c.do_first.new.out c.requires.out c.requires.ready.sound g.D.Disk s c.args.spool begin
     c.in-Ok.ensures.does)
@@ -72,7 +72,7 @@ returns-in-Err-clause-calls g c s begin bytes =
     (record { went = begin.went; node_is = refl; clear = begin.clear; told = begin.told }) bytes
 
 pub returns-in-Ok-clause-disk : goal.returns-in-Ok-clause-disk
-returns-in-Ok-clause-disk g c = c.act_behind.ensures.disk
+returns-in-Ok-clause-disk g c = c.from_works.ensures.disk
 
 pub returns-in-Err-clause-disk : goal.returns-in-Err-clause-disk
 returns-in-Err-clause-disk g c =
@@ -81,7 +81,7 @@ returns-in-Err-clause-disk g c =
 
 pub returns-in-Ok-clause-breaks : goal.returns-in-Ok-clause-breaks
 returns-in-Ok-clause-breaks g c s begin =
-    c.act_behind.ensures.breaks s (input_of c.args.input)
+    c.from_works.ensures.breaks s (input_of c.args.input)
     (begun-of (input_of c.args.input) c.args.now (node_of c.args.tool.now) (node_of c.do_first.new.self)
     c.args.out.now c.do_first.new.out c.requires.out c.requires.ready.sound g.D.Disk s c.args.spool begin
     c.in-Ok.ensures.does)

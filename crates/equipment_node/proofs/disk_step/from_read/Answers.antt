@@ -11,10 +11,10 @@ use Rattle.equipment_node.proofs.LastParts.{asked-is, last-done, none-asked, num
 use Rattle.equipment_node.proofs.Readying.{asked-ready}
 use Rattle.equipment_node.proofs.StepCalls.{last-called, reads-by, some-asked}
 use Rattle.equipment_node.proofs.StepBreaks.{last-breaks, reads-breaks}
-use Rattle.equipment_node.proofs.disk_step.act_last.Goals as goal
+use Rattle.equipment_node.proofs.disk_step.from_read.Goals as goal
 
-pub act_reading-requires : goal.act_reading-requires
-act_reading-requires g c = record {
+pub end_reading-requires : goal.end_reading-requires
+end_reading-requires g c = record {
   now = c.requires.now;
   room = c.requires.room;
   ready =
@@ -34,7 +34,7 @@ end_with-requires g c = record {
 
 pub returns-in-Some-clause-ends : goal.returns-in-Some-clause-ends
 returns-in-Some-clause-ends g c t at =
-    c.act_reading.ensures.ends t
+    c.end_reading.ensures.ends t
     (asked-is (node_of c.args.tool.now) (node_of c.next_unload.new.self) t at.node_is c.in-Some.ensures.own
     c.in-Some.ensures.core)
     (number-is (node_of c.args.tool.now) t at.node_is (Some c.in-Some.number) c.in-Some.ensures.number)
@@ -52,8 +52,8 @@ returns-in-None-clause-ends g c t at =
 
 pub returns-in-Some-clause-asks : goal.returns-in-Some-clause-asks
 returns-in-Some-clause-asks g c =
-    reads-one g.D.Disk (own_of c.args.tool.now.own) c.in-Some.number c.args.spool.spool.disk c.act_reading.result
-    c.in-Some.ensures.number c.act_reading.ensures.asks
+    reads-one g.D.Disk (own_of c.args.tool.now.own) c.in-Some.number c.args.spool.spool.disk c.end_reading.result
+    c.in-Some.ensures.number c.end_reading.ensures.asks
 
 pub returns-in-None-clause-asks : goal.returns-in-None-clause-asks
 returns-in-None-clause-asks g c =
@@ -64,8 +64,8 @@ returns-in-None-clause-asks g c =
 pub returns-in-Some-clause-calls : goal.returns-in-Some-clause-calls
 returns-in-Some-clause-calls g c t at bytes =
     let some = number-is (node_of c.args.tool.now) t at.node_is (Some c.in-Some.number) c.in-Some.ensures.number in
-    reads-by g.D.Disk t bytes c.args.spool.spool.disk c.act_reading.result (Some c.in-Some.number) some
-    (c.act_reading.ensures.calls (standing_in t.next) at.clear.stands.count
+    reads-by g.D.Disk t bytes c.args.spool.spool.disk c.end_reading.result (Some c.in-Some.number) some
+    (c.end_reading.ensures.calls (standing_in t.next) at.clear.stands.count
     (some-asked g.D.Disk c.args.spool.spool t c.in-Some.number at.clear some) bytes)
 
 pub returns-in-None-clause-calls : goal.returns-in-None-clause-calls
@@ -77,7 +77,7 @@ returns-in-None-clause-calls g c t at bytes =
     (node_of c.end_with.new.tool) c.args.out.now c.end_with.new.out c.end_with.result c.end_with.ensures.ends)
 
 pub returns-in-Some-clause-disk : goal.returns-in-Some-clause-disk
-returns-in-Some-clause-disk g c = c.act_reading.ensures.disk
+returns-in-Some-clause-disk g c = c.end_reading.ensures.disk
 
 pub returns-in-None-clause-disk : goal.returns-in-None-clause-disk
 returns-in-None-clause-disk g c =
@@ -88,9 +88,9 @@ returns-in-None-clause-disk g c =
 pub returns-in-Some-clause-breaks : goal.returns-in-Some-clause-breaks
 returns-in-Some-clause-breaks g c t at s same =
     let some = number-is (node_of c.args.tool.now) t at.node_is (Some c.in-Some.number) c.in-Some.ensures.number in
-    reads-breaks g.D.Disk s t c.args.spool.spool.disk c.act_reading.new.out.notes c.act_reading.result
+    reads-breaks g.D.Disk s t c.args.spool.spool.disk c.end_reading.new.out.notes c.end_reading.result
     (Some c.in-Some.number) some
-    (c.act_reading.ensures.breaks s (standing_in t.next) at.clear.stands
+    (c.end_reading.ensures.breaks s (standing_in t.next) at.clear.stands
     (some-asked g.D.Disk c.args.spool.spool t c.in-Some.number at.clear some) same at.told t.notes at.notes)
 
 pub returns-in-None-clause-breaks : goal.returns-in-None-clause-breaks

@@ -15,7 +15,7 @@ use Rattle.equipment_node.proofs.LastParts.{last-done, no-list, none-there, read
 use Rattle.equipment_node.proofs.OnDisk.{kept-of}
 use Rattle.equipment_node.proofs.StepCalls.{look-called, looked-called, some-there, unread-called}
 use Rattle.equipment_node.proofs.StepBreaks.{look-breaks, looked-breaks}
-use Rattle.equipment_node.proofs.disk_step.act_reading.Goals as goal
+use Rattle.equipment_node.proofs.disk_step.end_reading.Goals as goal
 
 pub returns-in-Ok-clause-ends : goal.returns-in-Ok-clause-ends
 returns-in-Ok-clause-ends g c t asked some at =

@@ -6,10 +6,10 @@ use Rattle.equipment_node.proofs.HandingBack.{handed-then}
 use Rattle.equipment_node.proofs.OverDisk.{not-opened}
 use Rattle.equipment_node.proofs.StepCalls.{not-called, step-called}
 use Rattle.equipment_node.proofs.StepBreaks.{step-breaks, unopened-breaks}
-use Rattle.equipment_node.proofs.disk_step.act.Goals as goal
+use Rattle.equipment_node.proofs.disk_step.from_reserve.Goals as goal
 
-pub act_on-requires : goal.act_on-requires
-act_on-requires g c = record {
+pub from_input-requires : goal.from_input-requires
+from_input-requires g c = record {
   now = c.requires.now;
   input = c.requires.input;
   out = record {
@@ -21,7 +21,7 @@ act_on-requires g c = record {
 
 pub returns-in-Ok-clause-acts : goal.returns-in-Ok-clause-acts
 returns-in-Ok-clause-acts g c s node_is on told =
-    c.act_on.ensures.acts s (c.in-Ok.ensures.opens s node_is on told)
+    c.from_input.ensures.acts s (c.in-Ok.ensures.opens s node_is on told)
 
 pub returns-in-Err-clause-acts : goal.returns-in-Err-clause-acts
 returns-in-Err-clause-acts g c s node_is on told =
@@ -33,7 +33,7 @@ pub returns-in-Ok-clause-asks : goal.returns-in-Ok-clause-asks
 returns-in-Ok-clause-asks g c s node_is on told =
     let begin = c.in-Ok.ensures.opens s node_is on told in
     step-asked g.D.Disk s (input_of c.args.input) c.args.now c.args.spool.spool.disk c.in-Ok.spool.spool.disk
-    c.act_on.result begin.went (c.in-Ok.ensures.asks s node_is on told) (c.act_on.ensures.asks s begin)
+    c.from_input.result begin.went (c.in-Ok.ensures.asks s node_is on told) (c.from_input.ensures.asks s begin)
 
 pub returns-in-Err-clause-asks : goal.returns-in-Err-clause-asks
 returns-in-Err-clause-asks g c s node_is on told =
@@ -44,8 +44,8 @@ pub returns-in-Ok-clause-calls : goal.returns-in-Ok-clause-calls
 returns-in-Ok-clause-calls g c s node_is on t told =
     let begin = c.in-Ok.ensures.opens s node_is on (t, told) in
     step-called g.D.Disk s (input_of c.args.input) c.args.now c.args.spool.spool.disk c.in-Ok.spool.spool.disk
-    t.now.bytes c.act_on.result begin.went (c.in-Ok.ensures.calls s node_is on t told)
-    (c.act_on.ensures.calls s begin t.now.bytes)
+    t.now.bytes c.from_input.result begin.went (c.in-Ok.ensures.calls s node_is on t told)
+    (c.from_input.ensures.calls s begin t.now.bytes)
 
 pub returns-in-Err-clause-calls : goal.returns-in-Err-clause-calls
 returns-in-Err-clause-calls g c s node_is on t told =
@@ -55,8 +55,8 @@ returns-in-Err-clause-calls g c s node_is on t told =
 
 pub returns-in-Ok-clause-disk : goal.returns-in-Ok-clause-disk
 returns-in-Ok-clause-disk g c =
-    handed-then g.D.Disk c.args.spool.spool.disk c.in-Ok.spool.spool.disk c.act_on.result c.in-Ok.ensures.disk
-    c.act_on.ensures.disk
+    handed-then g.D.Disk c.args.spool.spool.disk c.in-Ok.spool.spool.disk c.from_input.result c.in-Ok.ensures.disk
+    c.from_input.ensures.disk
 
 pub returns-in-Err-clause-disk : goal.returns-in-Err-clause-disk
 returns-in-Err-clause-disk g c = c.in-Err.ensures.disk
@@ -65,8 +65,8 @@ pub returns-in-Ok-clause-breaks : goal.returns-in-Ok-clause-breaks
 returns-in-Ok-clause-breaks g c s node_is on told =
     let begin = c.in-Ok.ensures.opens s node_is on told in
     step-breaks g.D.Disk s (input_of c.args.input) c.args.now c.args.spool.spool.disk c.in-Ok.spool.spool.disk
-    c.act_on.new.out.notes c.act_on.result begin.went begin.told
-    (c.in-Ok.ensures.breaks s node_is on told c.requires.out.notes) (c.act_on.ensures.breaks s begin)
+    c.from_input.new.out.notes c.from_input.result begin.went begin.told
+    (c.in-Ok.ensures.breaks s node_is on told c.requires.out.notes) (c.from_input.ensures.breaks s begin)
 
 pub returns-in-Err-clause-breaks : goal.returns-in-Err-clause-breaks
 returns-in-Err-clause-breaks g c s node_is on told =

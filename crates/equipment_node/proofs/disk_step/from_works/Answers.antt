@@ -9,13 +9,13 @@ use Rattle.equipment_node.proofs.OverDisk.{at-settled, carry-failed, ends-acts}
 use Rattle.equipment_node.proofs.Readying.{settled-ready}
 use Rattle.equipment_node.proofs.StepCalls.{behind-called, behind-stops}
 use Rattle.equipment_node.proofs.StepBreaks.{behind-breaks, behind-broken}
-use Rattle.equipment_node.proofs.disk_step.act_behind.Goals as goal
+use Rattle.equipment_node.proofs.disk_step.from_works.Goals as goal
 
 pub carry_out-requires : goal.carry_out-requires
 carry_out-requires g c = record { count = c.requires.ready.count }
 
-pub act_last-requires : goal.act_last-requires
-act_last-requires g c = record {
+pub from_read-requires : goal.from_read-requires
+from_read-requires g c = record {
   now = c.requires.now;
   room = subst (λ line. array_vec_len line ≤ 514) (sym c.in-Ok.ensures.line) c.requires.room;
   ready =
@@ -26,9 +26,9 @@ act_last-requires g c = record {
 pub returns-in-Ok-clause-acts : goal.returns-in-Ok-clause-acts
 returns-in-Ok-clause-acts g c s input begun begin =
     ends-acts g.D.Disk s input c.args.now begin.went c.args.spool (node_of c.args.tool.now)
-    (node_of c.act_last.new.tool) c.args.out.now c.act_last.new.out begun c.act_last.result begin.clear
+    (node_of c.from_read.new.tool) c.args.out.now c.from_read.new.out begun c.from_read.result begin.clear
     c.requires.ready.count c.in-Ok.ensures.come_to
-    (c.act_last.ensures.ends (settled_step begun.step)
+    (c.from_read.ensures.ends (settled_step begun.step)
     (at-settled g.D.Disk s input c.args.now begin.went c.args.spool c.in-Ok.spool (node_of c.args.tool.now)
     (node_of c.carry_out.new.tool) c.args.out.now c.carry_out.new.out begun begin.clear begin.told
     c.requires.ready.count c.in-Ok.ensures.come_to c.in-Ok.ensures.works.0 c.in-Ok.ensures.node
@@ -43,8 +43,8 @@ returns-in-Err-clause-acts g c s input begun begin =
 pub returns-in-Ok-clause-asks : goal.returns-in-Ok-clause-asks
 returns-in-Ok-clause-asks g c s input begun begin =
     behind-asked g.D.Disk s input c.args.now c.args.spool c.in-Ok.spool (node_of c.args.tool.now)
-    (node_of c.carry_out.new.tool) c.args.out.now begun c.act_last.result begin.clear c.in-Ok.ensures.works.0
-    c.in-Ok.ensures.node c.act_last.ensures.asks
+    (node_of c.carry_out.new.tool) c.args.out.now begun c.from_read.result begin.clear c.in-Ok.ensures.works.0
+    c.in-Ok.ensures.node c.from_read.ensures.asks
 
 pub returns-in-Err-clause-asks : goal.returns-in-Err-clause-asks
 returns-in-Err-clause-asks g c s input begun begin =
@@ -54,9 +54,9 @@ returns-in-Err-clause-asks g c s input begun begin =
 pub returns-in-Ok-clause-calls : goal.returns-in-Ok-clause-calls
 returns-in-Ok-clause-calls g c s input begun begin bytes =
     behind-called g.D.Disk s input c.args.now bytes c.args.spool begin.clear begin.went c.in-Ok.spool
-    (node_of c.args.tool.now) c.args.out.now begun c.act_last.result c.requires.ready.count c.in-Ok.ensures.come_to
+    (node_of c.args.tool.now) c.args.out.now begun c.from_read.result c.requires.ready.count c.in-Ok.ensures.come_to
     c.in-Ok.ensures.works.0
-    (c.act_last.ensures.calls (settled_step begun.step)
+    (c.from_read.ensures.calls (settled_step begun.step)
     (at-settled g.D.Disk s input c.args.now begin.went c.args.spool c.in-Ok.spool (node_of c.args.tool.now)
     (node_of c.carry_out.new.tool) c.args.out.now c.carry_out.new.out begun begin.clear begin.told
     c.requires.ready.count c.in-Ok.ensures.come_to c.in-Ok.ensures.works.0 c.in-Ok.ensures.node
@@ -70,9 +70,9 @@ returns-in-Err-clause-calls g c s input begun begin bytes =
 
 pub returns-in-Ok-clause-disk : goal.returns-in-Ok-clause-disk
 returns-in-Ok-clause-disk g c =
-    handed-then g.D.Disk c.args.spool.spool.disk c.in-Ok.spool.spool.disk c.act_last.result
+    handed-then g.D.Disk c.args.spool.spool.disk c.in-Ok.spool.spool.disk c.from_read.result
     (works-back g.D.Disk c.args.spool _ c.args.out.now c.carry_out.new.out (Ok c.in-Ok.spool) c.in-Ok.ensures.works)
-    c.act_last.ensures.disk
+    c.from_read.ensures.disk
 
 pub returns-in-Err-clause-disk : goal.returns-in-Err-clause-disk
 returns-in-Err-clause-disk g c =
@@ -86,9 +86,9 @@ returns-in-Ok-clause-breaks g c s input begun begin =
     c.requires.ready.count c.in-Ok.ensures.come_to c.in-Ok.ensures.works.0 c.in-Ok.ensures.node c.in-Ok.ensures.works.1
     in
     behind-breaks g.D.Disk s input c.args.now (λ d u told. g.met.D.Disk.sized d u told) c.args.spool begin.clear
-    begin.went c.in-Ok.spool (node_of c.args.tool.now) c.args.out.now begun c.act_last.new.out.notes c.act_last.result
+    begin.went c.in-Ok.spool (node_of c.args.tool.now) c.args.out.now begun c.from_read.new.out.notes c.from_read.result
     c.requires.ready.count c.in-Ok.ensures.come_to c.in-Ok.ensures.works.0 at.told
-    (λ same. c.act_last.ensures.breaks (settled_step begun.step) at s same)
+    (λ same. c.from_read.ensures.breaks (settled_step begun.step) at s same)
 
 pub returns-in-Err-clause-breaks : goal.returns-in-Err-clause-breaks
 returns-in-Err-clause-breaks g c s input begun begin =

@@ -4,7 +4,7 @@ use Rattle.tool_step.specs.declared.kind.Kind.{Kind}
 use Rattle.tool_core.specs.Node.{node_of, own_of}
 use Rattle.tool_step.specs.Own.{OwnView}
 use Rattle.tool_core.proofs.Parting.{leaving_goes, leaving_stops}
-use Rattle.tool_core.proofs.own.Tool.end_communication.Goals as goal
+use Rattle.tool_core.proofs.own.Tool.end_talk.Goals as goal
 
 pub returns-in-Err-clause-does : goal.returns-in-Err-clause-does
 returns-in-Err-clause-does c =
