@@ -19,7 +19,7 @@ use Rattle.spool_ledger.specs.declared.unload.Unload.{Unload}
 use Rattle.tool_step.specs.declared.kind.Kind.{Kind}
 use Rattle.tool_step.specs.Own.{OwnView, ToolPart, ToolTurn, is_communicating, with_ledger, with_tried}
 use Rattle.tool_step.specs.Sent.{grant_item, text_of}
-use Rattle.tool_step.specs.Spooling.{dataid_in, end_of_spooling, leave_turn, needs_leave, sent_turn, taking_turn, tried_turn, unload_part, unloaded_own, unloading_turn, waiting_text, stopped_turn}
+use Rattle.tool_step.specs.Spooling.{dataid_in, end_of_spooling, inquiry_turn, needs_grant, sent_turn, taking_turn, tried_turn, unload_part, unloaded_own, unloading_turn, waiting_text, stopped_turn}
 use Rattle.tool_step.specs.Step.{last_parts}
 
 -- ---- what comes behind them
@@ -53,17 +53,17 @@ crowded-rests true own = unload-rests None own.ledger
 crowded-rests false own = same-rests own.ledger
 
 leave-rests : (text : Answer) (own : OwnView) (e : EndView Kind)
-    → HasRested own.ledger (leave_turn text own e).own.ledger
+    → HasRested own.ledger (inquiry_turn text own e).own.ledger
 leave-rests (answer.Body text) own e = crowded-rests (is_crowded_out true e) own
 leave-rests answer.TooLong own e = unload-rests None own.ledger
 
 sent-rests : (message : Spooled) (own : OwnView) (e : EndView Kind)
     → HasRested own.ledger (sent_turn message own e).own.ledger
-sent-rests message own e = go (needs_leave message)
+sent-rests message own e = go (needs_grant message)
   where
     go : (needs : Bool)
         → HasRested own.ledger
-        (if needs then leave_turn (text_of own (grant_item (dataid_in message.body) (length message.body))) own e
+        (if needs then inquiry_turn (text_of own (grant_item (dataid_in message.body) (length message.body))) own e
         else unloading_turn message own e).own.ledger
     go true = leave-rests (text_of own (grant_item (dataid_in message.body) (length message.body))) own e
     go false = crowded-rests (is_crowded_out true e) own

@@ -142,7 +142,7 @@ pub(crate) static REPORTS_MANY: [Case; 3] = [
     },
 ];
 
-// It asks for leave first where the report is of several blocks.
+// It asks for a grant first where the report is of several blocks.
 pub(crate) static ASKS: [Case; 1] = [Case {
     now: 0,
     given: Given::Event(1),

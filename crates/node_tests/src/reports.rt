@@ -1,4 +1,4 @@
-//! Reports: short ones, and those of several blocks, which ask for leave.
+//! Reports: short ones, and those of several blocks, which ask for a grant.
 
 use crate::played_host::{
     ASKS, Case, ESTABLISHES, GOES_ONLINE, Given, LONG, REPORTS_MANY, REPORTS_ONE, Text, runs,
@@ -59,7 +59,7 @@ static TIMES_OUT: [Case; 1] = [Case {
     ),
 }];
 
-// GRANT6 is one byte 00 of kind B: all else denies leave.
+// GRANT6 is one byte 00 of kind B: all else denies it.
 static DENIES: [Case; 8] = [
     Case {
         now: 0,
@@ -209,7 +209,7 @@ static COMES_LATE: [Case; 8] = [
     },
 ];
 
-// A report that waits for leave goes though the tool is off-line by then, and draws its number when it goes. A later
+// A report that waits for a grant goes though the tool is off-line by then, and draws its number when it goes. A later
 // one is dropped. An abort ends a report, and so does a reply, whatever its text.
 static GOES_AT_LAST: [Case; 8] = [
     Case {

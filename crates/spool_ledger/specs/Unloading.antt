@@ -32,7 +32,7 @@ is_numbered number (Some tried) = tried.number == number
 abbrev pub tries : ℕ → Option Unload → Bool
 tries number unload = is_numbered number (tried_in unload)
 
--- this message is under way, with its text where it waits for leave to go
+-- this message is under way, with its text where it waits for its grant
 abbrev pub trying : ℕ → Option (List ℕ) → Unload → Unload
 trying number waiting unload = record unload { tried = Some (record { number = number; waiting = waiting }) }
 

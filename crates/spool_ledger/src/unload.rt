@@ -1,4 +1,4 @@
-//! An unload as a value: the message under way, with its text where it waits for leave, and how many were confirmed.
+//! An unload as a value: the message under way, with its text where it waits for a grant, and how many were confirmed.
 
 ghost use Rattle.std.specs.Prelude.{◌≡◌, ◌≤◌, length};
 ghost use Rattle.block_codec.specs.Protocol.{longest_text};
@@ -6,7 +6,7 @@ ghost use Rattle.block_codec.specs.Protocol.{longest_text};
 use gl_base::Row;
 use std::marker::Model;
 
-/// The text of a message that waits for leave to go: one that blocks can carry.
+/// The text of a message that waits for its grant: one that blocks can carry.
 #[derive(Debug, Drop)]
 pub struct WaitingText {
     body: Row<u8>,
@@ -48,7 +48,7 @@ impl WaitingText {
 #[derive(Debug, Drop)]
 pub(crate) struct Tried {
     pub(crate) number: u64,
-    /// Its text, where it waits for leave to go.
+    /// Its text, where it waits for its grant.
     pub(crate) waiting: Option<WaitingText>,
 }
 

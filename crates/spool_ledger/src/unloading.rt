@@ -1,4 +1,4 @@
-//! An unload by its calls: it begins, takes up a message, which is granted leave and confirmed, and ends.
+//! An unload by its calls: it begins, takes up a message, which is granted and confirmed, and ends.
 
 ghost use Rattle.std.specs.Prelude.{◌≡◌, ◌<◌, ◌++◌, IfOk, None, Some};
 ghost use Rattle.message_end.specs.Ends.{printed};
@@ -49,7 +49,7 @@ impl Ledger {
     }
 
     /// The message with this number was read, and goes out with these system bytes. It is under way then, with its text
-    /// where it waits for leave to go.
+    /// where it waits for its grant.
     pub fn take_up(
         &mut self,
         alloc: Global,

@@ -25,7 +25,7 @@ use Rattle.tool_step.specs.declared.kind.Kind.{Kind}
 use Rattle.tool_step.specs.declared.kind.Kind.TheVariants as kind
 use Rattle.tool_step.specs.Own.{OwnView, ToolCommands, ToolTurn, is_communicating, turn_of}
 use Rattle.tool_step.specs.Replies.{given_up_turn, timeout_turn}
-use Rattle.tool_step.specs.Sent.{error_duty, error_item, error_name, error_report, has_room, primary_commands, text_of}
+use Rattle.tool_step.specs.Sent.{error_duty, error_item, error_name, error_primary, has_room, primary_commands, text_of}
 use Rattle.tool_core.proofs.Taking.{turned}
 use Rattle.tool_core.proofs.Turned.{HasTaken, ToolNode, behind}
 
@@ -77,12 +77,12 @@ given_up_same now header own one other same =
 
 sent_still :
     (function : ℕ) (body : List ℕ) (step : Step (EndView Kind) Line)
-    → (next_of (carried printed_note (Primary (error_report function body) ∷ []) step)).transactions
+    → (next_of (carried printed_note (Primary (error_primary function body) ∷ []) step)).transactions
     ≡ step.next.transactions
 sent_still function body step = go (is_crowded_out false step.next) (next_number step.next.numbers)
   where
     unsent : Unsent Kind
-    unsent = error_report function body
+    unsent = error_primary function body
 
     go : (crowded : Bool) (number : Option ℕ)
         → (next_of (and_then
@@ -115,7 +115,7 @@ told_still function header own step =
         → (next_of (and_then
         (carried printed_note
         (if communicating then
-        (if room then primary_commands (error_report function) text
+        (if room then primary_commands (error_primary function) text
         else Note (Happening.Full (error_name function)) ∷ [])
         else []) step)
         (all_done printed_note []))).transactions
@@ -123,7 +123,7 @@ told_still function header own step =
     go false room text = refl
     go true false text = refl
     go true true (answer.Body body) =
-        ends (Primary (error_report function body) ∷ []) (sent_still function body step)
+        ends (Primary (error_primary function body) ∷ []) (sent_still function body step)
     go true true answer.TooLong = refl
 
 core_next :

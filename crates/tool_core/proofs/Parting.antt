@@ -34,7 +34,7 @@ use Rattle.tool_step.specs.declared.kind.Kind.TheVariants as kind
 use Rattle.tool_core.specs.Ending.{all_stored, ends_with, stored_with, stores_turn, with_active}
 use Rattle.tool_step.specs.Own.{OwnView, ToolCommands, ToolTurn, sent_report, turn_of, waiting_report, with_comms, with_ledger}
 use Rattle.tool_step.specs.Spooling.{Stores, is_covered, lines_commands, stores_all, stores_commands}
-use Rattle.tool_step.specs.States.{begins_spooling, comms_lines, comms_outcome, ending_commands, ends_report, is_same_comms, leaving_turn, left_commands, left_turn, parted_turn, request_commands, stored_by, stored_of, stored_one, without_open}
+use Rattle.tool_step.specs.States.{begins_spooling, comms_lines, comms_outcome, ending_commands, ends_report, is_same_comms, end_of_talk, left_commands, left_turn, parted_turn, request_commands, stored_by, stored_of, stored_one, without_open}
 use Rattle.tool_core.proofs.Following.{lines_carried, node}
 use Rattle.tool_core.proofs.Storing.{stores_then}
 use Rattle.tool_core.proofs.Taking.{commands_then, turned}
@@ -330,7 +330,7 @@ module _ (input : CommsIn) (now delay : ℕ) (own : OwnView) (next : CommsView) 
       ∙ ap (λ (b : Bool). b && may_spool own.tables) (left.begins_is ∙ states_same begins_spooling))
 
   turn_same : parted_turn (record { next = next; output = output }) begins (activated enabled ended) failed own core
-      ≡ leaving_turn input failed now own core
+      ≡ end_of_talk input failed now own core
   turn_same =
       ap (λ (b : Bool). parted_turn outcome b (activated enabled ended) failed own core)
       (left.begins_is ∙ states_same begins_spooling)
@@ -380,7 +380,7 @@ module _ (input : CommsIn) (now delay : ℕ) (own : OwnView) (next : CommsView) 
       → HasTaken (stores_turn reports (with_ledger ledger own_ended)) (node (with_ledger ledger own_ended) core_ended)
       out_active stored out_stored
       → Takes (fixed_turn stored.own (request_commands output stored.own)) stored out_stored new out_new result
-      → Takes (leaving_turn input failed now own core) (node own core) out new out_new result
+      → Takes (end_of_talk input failed now own core) (node own core) out new out_new result
   leaving_goes A stored new out_stored out_new result taken asked =
       subst (λ (turn : ToolTurn). Takes {A = A} turn (node own core) out new out_new result) turn_same
       (parted_goes begins active own (record { next = next; output = output }) (activated enabled ended) ended failed
@@ -391,7 +391,7 @@ module _ (input : CommsIn) (now delay : ℕ) (own : OwnView) (next : CommsView) 
       (A B : Type 0) (new : ToolNode) (out_new : StepOut) (end : Stop)
       → Takes {A = A} (stores_turn reports (with_ledger ledger own_ended))
       (node (with_ledger ledger own_ended) core_ended) out_active new out_new (Err end)
-      → Takes {A = B} (leaving_turn input failed now own core) (node own core) out new out_new (Err end)
+      → Takes {A = B} (end_of_talk input failed now own core) (node own core) out new out_new (Err end)
   leaving_stops A B new out_new end taken =
       subst (λ (turn : ToolTurn). Takes {A = B} turn (node own core) out new out_new (Err end)) turn_same
       (parted_stops begins active own (record { next = next; output = output }) (activated enabled ended) ended failed

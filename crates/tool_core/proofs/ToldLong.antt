@@ -17,7 +17,7 @@ use Rattle.message_end.specs.Parts.{Takes, on_the_way, went_with}
 use Rattle.equipment_tables.specs.declared.answers.Answer.{Answer}
 use Rattle.equipment_tables.specs.declared.answers.Answer.TheVariants as answer
 use Rattle.tool_step.specs.Own.{OwnView, ToolTurn, is_communicating, turn_of}
-use Rattle.tool_step.specs.Sent.{error_duty, error_item, error_name, error_report, has_room, primary_commands, text_of}
+use Rattle.tool_step.specs.Sent.{error_duty, error_item, error_name, error_primary, has_room, primary_commands, text_of}
 use Rattle.tool_step.specs.Step.{is_spent, long_turn}
 use Rattle.tool_core.proofs.Turned.{ToolNode}
 
@@ -42,9 +42,9 @@ error_goes A function header own old new out out_new left =
   where
     sent : (body : List ℕ) (crowded : Bool) (number : Option ℕ) → (number ≡ None → ⊥)
         → went_with own (and_then (and_then
-        (if crowded then Goes (noted printed_note (Happening.Full (unsent_name (error_report function body)))
+        (if crowded then Goes (noted printed_note (Happening.Full (unsent_name (error_primary function body)))
         (on_the_way old.core out))
-        else draws number (sends printed_note (error_report function body)) (on_the_way old.core out))
+        else draws number (sends printed_note (error_primary function body)) (on_the_way old.core out))
         (carried printed_note [])) (all_done printed_note []))
         ≡ Spent (on_the_way new out_new) → ⊥
     sent body true number some is = absurd (cc)
@@ -54,7 +54,7 @@ error_goes A function header own old new out out_new left =
     go : (communicating room : Bool) (text : Answer)
         → went_with own (and_then (carried printed_note
         (if communicating then
-        (if room then primary_commands (error_report function) text
+        (if room then primary_commands (error_primary function) text
         else NoteThis (Happening.Full (error_name function)) ∷ [])
         else []) (on_the_way old.core out)) (all_done printed_note []))
         ≡ Spent (on_the_way new out_new) → ⊥

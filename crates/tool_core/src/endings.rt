@@ -12,7 +12,7 @@ ghost use Rattle.tool_core.specs.Carried.{FailsAlike};
 ghost use Rattle.tool_core.specs.Ending.{all_stored, as_list, ends_with, stores_turn, with_active};
 ghost use Rattle.tool_core.specs.Node.{own_of};
 ghost use Rattle.tool_step.specs.Own.{with_control};
-ghost use Rattle.tool_step.specs.States.{begins_spooling, control_after_loss, control_commands, ending_commands, is_attempt_kind, leaving_turn, notes_unsent, stored_by, without_open};
+ghost use Rattle.tool_step.specs.States.{begins_spooling, control_after_loss, control_commands, ending_commands, is_attempt_kind, end_of_talk, notes_unsent, stored_by, without_open};
 ghost use Rattle.tool_core.specs.Turns.{TakesPart, TakesTurn};
 
 use crate::own::{Own, Tool};
@@ -42,7 +42,7 @@ impl Tool {
         out: &mut StepOut,
     ) -> Result<(), Stop>
         requires { now < 2 ^ 62 }
-        ensures does { TakesPart (leaving_turn input failed now) self.old out.old self.new out.new result }
+        ensures does { TakesPart (end_of_talk input failed now) self.old out.old self.new out.new result }
         ensures line { out.new.line ≡ out.old.line }
     {
         let old = self.own.comms.state();
@@ -161,7 +161,7 @@ impl Own {
     }
 
     // What is to be stored of an open transaction of this kind, whose primary has these system bytes: a report that was
-    // sent, or that waits for leave, where the spool is active and the rule covers it.
+    // sent, or that waits for a grant, where the spool is active and the rule covers it.
     fn stored_by(
         &self,
         alloc: Global,

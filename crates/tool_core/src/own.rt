@@ -47,7 +47,7 @@ pub struct Tool {
 }
 
 /// What the equipment keeps beside the core: its plan and tables, its two state models, the reports that wait for
-/// leave to go, those that aren't answered yet, what becomes of the spool, the system bytes with which a message of it
+/// their grants, those that aren't answered yet, what becomes of the spool, the system bytes with which a message of it
 /// was tried last, how many events have happened since the start, and whether its first step is over.
 #[derive(Drop)]
 pub struct Own {
@@ -158,7 +158,7 @@ impl Own {
         matches!(self.control.state(), ControlState::Local)
     }
 
-    /// A report waits for leave to go.
+    /// A report waits for its grant.
     pub(crate) fn keep(&mut self, waiting: ForGrant) -> Result<(), NoMemory>
         ensures { OnOk result (own_of self.new ≡
             with_for_grant (self.old.for_grant.items ++ waiting ∷ []) (own_of self.old)) }

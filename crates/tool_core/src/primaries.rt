@@ -2,7 +2,7 @@
 
 ghost use Rattle.std.specs.Prelude.{◌≡◌, IfOk};
 ghost use Rattle.block_codec.specs.Header.{Fits};
-ghost use Rattle.tool_step.specs.Sent.{error_item, error_report, establish_request, grant_item, grant_request, online_request, primary_of, terminal_item};
+ghost use Rattle.tool_step.specs.Sent.{error_item, error_primary, establish_request, grant_item, grant_request, online_request, primary_of, terminal_item};
 ghost use Rattle.tool_step.specs.Spooling.{unload_request};
 
 use block_codec::Header;
@@ -39,7 +39,7 @@ pub(crate) fn online_request(alloc: Global) -> Unsent<Kind>
     primary(1, 1, Kind::Attempt, Row::new(alloc))
 }
 
-/// The text of S6F5, which asks for leave to send a report of so many bytes.
+/// The text of S6F5, which asks for a grant to send a report of so many bytes.
 pub(crate) fn grant_item(alloc: Global, dataid: u32, len: u32) -> Result<Item, NoMemory>
     ensures { IfOk result (λ item. item ≡ grant_item dataid len) }
 {
@@ -78,8 +78,8 @@ pub(crate) fn error_item(alloc: Global, header: &Header) -> Result<Item, NoMemor
 }
 
 /// S9.
-pub(crate) fn error_report(function: u8, body: Row<u8>) -> Unsent<Kind>
-    ensures { result ≡ error_report function body }
+pub(crate) fn error_primary(function: u8, body: Row<u8>) -> Unsent<Kind>
+    ensures { result ≡ error_primary function body }
 {
     Unsent {
         stream: 9,

@@ -5,7 +5,7 @@ ghost use Rattle.block_codec.specs.Header.{Fits};
 ghost use Rattle.gem_states.specs.declared.control.ControlIn.TheVariants.{AttemptDone, AttemptFailed};
 ghost use Rattle.tool_step.specs.declared.kind.Kind.TheVariants as kind;
 ghost use Rattle.tool_step.specs.Own.{waiting_report, without_grant};
-ghost use Rattle.tool_step.specs.Spooling.{leave_given_turn, unloaded_own};
+ghost use Rattle.tool_step.specs.Spooling.{grant_given_turn, unloaded_own};
 ghost use Rattle.tool_core.specs.Carried.{IsTaken};
 ghost use Rattle.tool_step.specs.Codes.{is_accepted_in, is_accepting, is_granted_in, is_granting, is_zero_in};
 ghost use Rattle.tool_core.specs.Node.{node_of, own_of};
@@ -235,7 +235,7 @@ impl Tool {
         }
     }
 
-    // The report whose S6F5 has these system bytes gets no leave.
+    // The report whose S6F5 has these system bytes gets no grant.
     fn deny(&mut self, alloc: Global, system: u32, out: &mut StepOut) -> Result<(), Stop>
         ensures does { TakesTurn (λ own. denied_turn (without_grant system own))
             self.old out.old self.new out.new result }
@@ -356,7 +356,7 @@ impl Tool {
         out: &mut StepOut,
     ) -> Result<(), Stop>
         ensures does { TakesPart
-            (λ own core. if is_granted_in message.now.body then leave_given_turn own core
+            (λ own core. if is_granted_in message.now.body then grant_given_turn own core
             else denied_turn (unloaded_own own))
             self.old out.old self.new out.new result }
         ensures line { out.new.line ≡ out.old.line }

@@ -64,11 +64,7 @@ impl Tool {
         requires function { name.function % 2 ≡ 1 }
         requires wait { name.wait ≡ true }
         ensures judged { IsJudged (report_named name) text
-            (node_of self.old)
-            out.old
-            (node_of self.new)
-            out.new
-            result }
+            (node_of self.old) out.old (node_of self.new) out.new result }
         ensures line { out.new.line ≡ out.old.line }
     {
         match text {
@@ -94,11 +90,7 @@ impl Tool {
         requires function { name.function % 2 ≡ 1 }
         requires wait { name.wait ≡ true }
         ensures judged { IsJudged (report_named name) (Answer.Body body)
-            (node_of self.old)
-            out.old
-            (node_of self.new)
-            out.new
-            result }
+            (node_of self.old) out.old (node_of self.new) out.new result }
         ensures line { out.new.line ≡ out.old.line }
     {
         if self.own.is_spooled(name) {
@@ -131,7 +123,7 @@ impl Tool {
         Ok(())
     }
 
-    /// Sends the report of an event, or asks for leave first where it takes several blocks.
+    /// Sends the report of an event, or asks for a grant first where it takes several blocks.
     pub(crate) fn report_event(
         &mut self,
         alloc: Global,
@@ -149,7 +141,7 @@ impl Tool {
         self.ask_for_grant(alloc, dataid, body, out)
     }
 
-    // Asks for leave to send the report of an event.
+    // Asks for a grant to send the report of an event.
     fn ask_for_grant(
         &mut self,
         alloc: Global,
@@ -168,7 +160,7 @@ impl Tool {
         }
     }
 
-    // Asks for leave by this text, and keeps the report until it is granted.
+    // Asks for a grant by this text, and keeps the report until it is granted.
     fn ask_by(
         &mut self,
         alloc: Global,
@@ -191,7 +183,7 @@ impl Tool {
         Ok(())
     }
 
-    /// The report whose S6F5 has these system bytes waits for leave no more.
+    /// The report whose S6F5 has these system bytes waits for a grant no more.
     pub(crate) fn take_waiting(&mut self, system: u32) -> Option<Spoolable>
         ensures found { result ≡ waiting_report system (own_of self.old.own) }
         ensures rest { own_of self.new.own ≡ without_grant system (own_of self.old.own) }
@@ -256,7 +248,7 @@ impl Own {
         }
     }
 
-    /// A copy of the report that waits for leave by the S6F5 with these system bytes.
+    /// A copy of the report that waits for a grant by the S6F5 with these system bytes.
     pub(crate) fn copy_waiting(
         &self,
         alloc: Global,

@@ -13,11 +13,11 @@ ghost use Rattle.tool_core.specs.Node.{own_of};
 ghost use Rattle.tool_step.specs.Own.{OwnView, turn_of};
 ghost use Rattle.tool_core.specs.Judged.{IsShort};
 ghost use Rattle.tool_step.specs.Reports.{unreported_turn};
-ghost use Rattle.tool_step.specs.Sent.{abort_duty, abort_name, body_duty, error_duty, error_item, error_name, error_report, has_room, long_duties, primary_commands, reply_name, text_of};
+ghost use Rattle.tool_step.specs.Sent.{abort_duty, abort_name, body_duty, error_duty, error_item, error_name, error_primary, has_room, long_duties, primary_commands, reply_name, text_of};
 ghost use Rattle.tool_core.specs.Turns.{TakesTurn};
 
 use crate::own::Tool;
-use crate::primaries::{error_item, error_report};
+use crate::primaries::{error_item, error_primary};
 use block_codec::Header;
 use equipment_tables::{Answer, bounded};
 use gl_base::{NoMemory, Row};
@@ -124,12 +124,12 @@ impl Tool {
     ) -> Result<(), Stop>
         requires odd { function % 2 ≡ 1 }
         requires short { IsShort text }
-        ensures does { TakesTurn (λ own. fixed_turn own (primary_commands (error_report function) text))
+        ensures does { TakesTurn (λ own. fixed_turn own (primary_commands (error_primary function) text))
             self.old out.old self.new out.new result }
         ensures line { out.new.line ≡ out.old.line }
     {
         match text {
-            Answer::Body(body) => self.send(alloc, error_report(function, body), out),
+            Answer::Body(body) => self.send(alloc, error_primary(function, body), out),
             Answer::TooLong => Ok(()),
         }
     }

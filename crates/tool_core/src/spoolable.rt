@@ -1,4 +1,4 @@
-//! What the equipment tells its host by itself: a report, one that waits for leave to go, and one that was sent.
+//! What the equipment tells its host by itself: a report, one that waits for its grant, and one that was sent.
 
 ghost use Rattle.std.specs.Prelude.{◌≡◌, ◌<◌, ◌≤◌, ◌%◌, length, IfOk};
 ghost use Rattle.block_codec.specs.Protocol.{longest_text};
@@ -140,7 +140,7 @@ pub fn primary_function(function: u8) -> u8
     }
 }
 
-/// An S6F11 of several blocks that waits for leave to go: the system bytes of the S6F5 that asks for it, and its text,
+/// An S6F11 of several blocks that waits for its grant: the system bytes of the S6F5 that asks for it, and its text,
 /// which blocks can carry.
 #[derive(Debug, Drop)]
 pub struct ForGrant {

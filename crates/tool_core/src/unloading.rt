@@ -11,7 +11,7 @@ ghost use Rattle.tool_core.specs.Node.{own_of};
 ghost use Rattle.tool_step.specs.Own.{with_ledger};
 ghost use Rattle.tool_step.specs.Replies.{denied_turn};
 ghost use Rattle.tool_step.specs.Sent.{grant_item, text_of};
-ghost use Rattle.tool_step.specs.Spooling.{dataid_in, end_of_spooling, first_number, leave_given_turn, leave_turn, needs_leave, taking_turn, unloaded_own, unloading_turn};
+ghost use Rattle.tool_step.specs.Spooling.{dataid_in, end_of_spooling, first_number, grant_given_turn, inquiry_turn, needs_grant, taking_turn, unloaded_own, unloading_turn};
 ghost use Rattle.tool_step.specs.Taking.{waiting_turn};
 ghost use Rattle.tool_core.specs.Turns.{HasTakenPart, TakesPart};
 
@@ -83,14 +83,14 @@ impl Tool {
     {
         let system = self.core.draw(out)?;
         self.own.tried = Some(system);
-        if needs_leave(&report) {
+        if needs_grant(&report) {
             return self.take_up_long(alloc, number, system, report, out);
         }
         self.own.ledger.take_up(alloc, number, system, None, out)?;
         self.send_unloaded(alloc, report, out)
     }
 
-    // An S6F11 of several blocks is taken up under these system bytes. It waits for leave to go.
+    // An S6F11 of several blocks is taken up under these system bytes. It waits for its grant.
     fn take_up_long(
         &mut self,
         alloc: Global,
@@ -110,7 +110,7 @@ impl Tool {
         self.ask_for_unload(alloc, text, out)
     }
 
-    // The text that asks for leave to send a report.
+    // The text that asks for a grant to send a report.
     fn grant_text(&self, alloc: Global, report: &Spoolable) -> Result<Answer, NoMemory>
         ensures text { IfOk result (λ text. text
             ≡ text_of (own_of self.now.own) (grant_item (dataid_in report.now.body) (length report.now.body))) }
@@ -120,10 +120,10 @@ impl Tool {
         bounded(alloc, &item, self.own.max_body())
     }
 
-    // Asks by this text for leave to send the message that was taken up.
+    // Asks by this text for a grant to send the message that was taken up.
     fn ask_for_unload(&mut self, alloc: Global, text: Answer, out: &mut StepOut) -> Result<(), Stop>
         requires { IsShort text }
-        ensures does { TakesPart (leave_turn text) self.old out.old self.new out.new result }
+        ensures does { TakesPart (inquiry_turn text) self.old out.old self.new out.new result }
         ensures line { out.new.line ≡ out.old.line }
     {
         match text {
@@ -166,9 +166,9 @@ impl Tool {
         self.core.open() >= 64 || self.core.len() >= 128
     }
 
-    /// The message under way has got leave to go.
+    /// The message under way is granted.
     pub(crate) fn let_go(&mut self, alloc: Global, out: &mut StepOut) -> Result<(), Stop>
-        ensures does { TakesPart leave_given_turn self.old out.old self.new out.new result }
+        ensures does { TakesPart grant_given_turn self.old out.old self.new out.new result }
         ensures line { out.new.line ≡ out.old.line }
     {
         match self.own.ledger.granted() {
@@ -179,7 +179,7 @@ impl Tool {
         }
     }
 
-    /// The message under way gets no leave: the unload ends, and the message stays.
+    /// The message under way gets no grant: the unload ends, and the message stays.
     pub(crate) fn deny_unload(&mut self, alloc: Global, out: &mut StepOut) -> Result<(), NoMemory>
         ensures does { IfOk result (λ done. HasTakenPart
             (λ own core. denied_turn (unloaded_own own)) self.old out.old self.new out.new) }
@@ -200,8 +200,8 @@ impl Tool {
 }
 
 // Whether it is an S6F11 of several blocks.
-fn needs_leave(report: &Spoolable) -> bool
-    ensures { result ≡ needs_leave report.now }
+fn needs_grant(report: &Spoolable) -> bool
+    ensures { result ≡ needs_grant report.now }
 {
     report.stream == 6 && report.function == 11 && report.body.len() > ONE_BLOCK
 }

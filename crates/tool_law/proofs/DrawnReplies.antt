@@ -58,7 +58,7 @@ use Rattle.tool_step.specs.Own.{OwnView, ToolDuty, event_report, is_communicatin
 use Rattle.tool_law.specs.Putting.{alarm_puts, block_timer_puts, changed_puts, character_puts, command_puts, dropped_puts, enabled_puts, event_puts, flow_puts, given_up_puts, lacks_number, line_timer_puts, loss_puts, matched_puts, message_puts, puts_none, reply_puts, reply_timer_puts, timeout_puts, took_puts}
 use Rattle.tool_step.specs.Replies.{block_timer, denied_turn, given_up_by_t4, given_up_turn, granted_turn, loss_turn, matched_turn, reply_timer, reply_turn, secondary_turn, timeout_turn}
 use Rattle.tool_step.specs.Sent as sent
-use Rattle.tool_step.specs.Spooling.{booked_turn, dataid_in, end_of_spooling, leave_given_turn, leave_turn, let_go_turn, lines_commands, needs_leave, purge_turn, rsda_duties, sent_turn, stopped_turn, taking_turn, transmit_turn, tried_turn, unload_part, unload_request, unloaded_own, unloading_turn, waiting_text}
+use Rattle.tool_step.specs.Spooling.{booked_turn, dataid_in, end_of_spooling, grant_given_turn, inquiry_turn, let_go_turn, lines_commands, needs_grant, purge_turn, rsda_duties, sent_turn, stopped_turn, taking_turn, transmit_turn, tried_turn, unload_part, unload_request, unloaded_own, unloading_turn, waiting_text}
 use Rattle.tool_step.specs.States as states
 use Rattle.tool_step.specs.Step.{beginning, begun, character, flow_turn, is_spent, line_timer, long_turn, offer, took_turn}
 use Rattle.tool_step.specs.Tool.{alarm_line, alarm_report_turn, alarm_turn, attempted_turn, command_turn, enabled_turn, known_event_turn, online_turn, set_turn, told_turn, with_event}
@@ -164,7 +164,7 @@ reply-need now kind.UnloadGrant system body own e = go (is_granted_in body)
   where
     go : (granted : Bool)
         → Needs 1 false
-        (if granted then leave_given_turn own e else loss_turn now kind.UnloadGrant system own e).duties
+        (if granted then grant_given_turn own e else loss_turn now kind.UnloadGrant system own e).duties
     go true = let-go-need (waiting_in own.ledger.unload) own e
     go false = one-needs false _ (loss-need now kind.UnloadGrant system own e)
 
@@ -487,9 +487,9 @@ delay-need now own = comms-need comms_in.Time now own
 -- ---- what comes behind the works
 
 sent-need : (message : Spooled) (own : OwnView) (e : EndView Kind) → Needs 1 false (sent_turn message own e).duties
-sent-need message own e = go (needs_leave message)
+sent-need message own e = go (needs_grant message)
   where
-    leave : (text : Text) → Needs 1 false (leave_turn text own e).duties
+    leave : (text : Text) → Needs 1 false (inquiry_turn text own e).duties
     leave (answer.Body text) =
         needs-one 1 false (λ f. Primary (unload_request text) ∷ []) (λ f. primary-spend (unload_request text) [] tt)
     leave answer.TooLong = needs-none 1
@@ -497,7 +497,7 @@ sent-need message own e = go (needs_leave message)
     go : (needs : Bool)
         → Needs 1 false
         (if needs
-        then leave_turn (sent.text_of own (sent.grant_item (dataid_in message.body) (length message.body))) own e
+        then inquiry_turn (sent.text_of own (sent.grant_item (dataid_in message.body) (length message.body))) own e
         else unloading_turn message own e).duties
     go true = leave (sent.text_of own (sent.grant_item (dataid_in message.body) (length message.body)))
     go false = free-one (unloading_turn message own e).duties ((λ f. (tt, tt)), tt)

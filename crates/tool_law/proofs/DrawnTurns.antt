@@ -96,9 +96,9 @@ error-spends function header own e = go (is_communicating own) (sent.has_room e)
 
     go : (communicating room : Bool)
         → Spends 1 false
-        (if communicating then (if room then sent.primary_commands (sent.error_report function) text
+        (if communicating then (if room then sent.primary_commands (sent.error_primary function) text
         else Note (Happening.Full (sent.error_name function)) ∷ []) else [])
-    go true true = sent-spend (sent.error_report function) text
+    go true true = sent-spend (sent.error_primary function) text
     go true false = free-spends (Note (Happening.Full (sent.error_name function)) ∷ []) (tt, tt)
     go false room = free-spends [] tt
 
@@ -363,7 +363,7 @@ left-need most outcome failed own e asks = go (states.is_same_comms own.comms.st
 
 pub leaving-need :
     (input : CommsIn) (failed : Option Header) (now : ℕ) (own : OwnView) (e : EndView Kind)
-    → NeedsFor 1 (leaving_puts input now own e) (states.leaving_turn input failed now own e)
+    → NeedsFor 1 (leaving_puts input now own e) (states.end_of_talk input failed now own e)
 leaving-need input failed now own e =
     let outcome = states.comms_outcome input now own in
     left-need 1 outcome failed own e (request-spends outcome.output own)

@@ -137,7 +137,7 @@ pub record IsOdd (function : ℕ) : Type 0 where
   pub byte : function < 256
   pub odd : (function % 2 == 1) ≡ true
 
-pub may-tell : (function : ℕ) → IsOdd function → (body : List ℕ) → IsText body → IsUnsent (sent.error_report function body)
+pub may-tell : (function : ℕ) → IsOdd function → (body : List ℕ) → IsText body → IsUnsent (sent.error_primary function body)
 may-tell function odd body is = record { stream = omega arith; function = odd.byte; odd = odd.odd; body = is }
 
 -- changes of the states

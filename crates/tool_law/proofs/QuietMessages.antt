@@ -40,7 +40,7 @@ use Rattle.tool_step.specs.Replies.{given_up_by_t4, given_up_turn, granted_turn,
 use Rattle.equipment_tables.specs.Requests.{request_of}
 use Rattle.tool_step.specs.Sent as sent
 use Rattle.tool_law.specs.Sound.{CanBeSent}
-use Rattle.tool_step.specs.Spooling.{booked_turn, dataid_in, end_of_spooling, leave_given_turn, leave_turn, let_go_turn, needs_leave, purge_turn, rsda_duties, sent_turn, stopped_turn, taking_turn, transmit_turn, tried_turn, unload_part, unload_request, unloaded, unloaded_own, unloading_turn, waiting_text}
+use Rattle.tool_step.specs.Spooling.{booked_turn, dataid_in, end_of_spooling, grant_given_turn, inquiry_turn, let_go_turn, needs_grant, purge_turn, rsda_duties, sent_turn, stopped_turn, taking_turn, transmit_turn, tried_turn, unload_part, unload_request, unloaded, unloaded_own, unloading_turn, waiting_text}
 use Rattle.tool_law.proofs.SpoolSound.{All-snoc, all-out-good, confirmed-good, let-go-good, next-good, rested-good, taken-good, unload-good}
 use Rattle.tool_step.specs.States as states
 use Rattle.tool_step.specs.Step.{begun}
@@ -68,9 +68,9 @@ module _ (plan : EquipmentPlan) (TriedIs : Option ℕ → Type 0) (fits : Equipm
         body = sent.text_of own (sent.error_item header)
 
         go : (communicating room : Bool)
-            → IsMild (if communicating then (if room then sent.primary_commands (sent.error_report function) body
+            → IsMild (if communicating then (if room then sent.primary_commands (sent.error_primary function) body
             else Note (Happening.Full (sent.error_name function)) ∷ []) else [])
-        go true true = sent-quiet (sent.error_report function) (may-tell function odd) body
+        go true true = sent-quiet (sent.error_primary function) (may-tell function odd) body
             ((text-is plan TriedIs fits slots stood) own sound (sent.error_item header))
         go true false = one-note (Happening.Full (sent.error_name function)) tt
         go false room = none-quiet
@@ -170,7 +170,7 @@ module _ (plan : EquipmentPlan) (TriedIs : Option ℕ → Type 0) (fits : Equipm
 
     leave-quiet :
         (asked : Text) → IsSpelled asked → (own : OwnView) (e : EndView Kind) → (Sound plan TriedIs fits slots stood) own
-        → (Quiet plan TriedIs fits slots stood) (leave_turn asked own e)
+        → (Quiet plan TriedIs fits slots stood) (inquiry_turn asked own e)
     leave-quiet (text.Body asked) is own e sound =
         (fixed-quiet plan TriedIs fits slots stood) (if is_crowded_out true e then unloaded_own own else own) (Primary (unload_request asked) ∷ [])
         ((kept-or-ended plan TriedIs fits slots stood) (is_crowded_out true e) own sound)
@@ -180,19 +180,19 @@ module _ (plan : EquipmentPlan) (TriedIs : Option ℕ → Type 0) (fits : Equipm
     pub out-quiet :
         (message : Spooled) → CanBeSent message → (own : OwnView) (e : EndView Kind) → (Sound plan TriedIs fits slots stood) own
         → (Quiet plan TriedIs fits slots stood) (sent_turn message own e)
-    out-quiet message can own e sound = go (needs_leave message)
+    out-quiet message can own e sound = go (needs_grant message)
       where
         asked : Text
         asked = sent.text_of own (sent.grant_item (dataid_in message.body) (length message.body))
 
-        go : (needs : Bool) → (Quiet plan TriedIs fits slots stood) (if needs then leave_turn asked own e else unloading_turn message own e)
+        go : (needs : Bool) → (Quiet plan TriedIs fits slots stood) (if needs then inquiry_turn asked own e else unloading_turn message own e)
         go true =
             leave-quiet asked ((text-is plan TriedIs fits slots stood) own sound (sent.grant_item (dataid_in message.body) (length message.body))) own e
             sound
         go false = unloading-quiet message can own e sound
 
     pub waiting-is : (message : Spooled) → CanBeSent message → IfSome (waiting_text message) IsText
-    waiting-is message can = go (needs_leave message)
+    waiting-is message can = go (needs_grant message)
       where
         go : (needs : Bool) → IfSome (if needs then Some message.body else None) IsText
         go true = can.body
@@ -300,7 +300,7 @@ module _ (plan : EquipmentPlan) (TriedIs : Option ℕ → Type 0) (fits : Equipm
     reply-is-quiet now kind.UnloadGrant system body own e sound = go (is_granted_in body)
       where
         go : (granted : Bool)
-            → (Quiet plan TriedIs fits slots stood) (if granted then leave_given_turn own e else loss_turn now kind.UnloadGrant system own e)
+            → (Quiet plan TriedIs fits slots stood) (if granted then grant_given_turn own e else loss_turn now kind.UnloadGrant system own e)
         go true = let-go-quiet (waiting_in own.ledger.unload) sound.ledger.waiting own e sound
         go false = loss-is-quiet now kind.UnloadGrant system own e sound
 

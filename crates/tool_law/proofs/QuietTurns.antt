@@ -123,7 +123,7 @@ module _ (plan : EquipmentPlan) (TriedIs : Option ℕ → Type 0) (fits : Equipm
       tried_is = sound.tried_is;
     }
 
-    -- the reports that were sent, and those that wait for leave
+    -- the reports that were sent, and those that wait for a grant
     sent-can : (own : OwnView) (system : ℕ) → Sound own → IfSome (sent_report system own) CanBeSent
     sent-can own system sound = go (find (is_report_of system) own.reports) refl
       where
@@ -320,5 +320,5 @@ module _ (plan : EquipmentPlan) (TriedIs : Option ℕ → Type 0) (fits : Equipm
 
     pub leaving-quiet :
         (input : CommsIn) (failed : Option Header) (now : ℕ) (own : OwnView) (e : EndView Kind) → Sound own
-        → Quiet (states.leaving_turn input failed now own e)
+        → Quiet (states.end_of_talk input failed now own e)
     leaving-quiet input failed now own e sound = left-quiet (states.comms_outcome input now own) failed own e sound

@@ -55,7 +55,7 @@ pub record IsGoodStores (slots : ℕ) (stood : Stand) (stores : Stores) : Type 0
   pub next : IsGoodLedger slots stood stores.next
   pub plain : AllPlain stores.lines
 
--- ---- what waits for leave
+-- ---- what waits for a grant
 
 abbrev WaitsGood : Option Unload → Type 0
 WaitsGood unload = IfSome (waiting_in unload) IsText

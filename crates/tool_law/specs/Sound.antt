@@ -27,7 +27,7 @@ PutsGood (work.Put stream function body) = CanBeSent (spooled stream function bo
 PutsGood work.DropOldest = Unit {0}
 PutsGood work.Purge = Unit {0}
 
--- what waits for leave to leave the spool, and what is put there, can be sent; and the works are owed behind what the
+-- what waits for a grant, and what is put there, can be sent; and the works are owed behind what the
 -- disk has: so many slots, and these messages
 pub record IsGoodLedger (slots : ℕ) (stood : Stand) (ledger : LedgerView) : Type 0 where
   pub waiting : IfSome (waiting_in ledger.unload) IsText

@@ -35,7 +35,7 @@ use Rattle.tool_step.specs.Codes.{is_accepted_in, is_granted_in}
 use Rattle.tool_step.specs.Messages.{dropped_turn, error_turn, established_turn, is_establish_request, is_online_request, known_turn, message_turn, offline_turn, primary_turn, read_turn, stray_turn}
 use Rattle.tool_step.specs.Own.{OwnView, ToolTurn, is_communicating, is_enabled_in as is_comms_enabled, is_online, waiting_report, without_grant}
 use Rattle.tool_step.specs.Replies.{granted_turn, loss_turn, matched_turn, reply_turn, secondary_turn}
-use Rattle.tool_step.specs.Spooling.{leave_given_turn}
+use Rattle.tool_step.specs.Spooling.{grant_given_turn}
 use Rattle.spool_ledger.specs.Unloading.{confirmed}
 use Rattle.tool_reports.proofs.LeavingReports.{leave-given-keeps, loss-keeps}
 use Rattle.tool_reports.specs.Reported.{past_in}
@@ -244,7 +244,7 @@ module _
     where
       go : (granted : Bool)
           → Keeps plan said before own
-          (if granted then leave_given_turn own e else loss_turn now kind.UnloadGrant system own e)
+          (if granted then grant_given_turn own e else loss_turn now kind.UnloadGrant system own e)
       go true = leave-given-keeps plan said before own e
       go false = loss-keeps plan said before now kind.UnloadGrant system own e
 

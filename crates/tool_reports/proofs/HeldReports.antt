@@ -180,7 +180,7 @@ module _ (plan : EquipmentPlan) (said : List ToolCommand) (before : List Happeni
       spare-kept false None = spare
       spare-kept false (Some system) = spare
 
-  -- with leave the report goes
+  -- with a grant the report goes
   pub granted-keeps : (system : ℕ) (own : OwnView) (e : EndView Kind)
       → Keeps own (granted_turn (waiting_report system own) (without_grant system own) e)
   granted-keeps system own e step holds = go (find (is_granted_by system) own.for_grant) refl

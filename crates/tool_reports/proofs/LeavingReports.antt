@@ -39,7 +39,7 @@ use Rattle.tool_step.specs.Own.{OwnView, ToolCommands, ToolDuty, ToolTurn, event
 use Rattle.tool_step.specs.Replies.{given_up_by_t4, given_up_turn, loss_turn, timeout_turn}
 use Rattle.tool_reports.specs.Reported.{count_of_events, is_answer, is_live, is_of, reports_in, tries_in}
 use Rattle.tool_step.specs.Sent as sent
-use Rattle.tool_step.specs.Spooling.{Stores, dataid_in, leave_given_turn, leave_turn, let_go_turn, lines_commands, needs_leave, sent_turn, stores_all, stores_commands, taking_turn, tried_turn, unload_part, unload_request, unloaded, unloaded_own, unloading_turn, waiting_text, stopped_turn}
+use Rattle.tool_step.specs.Spooling.{Stores, dataid_in, grant_given_turn, inquiry_turn, let_go_turn, lines_commands, needs_grant, sent_turn, stores_all, stores_commands, taking_turn, tried_turn, unload_part, unload_request, unloaded, unloaded_own, unloading_turn, waiting_text, stopped_turn}
 use Rattle.tool_step.specs.States as states
 use Rattle.tool_reports.proofs.HeldReports.{Any, any-lasts, Ends, Free, Keeps, KeepsAt, all-kept, led-at, noted-so, plain, quietly-holds, silent-at, so_far, stores-at, stores-said}
 use Rattle.tool_reports.proofs.QuietReports.{Holds, holds-as, holds-less}
@@ -161,7 +161,7 @@ module _ (plan : EquipmentPlan) (said : List ToolCommand) (before : List Happeni
 
   pub leaving-keeps :
       (input : CommsIn) (failed : Option Header) (now : ℕ) (own : OwnView) (e : EndView Kind)
-      → Keeps plan said before own (states.leaving_turn input failed now own e)
+      → Keeps plan said before own (states.end_of_talk input failed now own e)
   leaving-keeps input failed now own e step holds = go (states.is_same_comms own.comms.state outcome.next.state)
     where
       outcome : CommsOutcome
@@ -342,9 +342,10 @@ module _ (plan : EquipmentPlan) (said : List ToolCommand) (before : List Happeni
       next : CoreStep
       next = drawn_primary Some (unloaded message) step.next.drawn step
 
-  leave-keeps : (asked : Text) (own : OwnView) (e : EndView Kind) → Keeps plan said before own (leave_turn asked own e)
+  leave-keeps : (asked : Text) (own : OwnView) (e : EndView Kind)
+      → Keeps plan said before own (inquiry_turn asked own e)
   leave-keeps (answer.Body asked) own e =
-      plain plan said before own (leave_turn (answer.Body asked) own e)
+      plain plan said before own (inquiry_turn (answer.Body asked) own e)
       (fixed-plain Free tt Any any-lasts own (if is_crowded_out true e then unloaded_own own else own)
       (Primary (unload_request asked) ∷ []) (kept-or-ended (is_crowded_out true e) own) ((refl, refl), tt))
   leave-keeps answer.TooLong own e = λ step holds.
@@ -354,13 +355,13 @@ module _ (plan : EquipmentPlan) (said : List ToolCommand) (before : List Happeni
   out-keeps :
       (message : Spooled) → (message.function % 2 == 1) ≡ true → (own : OwnView) (e : EndView Kind)
       → Keeps plan said before own (sent_turn message own e)
-  out-keeps message odd own e = go (needs_leave message)
+  out-keeps message odd own e = go (needs_grant message)
     where
       asked : Text
       asked = sent.text_of own (sent.grant_item (dataid_in message.body) (length message.body))
 
       go : (needs : Bool)
-          → Keeps plan said before own (if needs then leave_turn asked own e else unloading_turn message own e)
+          → Keeps plan said before own (if needs then inquiry_turn asked own e else unloading_turn message own e)
       go true = leave-keeps asked own e
       go false = unloading-keeps message odd own e
 
@@ -423,7 +424,7 @@ module _ (plan : EquipmentPlan) (said : List ToolCommand) (before : List Happeni
               taken-at number message odd on (core_after Draw removed.next) removed (next_number removed.next.numbers)
               held
 
-  pub leave-given-keeps : (own : OwnView) (e : EndView Kind) → Keeps plan said before own (leave_given_turn own e)
+  pub leave-given-keeps : (own : OwnView) (e : EndView Kind) → Keeps plan said before own (grant_given_turn own e)
   leave-given-keeps own e step holds = go (waiting_in own.ledger.unload)
     where
       go : (waiting : Option (List ℕ))

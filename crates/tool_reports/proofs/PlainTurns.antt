@@ -58,7 +58,7 @@ use Rattle.tool_reports.proofs.SilentCommands.{AreSilent, AreSilentDuties, both-
 
 -- ---- what the law reads of what the equipment keeps
 
--- how many S6F11 with this text wait for leave to go
+-- how many S6F11 with this text wait for its grant
 abbrev pub count_waiting : List ℕ → List GrantView → ℕ
 count_waiting body waiting = length (filter (λ one. bytes_eq body one.body) waiting)
 
@@ -348,9 +348,9 @@ module _
 
       go : (communicating room : Bool)
           → Silent
-          (if communicating then (if room then sent.primary_commands (sent.error_report function) body
+          (if communicating then (if room then sent.primary_commands (sent.error_primary function) body
           else Note (Happening.Full (sent.error_name function)) ∷ []) else [])
-      go true true = sent-silent (sent.error_report function) (λ body. (refl, odd)) body
+      go true true = sent-silent (sent.error_primary function) (λ body. (refl, odd)) body
       go true false = (tt, tt)
       go false room = tt
 

@@ -336,7 +336,7 @@ event-spare plan said own ceid max text notes holds enabled is body =
         so.spelled
         ∙ ap (λ (bytes : List ℕ). bytes_eq body bytes) (sym so.shortest)
 
--- one that was to wait for leave to go
+-- one that was to wait for its grant
 pub with-waiting :
     {drawn : Option ℕ} (plan : EquipmentPlan) (said : List ToolCommand) (own : OwnView) (notes : List Happening)
     (text : List ℕ)
@@ -359,7 +359,7 @@ with-waiting plan said own notes text (Some system) holds spare = record {
   settled = holds.settled;
 }
 
--- one that waits no longer, for it has leave
+-- one that waits no longer, for it is granted
 pub found-waiting :
     (test : GrantView → Bool) (waiting : List GrantView) (found : GrantView) (body : List ℕ)
     → find test waiting ≡ Some found

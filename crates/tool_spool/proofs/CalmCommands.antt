@@ -37,7 +37,7 @@ use Rattle.tool_step.specs.declared.kind.Kind.{Kind}
 use Rattle.tool_step.specs.Own.{ToolCommands, ToolDuty}
 use Rattle.tool_reports.specs.Reported.{past_in}
 use Rattle.tool_law.proofs.CoreSteps.{CoreStep, OnEither}
-use Rattle.tool_spool.proofs.UnloadOpen.{IsLess, asks_leave, ends-less, last-open, less-both, timed-same, unloads_in, with_open}
+use Rattle.tool_spool.proofs.UnloadOpen.{IsLess, asks_grant, ends-less, last-open, less-both, timed-same, unloads_in, with_open}
 
 -- ---- what changes of the core
 
@@ -91,7 +91,7 @@ acknowledged-same (Some header) now t = t3-same (header.last && header.wait) hea
 -- a transaction that isn't of the spool begins
 abbrev pub IsOther : Option Kind → Type 0
 IsOther None = Unit {0}
-IsOther (Some one) = asks_leave one ≡ None
+IsOther (Some one) = asks_grant one ≡ None
 
 begun-same : (one : Option Kind) (header : Header) (t : TransactionsView Kind) → IsOther one
     → unloads_in (with_begun one header t).begun ≡ unloads_in t.begun

@@ -130,9 +130,9 @@ error-calm function header own e = go (is_communicating own) (sent.has_room e)
 
     go : (communicating room : Bool)
         → AreCalm false
-        (if communicating then (if room then sent.primary_commands (sent.error_report function) body
+        (if communicating then (if room then sent.primary_commands (sent.error_primary function) body
         else Note (Happening.Full (sent.error_name function)) ∷ []) else [])
-    go true true = sent-calm (sent.error_report function) (λ body. tt) body
+    go true true = sent-calm (sent.error_primary function) (λ body. tt) body
     go true false = (((λ told. tt), λ notes. refl), tt)
     go false room = tt
 

@@ -33,7 +33,7 @@ use Rattle.tool_step.specs.declared.kind.Kind.TheVariants as kind
 use Rattle.tool_step.specs.Own.{OwnView, ToolTurn, is_communicating, is_communicating_in, quiet_turn, with_ledger}
 use Rattle.tool_step.specs.Replies.{loss_turn, timeout_turn}
 use Rattle.tool_step.specs.Sent as sent
-use Rattle.tool_step.specs.Spooling.{dataid_in, end_of_spooling, leave_turn, needs_leave, sent_turn, stopped_turn, taking_turn, tried_turn, unload_part, unloaded_own, unloading_turn}
+use Rattle.tool_step.specs.Spooling.{dataid_in, end_of_spooling, inquiry_turn, needs_grant, sent_turn, stopped_turn, taking_turn, tried_turn, unload_part, unloaded_own, unloading_turn}
 use Rattle.tool_step.specs.States as states
 use Rattle.tool_step.specs.Step.{begun}
 use Rattle.tool_law.proofs.CoreSteps.{CoreStep, OnEither}
@@ -106,20 +106,20 @@ error-stays function header own step = go (is_communicating own) (sent.has_room 
     one (Spent next) is = is
 
     draw : (number : Option ℕ) (body : List ℕ)
-        → Stays (draws number (sends Some (sent.error_report function body)) step)
+        → Stays (draws number (sends Some (sent.error_primary function body)) step)
     draw None body = tt
     draw (Some number) body = refl
 
     crowded : (body : List ℕ) (is : Bool)
         → Stays
-        (if is then Goes (noted Some (Happening.Full (unsent_name (sent.error_report function body))) step)
-        else draws (next_number step.next.numbers) (sends Some (sent.error_report function body)) step)
+        (if is then Goes (noted Some (Happening.Full (unsent_name (sent.error_primary function body))) step)
+        else draws (next_number step.next.numbers) (sends Some (sent.error_primary function body)) step)
     crowded body true = refl
     crowded body false = draw (next_number step.next.numbers) body
 
-    by_text : (text : Text) → Stays (carried Some (sent.primary_commands (sent.error_report function) text) step)
+    by_text : (text : Text) → Stays (carried Some (sent.primary_commands (sent.error_primary function) text) step)
     by_text (answer.Body body) =
-        one (carry Some (Primary (sent.error_report function body)) step)
+        one (carry Some (Primary (sent.error_primary function body)) step)
         (crowded body (is_crowded_out false step.next))
     by_text answer.TooLong = refl
 
@@ -127,7 +127,7 @@ error-stays function header own step = go (is_communicating own) (sent.has_room 
         → Stays
         (carried Some
         (if communicating then
-        (if room then sent.primary_commands (sent.error_report function) (sent.text_of own (sent.error_item header))
+        (if room then sent.primary_commands (sent.error_primary function) (sent.text_of own (sent.error_item header))
         else Note (Happening.Full (sent.error_name function)) ∷ []) else []) step)
     go true true = by_text (sent.text_of own (sent.error_item header))
     go true false = refl
@@ -202,18 +202,18 @@ unload-works oldest own e = go (next_unloaded (most_transmitted own.tables) own.
     on : OwnView
     on = with_ledger (after_next (most_transmitted own.tables) own.ledger) own
 
-    leaves : (text : Text) (own : OwnView) (e : EndView Kind) → works_of (leave_turn text own e) ≡ own.ledger.works
+    leaves : (text : Text) (own : OwnView) (e : EndView Kind) → works_of (inquiry_turn text own e) ≡ own.ledger.works
     leaves (answer.Body text) own e = ended-works (is_crowded_out true e) own
     leaves answer.TooLong own e = refl
 
     sends-it : (message : Spooled) (own : OwnView) (e : EndView Kind)
         → works_of (sent_turn message own e) ≡ own.ledger.works
-    sends-it message own e = by (needs_leave message)
+    sends-it message own e = by (needs_grant message)
       where
         by : (needs : Bool)
             → works_of
             (if needs
-            then leave_turn (sent.text_of own (sent.grant_item (dataid_in message.body) (length message.body))) own e
+            then inquiry_turn (sent.text_of own (sent.grant_item (dataid_in message.body) (length message.body))) own e
             else unloading_turn message own e)
             ≡ own.ledger.works
         by true = leaves (sent.text_of own (sent.grant_item (dataid_in message.body) (length message.body))) own e

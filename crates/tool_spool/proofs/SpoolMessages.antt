@@ -54,7 +54,7 @@ use Rattle.tool_step.specs.Own.{OwnView, event_report, is_communicating, is_enab
 use Rattle.tool_step.specs.Replies.{granted_turn, loss_turn, matched_turn, reply_turn, secondary_turn}
 use Rattle.tool_reports.specs.Reported.{past_in, tables_in}
 use Rattle.tool_step.specs.Sent as sent
-use Rattle.tool_step.specs.Spooling.{booked_turn, leave_given_turn, rsda_duties}
+use Rattle.tool_step.specs.Spooling.{booked_turn, grant_given_turn, rsda_duties}
 use Rattle.tool_spool.specs.SpoolKept.{is_purge, policy_of}
 use Rattle.tool_step.specs.States as states
 use Rattle.tool_step.specs.Tool.{alarm_report_turn, alarm_turn, command_turn, enabled_turn, known_event_turn, online_turn, refused_turn, set_turn, told_turn, with_event}
@@ -66,7 +66,7 @@ use Rattle.tool_law.proofs.CoreSteps.{CoreStep}
 use Rattle.tool_spool.proofs.SpoolTurns.{HoldsAt, IsNoneLeft, ShelvesAt, TurnEnds, before-keeps, calm-at, calm-turn, ended-fewer, judged-keeps, leaving-keeps, loss-keeps, so_far}
 use Rattle.tool_spool.proofs.SpoolUnloads.{leave-given-keeps}
 use Rattle.tool_spool.proofs.TakenTurns.{confirm-keeps, full-so, unload-keeps}
-use Rattle.tool_spool.proofs.UnloadOpen.{IsOpen, asks_leave, found-open, last-tried, none-behind, unloads_in}
+use Rattle.tool_spool.proofs.UnloadOpen.{IsOpen, asks_grant, found-open, last-tried, none-behind, unloads_in}
 
 -- ---- what is answered
 
@@ -170,7 +170,7 @@ module _ (plan : EquipmentPlan) (slots : ℕ) (list : List Put) (base before : L
     where
       go : (leave : Bool)
           → TurnEnds plan slots list base before
-          (if leave then leave_given_turn own e else loss_turn now kind.UnloadGrant system own e) step
+          (if leave then grant_given_turn own e else loss_turn now kind.UnloadGrant system own e) step
       go true = leave-given-keeps plan slots list base before own e step room (none true refl) holds.shelves
       go false = loss-keeps plan slots list base before now kind.UnloadGrant system own e step none holds
 
@@ -221,7 +221,7 @@ module _ (plan : EquipmentPlan) (slots : ℕ) (list : List Put) (base before : L
                 (unloads_in step.next.transactions.begun)
                 (system_of begun) holds.shelves.under_way
                 (found-open (is_answered_by header) step.next.transactions.begun begun false is
-                (ap (λ (k : Kind). asks_leave k) unloads)) oldest;
+                (ap (λ (k : Kind). asks_grant k) unloads)) oldest;
             reply = message;
             has =
                 subst (λ (notes : List Happening). Has (received_since notes) message) (sym newest) (inl refl);

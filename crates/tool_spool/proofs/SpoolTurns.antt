@@ -58,7 +58,7 @@ use Rattle.tool_spool.proofs.ShelvedTurns.{ArePutWell, Ends, IsSpentAt, Shelves,
 use Rattle.tool_law.proofs.CoreSteps.{CoreStep, OnEither, either-then}
 use Rattle.tool_reports.proofs.SilentCommands.{either-less}
 use Rattle.tool_spool.proofs.TakenTurns.{end-keeps}
-use Rattle.tool_spool.proofs.UnloadOpen.{IsLess, asks_leave, found-fewer, none-behind, unloads_in}
+use Rattle.tool_spool.proofs.UnloadOpen.{IsLess, asks_grant, found-fewer, none-behind, unloads_in}
 
 -- ---- reports that are put
 
@@ -210,7 +210,7 @@ less-none old new (inr less) none =
     let long = ap (λ (o : List (Bool × ℕ)). length o) none in absurd (omega (arith, less, long))
 
 pub ended-fewer : (test : Begun Kind → Bool) (t : TransactionsView Kind) (found : Begun Kind) (flag : Bool)
-    → find test t.begun ≡ Some found → asks_leave found.kind ≡ Some flag
+    → find test t.begun ≡ Some found → asks_grant found.kind ≡ Some flag
     → length (unloads_in (without test t).begun) < length (unloads_in t.begun)
 ended-fewer test t found flag is of =
     subst (λ (bs : List (Begun Kind)). length (unloads_in bs) < length (unloads_in t.begun))
@@ -452,7 +452,7 @@ module _ (plan : EquipmentPlan) (slots : ℕ) (list : List Put) (base before : L
 
   pub leaving-keeps :
       (input : CommsIn) (failed : Option Header) (now : ℕ) (own : OwnView) (e : EndView Kind) (step : CoreStep)
-      → HoldsAt own step → TurnEnds (states.leaving_turn input failed now own e) step
+      → HoldsAt own step → TurnEnds (states.end_of_talk input failed now own e) step
   leaving-keeps input failed now own e step holds = go (states.is_same_comms own.comms.state outcome.next.state)
     where
       outcome : CommsOutcome
@@ -472,7 +472,7 @@ module _ (plan : EquipmentPlan) (slots : ℕ) (list : List Put) (base before : L
 
   -- where the transaction was of the spool no other one of it is open
   abbrev pub IsNoneLeft : Kind → CoreStep → Type 0
-  IsNoneLeft lost step = (flag : Bool) → asks_leave lost ≡ Some flag → unloads_in step.next.transactions.begun ≡ []
+  IsNoneLeft lost step = (flag : Bool) → asks_grant lost ≡ Some flag → unloads_in step.next.transactions.begun ≡ []
 
   pub loss-keeps :
       (now : ℕ) (lost : Kind) (system : ℕ) (own : OwnView) (e : EndView Kind) (step : CoreStep) → IsNoneLeft lost step

@@ -28,7 +28,7 @@ use Rattle.tool_step.specs.Equipment.{settled_list}
 use Rattle.spool_works.specs.Found.{spooled_of}
 use Rattle.tool_step.specs.Own.{OwnView, event_report, with_ledger, with_tried}
 use Rattle.tool_step.specs.Sent as sent
-use Rattle.tool_step.specs.Spooling.{dataid_in, leave_given_turn, leave_turn, let_go_turn, needs_leave, sent_turn, stopped_turn, taking_turn, tried_turn, unload_part, unloaded, unloading_turn, waiting_text}
+use Rattle.tool_step.specs.Spooling.{dataid_in, grant_given_turn, inquiry_turn, let_go_turn, needs_grant, sent_turn, stopped_turn, taking_turn, tried_turn, unload_part, unloaded, unloading_turn, waiting_text}
 use Rattle.tool_spool.proofs.CalmParts.{like-as, likes}
 use Rattle.tool_spool.proofs.KeptLedger.{one-call}
 use Rattle.tool_reports.proofs.QuietNotes.{one-behind}
@@ -116,8 +116,8 @@ told-newest system message told = go (system == system) (grind (arith, nat_tests
     go true e = refl
     go false e = absurd (grind (arith, e))
 
--- one that waits for leave is an S6F11
-needs-event : (message : Spooled) → needs_leave message ≡ true → event_report message.body ≡ message
+-- one that waits for a grant is an S6F11
+needs-event : (message : Spooled) → needs_grant message ≡ true → event_report message.body ≡ message
 needs-event message needs =
     go (message.stream == 6) (message.function == 11) (not (nat_le (length message.body) 244)) refl refl needs
   where
@@ -158,13 +158,13 @@ module _ (plan : EquipmentPlan) (slots : ℕ) (list : List Put) (base before : L
       (own : OwnView) (message : Spooled) (system : ℕ) (e : EndView Kind) (step : CoreStep)
       → is_crowded_out true e ≡ is_crowded_out true step.next → IsTried own message system step
       → TurnEnds plan slots list base before (sent_turn message own e) step
-  sent-keeps own message system e step room is = go (needs_leave message) refl
+  sent-keeps own message system e step room is = go (needs_grant message) refl
     where
       text : Text
       text = sent.text_of own (sent.grant_item (dataid_in message.body) (length message.body))
 
-      leaves : (needs : needs_leave message ≡ true) (text : Text)
-          → TurnEnds plan slots list base before (leave_turn text own e) step
+      leaves : (needs : needs_grant message ≡ true) (text : Text)
+          → TurnEnds plan slots list base before (inquiry_turn text own e) step
       leaves needs (answer.Body asked) =
           asked-keeps plan slots list base before own asked (is_crowded_out true e) step (sym room) is.none
           (is.asked message.body (ap (λ (b : Bool). if b then Some message.body else None) needs)) is.shelves
@@ -172,9 +172,9 @@ module _ (plan : EquipmentPlan) (slots : ℕ) (list : List Put) (base before : L
           end-keeps plan slots list base before own step.next (so_far plan slots list base before step) is.none
           is.shelves
 
-      go : (needs : Bool) → needs_leave message ≡ needs
+      go : (needs : Bool) → needs_grant message ≡ needs
           → TurnEnds plan slots list base before
-          (if needs then leave_turn text own e else unloading_turn message own e) step
+          (if needs then inquiry_turn text own e else unloading_turn message own e) step
       go true needs = leaves needs text
       go false needs =
           drawn-keeps plan slots list base before own message system (is_crowded_out true e) step (sym room) is.drawn
@@ -233,7 +233,7 @@ module _ (plan : EquipmentPlan) (slots : ℕ) (list : List Put) (base before : L
         (like-as (with_ledger (taken_up own.ledger.first system (waiting_text message) own.ledger).next own) next refl
         refl)
         (try-keeps plan slots list base before own system (waiting_text message) oldest rest step.next
-        (so_far plan slots list base before step) some same below none (goes (needs_leave message) refl) holds));
+        (so_far plan slots list base before step) some same below none (goes (needs_grant message) refl) holds));
     none = none;
     drawn = drawn;
     told = at-notes (λ notes. told_with system (shelf_of notes).told ≡ Some message) told_is;
@@ -255,7 +255,7 @@ module _ (plan : EquipmentPlan) (slots : ℕ) (list : List Put) (base before : L
           stands = inr (refl, refl);
           goes = subst
               (λ (w : Option (List ℕ)). MayGo w system (shelf_of tried_notes).told step.next.drawn opened) (sym waits)
-              (drawn, told_event body (needs_leave message) refl waits, asked);
+              (drawn, told_event body (needs_grant message) refl waits, asked);
         }));
   }
     where
@@ -293,7 +293,7 @@ module _ (plan : EquipmentPlan) (slots : ℕ) (list : List Put) (base before : L
       inj : (x y : List ℕ) → Some x ≡ Some y → x ≡ y
       inj x y e = cc
 
-      told_event : (body : List ℕ) (needs : Bool) → needs_leave message ≡ needs
+      told_event : (body : List ℕ) (needs : Bool) → needs_grant message ≡ needs
           → (if needs then Some message.body else None) ≡ Some body
           → told_with system (shelf_of tried_notes).told ≡ Some (event_report body)
       told_event body true needs waits =
@@ -301,7 +301,7 @@ module _ (plan : EquipmentPlan) (slots : ℕ) (list : List Put) (base before : L
           (inj message.body body waits)
       told_event body false needs waits = absurd (cc)
 
-      goes : (needs : Bool) → needs_leave message ≡ needs
+      goes : (needs : Bool) → needs_grant message ≡ needs
           → MayGo (if needs then Some message.body else None) system (shelf_of tried_notes).told step.next.drawn []
       goes true needs = (drawn, told_event message.body true needs refl, inl refl)
       goes false needs = inl refl
@@ -423,12 +423,12 @@ module _ (plan : EquipmentPlan) (slots : ℕ) (list : List Put) (base before : L
           takes number (next-is most own.ledger number is) message (settled_list own.ledger list) refl
           holds.shelved.long of
 
-  -- ---- with leave it goes
+  -- ---- with a grant it goes
 
   pub leave-given-keeps :
       (own : OwnView) (e : EndView Kind) (step : CoreStep) → is_crowded_out true e ≡ is_crowded_out true step.next
       → unloads_in step.next.transactions.begun ≡ [] → ShelvesAt plan slots list base before own step
-      → TurnEnds plan slots list base before (leave_given_turn own e) step
+      → TurnEnds plan slots list base before (grant_given_turn own e) step
   leave-given-keeps own e step room none holds = go own.ledger.unload refl holds.under_way
     where
       notes : List Happening

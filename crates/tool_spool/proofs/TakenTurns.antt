@@ -40,18 +40,18 @@ use Rattle.tool_spool.proofs.Shelved.{noted-shelved}
 use Rattle.tool_law.proofs.WorkLines.{LeavesStanding}
 use Rattle.tool_spool.proofs.ShelvedTurns.{Ends, Shelves, once, same-under, spent-at, turn-keeps}
 use Rattle.tool_law.proofs.CoreSteps.{CoreStep}
-use Rattle.tool_spool.proofs.UnloadOpen.{IsOpen, MayGo, Open, asks_leave, last-open, unloads_in, with_open}
+use Rattle.tool_spool.proofs.UnloadOpen.{IsOpen, MayGo, Open, asks_grant, last-open, unloads_in, with_open}
 
 -- what there may be of an unload of which a message went with these system bytes
 abbrev pub IsGone : ℕ → Open → Type 0
 IsGone system opened = (opened ≡ []) ⊎ (opened ≡ (false, system) ∷ [])
 
--- or waits for leave
+-- or waits for a grant
 abbrev pub IsAsked : Open → Type 0
 IsAsked opened = (opened ≡ []) ⊎ ((other : ℕ) × (opened ≡ (true, other) ∷ []))
 
 -- a transaction begins, or it is refused
-begins-one : (one : Kind) (asks : Bool) (header : Header) (t : TransactionsView Kind) → asks_leave one ≡ Some asks
+begins-one : (one : Kind) (asks : Bool) (header : Header) (t : TransactionsView Kind) → asks_grant one ≡ Some asks
     → unloads_in t.begun ≡ []
     → (unloads_in (with_begun (Some one) header t).begun ≡ [])
     ⊎ (unloads_in (with_begun (Some one) header t).begun ≡ (asks, header.system) ∷ [])
@@ -63,7 +63,7 @@ begins-one one asks header t is none = go (refusal_of t header)
     go (Some refusal) = inl none
     go None = inr (
         last-open t.begun (new_begun header one)
-        ∙ ap (λ (o : Open). o ++ with_open (asks_leave one) header.system []) none
+        ∙ ap (λ (o : Open). o ++ with_open (asks_grant one) header.system []) none
         ∙ ap (λ (o : Option Bool). with_open o header.system []) is
         )
 
@@ -238,7 +238,7 @@ module _ (plan : EquipmentPlan) (slots : ℕ) (list : List Put) (base before : L
             reports = holds.reports;
           })
 
-  -- or it waits for leave; an S6F5 without room ends the unload too
+  -- or it waits for a grant; an S6F5 without room ends the unload too
   pub asked-keeps :
       (own : OwnView) (text : List ℕ) (crowded : Bool) (step : CoreStep) → is_crowded_out true step.next ≡ crowded
       → unloads_in step.next.transactions.begun ≡ []

@@ -17,11 +17,11 @@ use Rattle.tool_step.specs.Own.{event_report}
 
 -- ---- transactions of the spool
 
--- a message of the spool, and whether it is the S6F5 that asks for leave
-abbrev pub asks_leave : Kind → Option Bool
-asks_leave kind.Unload = Some false
-asks_leave kind.UnloadGrant = Some true
-asks_leave _ = None
+-- a message of the spool, and whether it is the S6F5 that asks for a grant
+abbrev pub asks_grant : Kind → Option Bool
+asks_grant kind.Unload = Some false
+asks_grant kind.UnloadGrant = Some true
+asks_grant _ = None
 
 abbrev pub Open : Type 0
 Open = List (Bool × ℕ)
@@ -30,10 +30,10 @@ abbrev pub with_open : Option Bool → ℕ → Open → Open
 with_open None system more = more
 with_open (Some asks) system more = (asks, system) ∷ more
 
--- of each that is open whether it asks for leave, and its system bytes
+-- of each that is open whether it asks for a grant, and its system bytes
 abbrev pub unloads_in : List (Begun Kind) → Open
 unloads_in [] = []
-unloads_in (begun ∷ rest) = with_open (asks_leave begun.kind) (system_of begun) (unloads_in rest)
+unloads_in (begun ∷ rest) = with_open (asks_grant begun.kind) (system_of begun) (unloads_in rest)
 
 -- as before, or fewer
 abbrev pub IsLess : Open → Open → Type 0
@@ -44,7 +44,7 @@ IsLess old new = (new ≡ old) ⊎ (length new < length old)
 abbrev pub tried_at : ℕ → ℕ → Option Tried
 tried_at number system = Some (record { number = number; system = system })
 
--- it went, and is open or has ended; or it waits for leave under the number that is drawn for it
+-- it went, and is open or has ended; or it waits for a grant under the number that is drawn for it
 abbrev pub MayGo : Option (List ℕ) → ℕ → List Told → Option ℕ → Open → Type 0
 MayGo None system told drawn opened = (opened ≡ []) ⊎ (opened ≡ (false, system) ∷ [])
 MayGo (Some body) system told drawn opened =
@@ -92,9 +92,9 @@ without-less test (first ∷ begun) = go (test first) (without-less test begun)
   where
     go : (is : Bool) → IsLess (unloads_in begun) (unloads_in (without-first test begun))
         → IsLess (unloads_in (first ∷ begun)) (unloads_in (cond is begun (first ∷ without-first test begun)))
-    go true rest = less-out (asks_leave first.kind) (system_of first) (unloads_in begun)
+    go true rest = less-out (asks_grant first.kind) (system_of first) (unloads_in begun)
     go false rest =
-        less-with (asks_leave first.kind) (system_of first) (unloads_in begun)
+        less-with (asks_grant first.kind) (system_of first) (unloads_in begun)
         (unloads_in (without-first test begun)) rest
 
 pub ends-less : (test : Begun Kind → Bool) (t : TransactionsView Kind)
@@ -106,8 +106,8 @@ ends-less test t =
 -- ---- a timer
 
 same-open : (one other : Begun Kind) (rest : Open) → one ≡ other
-    → with_open (asks_leave one.kind) (system_of one) rest ≡ with_open (asks_leave other.kind) (system_of other) rest
-same-open one other rest same = ap (λ (b : Begun Kind). with_open (asks_leave b.kind) (system_of b) rest) same
+    → with_open (asks_grant one.kind) (system_of one) rest ≡ with_open (asks_grant other.kind) (system_of other) rest
+same-open one other rest same = ap (λ (b : Begun Kind). with_open (asks_grant b.kind) (system_of b) rest) same
 
 replaced-same :
     (test : Begun Kind → Bool) (deadline : Option ℕ) (begun : List (Begun Kind)) (found : Begun Kind)
@@ -127,7 +127,7 @@ replaced-same test deadline (first ∷ begun) found is =
         (first ∷ replace-first test (record found { deadline = deadline }) begun))
         ≡ unloads_in (first ∷ begun)
     go true is more = same-open found first (unloads_in begun) (sym (inj first found is))
-    go false is more = ap (λ (o : Open). with_open (asks_leave first.kind) (system_of first) o) (more is)
+    go false is more = ap (λ (o : Open). with_open (asks_grant first.kind) (system_of first) o) (more is)
 
 pub timed-same :
     (test : Begun Kind → Bool) (deadline : Option ℕ) (t : TransactionsView Kind)
@@ -152,12 +152,12 @@ with-append (Some asks) system one two = refl
 pub last-open :
     (begun : List (Begun Kind)) (last : Begun Kind)
     → unloads_in (begun ++ last ∷ [])
-    ≡ unloads_in begun ++ with_open (asks_leave last.kind) (system_of last) []
+    ≡ unloads_in begun ++ with_open (asks_grant last.kind) (system_of last) []
 last-open [] last = refl
 last-open (first ∷ begun) last =
-    ap (λ (o : Open). with_open (asks_leave first.kind) (system_of first) o) (last-open begun last)
-    ∙ with-append (asks_leave first.kind) (system_of first) (unloads_in begun)
-    (with_open (asks_leave last.kind) (system_of last) [])
+    ap (λ (o : Open). with_open (asks_grant first.kind) (system_of first) o) (last-open begun last)
+    ∙ with-append (asks_grant first.kind) (system_of first) (unloads_in begun)
+    (with_open (asks_grant last.kind) (system_of last) [])
 
 -- ---- one that ends
 
@@ -174,7 +174,7 @@ fewer-out (Some asks) flag system more is = omega arith
 -- with one of the spool there are fewer
 pub found-fewer :
     (test : Begun Kind → Bool) (begun : List (Begun Kind)) (found : Begun Kind) (flag : Bool)
-    → find test begun ≡ Some found → asks_leave found.kind ≡ Some flag
+    → find test begun ≡ Some found → asks_grant found.kind ≡ Some flag
     → length (unloads_in (without-first test begun)) < length (unloads_in begun)
 found-fewer test [] found flag is of = absurd (cc)
 found-fewer test (first ∷ begun) found flag is of =
@@ -187,15 +187,15 @@ found-fewer test (first ∷ begun) found flag is of =
         → (find test begun ≡ Some found → length (unloads_in (without-first test begun)) < length (unloads_in begun))
         → length (unloads_in (cond b begun (first ∷ without-first test begun))) < length (unloads_in (first ∷ begun))
     go true is more =
-        fewer-out (asks_leave first.kind) flag (system_of first) (unloads_in begun)
-        (ap (λ (b : Begun Kind). asks_leave b.kind) (inj first found is) ∙ of)
+        fewer-out (asks_grant first.kind) flag (system_of first) (unloads_in begun)
+        (ap (λ (b : Begun Kind). asks_grant b.kind) (inj first found is) ∙ of)
     go false is more =
-        less-more (asks_leave first.kind) (system_of first) (unloads_in begun)
+        less-more (asks_grant first.kind) (system_of first) (unloads_in begun)
         (unloads_in (without-first test begun)) (more is)
 
 pub found-open :
     (test : Begun Kind → Bool) (begun : List (Begun Kind)) (found : Begun Kind) (flag : Bool)
-    → find test begun ≡ Some found → asks_leave found.kind ≡ Some flag
+    → find test begun ≡ Some found → asks_grant found.kind ≡ Some flag
     → Has (unloads_in begun) (flag, system_of found)
 found-open test [] found flag is of = absurd (cc)
 found-open test (first ∷ begun) found flag is of =
@@ -222,11 +222,11 @@ found-open test (first ∷ begun) found flag is of =
         → (find test begun ≡ Some found → Has (unloads_in begun) (flag, system_of found))
         → Has (unloads_in (first ∷ begun)) (flag, system_of found)
     go true is more =
-        subst (λ (b : Begun Kind). Has (with_open (asks_leave b.kind) (system_of b) (unloads_in begun))
+        subst (λ (b : Begun Kind). Has (with_open (asks_grant b.kind) (system_of b) (unloads_in begun))
         (flag, system_of found))
-        (sym (inj first found is)) (is-first (asks_leave found.kind) (system_of found) (unloads_in begun) of)
+        (sym (inj first found is)) (is-first (asks_grant found.kind) (system_of found) (unloads_in begun) of)
     go false is more =
-        more-has (asks_leave first.kind) (system_of first) (unloads_in begun) (flag, system_of found) (more is)
+        more-has (asks_grant first.kind) (system_of first) (unloads_in begun) (flag, system_of found) (more is)
 
 -- ---- what is under way, as other things change
 

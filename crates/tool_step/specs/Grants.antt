@@ -1,4 +1,4 @@
--- The reports that wait for leave to go.
+-- The reports that wait for their grants.
 use Rattle.std.specs.Prelude.{ℕ, List}
 
 -- an S6F11 of several blocks: the system bytes of the S6F5 that asks for it, and its text

@@ -119,7 +119,7 @@ abbrev pub without_report : ℕ → OwnView → OwnView
 without_report system own =
     with_reports (remove own.reports (position_or_len (is_report_of system) own.reports)) own
 
--- the report of an open transaction: one that was sent, and an S6F11 that waits for leave (SEMI E5, S6F5)
+-- the report of an open transaction: one that was sent, and an S6F11 that waits for a grant (SEMI E5, S6F5)
 abbrev pub event_report : List ℕ → Spooled
 event_report body = record { stream = 6; function = 11; body = body }
 

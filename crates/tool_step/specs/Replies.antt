@@ -19,19 +19,19 @@ use Rattle.tool_step.specs.declared.kind.Kind.TheVariants as kind
 use Rattle.tool_step.specs.Codes.{is_accepted_in, is_granted_in}
 use Rattle.tool_step.specs.Own.{OwnView, ToolPart, ToolTurn, quiet_turn, turn_before, waiting_report, without_grant, without_report}
 use Rattle.tool_step.specs.Sent.{error_duty, going_turn}
-use Rattle.tool_step.specs.Spooling.{confirmed_turn, leave_given_turn, unloaded_own}
-use Rattle.tool_step.specs.States.{comms_turn, control_turn, event_name, leaving_turn}
+use Rattle.tool_step.specs.Spooling.{confirmed_turn, grant_given_turn, unloaded_own}
+use Rattle.tool_step.specs.States.{comms_turn, control_turn, event_name, end_of_talk}
 
 -- ---- no reply, or one that denies
 
--- without leave an S6F11 isn't sent (SEMI E5, GRANT6)
+-- without a grant an S6F11 isn't sent (SEMI E5, GRANT6)
 abbrev pub denied_turn : OwnView → ToolTurn
 denied_turn own = fixed_turn own (Note (Happening.Denied event_name) ∷ [])
 
 -- what is lost with the transaction of this kind, whose primary has these system bytes. A message of the spool stays
 -- there, and the unload ends (SEMI E30, establishing communications; SEMI E30, ATTEMPT ON-LINE; SEMI E30, spooling)
 abbrev pub loss_turn : ℕ → Kind → ℕ → OwnView → EndView Kind → ToolTurn
-loss_turn now kind.Establish system own e = leaving_turn Denied None now own e
+loss_turn now kind.Establish system own e = end_of_talk Denied None now own e
 loss_turn now kind.Attempt system own e = control_turn AttemptFailed own
 loss_turn now kind.Grant system own e = denied_turn (without_grant system own)
 loss_turn now kind.Report system own e = quiet_turn (without_report system own)
@@ -65,7 +65,7 @@ block_timer now own e = leads (DropDue now) (given_up_by_t4 now (dropped_now e n
 
 -- ---- a reply
 
--- with leave the S6F11 goes; its system bytes are drawn now (SEMI E5, GRANT6)
+-- with a grant the S6F11 goes; its system bytes are drawn now (SEMI E5, GRANT6)
 abbrev pub granted_turn : Option Spooled → OwnView → EndView Kind → ToolTurn
 granted_turn None own e = quiet_turn own
 granted_turn (Some message) own e = going_turn message own e
@@ -82,7 +82,7 @@ reply_turn now kind.Grant system body own e =
 reply_turn now kind.Report system body own e = quiet_turn (without_report system own)
 reply_turn now kind.Unload system body own e = confirmed_turn own
 reply_turn now kind.UnloadGrant system body own e =
-    if is_granted_in body then leave_given_turn own e else loss_turn now kind.UnloadGrant system own e
+    if is_granted_in body then grant_given_turn own e else loss_turn now kind.UnloadGrant system own e
 
 abbrev pub matched_turn : ℕ → Match Kind → Message → OwnView → EndView Kind → ToolTurn
 matched_turn now (Reply kind) message own e = reply_turn now kind message.system message.body own e

@@ -35,7 +35,7 @@ primary_of stream function kind body = record {
 abbrev pub online_request : Unsent Kind
 online_request = primary_of 1 1 kind.Attempt []
 
--- S6F5 W, which asks for leave to send so many bytes: DATAID and DATALENGTH (SEMI E5, S6F5)
+-- S6F5 W, which asks for a grant to send so many bytes: DATAID and DATALENGTH (SEMI E5, S6F5)
 abbrev pub grant_item : ℕ → ℕ → Item
 grant_item dataid len = pair_item (number_item dataid) (number_item len)
 
@@ -84,8 +84,8 @@ has_room e = not (nat_le 64 (without_wait e))
 abbrev pub error_item : Header → Item
 error_item header = item.B (header_bytes header)
 
-abbrev pub error_report : ℕ → List ℕ → Unsent Kind
-error_report function body = record {
+abbrev pub error_primary : ℕ → List ℕ → Unsent Kind
+error_primary function body = record {
   stream = 9;
   function = function;
   kind = None;
@@ -97,7 +97,7 @@ error_name function = record { stream = 9; function = function; wait = false }
 
 abbrev pub error_commands : ℕ → Answer → EndView Kind → ToolCommands
 error_commands function text e =
-    if has_room e then primary_commands (error_report function) text
+    if has_room e then primary_commands (error_primary function) text
     else Note (Happening.Full (error_name function)) ∷ []
 
 -- in COMMUNICATING alone (this profile)

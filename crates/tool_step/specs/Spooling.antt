@@ -94,16 +94,16 @@ purge_turn message own =
 
 -- ---- messages that go to the host
 
--- a message of the spool as a primary, and the S6F5 that asks for leave to send it (SEMI E5, S6F5)
+-- a message of the spool as a primary, and the S6F5 that asks for a grant to send it (SEMI E5, S6F5)
 abbrev pub unloaded : Spooled → Unsent Kind
 unloaded message = primary_of message.stream message.function kind.Unload message.body
 
 abbrev pub unload_request : List ℕ → Unsent Kind
 unload_request = primary_of 6 5 kind.UnloadGrant
 
--- an S6F11 of several blocks asks for leave (SEMI E4, block; SEMI E5, S6F5)
-abbrev pub needs_leave : Spooled → Bool
-needs_leave message =
+-- an S6F11 of several blocks asks for a grant (SEMI E4, block; SEMI E5, S6F5)
+abbrev pub needs_grant : Spooled → Bool
+needs_grant message =
     (message.stream == 6) && ((message.function == 11) && not (nat_le (length message.body) 244))
 
 -- the DATAID in the text of an S6F11; 0 where there is none (SEMI E5, S6F11; the latter is this profile's)
@@ -124,20 +124,20 @@ abbrev pub unloading_turn : Spooled → OwnView → EndView Kind → ToolTurn
 unloading_turn message own e =
     fixed_turn (if is_crowded_out true e then unloaded_own own else own) (DrawnPrimary (unloaded message) ∷ [])
 
--- or it waits for leave; an S6F5 without room ends the unload too
-abbrev pub leave_turn : Answer → OwnView → EndView Kind → ToolTurn
-leave_turn (answer.Body text) own e =
+-- or it waits for a grant; an S6F5 without room ends the unload too
+abbrev pub inquiry_turn : Answer → OwnView → EndView Kind → ToolTurn
+inquiry_turn (answer.Body text) own e =
     fixed_turn (if is_crowded_out true e then unloaded_own own else own) (Primary (unload_request text) ∷ [])
-leave_turn _ own e = quiet_turn (unloaded_own own)
+inquiry_turn _ own e = quiet_turn (unloaded_own own)
 
--- its text, where it waits for leave
+-- its text, where it waits for a grant
 abbrev pub waiting_text : Spooled → Option (List ℕ)
-waiting_text message = if needs_leave message then Some message.body else None
+waiting_text message = if needs_grant message then Some message.body else None
 
 abbrev pub sent_turn : Spooled → OwnView → EndView Kind → ToolTurn
 sent_turn message own e =
-    if needs_leave message
-    then leave_turn (text_of own (grant_item (dataid_in message.body) (length message.body))) own e
+    if needs_grant message
+    then inquiry_turn (text_of own (grant_item (dataid_in message.body) (length message.body))) own e
     else unloading_turn message own e
 
 -- its system bytes were drawn, and it is noted; then it goes (this profile)
@@ -178,11 +178,11 @@ end_of_spooling own e = booked_turn (rested (is_communicating own) own.ledger) o
 abbrev pub confirmed_turn : OwnView → ToolTurn
 confirmed_turn own = booked_turn (confirmed own.ledger) own
 
--- with leave its S6F11 goes (SEMI E5, GRANT6)
+-- with a grant its S6F11 goes (SEMI E5, GRANT6)
 abbrev pub let_go_turn : Option (List ℕ) → OwnView → EndView Kind → ToolTurn
 let_go_turn None own e = quiet_turn own
 let_go_turn (Some body) own e =
     unloading_turn (event_report body) (with_ledger (with_each let_go own.ledger) own) e
 
-abbrev pub leave_given_turn : OwnView → EndView Kind → ToolTurn
-leave_given_turn own e = let_go_turn (waiting_in own.ledger.unload) own e
+abbrev pub grant_given_turn : OwnView → EndView Kind → ToolTurn
+grant_given_turn own e = let_go_turn (waiting_in own.ledger.unload) own e

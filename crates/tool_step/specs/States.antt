@@ -115,7 +115,7 @@ begins_spooling comms.WaitCra comms.WaitDelay = true
 begins_spooling _ _ = false
 
 -- the report of an open transaction is put then, where the spool is active and the rule covers it, also one that waits
--- for leave; not a message that the spool has already (this profile)
+-- for a grant; not a message that the spool has already (this profile)
 abbrev pub stored_one : OwnView → Option Spooled → Option Spooled
 stored_one own None = None
 stored_one own (Some message) = if is_spooled message own then Some message else None
@@ -131,7 +131,7 @@ stored_by own kind.Attempt system = None
 abbrev pub stored_of : Bool → OwnView → Begun Kind → Option Spooled
 stored_of spools own begun = if spools then stored_by own begun.kind (system_of begun) else None
 
--- what ends otherwise is noted: a message, and an S6F11 that waits for leave behind its S6F5
+-- what ends otherwise is noted: a message, and an S6F11 that waits for a grant behind its S6F5
 abbrev pub unless_stored : Option Spooled → ToolCommands → ToolCommands
 unless_stored None commands = commands
 unless_stored (Some message) commands = []
@@ -192,5 +192,5 @@ left_turn outcome failed own e =
     if is_same_comms own.comms.state outcome.next.state then quiet_turn own
     else parted_turn outcome (begins_spooling own.comms.state outcome.next.state) (activity_of outcome own) failed own e
 
-abbrev pub leaving_turn : CommsIn → Option Header → ℕ → OwnView → EndView Kind → ToolTurn
-leaving_turn input failed now own e = left_turn (comms_outcome input now own) failed own e
+abbrev pub end_of_talk : CommsIn → Option Header → ℕ → OwnView → EndView Kind → ToolTurn
+end_of_talk input failed now own e = left_turn (comms_outcome input now own) failed own e

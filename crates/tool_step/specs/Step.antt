@@ -22,7 +22,7 @@ use Rattle.tool_step.specs.Own.{OwnView, ToolPart, ToolTurn, quiet_turn, turn_of
 use Rattle.tool_step.specs.Replies.{block_timer, given_up_turn, reply_timer}
 use Rattle.tool_step.specs.Sent.{error_duty}
 use Rattle.tool_step.specs.Spooling.{end_of_spooling, unload_part}
-use Rattle.tool_step.specs.States.{comms_turn, leaving_turn}
+use Rattle.tool_step.specs.States.{comms_turn, end_of_talk}
 use Rattle.tool_step.specs.Tool.{told_turn}
 
 -- ---- the line
@@ -30,7 +30,7 @@ use Rattle.tool_step.specs.Tool.{told_turn}
 -- a block failed (SEMI E4, send failure; SEMI E30, communications state model)
 abbrev pub failed_turn : ℕ → Option Header → OwnView → EndView Kind → ToolTurn
 failed_turn now None own e = quiet_turn own
-failed_turn now (Some header) own e = leaving_turn SendFailed (Some header) now own e
+failed_turn now (Some header) own e = end_of_talk SendFailed (Some header) now own e
 
 -- no system bytes are left (a step begins with 128 of them at least)
 abbrev pub is_spent : EndView Kind → Bool

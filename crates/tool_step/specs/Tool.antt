@@ -23,7 +23,7 @@ use Rattle.equipment_tables.specs.Answers.{alarm_item_of, event_item}
 use Rattle.tool_step.specs.Own.{OwnView, ToolTurn, event_report, is_communicating, quiet_turn, turn_behind, with_control, with_tables}
 use Rattle.tool_step.specs.Reports.{judged_turn, report_turn}
 use Rattle.tool_step.specs.Sent.{alarm_report, event_turn, online_request, terminal_item, terminal_report, text_of}
-use Rattle.tool_step.specs.States.{comms_turn, control_commands, control_lines, control_turn, leaving_turn}
+use Rattle.tool_step.specs.States.{comms_turn, control_commands, control_lines, control_turn, end_of_talk}
 use Rattle.equipment_tables.specs.Tables.{alarm_after, set_after}
 
 abbrev pub refused_turn : OwnView → ToolTurn
@@ -110,7 +110,7 @@ command_turn (tool.Set vid value) now own e = set_turn (settings.refusal_of own.
 command_turn (tool.Event ceid) now own e = known_event_turn (is_planned own.tables.reports ceid) ceid own e
 command_turn (tool.Alarm alid is_set) now own e = alarm_turn (step_of own.tables.alarms alid is_set) alid is_set own e
 command_turn tool.Enable now own e = comms_turn Enable now own
-command_turn tool.Disable now own e = leaving_turn Disable None now own e
+command_turn tool.Disable now own e = end_of_talk Disable None now own e
 command_turn tool.Online now own e = online_turn own e
 command_turn tool.Offline now own e = control_turn Offline own
 command_turn tool.Local now own e = control_turn ToLocal own

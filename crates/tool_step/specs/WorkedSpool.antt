@@ -38,7 +38,7 @@ use Rattle.tool_step.specs.Equipment.{EquipmentView, act, parts_done, settled_li
 use Rattle.tool_step.specs.Own.{OwnView, ToolCommands, ToolDuty, ToolTurn, with_comms, with_ledger, with_tables}
 use Rattle.tool_step.specs.Sent.{establish_commands, establish_request, grant_request, live_report, online_request}
 use Rattle.tool_step.specs.Spooling.{lines_commands, stored_turn, unloaded}
-use Rattle.tool_step.specs.States.{event_name, leaving_turn}
+use Rattle.tool_step.specs.States.{event_name, end_of_talk}
 
 -- one variable, 7 at first; one event; no retry; a spool that is used, with these two constants
 abbrev pub plan_with : (overwrites most : ℕ) → EquipmentPlan
@@ -271,7 +271,7 @@ long_text = replicate 245 0
 abbrev pub long_report : Spooled
 long_report = record { stream = 6; function = 11; body = long_text }
 
--- an alarm was sent, an S6F11 waits for leave, on-line was asked for, and a message of the spool is under way
+-- an alarm was sent, an S6F11 waits for a grant, on-line was asked for, and a message of the spool is under way
 abbrev pub does_all : List (CoreCommand Kind) → EndView Kind → EndView Kind
 does_all [] e = e
 does_all (command ∷ commands) e = does_all commands (core_after command e)
@@ -297,7 +297,7 @@ lost_core = open_core (on_spool (plan_with 1 0) []).node.core
 
 -- the block of the alarm fails
 abbrev pub loss : ToolTurn
-loss = leaving_turn SendFailed (Some (header_of Equipment 0 (sent 0 alarm) 1)) 0 lost_own lost_core
+loss = end_of_talk SendFailed (Some (header_of Equipment 0 (sent 0 alarm) 1)) 0 lost_own lost_core
 
 abbrev pub title : (stream function system : ℕ) → Title
 title stream function system =
