@@ -1,6 +1,6 @@
 //! The commands of the tool.
 
-ghost use Rattle.std.specs.Prelude.{IfOk, true, ◌≡◌, ◌<◌, ◌^◌, ◌∷◌, ◌++◌};
+ghost use Rattle.std.specs.Prelude.{IfOk, true, ◌≡◌, ◌<◌, ◌^◌};
 ghost use Rattle.tool_core.specs.Node.{own_of};
 ghost use Rattle.gem_alarms.specs.Alarms.{step_of};
 ghost use Rattle.gem_reports.specs.Reporting.{is_planned};

@@ -15,6 +15,7 @@ ghost use Rattle.tool_step.specs.Own.{with_control};
 ghost use Rattle.tool_step.specs.States.{begins_spooling, control_after_loss, control_commands, ending_commands, is_attempt_kind, end_of_talk, notes_unsent, stored_by, without_open};
 ghost use Rattle.tool_core.specs.Turns.{TakesPart, TakesTurn};
 
+use crate::awaiting::copy_awaiting;
 use crate::own::{Own, Tool};
 use crate::routing::EVENT_NAME;
 use crate::spoolable::Spoolable;
@@ -176,8 +177,8 @@ impl Own {
             return Ok(None);
         }
         let report = match kind {
-            Kind::Report => self.copy_sent(alloc, system)?,
-            Kind::Grant => self.copy_waiting(alloc, system)?,
+            Kind::Report => copy_awaiting(alloc, &self.reports, system)?,
+            Kind::Grant => copy_awaiting(alloc, &self.for_grant, system)?,
             Kind::Establish | Kind::Attempt | Kind::Unload | Kind::UnloadGrant => None,
         };
         match report {

@@ -1,6 +1,7 @@
 //! The decisions of the equipment in a step, in code: no disk, and no device.
 #![tactic(auto)]
 
+mod awaiting;
 mod commands;
 mod endings;
 mod messages;

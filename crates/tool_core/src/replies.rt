@@ -13,6 +13,7 @@ ghost use Rattle.tool_step.specs.Replies.{block_timer, denied_turn, given_up_tur
 ghost use Rattle.tool_step.specs.States.{control_turn};
 ghost use Rattle.tool_core.specs.Turns.{TakesPart, TakesParts, TakesTurn};
 
+use crate::awaiting::take_awaiting;
 use crate::own::Tool;
 use crate::routing::EVENT_NAME;
 use block_codec::Header;
@@ -199,7 +200,7 @@ impl Tool {
             Kind::Attempt => self.fail_attempt(alloc, out),
             Kind::Grant => self.deny(alloc, system, out),
             Kind::Report => {
-                let _ = self.take_sent(system);
+                let _ = take_awaiting(&mut self.own.reports, system);
                 Ok(())
             }
             Kind::Unload => {
@@ -241,7 +242,7 @@ impl Tool {
             self.old out.old self.new out.new result }
         ensures line { out.new.line ≡ out.old.line }
     {
-        let _ = self.take_waiting(system);
+        let _ = take_awaiting(&mut self.own.for_grant, system);
         out.notes.push(denied_note(alloc, EVENT_NAME)?)?;
         Ok(())
     }
@@ -252,7 +253,7 @@ impl Tool {
             self.old out.old self.new out.new result }
         ensures line { out.new.line ≡ out.old.line }
     {
-        match self.take_waiting(system) {
+        match take_awaiting(&mut self.own.for_grant, system) {
             Some(report) => self.send_report(alloc, report, out),
             None => Ok(()),
         }
@@ -298,7 +299,7 @@ impl Tool {
             Kind::Attempt => self.end_attempt(alloc, out),
             Kind::Grant => self.heed_grant(alloc, message, out),
             Kind::Report => {
-                let _ = self.take_sent(message.system);
+                let _ = take_awaiting(&mut self.own.reports, message.system);
                 Ok(())
             }
             Kind::Unload => {

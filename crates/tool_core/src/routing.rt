@@ -1,22 +1,21 @@
 //! Reports: what becomes of one that was made.
 
-ghost use Rattle.std.specs.Prelude.{◌≡◌, ◌<◌, ◌≤◌, ◌%◌, ◌∷◌, [], true, length, IfOk, IfSome};
-ghost use Rattle.std.specs.List.{position};
+ghost use Rattle.std.specs.Prelude.{◌≡◌, ◌<◌, ◌≤◌, ◌%◌, ◌∷◌, [], true, length};
 ghost use Rattle.block_codec.specs.Protocol.{longest_text};
 ghost use Rattle.message_end.specs.Core.Command.{Primary};
 ghost use Rattle.message_end.specs.Parts.{fixed_turn};
 ghost use Rattle.tool_core.specs.Judged.{IsJudged, IsShort, report_named};
 ghost use Rattle.tool_core.specs.Node.{node_of, own_of};
-ghost use Rattle.tool_step.specs.Own.{is_granted_by, is_online, is_report_of, sent_report, waiting_report, without_grant, without_report};
+ghost use Rattle.tool_step.specs.Own.{is_online};
 ghost use Rattle.tool_step.specs.Sent.{event_turn, going_turn, grant_request, grant_turn, granted_own};
 ghost use Rattle.tool_core.specs.Turns.{TakesPart};
 
-use crate::own::{Own, Tool};
+use crate::own::Tool;
 use crate::primaries::{grant_item, grant_request};
 use crate::sending::note_dropped;
 use crate::spoolable::{ForGrant, Live, Spoolable};
 use equipment_tables::{Answer, bounded};
-use gl_base::{NoMemory, Row};
+use gl_base::Row;
 use message_end::Stop;
 use message_flow::StepOut;
 use std::alloc::Global;
@@ -181,89 +180,5 @@ impl Tool {
         }
         self.own.keep(ForGrant::new(system, body))?;
         Ok(())
-    }
-
-    /// The report whose S6F5 has these system bytes waits for a grant no more.
-    pub(crate) fn take_waiting(&mut self, system: u32) -> Option<Spoolable>
-        ensures found { result ≡ waiting_report system (own_of self.old.own) }
-        ensures rest { own_of self.new.own ≡ without_grant system (own_of self.old.own) }
-        ensures core { self.new.core ≡ self.old.core }
-    {
-        let Some(place) = self.place_of_waiting(system) else {
-            return None;
-        };
-        Some(self.own.for_grant.remove(place).into_message())
-    }
-
-    // The place of the report whose S6F5 has these system bytes.
-    fn place_of_waiting(&self, system: u32) -> Option<usize>
-        ensures place { result ≡ position (is_granted_by system) self.now.own.for_grant.items }
-        ensures within { IfSome result (λ at. at < length self.now.own.for_grant.items) }
-    {
-        let system = u64::from(system);
-        self.own
-            .for_grant
-            .iter()
-            .position(|waiting| waiting.system() == system)
-    }
-
-    /// The report with these system bytes awaits its answer no more.
-    pub(crate) fn take_sent(&mut self, system: u32) -> Option<Spoolable>
-        ensures found { result ≡ sent_report system (own_of self.old.own) }
-        ensures rest { own_of self.new.own ≡ without_report system (own_of self.old.own) }
-        ensures core { self.new.core ≡ self.old.core }
-    {
-        let Some(place) = self.place_of_sent(system) else {
-            return None;
-        };
-        Some(self.own.reports.remove(place).into_message())
-    }
-
-    // The place of the report with these system bytes.
-    fn place_of_sent(&self, system: u32) -> Option<usize>
-        ensures place { result ≡ position (is_report_of system) self.now.own.reports.items }
-        ensures within { IfSome result (λ at. at < length self.now.own.reports.items) }
-    {
-        let system = u64::from(system);
-        self.own
-            .reports
-            .iter()
-            .position(|live| live.system() == system)
-    }
-}
-
-impl Own {
-    /// A copy of the report that was sent with these system bytes and awaits its answer.
-    pub(crate) fn copy_sent(
-        &self,
-        alloc: Global,
-        system: u32,
-    ) -> Result<Option<Spoolable>, NoMemory>
-        ensures { IfOk result (λ report. report ≡ sent_report system (own_of self.now)) }
-    {
-        let system = u64::from(system);
-        match self.reports.iter().find(|live| live.system() == system) {
-            Some(live) => Ok(Some(live.copy(alloc)?)),
-            None => Ok(None),
-        }
-    }
-
-    /// A copy of the report that waits for a grant by the S6F5 with these system bytes.
-    pub(crate) fn copy_waiting(
-        &self,
-        alloc: Global,
-        system: u32,
-    ) -> Result<Option<Spoolable>, NoMemory>
-        ensures { IfOk result (λ report. report ≡ waiting_report system (own_of self.now)) }
-    {
-        let system = u64::from(system);
-        match self
-            .for_grant
-            .iter()
-            .find(|waiting| waiting.system() == system)
-        {
-            Some(waiting) => Ok(Some(waiting.copy(alloc)?)),
-            None => Ok(None),
-        }
     }
 }

@@ -7,6 +7,7 @@ ghost use Rattle.tool_core.specs.Judged.{report_named};
 ghost use Rattle.tool_step.specs.Sent.{primary_of};
 ghost use Rattle.trace_log.specs.Names.{spooled_name};
 
+use crate::awaiting::Awaiting;
 use gem_spool::Kept;
 use gl_base::{NoMemory, Row};
 use message_end::Unsent;
@@ -167,29 +168,22 @@ impl ForGrant {
     {
         ForGrant { system, body }
     }
+}
 
-    pub(crate) fn system(&self) -> u64
-        ensures { result ≡ self.now.system }
-    {
+impl Awaiting for ForGrant {
+    ghost number = { λ waiting. waiting.system };
+
+    ghost message = { λ waiting. event_report waiting.body };
+
+    fn system(&self) -> u64 {
         self.system
     }
 
-    /// A copy of the report that waits.
-    pub(crate) fn copy(&self, alloc: Global) -> Result<Spoolable, NoMemory>
-        ensures { IfOk result (λ copy. copy ≡ event_report self.now.body) }
-    {
-        let body = Row::of(alloc, self.body.as_slice())?;
-        Ok(Spoolable {
-            stream: 6,
-            function: 11,
-            body,
-        })
+    fn copy(&self, alloc: Global) -> Result<Spoolable, NoMemory> {
+        Ok(Spoolable::of_event(Row::of(alloc, self.body.as_slice())?))
     }
 
-    /// The report that waited.
-    pub(crate) fn into_message(self) -> Spoolable
-        ensures { result ≡ event_report self.body }
-    {
+    fn into_message(self) -> Spoolable {
         Spoolable::of_event(self.body)
     }
 }
@@ -215,23 +209,22 @@ impl Live {
     {
         Live { system, report }
     }
+}
 
-    pub(crate) fn system(&self) -> u64
-        ensures { result ≡ self.now.system }
-    {
+impl Awaiting for Live {
+    ghost number = { λ live. live.system };
+
+    ghost message = { λ live. live.message };
+
+    fn system(&self) -> u64 {
         self.system
     }
 
-    /// A copy of the report.
-    pub(crate) fn copy(&self, alloc: Global) -> Result<Spoolable, NoMemory>
-        ensures { IfOk result (λ copy. copy ≡ self.now.message) }
-    {
+    fn copy(&self, alloc: Global) -> Result<Spoolable, NoMemory> {
         self.report.copy(alloc)
     }
 
-    pub(crate) fn into_message(self) -> Spoolable
-        ensures { result ≡ self.message }
-    {
+    fn into_message(self) -> Spoolable {
         self.report
     }
 }
