@@ -11,7 +11,9 @@ ghost use Rattle.tool_step.specs.Codes.{is_accepted_in, is_accepting, is_granted
 ghost use Rattle.tool_core.specs.Node.{node_of, own_of};
 ghost use Rattle.tool_step.specs.Replies.{block_timer, denied_turn, given_up_turn, granted_turn, loss_turn, reply_timer, reply_turn, secondary_turn, timeout_turn};
 ghost use Rattle.tool_step.specs.States.{control_turn};
-ghost use Rattle.tool_core.specs.Turns.{TakesPart, TakesParts, TakesTurn};
+ghost use Rattle.tool_step.specs.Step.{late_parts};
+ghost use Rattle.tool_core.specs.Late.{late_part};
+ghost use Rattle.tool_core.specs.Turns.{ReachesParts, TakesPart, TakesParts, TakesTurn};
 
 use crate::awaiting::take_awaiting;
 use crate::own::Tool;
@@ -27,46 +29,80 @@ use tool_step::Kind;
 use trace_log::denied_note;
 use transact::Match;
 
-// How many transactions T3 ends in a step, and how many messages T4 drops: as many as there can be.
-const MOST_EXPIRED: u32 = 64;
-
+// How many messages T4 drops in a step, and how many transactions T3 ends: as many as there can be.
 const MOST_DROPPED: u32 = 16;
 
+const MOST_EXPIRED: u32 = 64;
+
+/// What comes too late.
+#[derive(Clone, Copy, Debug)]
+pub(crate) enum Late {
+    /// The next block of a message: T4 drops what came of it.
+    Block,
+    /// The reply to a primary: T3 ends its transaction.
+    Reply,
+}
+
 impl Tool {
-    /// Ends the transactions on which T3 has run out: at most as many as there can be.
-    pub(crate) fn expire_all(
+    /// Ends what comes too late: messages, and then transactions.
+    pub(crate) fn end_late(
         &mut self,
         alloc: Global,
         now: u64,
         out: &mut StepOut,
     ) -> Result<(), Stop>
         requires { now < 2 ^ 62 }
-        ensures does { TakesParts (replicate 64 (reply_timer now)) self.old out.old self.new out.new result }
+        ensures does { ReachesParts (late_parts now) self.old out.old self.new out.new result }
         ensures line { out.new.line ≡ out.old.line }
     {
-        self.expire_some(alloc, MOST_EXPIRED, now, out)
+        match self.end_some_late(alloc, Late::Block, MOST_DROPPED, now, out) {
+            Ok(()) => self.end_some_late(alloc, Late::Reply, MOST_EXPIRED, now, out),
+            Err(stop) => Err(stop),
+        }
     }
 
-    // Ends so many transactions on which T3 has run out, or all of them.
-    fn expire_some(
+    // Ends so many that come too late, or all of them.
+    fn end_some_late(
         &mut self,
         alloc: Global,
+        late: Late,
         most: u32,
         now: u64,
         out: &mut StepOut,
     ) -> Result<(), Stop>
         requires { now < 2 ^ 62 }
-        ensures does { TakesParts (replicate most (reply_timer now)) self.old out.old self.new out.new result }
+        ensures does { TakesParts (replicate most (late_part late now)) self.old out.old self.new out.new result }
         ensures line { out.new.line ≡ out.old.line }
     {
         let mut left = most;
-        'transactions: while left > 0 {
-            if !self.expire_one(alloc, now, out)? {
+        'overdue: while left > 0 {
+            if !self.end_one_late(alloc, late, now, out)? {
                 return Ok(());
             }
             left -= 1;
         }
         Ok(())
+    }
+
+    // Ends one that comes too late; `false` where there is none.
+    fn end_one_late(
+        &mut self,
+        alloc: Global,
+        late: Late,
+        now: u64,
+        out: &mut StepOut,
+    ) -> Result<bool, Stop>
+        requires { now < 2 ^ 62 }
+        ensures does { TakesPart (late_part late now) self.old out.old self.new out.new result }
+        ensures none { IfOk result (λ some. some ≡ false → IsTaken
+            (late_part late now (own_of self.old.own) self.old.core)
+            (node_of self.old) out.old (node_of self.old) out.old) }
+        ensures line { out.new.line ≡ out.old.line }
+    {
+        match late {
+            Late::Block => self.drop_one(alloc, now, out),
+            Late::Reply => self.expire_one(alloc, now, out),
+        }
     }
 
     // Ends a transaction on which T3 has run out; `false` where there is none.
@@ -86,42 +122,6 @@ impl Tool {
             Ok(None) => Ok(false),
             Err(stop) => Err(stop),
         }
-    }
-
-    /// Drops the messages on which T4 has run out, as many as there can be; a reply among them is given up.
-    pub(crate) fn drop_all(
-        &mut self,
-        alloc: Global,
-        now: u64,
-        out: &mut StepOut,
-    ) -> Result<(), Stop>
-        requires { now < 2 ^ 62 }
-        ensures does { TakesParts (replicate 16 (block_timer now)) self.old out.old self.new out.new result }
-        ensures line { out.new.line ≡ out.old.line }
-    {
-        self.drop_some(alloc, MOST_DROPPED, now, out)
-    }
-
-    // Drops so many messages on which T4 has run out, or all of them.
-    fn drop_some(
-        &mut self,
-        alloc: Global,
-        most: u32,
-        now: u64,
-        out: &mut StepOut,
-    ) -> Result<(), Stop>
-        requires { now < 2 ^ 62 }
-        ensures does { TakesParts (replicate most (block_timer now)) self.old out.old self.new out.new result }
-        ensures line { out.new.line ≡ out.old.line }
-    {
-        let mut left = most;
-        'messages: while left > 0 {
-            if !self.drop_one(alloc, now, out)? {
-                return Ok(());
-            }
-            left -= 1;
-        }
-        Ok(())
     }
 
     // Drops a message on which T4 has run out; `false` where there is none. A reply is given up.

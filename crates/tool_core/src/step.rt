@@ -170,18 +170,6 @@ impl Tool {
         }
     }
 
-    // Ends what comes too late.
-    fn end_late(&mut self, alloc: Global, now: u64, out: &mut StepOut) -> Result<(), Stop>
-        requires { now < 2 ^ 62 }
-        ensures does { ReachesParts (late_parts now) self.old out.old self.new out.new result }
-        ensures line { out.new.line ≡ out.old.line }
-    {
-        match self.drop_all(alloc, now, out) {
-            Ok(()) => self.expire_all(alloc, now, out),
-            Err(stop) => Err(stop),
-        }
-    }
-
     // Meets what it is given.
     fn meet_input(
         &mut self,
