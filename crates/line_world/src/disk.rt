@@ -7,11 +7,8 @@ use disk_base::MemDisk;
 use equipment_node::{LISTED_BYTES, LISTED_CALLS};
 use gem_spool::GemSpool;
 use gl_base::NoMemory;
-use spool_slots::Raw;
+use spool_slots::{Raw, slot_place};
 use std::alloc::Global;
-
-// The size of a slot, and of what stands before the first one.
-const SLOT_SIZE: u64 = 4_096;
 
 /// An empty spool of so many slots, on a disk in memory that is made for it. Only memory may be wanting. The disk has
 /// room to spare, so that its planned stop comes before its list is full.
@@ -20,8 +17,7 @@ pub(crate) fn empty_spool(alloc: Global, slots: u32) -> Result<GemSpool<MemDisk>
     requires most { slots ≤ 1024 }
     ensures { IfOk result (λ spool. IsEmptySpool slots spool) }
 {
-    let size = SLOT_SIZE * (u64::from(slots) + 1);
-    let Ok(disk) = MemDisk::new(alloc, size, LISTED_CALLS, LISTED_BYTES) else {
+    let Ok(disk) = MemDisk::new(alloc, slot_place(slots), LISTED_CALLS, LISTED_BYTES) else {
         return Err(NoMemory);
     };
     match Raw::new(disk).format(slots) {

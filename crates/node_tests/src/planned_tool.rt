@@ -11,7 +11,7 @@ use gem_vars::{VariablePlan, VarsPlan};
 use gl_base::Row;
 use line_end::{LinePlan, Times};
 use secs_items::{Item, Kind};
-use spool_slots::Raw;
+use spool_slots::{Raw, slot_place};
 use std::alloc::Global;
 
 fn copied(alloc: Global, text: &[u8]) -> Option<Row<u8>> {
@@ -94,7 +94,7 @@ pub(crate) fn plan(alloc: Global) -> Option<EquipmentPlan> {
 
 /// A spool of so many slots.
 pub(crate) fn formatted(alloc: Global, slots: u32) -> Option<GemSpool<MemDisk>> {
-    let Ok(disk) = MemDisk::new(alloc, 4_096 * (u64::from(slots) + 1), 4_096, 1 << 20) else {
+    let Ok(disk) = MemDisk::new(alloc, slot_place(slots), 4_096, 1 << 20) else {
         return None;
     };
     match Raw::new(disk).format(slots) {

@@ -3,12 +3,11 @@
 ghost use Rattle.std.specs.Prelude.{◌≡◌, ◌+◌, ◌*◌, ◌++◌, ◌≤◌, drop, length, take};
 ghost use Rattle.arrayvec.specs.ArrayVec.{array_vec_len};
 ghost use Rattle.spool_show.specs.Text.{count_text, formatted_line, head_line, line_of};
-ghost use Rattle.spool_slots.specs.Slot.{slot_place};
 ghost use Rattle.trace_log.specs.Text.{body_text};
 
 use arrayvec::ArrayVec;
 use short_text::{put, put_hex, put_name, put_number};
-use spool_slots::SlotHead;
+use spool_slots::{SLOT_SIZE, SlotHead, slot_place};
 
 /// How long a line is at most.
 pub const LINE: usize = 8300;
@@ -37,17 +36,9 @@ pub fn formatted_line(slots: u32) -> Short
 {
     let mut line = Short::new();
     put_count(&mut line, b"formatted slots=", u64::from(slots));
-    put_count(&mut line, b" bytes=", bytes_of(slots));
+    put_count(&mut line, b" bytes=", slot_place(slots));
     put(&mut line, b"\n");
     line
-}
-
-/// How many bytes a file of so many slots takes.
-pub fn bytes_of(slots: u32) -> u64
-    requires { slots ≤ 65535 }
-    ensures { result ≡ slot_place slots }
-{
-    4096 * (u64::from(slots) + 1)
 }
 
 // Puts a word, and a number behind it.
@@ -64,7 +55,7 @@ fn put_count<const N: usize>(line: &mut ArrayVec<u8, N>, word: &[u8], number: u6
 pub fn put_message_line<const N: usize>(
     line: &mut ArrayVec<u8, N>,
     head: &SlotHead,
-    slot: &[u8; 4096],
+    slot: &[u8; SLOT_SIZE],
 )
     requires { array_vec_len line.old + 8300 ≤ N }
     ensures { line.new.items ≡ line.old.items ++ line_of head.now (take head.now.len (drop 15 slot.now)) }
@@ -78,7 +69,7 @@ pub fn put_message_line<const N: usize>(
 }
 
 // The body in a slot's bytes.
-fn body_in(len: u32, slot: &[u8; 4096]) -> &[u8]
+fn body_in(len: u32, slot: &[u8; SLOT_SIZE]) -> &[u8]
     ensures body { result.now ≡ take len (drop 15 slot.now) }
     ensures short { length result.now ≤ 4081 }
 {

@@ -11,7 +11,7 @@ use crate::lines::{LINE, put_head_line, put_message_line};
 use crate::spool_end::SpoolEnd;
 use disk_base::{Disk, DiskAnswer};
 use gl_base::{Page, Sink, SinkAnswer};
-use spool_slots::{OldestAnswer, Raw, Recovering, SlotHead, Spool};
+use spool_slots::{OldestAnswer, Raw, Recovering, SLOT_SIZE, SlotHead, Spool};
 
 /// Writes how many slots the spool file of this name has, its mark, and its list, a line a message, oldest first. The
 /// disk takes the file as it is and keeps its list and mark. Where the disk or the output fails, a part of the lines
@@ -90,7 +90,7 @@ fn put_list<D: Disk, W: Sink>(spool: &mut Spool<D>, page: &mut Page, out: &mut W
         page.new.bytes.items
         result }
 {
-    let mut slot = [0; 4096];
+    let mut slot = [0; SLOT_SIZE];
     let first = spool.first();
     for place in 0..spool.len() {
         match put_message(spool, page, out, first + u64::from(place), &mut slot) {
@@ -107,7 +107,7 @@ fn put_message<D: Disk, W: Sink>(
     page: &mut Page,
     out: &mut W,
     number: u64,
-    slot: &mut [u8; 4096],
+    slot: &mut [u8; SLOT_SIZE],
 ) -> SpoolEnd
     requires first { spool.old.first ≤ number }
     requires last { number < spool.old.first + spool.old.len }
@@ -126,7 +126,12 @@ fn put_message<D: Disk, W: Sink>(
 }
 
 // Puts the line of a message of which a slot's bytes hold the body.
-fn put_line<W: Sink>(page: &mut Page, out: &mut W, head: &SlotHead, slot: &[u8; 4096]) -> SpoolEnd
+fn put_line<W: Sink>(
+    page: &mut Page,
+    out: &mut W,
+    head: &SlotHead,
+    slot: &[u8; SLOT_SIZE],
+) -> SpoolEnd
     ensures { PutsLine
         (line_of head.now (take head.now.len (drop 15 slot.now)))
         (sink_told W.Sink out.old out.new)

@@ -9,11 +9,11 @@ ghost use Rattle.spool_show.specs.Told.{disk_told};
 ghost use Rattle.spool_slots.specs.Format.{StandsEmpty};
 ghost use Rattle.spool_slots.specs.Slot.{slot_place};
 
-use crate::lines::{bytes_of, formatted_line};
+use crate::lines::formatted_line;
 use crate::spool_end::SpoolEnd;
 use disk_base::{Disk, DiskAnswer};
 use gl_base::{Sink, SinkAnswer, copy_out};
-use spool_slots::{Formatting, Raw};
+use spool_slots::{Formatting, Raw, slot_place};
 
 /// Makes the file of this name the spool file of an empty list in so many slots, with mark 0, and writes how many slots
 /// and bytes that takes. The disk takes the file, and gives it these bytes at least. It takes no memory.
@@ -23,7 +23,7 @@ pub fn format_spool<D: Disk, W: Sink>(disk: &mut D, file: &str, slots: u32, out:
     ensures { FormatsSpool file.now slots (disk_told D.Disk disk.old disk.new) (sink_told W.Sink out.old out.new)
         result }
 {
-    match disk.attach(file, bytes_of(slots)) {
+    match disk.attach(file, slot_place(slots)) {
         DiskAnswer::Done => format_attached(disk, slots, out),
         DiskAnswer::Failed => SpoolEnd::DiskFailed,
     }

@@ -12,13 +12,10 @@ use gem_vars::VarsPlan;
 use gl_base::{NoMemory, Row};
 use line_end::{LinePlan, Times};
 use message_flow::{NodeInput, StepOut};
-use spool_slots::Raw;
+use spool_slots::{BODY_MOST, Raw, SLOT_SIZE, slot_place};
 use std::alloc::Global;
 use std::process::ExitCode;
 use std::{env, io};
-
-// The size of a slot, and of what stands before the first one.
-const SLOT_SIZE: u64 = 4_096;
 
 // What the disk's list has room for: calls, and written bytes.
 const MOST_CALLS: u32 = 65_536;
@@ -107,8 +104,7 @@ fn spooling(alloc: Global, slots: u32) -> Option<Equipment<MemDisk>> {
 
 // A disk with an empty spool of these slots.
 fn formatted(alloc: Global, slots: u32) -> Option<Raw<MemDisk>> {
-    let size = SLOT_SIZE * (u64::from(slots) + 1);
-    let disk = MemDisk::new(alloc, size, MOST_CALLS, MOST_WRITTEN).ok()?;
+    let disk = MemDisk::new(alloc, slot_place(slots), MOST_CALLS, MOST_WRITTEN).ok()?;
     match Raw::new(disk).format(slots) {
         Ok(spool) => Some(spool.retire().into_raw()),
         Err(_) => None,
@@ -197,25 +193,25 @@ fn with_text(
 }
 
 // The bytes of the first slot.
-fn first_slot(disk: &mut MemDisk) -> Option<[u8; 4096]> {
-    if disk.size() < 2 * SLOT_SIZE {
+fn first_slot(disk: &mut MemDisk) -> Option<[u8; SLOT_SIZE]> {
+    if disk.size() < slot_place(1) {
         return None;
     }
-    let mut slot = [0; 4096];
-    done(disk.read(SLOT_SIZE, &mut slot))?;
+    let mut slot = [0; SLOT_SIZE];
+    done(disk.read(slot_place(0), &mut slot))?;
     Some(slot)
 }
 
 // Writes the message of a slot under this number into the slot for it, as a spool does: four calls. Its gate comes last,
 // and is its first byte.
-fn write_message(disk: &mut MemDisk, number: u32, slot: &mut [u8; 4096]) -> Option<()> {
-    let at = SLOT_SIZE * (u64::from(number) + 1);
-    if disk.size() < at + SLOT_SIZE {
+fn write_message(disk: &mut MemDisk, number: u32, slot: &mut [u8; SLOT_SIZE]) -> Option<()> {
+    let at = slot_place(number);
+    if disk.size() < at + SLOT_SIZE as u64 {
         return None;
     }
     slot[1..9].copy_from_slice(&u64::from(number).to_be_bytes());
-    let length = u32::from_be_bytes([slot[11], slot[12], slot[13], slot[14]]) as usize;
-    done(settle(disk, at + 1, &slot[1..15 + length.min(4_081)]))?;
+    let length = u32::from_be_bytes([slot[11], slot[12], slot[13], slot[14]]).min(BODY_MOST);
+    done(settle(disk, at + 1, &slot[1..15 + length as usize]))?;
     done(settle(disk, at, &slot[..1]))
 }
 
