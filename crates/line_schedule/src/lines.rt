@@ -7,7 +7,7 @@ ghost use Rattle.line_schedule.specs.Reading.{is_passed_over};
 use crate::words::place_of;
 
 /// The first line, and what stands behind its end.
-pub(crate) fn split_line(text: &[u8]) -> (&[u8], &[u8])
+pub fn split_line(text: &[u8]) -> (&[u8], &[u8])
     requires { text.now ≢ [] }
     ensures lines { lines_of text.now ≡ result.0.now ∷ lines_of result.1.now }
     ensures shorter { length result.1.now < length text.now }

@@ -17,7 +17,7 @@ pub(crate) fn after<'a>(front: &[u8], text: &'a [u8]) -> Option<&'a [u8]>
 }
 
 /// Where the first such byte stands.
-pub(crate) fn place_of(wanted: u8, text: &[u8]) -> Option<usize>
+pub fn place_of(wanted: u8, text: &[u8]) -> Option<usize>
     ensures place { result ≡ position (λ b. b == wanted) text.now }
     ensures within { IfSome result (λ at. at < length text.now) }
 {
@@ -33,7 +33,7 @@ pub(crate) fn split_at(wanted: u8, text: &[u8]) -> Option<(&[u8], &[u8])>
 }
 
 /// Whether the text is this word.
-pub(crate) fn is_word(word: &[u8], text: &[u8]) -> bool
+pub fn is_word(word: &[u8], text: &[u8]) -> bool
     ensures { result ≡ bytes_eq text.now word.now }
 {
     text == word

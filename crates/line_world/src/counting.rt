@@ -1,12 +1,12 @@
 //! How many lines of a trace there are of each kind that a summary counts.
 
-ghost use Rattle.std.specs.Prelude.{◌≡◌, ◌≢◌, ◌==◌, ◌∷◌, ◌<◌, [], IfOk, IfSome, bytes_eq, length};
-ghost use Rattle.std.specs.List.{position};
+ghost use Rattle.std.specs.Prelude.{◌≡◌, IfOk};
 ghost use Rattle.line_schedule.specs.Lines.{lines_of};
 ghost use Rattle.line_world.specs.Counting.{no_lines, one_more, with_line, with_lines};
 ghost use Rattle.line_world.specs.Make.{behind_word, first_word};
 
 use gl_base::NoMemory;
+use line_schedule::{is_word, place_of, split_line};
 
 /// How many messages the equipment has received, and the host, how many of these are reports, how many messages were
 /// stored and have gone, and how often the equipment has started.
@@ -56,16 +56,16 @@ fn count_line(counts: Counts, line: &[u8]) -> Result<Counts, NoMemory>
     let (end, noted) = split_word(noted);
     let (what, noted) = split_word(noted);
     let (name, _) = split_word(noted);
-    let equipment = is_word(end, b"E");
-    let received = is_word(what, b"rx");
-    let of_host = is_word(end, b"H") && received;
+    let equipment = is_word(b"E", end);
+    let received = is_word(b"rx", what);
+    let of_host = is_word(b"H", end) && received;
     Ok(Counts {
         equipment_received: one_more(equipment && received, counts.equipment_received)?,
         host_received: one_more(of_host, counts.host_received)?,
-        reports: one_more(of_host && is_word(name, b"S6F11"), counts.reports)?,
-        stored: one_more(equipment && is_word(what, b"stored"), counts.stored)?,
-        gone: one_more(equipment && is_word(what, b"gone"), counts.gone)?,
-        starts: one_more(equipment && is_word(what, b"start"), counts.starts)?,
+        reports: one_more(of_host && is_word(b"S6F11", name), counts.reports)?,
+        stored: one_more(equipment && is_word(b"stored", what), counts.stored)?,
+        gone: one_more(equipment && is_word(b"gone", what), counts.gone)?,
+        starts: one_more(equipment && is_word(b"start", what), counts.starts)?,
     })
 }
 
@@ -76,32 +76,6 @@ fn one_more(is: bool, count: u64) -> Result<u64, NoMemory>
         return Ok(count);
     }
     count.checked_add(1).ok_or(NoMemory)
-}
-
-fn is_word(text: &[u8], word: &[u8]) -> bool
-    ensures { result ≡ bytes_eq text.now word.now }
-{
-    text == word
-}
-
-// Where the first such byte stands.
-fn place_of(wanted: u8, text: &[u8]) -> Option<usize>
-    ensures place { result ≡ position (λ b. b == wanted) text.now }
-    ensures within { IfSome result (λ at. at < length text.now) }
-{
-    text.iter().position(|byte| *byte == wanted)
-}
-
-// The first line, and what stands behind its end.
-fn split_line(text: &[u8]) -> (&[u8], &[u8])
-    requires { text.now ≢ [] }
-    ensures lines { lines_of text.now ≡ result.0.now ∷ lines_of result.1.now }
-    ensures shorter { length result.1.now < length text.now }
-{
-    match place_of(b'\n', text) {
-        Some(at) => (&text[..at], &text[at + 1..]),
-        None => (text, &[]),
-    }
 }
 
 // The first word, and what stands behind the blank.
