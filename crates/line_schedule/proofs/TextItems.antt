@@ -21,7 +21,7 @@ use Rattle.secs_items.proofs.RangeLaws.{layer_in_range}
 use Rattle.secs_text.specs.Grammar.{AfterBlanks, HasElements, InTurn, IsHexByte, IsHexBytes, IsItemText, IsQuoted, IsShown, IsSigned, IsText, IsUnsigned, Kept, ReadsAs, ReadsWithin}
 use Rattle.secs_text.specs.Names.{name_of}
 use Rattle.short_text.specs.Shown.{stands_for_itself}
-use Rattle.secs_text.proofs.Quotes.{digit_small}
+use Rattle.secs_text.proofs.Quotes.{digit_small, shown_some}
 
 -- ---- values one after another
 
@@ -68,10 +68,6 @@ plain_small b h = grind (arith, h)
 shown_fits : (b : ℕ) (text : List ℕ) → IsShown b text → IsByte b
 shown_fits b text (inl is) = plain_small b is.0
 shown_fits b text (inr is) = hex_fits b is.1 is.3
-
-shown_some : (b : ℕ) (text : List ℕ) → IsShown b text → 0 < length text
-shown_some b text (inl is) = omega (arith, ap length is.1)
-shown_some b text (inr is) = omega (arith, ap length is.2)
 
 quoted_fits : (bytes text : List ℕ) → AfterBlanks IsQuoted bytes text → AllByRecursion IsByte bytes
 quoted_fits bytes text a = let q = a.5 in all_fit IsShown IsByte shown_fits bytes q.0 q.2
