@@ -1,3 +1,3 @@
 mod MessageLines
 mod ShownFiles
-mod SpoolFiles
+pub mod SpoolFiles
