@@ -7,17 +7,17 @@ use crate::played_program::{
     Bytes, End, NoDisk, TestFiles, TestInput, output, pieces_of, words_of,
 };
 use gemline_app::gemline;
-use gl_base::{LinkIn, MemLink, NoMemory, Row};
+use gl_base::{Link, LinkIn, MemLink, NoMemory, Row};
 use std::alloc::Global;
 use std::test::Fail;
 
 /// Words behind `host`, a plan, a script, which call of the input, of the files, of the output and of the link
 /// fails, and the end.
-type Hosting = (&'static [&'static str], &'static [u8], Bytes, [u32; 4], End);
+pub(crate) type Hosting = (&'static [&'static str], &'static [u8], Bytes, [u32; 4], End);
 
 const HOST: &[&str] = &["host", "plan", "address"];
 
-const NO_SCRIPT: Bytes = (b"", b"", 1, b"");
+pub(crate) const NO_SCRIPT: Bytes = (b"", b"", 1, b"");
 
 /// Over a link that the peer has closed.
 static CLOSED: [Hosting; 11] = [
@@ -167,18 +167,19 @@ fn is_hosting(alloc: Global, answers: Row<LinkIn>, case: &Hosting) -> bool
     }
 }
 
-fn is_hosting_over(alloc: Global, link: &mut MemLink, case: &Hosting) -> bool {
+/// Whether the host over this link ends so.
+pub(crate) fn is_hosting_over<L: Link>(alloc: Global, link: &mut L, case: &Hosting) -> bool {
     match (words_of(alloc, case.0), pieces_of(alloc, &case.2)) {
         (Ok(words), Ok(script)) => hosts_so(alloc, &words, script.as_slice(), link, case),
         _ => false,
     }
 }
 
-fn hosts_so(
+fn hosts_so<L: Link>(
     alloc: Global,
     words: &[String],
     script: &[u8],
-    link: &mut MemLink,
+    link: &mut L,
     case: &Hosting,
 ) -> bool {
     let (_, plan, _, [read, file, write, _], (wanted, text, line)) = *case;

@@ -1,13 +1,11 @@
-//! What runs as a whole, through its public calls: words as commands, one end over its link, the world of a tool and
-//! its host, and the program.
+//! What runs as a whole, through its public calls: words as commands, the world of a tool and its host, and the program,
+//! with its runs over a link.
 #![tactic(auto)]
 
 #[cfg(test)]
 mod faults_and_usage;
 #[cfg(test)]
 mod host_runs;
-#[cfg(test)]
-mod linked_host;
 #[cfg(test)]
 mod linked_runs;
 #[cfg(test)]

@@ -1,20 +1,124 @@
-//! The run of a host over a link: how it ends, its lines, and what it asked of its link.
+//! The run of a host over a link that wants what is expected: how it ends, its lines, and what it asked of its link.
 
-use crate::linked_host::{Expected, LAST, TestLink, TestOutput, ends};
-use end_run::Ending;
+use crate::host_runs::{Hosting, NO_SCRIPT, is_hosting_over};
+use crate::played_program::{End, is_due};
 use gl_base::{Link, LinkAnswer, LinkEntry, LinkIn, Side};
 use std::alloc::Global;
 
-/// A run of the enabled host: its script, what comes over the link, which call of the link and which
-/// write fail, how many polls are made at most, how it ends, its lines, and the link's list.
-struct Case {
-    script: &'static [u8],
+// The last moment of all, up to which an end waits that has nothing to do.
+const LAST: u64 = 4_611_686_018_427_387_903;
+
+/// What is still to come over the link, and whether all that came till now was that.
+#[derive(Drop)]
+struct Expected {
+    all: &'static [LinkEntry],
+    at: usize,
+    right: bool,
+}
+
+impl Expected {
+    fn take(&mut self, entry: LinkEntry) {
+        match self.all.get(self.at) {
+            Some(next) => self.right = self.right && *next == entry,
+            None => self.right = false,
+        }
+        self.at = self.at.saturating_add(1);
+    }
+
+    fn take_sent(&mut self, bytes: &[u8]) {
+        for byte in bytes {
+            self.take(LinkEntry::Sent(*byte));
+        }
+    }
+
+    fn is_met(&self) -> bool {
+        self.right && self.at == self.all.len()
+    }
+}
+
+/// A link that gives characters and quiet times, each at its moment, and then is closed. It wants to be connected,
+/// once, as the host and to the address, before all else.
+#[derive(Drop)]
+struct TestLink {
     events: &'static [(Option<u8>, u64)],
-    link_fails: u32,
-    write_fails: u32,
-    polls: u32,
-    ending: Ending,
-    lines: &'static [u8],
+    at: usize,
+    moment: u64,
+    connects: u32,
+    fails: u32,
+    list: Expected,
+}
+
+impl Link for TestLink {
+    ghost use Rattle.std.specs.Prelude.{None, false};
+
+    ghost told = { λ _. None };
+
+    ghost moment = { λ s. s.moment };
+
+    ghost health = { λ _. record { faults = 18446744073709551615; reliable = false; room = 0 } };
+
+    fn connect(&mut self, side: Side, address: &str) -> LinkAnswer {
+        self.moment = 0;
+        self.connects = self.connects.saturating_add(1);
+        if is_due(&mut self.fails) || side == Side::Equipment || address != "peer" {
+            return LinkAnswer::Failed;
+        }
+        LinkAnswer::Done
+    }
+
+    fn poll(&mut self, until: u64) -> LinkIn {
+        if is_due(&mut self.fails) || self.connects != 1 {
+            return LinkIn::Failed;
+        }
+        let Some(event) = self.events.get(self.at) else {
+            self.list.take(LinkEntry::Polled {
+                until,
+                answer: LinkIn::Closed,
+            });
+            return LinkIn::Closed;
+        };
+        let (byte, now) = *event;
+        if now < self.moment || now > LAST {
+            return LinkIn::Failed;
+        }
+        let is_later = self.moment < now;
+        self.at = self.at.saturating_add(1);
+        match byte {
+            Some(byte) => {
+                self.moment = now;
+                self.list.take(LinkEntry::Polled {
+                    until,
+                    answer: LinkIn::Char(byte, now),
+                });
+                LinkIn::Char(byte, now)
+            }
+            None => {
+                if !is_later {
+                    return LinkIn::Failed;
+                }
+                self.moment = now;
+                self.list.take(LinkEntry::Polled {
+                    until,
+                    answer: LinkIn::Quiet(now),
+                });
+                LinkIn::Quiet(now)
+            }
+        }
+    }
+
+    fn send(&mut self, bytes: &[u8]) -> LinkAnswer {
+        if is_due(&mut self.fails) || self.connects != 1 {
+            return LinkAnswer::Failed;
+        }
+        self.list.take_sent(bytes);
+        LinkAnswer::Done
+    }
+}
+
+/// A run of the host, what comes over the link, and the link's list.
+struct Case {
+    hosting: Hosting,
+    events: &'static [(Option<u8>, u64)],
     list: &'static [LinkEntry],
 }
 
@@ -24,16 +128,14 @@ fn goes(alloc: Global, case: &Case) -> bool {
         at: 0,
         moment: 0,
         connects: 0,
-        fails: case.link_fails,
-        list: Expected::of(case.list),
+        fails: case.hosting.3[3],
+        list: Expected {
+            all: case.list,
+            at: 0,
+            right: true,
+        },
     };
-    let mut out = TestOutput {
-        fails: case.write_fails,
-        lines: Expected::of(case.lines),
-    };
-    ends(alloc, true, case.script, case.polls, &mut link, &mut out) == Some(case.ending)
-        && link.list.is_met()
-        && out.lines.is_met()
+    is_hosting_over(alloc, &mut link, &case.hosting) && link.list.is_met()
 }
 
 // The number of the first row that doesn't go so, or how many there are.
@@ -47,6 +149,12 @@ fn first_wrong(alloc: Global, cases: &[Case]) -> usize {
     }
     at
 }
+
+const ONE_POLL: &[&str] = &["host", "plan", "peer", "--polls=1"];
+
+const TWO_POLLS: &[&str] = &["host", "plan", "peer", "--polls=2"];
+
+const NINE_POLLS: &[&str] = &["host", "plan", "peer", "--polls=9"];
 
 const CLOSED: LinkEntry = LinkEntry::Polled {
     until: LAST,
@@ -67,57 +175,62 @@ const ASKED: LinkEntry = LinkEntry::Polled {
 static BY_LINK: [Case; 5] = [
     // No event.
     Case {
-        script: b"",
+        hosting: (
+            ONE_POLL,
+            b"",
+            NO_SCRIPT,
+            [0, 0, 0, 0],
+            (0, "0 H start\n0 H closed\n", ""),
+        ),
         events: &[],
-        link_fails: 0,
-        write_fails: 0,
-        polls: 1,
-        ending: Ending::Closed,
-        lines: b"0 H start\n0 H closed\n",
         list: &[CLOSED],
     },
     // It doesn't connect.
     Case {
-        script: b"",
+        hosting: (
+            ONE_POLL,
+            b"",
+            NO_SCRIPT,
+            [0, 0, 0, 1],
+            (69, "0 H start\n", "gemline: 69 link\n"),
+        ),
         events: &[],
-        link_fails: 1,
-        write_fails: 0,
-        polls: 1,
-        ending: Ending::LinkFailed,
-        lines: b"0 H start\n",
         list: &[],
     },
     // One poll and no more.
     Case {
-        script: b"",
+        hosting: (
+            ONE_POLL,
+            b"",
+            NO_SCRIPT,
+            [0, 0, 0, 0],
+            (75, "0 H start\n", "gemline: 75 turns\n"),
+        ),
         events: &[(None, 10)],
-        link_fails: 0,
-        write_fails: 0,
-        polls: 1,
-        ending: Ending::Turns,
-        lines: b"0 H start\n",
         list: &[QUIET],
     },
     // The second poll fails.
     Case {
-        script: b"",
+        hosting: (
+            TWO_POLLS,
+            b"",
+            NO_SCRIPT,
+            [0, 0, 0, 3],
+            (69, "0 H start\n", "gemline: 69 link\n"),
+        ),
         events: &[(None, 10)],
-        link_fails: 3,
-        write_fails: 0,
-        polls: 2,
-        ending: Ending::LinkFailed,
-        lines: b"0 H start\n",
         list: &[QUIET],
     },
     // Closed behind an answer.
     Case {
-        script: b"",
+        hosting: (
+            TWO_POLLS,
+            b"",
+            NO_SCRIPT,
+            [0, 0, 0, 0],
+            (0, "0 H start\n10 H closed\n", ""),
+        ),
         events: &[(None, 10)],
-        link_fails: 0,
-        write_fails: 0,
-        polls: 2,
-        ending: Ending::Closed,
-        lines: b"0 H start\n10 H closed\n",
         list: &[QUIET, CLOSED],
     },
 ];
@@ -125,45 +238,49 @@ static BY_LINK: [Case; 5] = [
 // Lines are written before characters are sent.
 static BY_STEP: [Case; 4] = [
     Case {
-        script: b"",
+        hosting: (
+            ONE_POLL,
+            b"",
+            NO_SCRIPT,
+            [0, 0, 0, 0],
+            (75, "0 H start\n0 H tx 04\n", "gemline: 75 turns\n"),
+        ),
         events: &[(Some(5), 0)],
-        link_fails: 0,
-        write_fails: 0,
-        polls: 1,
-        ending: Ending::Turns,
-        lines: b"0 H start\n0 H tx 04\n",
         list: &[ASKED, LinkEntry::Sent(4)],
     },
     // The sending fails.
     Case {
-        script: b"",
+        hosting: (
+            TWO_POLLS,
+            b"",
+            NO_SCRIPT,
+            [0, 0, 0, 3],
+            (69, "0 H start\n0 H tx 04\n", "gemline: 69 link\n"),
+        ),
         events: &[(Some(5), 0)],
-        link_fails: 3,
-        write_fails: 0,
-        polls: 2,
-        ending: Ending::LinkFailed,
-        lines: b"0 H start\n0 H tx 04\n",
         list: &[ASKED],
     },
     // The output fails in the step that sends, and at the start.
     Case {
-        script: b"",
+        hosting: (
+            TWO_POLLS,
+            b"",
+            NO_SCRIPT,
+            [0, 0, 2, 0],
+            (73, "0 H start\n", "gemline: 73 write\n"),
+        ),
         events: &[(Some(5), 0)],
-        link_fails: 0,
-        write_fails: 2,
-        polls: 2,
-        ending: Ending::WriteFailed,
-        lines: b"0 H start\n",
         list: &[ASKED],
     },
     Case {
-        script: b"",
+        hosting: (
+            TWO_POLLS,
+            b"",
+            NO_SCRIPT,
+            [0, 0, 1, 0],
+            (73, "", "gemline: 73 write\n"),
+        ),
         events: &[(Some(5), 0)],
-        link_fails: 0,
-        write_fails: 1,
-        polls: 2,
-        ending: Ending::WriteFailed,
-        lines: b"",
         list: &[],
     },
 ];
@@ -171,13 +288,18 @@ static BY_STEP: [Case; 4] = [
 // Lines of a script are given when they are due.
 static BY_SCRIPT: [Case; 4] = [
     Case {
-        script: b"5 send S1F1 W -\n20 stop\n25 send S1F1 W -\n",
+        hosting: (
+            NINE_POLLS,
+            b"",
+            (b"5 send S1F1 W -\n20 stop\n25 send S1F1 W -\n", b"", 1, b""),
+            [0, 0, 0, 0],
+            (
+                0,
+                "0 H start\n10 H sent S1F1 W 00000000 -\n10 H tx 05\n",
+                "",
+            ),
+        ),
         events: &[(None, 10), (None, 30)],
-        link_fails: 0,
-        write_fails: 0,
-        polls: 9,
-        ending: Ending::Stopped,
-        lines: b"0 H start\n10 H sent S1F1 W 00000000 -\n10 H tx 05\n",
         list: &[
             LinkEntry::Polled {
                 until: 5,
@@ -192,13 +314,18 @@ static BY_SCRIPT: [Case; 4] = [
     },
     // Two are due by one answer.
     Case {
-        script: b"5 send S1F1 W -\n5 send S1F1 W -\n",
+        hosting: (
+            ONE_POLL,
+            b"",
+            (b"5 send S1F1 W -\n5 send S1F1 W -\n", b"", 1, b""),
+            [0, 0, 0, 0],
+            (
+                75,
+                "0 H start\n10 H sent S1F1 W 00000000 -\n10 H tx 05\n10 H sent S1F1 W 00000001 -\n",
+                "gemline: 75 turns\n",
+            ),
+        ),
         events: &[(None, 10)],
-        link_fails: 0,
-        write_fails: 0,
-        polls: 1,
-        ending: Ending::Turns,
-        lines: b"0 H start\n10 H sent S1F1 W 00000000 -\n10 H tx 05\n10 H sent S1F1 W 00000001 -\n",
         list: &[
             LinkEntry::Polled {
                 until: 5,
@@ -209,13 +336,14 @@ static BY_SCRIPT: [Case; 4] = [
     },
     // A character comes as the script stops the end: it isn't given.
     Case {
-        script: b"5 stop\n",
+        hosting: (
+            NINE_POLLS,
+            b"",
+            (b"5 stop\n", b"", 1, b""),
+            [0, 0, 0, 0],
+            (0, "0 H start\n", ""),
+        ),
         events: &[(Some(5), 7)],
-        link_fails: 0,
-        write_fails: 0,
-        polls: 9,
-        ending: Ending::Stopped,
-        lines: b"0 H start\n",
         list: &[LinkEntry::Polled {
             until: 5,
             answer: LinkIn::Char(5, 7),
@@ -223,13 +351,18 @@ static BY_SCRIPT: [Case; 4] = [
     },
     // A quiet time is over early: no line is due, and the next poll asks for the same moment.
     Case {
-        script: b"50 send S1F1 W -\n",
+        hosting: (
+            TWO_POLLS,
+            b"",
+            (b"50 send S1F1 W -\n", b"", 1, b""),
+            [0, 0, 0, 0],
+            (
+                75,
+                "0 H start\n50 H sent S1F1 W 00000000 -\n50 H tx 05\n",
+                "gemline: 75 turns\n",
+            ),
+        ),
         events: &[(None, 20), (None, 50)],
-        link_fails: 0,
-        write_fails: 0,
-        polls: 2,
-        ending: Ending::Turns,
-        lines: b"0 H start\n50 H sent S1F1 W 00000000 -\n50 H tx 05\n",
         list: &[
             LinkEntry::Polled {
                 until: 50,
@@ -298,21 +431,21 @@ impl Link for AllCharacters {
     }
 }
 
-/// Whether a disabled host that is given all characters ends so.
-fn waits_out(alloc: Global, polls: u32, ending: Ending, lines: &'static [u8]) -> bool {
+/// Whether a disabled host that is given all characters within so many polls ends so.
+fn waits_out(alloc: Global, words: &'static [&'static str], end: End) -> bool {
     let mut link = AllCharacters {
         next: 0,
         sent: false,
         right: true,
     };
-    let mut out = TestOutput {
-        fails: 0,
-        lines: Expected::of(lines),
-    };
-    ends(alloc, false, b"", polls, &mut link, &mut out) == Some(ending)
-        && link.sent
-        && link.right
-        && out.lines.is_met()
+    let case: Hosting = (
+        words,
+        b"[host]\nenable = false",
+        NO_SCRIPT,
+        [0, 0, 0, 0],
+        end,
+    );
+    is_hosting_over(alloc, &mut link, &case) && link.sent && link.right
 }
 
 #[test]
@@ -320,10 +453,15 @@ fn a_disabled_host_answers_enq_and_waits_the_rest_out(rt: HostRuntime) {
     assert!(rt;
         waits_out(
             rt.alloc(),
-            1_000,
-            Ending::Closed,
-            b"0 H start\n0 H tx 04\n0 H closed\n"
+            &["host", "plan", "peer", "--polls=1000"],
+            (0, "0 H start\n0 H tx 04\n0 H closed\n", "")
         )
     );
-    assert!(rt; waits_out(rt.alloc(), 256, Ending::Turns, b"0 H start\n0 H tx 04\n"));
+    assert!(rt;
+        waits_out(
+            rt.alloc(),
+            &["host", "plan", "peer", "--polls=256"],
+            (75, "0 H start\n0 H tx 04\n", "gemline: 75 turns\n")
+        )
+    );
 }
