@@ -4,9 +4,8 @@ ghost use Rattle.std.specs.Prelude.{IfOk};
 ghost use Rattle.gl_base.specs.Events.{AreLinkEvents};
 
 use crate::played_program::{
-    Bytes, End, NoDisk, TestFiles, TestInput, output, pieces_of, words_of,
+    Bytes, End, NoDisk, TestFiles, TestInput, ends_over, output, pieces_of, words_of,
 };
-use gemline_app::gemline;
 use gl_base::{Link, LinkIn, MemLink, NoMemory, Row};
 use std::alloc::Global;
 use std::test::Fail;
@@ -182,10 +181,8 @@ fn hosts_so<L: Link>(
     link: &mut L,
     case: &Hosting,
 ) -> bool {
-    let (_, plan, _, [read, file, write, _], (wanted, text, line)) = *case;
-    let mut out = output(alloc, 2000, write);
-    let mut err = output(alloc, 100, 0);
-    let status = gemline(
+    let (_, plan, _, [read, file, write, _], end) = *case;
+    ends_over(
         alloc,
         words,
         &mut TestFiles {
@@ -198,14 +195,11 @@ fn hosts_so<L: Link>(
             step: 65536,
             fails: read,
         },
-        &mut out,
-        &mut err,
+        &mut output(alloc, 2000, write),
         &mut NoDisk,
         link,
-    );
-    status == wanted
-        && out.bytes.as_slice() == text.as_bytes()
-        && err.bytes.as_slice() == line.as_bytes()
+        &end,
+    )
 }
 
 fn hosts_quietly(alloc: Global, case: &Hosting) -> bool {

@@ -221,7 +221,26 @@ pub(crate) fn pieces_of(alloc: Global, bytes: &Bytes) -> Result<Row<u8>, NoMemor
     Ok(row)
 }
 
-/// Whether these words over this input, these files, no disk and no link end so, with what the output took.
+/// Whether these words over all that a run has end so, with what the output took.
+pub(crate) fn ends_over<D: Disk, L: Link>(
+    alloc: Global,
+    words: &[String],
+    files: &mut TestFiles,
+    input: &mut TestInput,
+    out: &mut TestOutput,
+    disk: &mut D,
+    link: &mut L,
+    end: &End,
+) -> bool {
+    let mut err = output(alloc, 100, 0);
+    let status = gemline(alloc, words, files, input, out, &mut err, disk, link);
+    let (wanted, text, line) = *end;
+    status == wanted
+        && out.bytes.as_slice() == text.as_bytes()
+        && err.bytes.as_slice() == line.as_bytes()
+}
+
+/// The same over this input and these files, with no disk and no link.
 pub(crate) fn ends_so(
     alloc: Global,
     words: &[String],
@@ -230,21 +249,16 @@ pub(crate) fn ends_so(
     out: &mut TestOutput,
     end: &End,
 ) -> bool {
-    let mut err = output(alloc, 100, 0);
-    let status = gemline(
+    ends_over(
         alloc,
         words,
         files,
         input,
         out,
-        &mut err,
         &mut NoDisk,
         &mut NoLink,
-    );
-    let (wanted, text, line) = *end;
-    status == wanted
-        && out.bytes.as_slice() == text.as_bytes()
-        && err.bytes.as_slice() == line.as_bytes()
+        end,
+    )
 }
 
 /// Words, an input, which call of the input, of the files and of the output fails, and the end.
@@ -327,14 +341,14 @@ pub(crate) fn disk_with(alloc: Global, bytes: &[&[u8]; 2]) -> Option<MemDisk> {
     Some(disk)
 }
 
-/// The status of words over a disk alone.
-pub(crate) fn status_over(
+/// Whether words over a disk alone end so, if the write of this number fails.
+pub(crate) fn disk_ends_so(
     alloc: Global,
     words: &[String],
-    out: &mut TestOutput,
-    err: &mut TestOutput,
+    write: u32,
     disk: &mut MemDisk,
-) -> u8 {
+    end: &End,
+) -> bool {
     let mut files = TestFiles {
         plan: b"",
         schedule: b"",
@@ -345,14 +359,14 @@ pub(crate) fn status_over(
         step: 1,
         fails: 1,
     };
-    gemline(
+    ends_over(
         alloc,
         words,
         &mut files,
         &mut input,
-        out,
-        err,
+        &mut output(alloc, 2000, write),
         disk,
         &mut NoLink,
+        end,
     )
 }

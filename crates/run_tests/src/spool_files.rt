@@ -1,6 +1,6 @@
 //! `format` and `spool` over a disk in memory.
 
-use crate::played_program::{End, FOURTH, FRONT, disk_with, output, status_over, words_of};
+use crate::played_program::{End, FOURTH, FRONT, disk_ends_so, disk_with, words_of};
 use std::alloc::Global;
 use std::test::Fail;
 
@@ -70,16 +70,12 @@ static SPOOLS: [Spooling; 8] = [
 
 /// Whether words over a disk end so.
 fn is_spooling(alloc: Global, case: &Spooling) -> bool {
-    let (words, bytes, call, write, (wanted, text, line)) = *case;
+    let (words, bytes, call, write, end) = *case;
     let (Ok(words), Some(mut disk)) = (words_of(alloc, words), disk_with(alloc, &bytes)) else {
         return false;
     };
     disk.fail_at(call);
-    let mut out = output(alloc, 2000, write);
-    let mut err = output(alloc, 100, 0);
-    status_over(alloc, &words, &mut out, &mut err, &mut disk) == wanted
-        && out.bytes.as_slice() == text.as_bytes()
-        && err.bytes.as_slice() == line.as_bytes()
+    disk_ends_so(alloc, &words, write, &mut disk, &end)
 }
 
 #[test]

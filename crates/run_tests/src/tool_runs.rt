@@ -3,10 +3,9 @@
 ghost use Rattle.gl_base.specs.Events.{AreLinkEvents};
 
 use crate::played_program::{
-    End, FOURTH, FRONT, TestFiles, TestInput, disk_with, output, status_over, words_of,
+    End, FOURTH, FRONT, TestFiles, TestInput, disk_ends_so, disk_with, ends_over, output, words_of,
 };
 use disk_base::MemDisk;
-use gemline_app::gemline;
 use gl_base::{LinkIn, MemLink, NoMemory, Row};
 use std::alloc::Global;
 use std::test::Fail;
@@ -187,10 +186,7 @@ fn tool_ends_so(
     link: &mut MemLink,
     end: &End,
 ) -> bool {
-    let (wanted, text, line) = *end;
-    let mut out = output(alloc, 2000, write);
-    let mut err = output(alloc, 100, 0);
-    let status = gemline(
+    ends_over(
         alloc,
         words,
         &mut TestFiles {
@@ -203,14 +199,11 @@ fn tool_ends_so(
             step: 65536,
             fails: 0,
         },
-        &mut out,
-        &mut err,
+        &mut output(alloc, 2000, write),
         disk,
         link,
-    );
-    status == wanted
-        && out.bytes.as_slice() == text.as_bytes()
-        && err.bytes.as_slice() == line.as_bytes()
+        end,
+    )
 }
 
 fn runs_tool_quietly(alloc: Global, case: &ToolCase) -> bool {
@@ -320,14 +313,10 @@ fn stores_over(alloc: Global, disk: &mut MemDisk, link: &mut MemLink, case: &Sto
 }
 
 /// Whether `spool` over a disk that works writes this.
-fn lists_so(alloc: Global, disk: &mut MemDisk, list: &str) -> bool {
+fn lists_so(alloc: Global, disk: &mut MemDisk, list: &'static str) -> bool {
     disk.fail_at(0);
-    let mut out = output(alloc, 2000, 0);
     match words_of(alloc, &["spool", "SPOOL"]) {
-        Ok(words) => {
-            status_over(alloc, &words, &mut out, &mut output(alloc, 0, 0), disk) == 0
-                && out.bytes.as_slice() == list.as_bytes()
-        }
+        Ok(words) => disk_ends_so(alloc, &words, 0, disk, &(0, list, "")),
         Err(NoMemory) => false,
     }
 }
