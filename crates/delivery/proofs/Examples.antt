@@ -22,7 +22,7 @@ new_play = record {
   host = history_of (plan_at Host plans) new_run;
 }
 
-stands-new : StandsForMoves plans new_play []
+pub stands-new : StandsForMoves plans new_play []
 stands-new = record {
   line_is = refl;
   equipment_is = refl;

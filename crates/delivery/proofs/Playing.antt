@@ -23,7 +23,8 @@ use Rattle.delivery.specs.Worked.Scene.{Block, One, Takes}
 use Rattle.delivery.proofs.Ends.{History, history_of}
 use Rattle.delivery.proofs.Moving.{acted, side-kept, slips_in, times-kept}
 use Rattle.delivery.proofs.Runs.{seen-acted}
-use Rattle.delivery.proofs.Tests.{both-true, can-give, can_give, IsTakenOnWay, MayPlay, is_on_way, kind-allowed, kind_allowed, not-true, on-way}
+use Rattle.line_order.proofs.Flows.{both-true}
+use Rattle.delivery.proofs.Tests.{can-give, can_give, IsTakenOnWay, MayPlay, is_on_way, kind-allowed, kind_allowed, not-true, on-way}
 
 -- ---- one end
 

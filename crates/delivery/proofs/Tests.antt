@@ -15,6 +15,7 @@ use Rattle.line_end.specs.State.{HoldsIdle, LineState}
 use Rattle.line_end.specs.Step.{LineCall, line_step}
 use Rattle.line_end.specs.Step.LineCall.{Cancel, Resume, Send, Take, Tick}
 use Rattle.line_order.specs.Characters.{Character, writes_frame}
+use Rattle.line_order.proofs.Flows.{both-true}
 use Rattle.message_end.specs.Doings.{Doing, IsInTurn, IsOfWhole, IsFrameUnanswered, IsNoSend, IsPlain, MayCall, MayGiveBlock, MayWriteFrame}
 use Rattle.message_end.specs.Doings.Doing.{Calls, Does, Gives, Says}
 use Rattle.message_end.specs.Own.{Giving, Has, Heard, IsReplyTo, IsUnanswered, MayDo, MaySend, MaySendReply, Own, asked_in, drawn_in, given_in, given_of, heard_in, sent_at, sent_in, whole_in}
@@ -26,6 +27,7 @@ use Rattle.message_flow.specs.declared.message.Message.{Message}
 use Rattle.message_flow.specs.Blocks.{block_count, header_of}
 use Rattle.message_flow.specs.Laws.{MessagesGoInBlocks}
 use Rattle.message_flow.specs.Message.{IsMessage, is_primary}
+use Rattle.message_flow.proofs.Keys.{beq-true}
 use Rattle.transact.specs.Matching.{matches}
 use Rattle.delivery.proofs.Ends.{History}
 
@@ -54,11 +56,6 @@ IsTakenOnWay way (Added byte) = Unit {0}
 pub never : true ≡ false → ⊥
 never is = cc
 
-pub both-true : (a b : Bool) → (a && b) ≡ true → (a ≡ true) × (b ≡ true)
-both-true true true is = (refl, refl)
-both-true true false is = cc
-both-true false b is = cc
-
 pub not-true : (a : Bool) → not a ≡ true → a ≡ false
 not-true true is = cc
 not-true false is = refl
@@ -84,12 +81,6 @@ abbrev pub is_message : Message → Message → Bool
 is_message a b =
     a.stream == b.stream && (a.function == b.function) && beq a.wait b.wait && (a.system == b.system)
     && are_equal a.body b.body
-
-beq-true : (a b : Bool) → beq a b ≡ true → a ≡ b
-beq-true true true is = refl
-beq-true true false is = cc
-beq-true false true is = cc
-beq-true false false is = refl
 
 is-message : (a b : Message) → is_message a b ≡ true → a ≡ b
 is-message a b is =

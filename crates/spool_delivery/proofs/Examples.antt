@@ -3,9 +3,9 @@ use Rattle.std.specs.Prelude.{◌≡◌, ◌<◌, ℕ, true, false, List, [], �
 use Rattle.std.proofs.Common.{sym, ap, subst, arith, rules, inl, inr}
 use Rattle.delivery.specs.Worked.{Scene, does, moves_after, plans, scene_after, takes_after, transfer}
 use Rattle.delivery.specs.Worked.Scene.{Block, One, Takes}
-use Rattle.delivery.proofs.Examples.{new_play}
+use Rattle.delivery.proofs.Examples.{new_play, stands-new}
 use Rattle.delivery.proofs.Ends.{History}
-use Rattle.delivery.proofs.Playing.{Keeps, Play, Stands, StandsForMoves, all_may, goes-on, goes_on, move_played, played, plays-on, stands-on}
+use Rattle.delivery.proofs.Playing.{Keeps, Play, Stands, all_may, goes-on, goes_on, move_played, played, plays-on, stands-on}
 use Rattle.gl_base.specs.declared.side.Side.{Side}
 use Rattle.gl_base.specs.declared.side.Side.TheVariants.{Equipment, Host}
 use Rattle.line_end.specs.Frames.{block_in, is_frame, sum_cause}
@@ -30,16 +30,6 @@ use Rattle.spool_law.specs.Tries.{IsNewest, KeepsTries, MayTryAt}
 use Rattle.spool_delivery.specs.Account.{Put}
 use Rattle.spool_delivery.specs.Claims.{equipment_notes}
 use Rattle.spool_delivery.specs.Worked.{AreNotKept, BreakOrder, UnloadsAfterLoss, at_equipment, first_report, found_both, found_first, plain_policy, reply, report, says, sent_report, unload, unload_moves}
-
-stands-new : StandsForMoves plans new_play []
-stands-new = record {
-  line_is = refl;
-  equipment_is = refl;
-  host_is = refl;
-  equipment_state = refl;
-  host_state = refl;
-  no_slip = tt;
-}
 
 keeps-laws : Keeps plans (KeepLaws plans)
 keeps-laws move before may laws = (may, laws)
