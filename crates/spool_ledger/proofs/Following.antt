@@ -213,7 +213,7 @@ each_comes : (v : LedgerView) (change : Unload → Unload) → IsLedger v →
     ((unload : Unload) → (change unload).confirmed ≤ unload.confirmed + 0) → HasCome v (quiet (with_each change v))
 each_comes v change is adds = still v (with_each change v) (each_keeps v change is adds) refl refl
 
-and_first : (one two : Bool) → (one && two) ≡ true → one ≡ true
+pub and_first : (one two : Bool) → (one && two) ≡ true → one ≡ true
 and_first true two both = refl
 and_first false two both = both
 

@@ -1,5 +1,5 @@
 -- That each work is due when it is decided.
-use Rattle.std.proofs.Common.{◌≡◌, ◌==◌, ℕ, ◌+◌, ◌-◌, ◌%◌, ◌^◌, ◌<◌, ◌≤◌, nat_le, nat_lt, Bool, true, false, if◌then◌else◌, List, [], ◌∷◌, ◌++◌, length, refl, sym, ap, subst, ◌∙◌, arith}
+use Rattle.std.proofs.Common.{◌≡◌, ◌==◌, ℕ, ◌+◌, ◌-◌, ◌%◌, ◌^◌, ◌<◌, ◌≤◌, nat_le, nat_lt, Bool, true, false, if◌then◌else◌, List, [], ◌∷◌, length, refl, sym, ap, subst, ◌∙◌, arith}
 use Rattle.std.proofs.lemmas.Bool.Decides.{nat_tests}
 use Rattle.std.proofs.lemmas.List.Sums.{fold-append}
 use Rattle.gem_spool.specs.Works.{AreDue, IsDue, count_after, counts_after}
@@ -7,15 +7,11 @@ use Rattle.gem_spool.specs.declared.count.Count.{Count}
 use Rattle.gem_spool.specs.declared.spool.Room.TheVariants as room
 use Rattle.gem_spool.specs.declared.works.Work.{Work}
 use Rattle.gem_spool.specs.declared.works.Work.TheVariants as work
+use Rattle.gem_spool.proofs.Doing.{due_more}
 use Rattle.trace_log.specs.Names.{Spooled}
 use Rattle.trace_log.specs.declared.names.Cause.{Cause}
 use Rattle.spool_ledger.specs.Ledger.{IsLedger, LedgerView, decided_count, next_of, owed, room_for, stood_count}
 use Rattle.spool_ledger.specs.Storing.{oldest_out}
-
-due_more : (c : Count) (works : List Work) (one : Work) → AreDue c works → IsDue (counts_after c works) one →
-    AreDue c (works ++ one ∷ [])
-due_more c [] one due is = (is, tt)
-due_more c (first ∷ works) one due is = (due.0, due_more (count_after c first) works one due.1 is)
 
 -- a work more is due behind the others, and they come to what it makes of the list
 module _ (v : LedgerView) (is : IsLedger v) (one : Work) where
@@ -26,7 +22,7 @@ module _ (v : LedgerView) (is : IsLedger v) (one : Work) where
   comes = fold-append count_after (stood_count v) v.works (one ∷ []) ∙ ap (λ (c : Count). count_after c one) is.come_to
 
 -- where there is room a number is left, and a slot is free
-tests_fit : (long spent full : Bool) →
+pub tests_fit : (long spent full : Bool) →
     (if long then room.TooLong else (if spent then room.NumbersSpent else (if full then room.Full else room.Fits)))
     ≡ room.Fits → (spent ≡ false) × (full ≡ false)
 tests_fit true spent full fits = absurd (grind (arith, fits))

@@ -1,5 +1,5 @@
 -- What a crash leaves where a planned call has stopped the disk in one of many works.
-use Rattle.std.proofs.Common.{◌≡◌, refl, sym, subst, arith, zero, suc, ◌+◌, ◌*◌, ◌<◌, ◌≤◌, ℕ, List, [], ◌∷◌, ◌++◌, length, length-append, Some, Err}
+use Rattle.std.proofs.Common.{◌≡◌, refl, sym, subst, arith, zero, suc, ◌+◌, ◌<◌, ◌≤◌, ℕ, List, [], ◌∷◌, ◌++◌, length, length-append, Some, Err}
 use Rattle.disk_base.specs.Story.{Story}
 use Rattle.disk_base.specs.declared.disk.Disk as disk
 use Rattle.gem_spool.specs.declared.spool.GemSpool.{GemSpool}
@@ -14,29 +14,25 @@ use Rattle.spool_slots.specs.Slot.{slot_place}
 use Rattle.spool_slots.specs.Spool.{SpoolView}
 use Rattle.message_end.specs.Ends.{call_of}
 use Rattle.spool_works.specs.Breaking.{HasLeftAt, HasPassed, HasRoomLeft, IsLeftWith, LeavesImages}
-use Rattle.spool_works.specs.SpoolLosses.{Left, purge_calls, work_calls}
+use Rattle.spool_works.specs.SpoolLosses.{Left, work_calls}
 use Rattle.spool_works.proofs.BrokenWorks.{drop-left, put-left}
 use Rattle.spool_works.proofs.BrokenPurge.{HasComeTo, IsOver, none-passed, purge-left}
 use Rattle.spool_works.proofs.BrokenPasses.{calls-in, work-passes}
 use Rattle.spool_works.proofs.CallPlaces.{passed-both}
 use Rattle.spool_works.proofs.RoomKept.{room-kept}
+use Rattle.spool_works.proofs.LossCounts.{purge-count}
 
 -- the calls of works, one after the other
 abbrev pub works_left : Standing → List Work → List Left
 works_left st [] = []
 works_left st (one ∷ works) = work_calls st one ++ works_left (standing_after st one) works
 
-purge-length : (left : ℕ) (st : Standing) → length (purge_calls left st) ≡ 2 * left
-purge-length zero st = refl
-purge-length (suc left) st =
-    let rest = purge-length left (standing_after st work.DropOldest) in omega (arith, rest)
-
 work-length : {D : Type 0} (members : disk.Ghosts D)
     (sized : (d : D) (s : Story) → members.told d ≡ Some s → length s.now.bytes ≡ members.size_is d)
     (st : Standing) (one : Work) → length (work_calls st one) ≡ calls-in members sized st one
 work-length members sized st (work.Put stream function body) = refl
 work-length members sized st work.DropOldest = refl
-work-length members sized st work.Purge = purge-length (length st.list) st
+work-length members sized st work.Purge = purge-count (length st.list) st
 
 module _ {D : Type 0} (members : disk.Ghosts D)
     (sized : (d : D) (s : Story) → members.told d ≡ Some s → length s.now.bytes ≡ members.size_is d) where

@@ -20,7 +20,7 @@ use Rattle.spool_works.specs.WorkLosses.{LossesAreFound, MayLeaveAt, calls_at, s
 
 -- ---- lists
 
-found-behind : (list : List Message) (one : Message)
+pub found-behind : (list : List Message) (one : Message)
     → found_in (list ++ one ∷ []) ≡ found_in list ++ (one.number, spooled_of one) ∷ []
 found-behind [] one = refl
 found-behind (first ∷ list) one =
@@ -31,7 +31,7 @@ found-drop zero list = refl
 found-drop (suc n) [] = refl
 found-drop (suc n) (first ∷ list) = found-drop n list
 
-found-long : (list : List Message) → length (found_in list) ≡ length list
+pub found-long : (list : List Message) → length (found_in list) ≡ length list
 found-long [] = refl
 found-long (first ∷ list) = let rest = found-long list in omega (arith, rest)
 

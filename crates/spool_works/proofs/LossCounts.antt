@@ -36,7 +36,7 @@ Each P (left ∷ calls) = P left × Each P calls
 
 -- ---- the calls of a work
 
-purge-count : (left : ℕ) (st : Standing) → length (purge_calls left st) ≡ 2 * left
+pub purge-count : (left : ℕ) (st : Standing) → length (purge_calls left st) ≡ 2 * left
 purge-count zero st = refl
 purge-count (suc left) st =
     let rest = purge-count left (standing_after st work.DropOldest) in omega (arith, rest)

@@ -30,6 +30,7 @@ use Rattle.tool_spool.proofs.Shelved.{run-last, run-rest}
 use Rattle.tool_law.proofs.WorkLines.{Walks, behind-both}
 use Rattle.spool_works.specs.WorkLosses.{storing_at}
 use Rattle.spool_works.proofs.FoundLosses.{length-drop-one, Leaves, each-call}
+use Rattle.spool_ledger.proofs.Keeping.{tests_fit}
 
 -- ---- numbers and room
 
@@ -40,15 +41,6 @@ pub record StandsWell (slots : ℕ) (st : Standing) : Type 0 where
   pub next_is : first + length st.list ≡ st.next
   pub room : length st.list ≤ slots
   pub bound : st.next ≤ 2 ^ 63 + 65535
-
-fits-so : (long spent full : Bool)
-    → (if long then room.TooLong else (if spent then room.NumbersSpent else (if full then room.Full else room.Fits)))
-    ≡ room.Fits
-    → (spent ≡ false) × (full ≡ false)
-fits-so true spent full fits = absurd (cc)
-fits-so false true full fits = absurd (cc)
-fits-so false false true fits = absurd (cc)
-fits-so false false false fits = (refl, refl)
 
 module _ (slots : ℕ) where
   after-put :
@@ -74,7 +66,7 @@ module _ (slots : ℕ) where
       long = length-append st.list (one ∷ [])
 
       may : (nat_le (2 ^ 63) st.next ≡ false) × ((length st.list == st.slots) ≡ false)
-      may = fits-so (nat_lt 4081 (length body)) (nat_le (2 ^ 63) st.next) (length st.list == st.slots) fits
+      may = tests_fit (nat_lt 4081 (length body)) (nat_le (2 ^ 63) st.next) (length st.list == st.slots) fits
 
       spent : nat_le (2 ^ 63) st.next ≡ false
       spent = may.0

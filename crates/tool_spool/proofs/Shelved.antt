@@ -1,6 +1,6 @@
 -- That the spool that the notes tell of is the list that the ledger and the file come to, over every change of the
 -- ledger.
-use Rattle.std.proofs.Common.{◌≡◌, ◌≢◌, refl, sym, ap, subst, ◌∙◌, inl, inr, arith, ◌<◌, ◌+◌, ◌-◌, ◌^◌, ◌==◌, nat_le, nat_lt, suc, Bool, true, false, ℕ, List, [], ◌∷◌, ◌++◌, drop, length, length-append, Some, not, if◌then◌else◌}
+use Rattle.std.proofs.Common.{◌≡◌, ◌≢◌, refl, sym, ap, subst, ◌∙◌, inl, inr, arith, ◌<◌, ◌+◌, ◌-◌, ◌^◌, ◌==◌, nat_le, nat_lt, Bool, true, false, ℕ, List, [], ◌∷◌, ◌++◌, drop, length, length-append, Some, not, if◌then◌else◌}
 use Rattle.std.proofs.lemmas.Bool.Decides.{nat_tests}
 use Rattle.gem_spool.specs.Works.{count_after, counts_after, list_after, lists_after}
 use Rattle.gem_spool.specs.declared.count.Count.{Count}
@@ -21,26 +21,18 @@ use Rattle.trace_log.specs.Log.Happening.{Discarded, Gone, Leaving, TooLong}
 use Rattle.trace_log.specs.Names.{Spooled, spooled_name}
 use Rattle.trace_log.specs.declared.names.Cause.{Cause}
 use Rattle.trace_log.specs.declared.names.Cause.TheVariants as cause
-use Rattle.spool_works.specs.Found.{found_in, spooled_of}
+use Rattle.spool_works.specs.Found.{found_in}
 use Rattle.tool_step.specs.Equipment.{settled_list}
 use Rattle.spool_works.specs.WorkLosses.{MayLeaveAt}
 use Rattle.spool_works.specs.DiskWorks.{DiskWork}
+use Rattle.spool_works.proofs.FoundLosses.{found-behind, found-long}
 use Rattle.tool_law.proofs.WorkLines.{AreLines, LeavesStanding, lines-more, lines-none, lines-work, quiet-change}
 
 -- ---- lists
 
-found-more : (list : List Message) (m : Message)
-    → found_in (list ++ m ∷ []) ≡ found_in list ++ (m.number, spooled_of m) ∷ []
-found-more [] m = refl
-found-more (x ∷ list) m = ap (λ (rest : List (ℕ × Spooled)). (x.number, spooled_of x) ∷ rest) (found-more list m)
-
 found-rest : (list : List Message) → drop 1 (found_in list) ≡ found_in (drop 1 list)
 found-rest [] = refl
 found-rest (x ∷ list) = refl
-
-found-long : (list : List Message) → length (found_in list) ≡ length list
-found-long [] = refl
-found-long (x ∷ list) = ap suc (found-long list)
 
 drop-all : {X : Type 0} (xs : List X) → drop (length xs) xs ≡ []
 drop-all [] = refl
@@ -182,7 +174,7 @@ module _ (policy : Policy) where
         rest = record { none_stored = refl; none_leaves = shelved.rest.none_leaves };
         stands =
             ap (λ (all : List (ℕ × Spooled)). all ++ (next_of v, message) ∷ []) shelved.stands
-            ∙ sym (found-more (settled_list v list) numbered) ∙ ap found_in (sym put-list);
+            ∙ sym (found-behind (settled_list v list) numbered) ∙ ap found_in (sym put-list);
         run =
             subst (IsRunFrom v.first) (sym put-list)
             (run-last v.first (settled_list v list) numbered shelved.run

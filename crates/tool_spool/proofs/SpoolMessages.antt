@@ -38,6 +38,7 @@ use Rattle.spool_ledger.specs.Ledger.{LedgerView}
 use Rattle.spool_ledger.specs.Storing.{all_out}
 use Rattle.spool_ledger.specs.Unloading.{fresh, is_oldest_tried, tried_in, with_unload}
 use Rattle.spool_ledger.specs.declared.unload.Unload.{Unload}
+use Rattle.spool_ledger.proofs.Following.{and_first}
 use Rattle.spool_slots.specs.Slot.{Message as Put}
 use Rattle.equipment_tables.specs.declared.plan.EquipmentPlan.{EquipmentPlan}
 use Rattle.equipment_tables.specs.Answers.{alarm_item_of, event_item}
@@ -79,15 +80,11 @@ passes {X} test (y ∷ ys) x is = go (test y) refl is (passes test ys x)
     go true e f next = let same : y ≡ x = cc in ap test (sym same) ∙ e
     go false e f next = next f
 
-and-first : (a b : Bool) → (a && b) ≡ true → a ≡ true
-and-first true b e = refl
-and-first false b e = absurd (grind (arith, e))
-
 -- a reply has the system bytes of its primary
 answers-system : (primary secondary : Header) → matches primary secondary ≡ true → secondary.system ≡ primary.system
 answers-system primary secondary is =
     eqb-true secondary.system primary.system
-    (and-first _ _ (and-first _ _ (and-first _ _ (and-first _ _ is))))
+    (and_first _ _ (and_first _ _ (and_first _ _ (and_first _ _ is))))
 
 -- the core behind a reply
 after-answer : (header : Header) (e : EndView Kind) (step : CoreStep) → e ≡ step.next → (found : Option (Begun Kind))
