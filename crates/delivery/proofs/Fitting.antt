@@ -15,7 +15,8 @@ use Rattle.message_flow.specs.Blocks.{block_count, header_of}
 use Rattle.message_flow.specs.Entries.{FlowEntry}
 use Rattle.message_flow.specs.Entries.FlowEntry.{Dropped, Given}
 use Rattle.message_flow.specs.Message.{is_primary}
-use Rattle.delivery.proofs.Lists.{ArePlaced, LooksUp, found-at, found-from, has-either, has-map, has-mapped, placed-below, placed-front}
+use Rattle.message_end.proofs.Members.{has-either, has-map, has-mapped}
+use Rattle.delivery.proofs.Lists.{ArePlaced, LooksUp, found-at, found-from, placed-below, placed-front}
 use Rattle.delivery.proofs.Tags.{AnswersAsked, MayGiveOne, MaySendOne, TaggedBlock, TaggedEnd, TaggedHearing, TaggedMessage, TaggedWhole, done, restarted, with_block}
 use Rattle.delivery.proofs.Tags.TaggedDoing.{DroppedOne, GaveOne, HeardOne, ReceivedOne, SentOne, WroteOne}
 

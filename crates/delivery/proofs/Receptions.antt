@@ -17,7 +17,8 @@ use Rattle.delivery.proofs.Ends.{AreEnds, HasArrived, History, LineSide, newest-
 use Rattle.delivery.proofs.Facts.{IsDelivered}
 use Rattle.delivery.proofs.Fitting.{Fits, bare, given_place, giving_of, looks-sent, made_of, made_place, may-send, sent_place}
 use Rattle.delivery.proofs.Fitting.FitFact.{GivenFit, PlacesFit, ReceivedFit, SentFit}
-use Rattle.delivery.proofs.Lists.{LooksUp, first-of-pairs, found-at, has-back, has-map, has-mapped}
+use Rattle.message_end.proofs.Members.{has-back, has-map, has-mapped}
+use Rattle.delivery.proofs.Lists.{LooksUp, first-of-pairs, found-at}
 use Rattle.delivery.proofs.Sound.{delivered}
 use Rattle.delivery.proofs.Steps.{the-whole}
 use Rattle.delivery.proofs.Tags.{TaggedEnd, TaggedWhole}

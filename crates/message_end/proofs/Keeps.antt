@@ -25,6 +25,7 @@ use Rattle.message_end.specs.Doings.{IsNoSend}
 use Rattle.message_end.specs.History.{AreApart, AreNew, AreNumbered, AreWaiting, HeldIs, IsItem, IsOpen, IsSpare, Item, SpareIs, waiting_of}
 use Rattle.message_end.specs.Own.{Giving, Has, Heard, IsReplyTo, given_of, sent_at}
 use Rattle.message_end.proofs.Lists.{apart-cut, apart-less, apart-snoc, cut, has-cut, has-less, has-snoc, map-cut, map-less, none-left, one-place, place-below, sent-more, sent-newest}
+use Rattle.message_end.proofs.Members.{has-map, has-mapped}
 
 some-block : (message : Message) → 0 < block_count message
 some-block message = omega arith
@@ -198,16 +199,6 @@ found-none {X} test (y ∷ ys) x is has = go (test y) refl (found-none test ys x
     go false fails rest e (inl same) = ap test same ∙ fails
     go false fails rest e (inr later) = rest e later
 
-has-map : {X Y : Type 0} (f : X → Y) (xs : List X) (x : X) → Has xs x → Has (map f xs) (f x)
-has-map f [] x has = has
-has-map f (y ∷ ys) x (inl same) = inl (ap f same)
-has-map f (y ∷ ys) x (inr has) = inr (has-map f ys x has)
-
-map-has : {X Y : Type 0} (f : X → Y) (xs : List X) (y : Y) → Has (map f xs) y → (x : X) × Has xs x × (y ≡ f x)
-map-has f [] y has = absurd has
-map-has f (x ∷ xs) y (inl same) = (x, inl refl, same)
-map-has f (x ∷ xs) y (inr has) = let rest = map-has f xs y has in (rest.0, inr rest.1, rest.2)
-
 -- the primary that a block of a reply answers, where it waits, is the one that is found
 answered-found :
     {side : Side} (sents : List Message) (gave : List Giving) (heard : List Heard) (out : OutgoingView)
@@ -246,7 +237,7 @@ answered-found {side} sents gave heard out header on new is item has primary rep
         let e = sym name ∙ found-none (is_named true header.system) out.waiting item.waiting none here in absurd (cc)
     go (Some w) some =
         let of_w = found-in (is_named true header.system) out.waiting w some in
-        let from = map-has waiting_of is.items w (subst (λ (ws : List Waiting). Has ws w) is.are of_w.0) in
+        let from = has-mapped waiting_of is.items w (subst (λ (ws : List Waiting). Has ws w) is.are of_w.0) in
         let same = same_message w from of_w.1 in
         ap (λ (s : Side). matches (header_of s out.device w.message (block_count w.message)) header) on
         ∙ ap (λ (m : Message). matches (header_of side out.device m (block_count m)) header) same

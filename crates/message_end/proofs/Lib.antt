@@ -11,6 +11,7 @@ pub mod Limits
 pub mod Lines
 mod Lists
 pub mod Lower
+pub mod Members
 mod Open
 pub mod Parts
 pub mod Reading

@@ -8,6 +8,7 @@ use Rattle.message_flow.specs.Outgoing.{without_first}
 use Rattle.message_flow.proofs.Firsts.{without-first, removed}
 use Rattle.message_end.specs.History.{AreApart, AreNew, Item}
 use Rattle.message_end.specs.Own.{Has, sent_at}
+use Rattle.message_end.proofs.Members.{has-drop}
 
 -- ---- a message at a place
 
@@ -161,11 +162,6 @@ map-less {X} {Y} f test xs = removed test (map f xs) ∙ go xs
 
 abbrev pub cut : {X : Type 0} → ℕ → ℕ → List X → List X
 cut a b xs = take a xs ++ drop b xs
-
-has-drop : {X : Type 0} (n : ℕ) (xs : List X) (x : X) → Has (drop n xs) x → Has xs x
-has-drop zero xs x has = has
-has-drop (suc n) [] x has = absurd has
-has-drop (suc n) (y ∷ ys) x has = inr (has-drop n ys x has)
 
 pub has-cut : {X : Type 0} (a b : ℕ) (xs : List X) (x : X) → a ≤ b → Has (cut a b xs) x → Has xs x
 has-cut zero b xs x least has = has-drop b xs x has

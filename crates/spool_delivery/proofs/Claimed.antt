@@ -22,7 +22,8 @@ use Rattle.spool_delivery.specs.Laws.{IsSpoolTaken}
 use Rattle.spool_delivery.proofs.Facts.{AreFacts, HasNew, IsFact, IsNewIn, IsTakenBehind, IsTakenFor, IsBacked}
 use Rattle.spool_delivery.proofs.Folded.{among-at, among-not, place_of}
 use Rattle.spool_delivery.proofs.Found.{IsNamed, found-are, lost-are, stored-found}
-use Rattle.spool_delivery.proofs.Lists.{Rising, filter-all, filter-alike, filter-none, has-map, rising-across}
+use Rattle.message_end.proofs.Members.{has-map}
+use Rattle.spool_delivery.proofs.Lists.{Rising, filter-all, filter-alike, filter-none, rising-across}
 use Rattle.spool_delivery.proofs.Sound.{AreSound, IsGoneOrFirst, map-append, moved, moved-named, put_of, sound-gone, sound-later, sound-leaves, sound-stored, sound-stores, sound-takes, sound-tries, stored-is}
 
 -- ---- what a start finds, as puts

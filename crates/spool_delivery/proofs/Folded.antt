@@ -4,7 +4,8 @@ use Rattle.std.proofs.Common.{sym, ap, ◌∙◌, subst, arith, inl, inr}
 use Rattle.std.proofs.lemmas.Bool.Decides.{nat_tests}
 use Rattle.message_end.specs.Own.{Has}
 use Rattle.spool_delivery.specs.Account.{Put, folded, folded_from, is_among}
-use Rattle.spool_delivery.proofs.Lists.{Rising, filter-alike, filter-none, has-either}
+use Rattle.message_end.proofs.Members.{has-either}
+use Rattle.spool_delivery.proofs.Lists.{Rising, filter-alike, filter-none}
 
 abbrev pub place_of : Put → ℕ
 place_of put = put.place

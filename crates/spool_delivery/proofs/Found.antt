@@ -8,7 +8,8 @@ use Rattle.spool_law.specs.Shelf.{stored_if}
 use Rattle.spool_delivery.specs.Account.{Put, is_found, is_lost, named_by, puts_found}
 use Rattle.spool_delivery.specs.Claims.{numbered}
 use Rattle.spool_delivery.proofs.Folded.{number_of}
-use Rattle.spool_delivery.proofs.Lists.{Rising, filter-none, has-back, has-drop, has-either, has-front, has-take}
+use Rattle.message_end.proofs.Members.{has-back, has-drop, has-either, has-front}
+use Rattle.spool_delivery.proofs.Lists.{Rising, filter-none, has-take}
 
 -- its number names it
 abbrev pub IsNamed : List Put → Put → Type 0

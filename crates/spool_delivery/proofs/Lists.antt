@@ -2,39 +2,7 @@
 use Rattle.std.specs.Prelude.{◌≡◌, ◌<◌, ◌⊎◌, zero, suc, ℕ, Bool, true, false, List, [], ◌∷◌, ◌++◌, cond, filter, map, take, drop, refl}
 use Rattle.std.proofs.Common.{sym, ap, ◌∙◌, subst, inl, inr}
 use Rattle.message_end.specs.Own.{Has}
-
-pub has-front : {X : Type 0} (xs ys : List X) (x : X) → Has xs x → Has (xs ++ ys) x
-has-front [] ys x is = absurd is
-has-front (z ∷ xs) ys x (inl same) = inl same
-has-front (z ∷ xs) ys x (inr has) = inr (has-front xs ys x has)
-
-pub has-back : {X : Type 0} (xs ys : List X) (x : X) → Has ys x → Has (xs ++ ys) x
-has-back [] ys x has = has
-has-back (z ∷ xs) ys x has = inr (has-back xs ys x has)
-
-pub has-either : {X : Type 0} (xs ys : List X) (x : X) → Has (xs ++ ys) x → Has xs x ⊎ Has ys x
-has-either [] ys x has = inr has
-has-either (z ∷ xs) ys x (inl same) = inl (inl same)
-has-either (z ∷ xs) ys x (inr has) = go (has-either xs ys x has)
-  where
-    go : Has xs x ⊎ Has ys x → Has (z ∷ xs) x ⊎ Has ys x
-    go (inl front) = inl (inr front)
-    go (inr back) = inr back
-
-pub has-map : {X Y : Type 0} (f : X → Y) (xs : List X) (x : X) → Has xs x → Has (map f xs) (f x)
-has-map f [] x is = absurd is
-has-map f (z ∷ xs) x (inl same) = inl (ap f same)
-has-map f (z ∷ xs) x (inr has) = inr (has-map f xs x has)
-
-pub has-mapped : {X Y : Type 0} (f : X → Y) (xs : List X) (y : Y) → Has (map f xs) y → (x : X) × Has xs x × (y ≡ f x)
-has-mapped f [] y is = absurd is
-has-mapped f (z ∷ xs) y (inl same) = (z, inl refl, same)
-has-mapped f (z ∷ xs) y (inr has) = let it = has-mapped f xs y has in (it.0, inr it.1, it.2)
-
-pub has-drop : {X : Type 0} (n : ℕ) (xs : List X) (x : X) → Has (drop n xs) x → Has xs x
-has-drop zero xs x has = has
-has-drop (suc n) [] x is = absurd is
-has-drop (suc n) (z ∷ xs) x has = inr (has-drop n xs x has)
+use Rattle.message_end.proofs.Members.{has-back, has-either}
 
 pub has-take : {X : Type 0} (n : ℕ) (xs : List X) (x : X) → Has (take n xs) x → Has xs x
 has-take zero xs x is = absurd is

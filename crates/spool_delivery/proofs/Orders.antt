@@ -10,7 +10,7 @@ use Rattle.spool_law.specs.Shelf.{Told}
 use Rattle.spool_law.specs.Tries.{IsNewest, MayGiveTried}
 use Rattle.spool_delivery.specs.Account.{Put, Try, tried_with}
 use Rattle.spool_delivery.proofs.Folded.{place_of}
-use Rattle.spool_delivery.proofs.Lists.{has-either, has-map}
+use Rattle.message_end.proofs.Members.{has-either, has-map}
 use Rattle.spool_delivery.proofs.Runs.{sent-place}
 use Rattle.spool_delivery.proofs.Sound.{tried-member}
 use Rattle.spool_delivery.proofs.Tries.{AreOfStart, IsNewTry, TriesFall, system_of_try, tried-other}

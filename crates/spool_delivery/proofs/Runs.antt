@@ -18,7 +18,7 @@ use Rattle.message_end.specs.Moves.Kind.{Added, Changed, Did, Lost, Started}
 use Rattle.message_flow.specs.declared.message.Message.{Message}
 use Rattle.message_flow.specs.Message.{is_primary}
 use Rattle.message_flow.specs.Receiver.{Receiver}
-use Rattle.spool_delivery.proofs.Lists.{has-either, has-mapped}
+use Rattle.message_end.proofs.Members.{has-either, has-mapped}
 
 -- ---- what a call of the line leaves as it is
 

@@ -11,7 +11,8 @@ use Rattle.spool_law.specs.Shelf.{leaving_of, stored_if}
 use Rattle.spool_delivery.specs.Account.{Put, Removal, Try, folded, is_among, leaving_puts, named_by, removal_for, removed_for, staying_puts, tried_first, tried_with}
 use Rattle.spool_delivery.proofs.Folded.{AllBefore, AllUpTo, NeverFalls, among-not, falls-more, fold-more, number_of, place_of}
 use Rattle.spool_delivery.proofs.Found.{IsNamed, too-few}
-use Rattle.spool_delivery.proofs.Lists.{Rising, behind_first, behind-moved, filter-none, has-back, has-drop, has-either, has-front, has-mapped, rising-append, rising-back, rising-drop}
+use Rattle.message_end.proofs.Members.{has-back, has-drop, has-either, has-front, has-mapped}
+use Rattle.spool_delivery.proofs.Lists.{Rising, behind_first, behind-moved, filter-none, rising-append, rising-back, rising-drop}
 
 abbrev pub put_of : Removal → Put
 put_of one = one.put

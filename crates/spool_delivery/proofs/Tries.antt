@@ -14,7 +14,8 @@ use Rattle.spool_delivery.specs.Account.{Account, Put, Try, account_changed, tri
 use Rattle.spool_delivery.specs.Claims.{CarriesPut, numbered}
 use Rattle.spool_delivery.proofs.Claimed.{IsSound, IsTied, first-put}
 use Rattle.spool_delivery.proofs.Folded.{place_of}
-use Rattle.spool_delivery.proofs.Lists.{Rising, has-either, rising-across}
+use Rattle.message_end.proofs.Members.{has-either}
+use Rattle.spool_delivery.proofs.Lists.{Rising, rising-across}
 use Rattle.spool_delivery.proofs.Sound.{IsGoneOrFirst, put_of}
 
 abbrev pub new_try : ℕ → Put → Try
