@@ -9,7 +9,7 @@ pub mod Lawful
 pub mod Leaving
 pub mod Limits
 pub mod Lines
-mod Lists
+pub mod Lists
 pub mod Lower
 pub mod Members
 mod Open

@@ -11,30 +11,11 @@ use Rattle.spool_law.specs.Tries.{IsNewest, MayGiveTried}
 use Rattle.spool_delivery.specs.Account.{Put, Try, tried_with}
 use Rattle.spool_delivery.proofs.Folded.{place_of}
 use Rattle.message_end.proofs.Members.{has-either, has-map}
-use Rattle.spool_delivery.proofs.Runs.{sent-place}
+use Rattle.message_end.proofs.Lists.{place-below, has-sent, sent-more}
 use Rattle.spool_delivery.proofs.Sound.{tried-member}
 use Rattle.spool_delivery.proofs.Tries.{AreOfStart, IsNewTry, TriesFall, system_of_try, tried-other}
 
 -- ---- look-ups by place
-
-pub sent-has : (place : ℕ) (sent : List Message) (m : Message) → sent_at place sent ≡ Some m → Has sent m
-sent-has place [] m is = cc
-sent-has place (message ∷ before) m is = go (place == length before) (sent-has place before m) is
-  where
-    go : (test : Bool) → (sent_at place before ≡ Some m → Has before m)
-        → (if test then Some message else sent_at place before) ≡ Some m → Has (message ∷ before) m
-    go true later found = inl (same found)
-      where
-        same : Some message ≡ Some m → m ≡ message
-        same found = cc
-    go false later found = inr (later found)
-
-pub sent-more : (place : ℕ) (sent : List Message) (new m : Message) → sent_at place sent ≡ Some m
-    → sent_at place (new ∷ sent) ≡ Some m
-sent-more place sent new m is =
-    let under = sent-place place sent m is in
-    let test : (place == length sent) ≡ false = grind (arith, nat_tests) in
-    ap (λ (b : Bool). if b then Some new else sent_at place sent) test ∙ is
 
 pub sent-less : (place : ℕ) (sent : List Message) (new m : Message) → place < length sent
     → sent_at place (new ∷ sent) ≡ Some m → sent_at place sent ≡ Some m
@@ -63,7 +44,7 @@ sent-front place (message ∷ sent) before m is = go (place == length sent) refl
         ap
         (λ (b : Bool). if b then Some message else sent_at (length before + place) (sent ++ before)) test ∙ found
     go false differs later found =
-        let under = sent-place place sent m found in
+        let under = place-below place sent m found in
         let less : (length before + place) < length (sent ++ before) = omega (arith, under, long) in
         let test : ((length before + place) == length (sent ++ before)) ≡ false = grind (arith, nat_tests) in
         ap
@@ -126,7 +107,7 @@ put-sent given sent tries new place put is = record {
   giving = is.giving;
   is = is.is;
   message = is.message;
-  sent_is = sent-more is.giving.place sent new is.message is.sent_is;
+  sent_is = sent-more is.giving.place sent is.message new is.sent_is;
   primary = is.primary;
   tried = is.tried;
 }
@@ -173,7 +154,7 @@ put-tried given sent now tries place put new is = record {
   tried =
       ap (λ (ts : List Try). tried_with is.message.system ts) new.are
       ∙ tried-other new.system is.message.system new.put tries
-      (new.fresh is.message (sent-has is.giving.place sent is.message is.sent_is) is.primary)
+      (new.fresh is.message (has-sent is.giving.place sent is.message is.sent_is) is.primary)
       ∙ is.tried;
 }
 
@@ -188,7 +169,7 @@ put-untried given sent now tries place put new is = record {
   tried =
       sym (ap (λ (ts : List Try). tried_with is.message.system ts) new.are
       ∙ tried-other new.system is.message.system new.put tries
-      (new.fresh is.message (sent-has is.giving.place sent is.message is.sent_is) is.primary))
+      (new.fresh is.message (has-sent is.giving.place sent is.message is.sent_is) is.primary))
       ∙ is.tried;
 }
 
@@ -341,7 +322,7 @@ of-latest base drawn now told tries sent before given place message here at may 
     go (inl has) = has
     go (inr old) =
         let low = start.below m.system old in
-        let high = least m.system (drawn_are m (sent-has place sent m its) primary) in
+        let high = least m.system (drawn_are m (has-sent place sent m its) primary) in
         absurd (never low high)
       where
         never : m.system < base → base ≤ m.system → ⊥

@@ -1,7 +1,6 @@
 -- What the equipment has drawn, sent and given over all its starts.
-use Rattle.std.specs.Prelude.{◌≡◌, ◌<◌, ◌≤◌, ◌⊎◌, ◌+◌, ◌==◌, ℕ, Bool, true, false, List, [], ◌∷◌, map, length, Some, if◌then◌else◌, refl}
+use Rattle.std.specs.Prelude.{◌≡◌, ◌<◌, ◌≤◌, ◌⊎◌, ◌+◌, ℕ, Bool, true, false, List, [], ◌∷◌, map, length, refl}
 use Rattle.std.proofs.Common.{sym, ap, ◌∙◌, subst, arith, inl, inr, length-append}
-use Rattle.std.proofs.lemmas.Bool.Decides.{nat_tests}
 use Rattle.line_end.specs.declared.event.LineEvent.{LineEvent}
 use Rattle.line_end.specs.declared.event.LineEvent.TheVariants.{Arrived, Failed, Nothing, Refused, Sent}
 use Rattle.line_end.specs.State.{LineState}
@@ -10,7 +9,7 @@ use Rattle.line_order.specs.Characters.{Character, writes_frame}
 use Rattle.line_order.specs.Line.{Arrival}
 use Rattle.message_end.specs.Doings.{line_of, moment_of, own_of, with_call, with_frame, with_frame_of, with_hearing}
 use Rattle.message_end.specs.Doings.Doing.{Calls, Does, Gives, Says}
-use Rattle.message_end.specs.Own.{Giving, Has, Own, asked_in, drawn_in, given_in, received_in, sent_at, sent_in}
+use Rattle.message_end.specs.Own.{Giving, Has, Own, asked_in, drawn_in, given_in, received_in, sent_in}
 use Rattle.message_end.specs.Own.Own.{DrewNumber, DroppedMessage, GaveBlock, HeardBlock, ReceivedMessage, SentMessage, WroteFrame}
 use Rattle.message_end.specs.Plan.{EndPlan, receiver_of}
 use Rattle.message_end.specs.Moves.{Kind, MayMove, Run, all_given, all_sent, behind, run_after}
@@ -19,6 +18,7 @@ use Rattle.message_flow.specs.declared.message.Message.{Message}
 use Rattle.message_flow.specs.Message.{is_primary}
 use Rattle.message_flow.specs.Receiver.{Receiver}
 use Rattle.message_end.proofs.Members.{has-either, has-mapped}
+use Rattle.message_end.proofs.Lists.{place-below}
 
 -- ---- what a call of the line leaves as it is
 
@@ -84,15 +84,6 @@ abbrev pub IsNumbered : EndPlan → Run → Type 0
 IsNumbered plan run =
     let own = own_of plan run.doings in
     AreNumbered run.base (drawn_in own) (sent_in own) (given_in own) run.sent_before run.given_before
-
-pub sent-place : (place : ℕ) (sent : List Message) (m : Message) → sent_at place sent ≡ Some m → place < length sent
-sent-place place [] m is = cc
-sent-place place (message ∷ before) m is = go (place == length before) refl (sent-place place before m) is
-  where
-    go : (test : Bool) → (place == length before) ≡ test → (sent_at place before ≡ Some m → place < length before)
-        → (if test then Some message else sent_at place before) ≡ Some m → place < length (message ∷ before)
-    go true equal later found = let at : place ≡ length before = grind (arith, nat_tests) in omega (arith, at)
-    go false differs later found = let under = later found in omega (arith, under)
 
 numbered-started : (plan : EndPlan) (run : Run) (base base_now : ℕ) → IsNumbered plan run → run.base ≤ base_now
     → ((n : ℕ) → Has (drawn_in (own_of plan run.doings)) n → n < base_now)
@@ -172,7 +163,7 @@ numbered-after plan arrived way (Did (Gives place number block now)) run may is 
     go g (inl same) =
         let at : g.place ≡ place = ap (λ (x : Giving). x.place) same in
         let under =
-        sent-place place (sent_in (own_of plan run.doings)) may.0.may.message may.0.may.sent
+        place-below place (sent_in (own_of plan run.doings)) may.0.may.message may.0.may.sent
         in
         omega (arith, at, under)
     go g (inr has) = is.given_now g has

@@ -1,6 +1,6 @@
 -- Which primaries wait behind a command, and which number is drawn by itself: so that behind a try no message of an
 -- earlier one joins those that wait.
-use Rattle.std.proofs.Common.{cond, ◌≡◌, refl, sym, ap, subst, ◌∙◌, inl, inr, ◌⊎◌, arith, ◌<◌, ◌≤◌, ◌+◌, ◌-◌, ◌%◌, ◌==◌, ◌&&◌, ◌||◌, not, nat_le, zero, suc, Bool, true, false, ℕ, List, [], ◌∷◌, ◌++◌, take, drop, length, Option, Some, None, if◌then◌else◌}
+use Rattle.std.proofs.Common.{◌≡◌, refl, sym, ap, subst, ◌∙◌, inl, inr, ◌⊎◌, arith, ◌<◌, ◌≤◌, ◌+◌, ◌-◌, ◌%◌, ◌==◌, ◌&&◌, ◌||◌, not, nat_le, Bool, true, false, ℕ, List, [], ◌∷◌, ◌++◌, take, drop, length, Option, Some, None, if◌then◌else◌}
 use Rattle.std.proofs.lemmas.Bool.Decides.{nat_tests}
 use Rattle.std.specs.List.{find, suffix_len}
 use Rattle.std.specs.Prelude.{is_some}
@@ -11,7 +11,7 @@ use Rattle.line_end.specs.declared.event.LineEvent.TheVariants as event
 use Rattle.line_end.specs.declared.event.Phase.{Phase}
 use Rattle.line_end.specs.declared.event.Phase.TheVariants as phase
 use Rattle.line_end.specs.Step.{LineCall, line_step}
-use Rattle.message_flow.proofs.Firsts.{removed, without-first}
+use Rattle.message_flow.proofs.Firsts.{removed}
 use Rattle.message_flow.specs.declared.flow.Flow.{Flow}
 use Rattle.message_flow.specs.declared.flow.Flow.TheVariants as flow
 use Rattle.message_flow.specs.declared.message.Message.{Message}
@@ -36,6 +36,7 @@ use Rattle.message_end.specs.Duties.{all_done}
 use Rattle.message_end.specs.Own.{Has}
 use Rattle.message_end.specs.Parts.{Node, after_parts, after_turn, core_step, went_with}
 use Rattle.message_end.proofs.Parts.{OnEither, either-less, either-then}
+use Rattle.message_end.proofs.Lists.{has-cut, has-less, has-snoc}
 use Rattle.spool_law.specs.Tries.{IsNewest}
 use Rattle.tool_step.specs.declared.kind.Kind.{Kind}
 use Rattle.tool_step.specs.Own.{OwnView, ToolCommands, ToolDuty, ToolPart, ToolTurn}
@@ -52,28 +53,6 @@ AsksOfPrimary (Some title) = (title.name.function % 2 == 1) ≡ true
 -- so its reply is none
 even-reply : (function : ℕ) → (function % 2 == 1) ≡ true → (reply_function function % 2 == 1) ≡ false
 even-reply function odd = grind (arith, nat_tests, odd)
-
--- ---- members of lists
-
-has-without : (test : Waiting → Bool) (xs : List Waiting) (x : Waiting) → Has (without-first test xs) x → Has xs x
-has-without test [] x has = has
-has-without test (first ∷ xs) x has = go (test first) has (λ later. has-without test xs x later)
-  where
-    go : (b : Bool) → Has (cond b xs (first ∷ without-first test xs)) x
-        → (Has (without-first test xs) x → Has xs x) → Has (first ∷ xs) x
-    go true has more = inr has
-    go false (inl same) more = inl same
-    go false (inr has) more = inr (more has)
-
-has-last : (xs : List Waiting) (last x : Waiting) → Has (xs ++ last ∷ []) x → Has xs x ⊎ (x ≡ last)
-has-last [] last x (inl same) = inr same
-has-last [] last x (inr none) = absurd none
-has-last (first ∷ xs) last x (inl same) = inl (inl same)
-has-last (first ∷ xs) last x (inr has) = go (has-last xs last x has)
-  where
-    go : Has xs x ⊎ (x ≡ last) → Has (first ∷ xs) x ⊎ (x ≡ last)
-    go (inl has) = inl (inr has)
-    go (inr same) = inr same
 
 -- ---- which messages wait
 
@@ -156,7 +135,7 @@ joins old new message next drawn is may asks = record {
   drawn = drawn;
   waits = λ other primary waits.
       go other primary waits.one waits.is
-      (has-last old.outgoing.waiting (waiting_with message) waits.one
+      (has-snoc old.outgoing.waiting (waiting_with message) waits.one
       (subst (λ (all : List Waiting). Has all waits.one) is waits.has));
   asks = asks;
 }
@@ -174,20 +153,7 @@ first-less :
     → WaitsIn waiting one.message
 first-less test waiting one has =
     itself-waits waiting one
-    (has-without test waiting one (subst (λ (all : List Waiting). Has all one) (removed test waiting) has))
-
-has-drop : (n : ℕ) (xs : List Waiting) (x : Waiting) → Has (drop n xs) x → Has xs x
-has-drop zero xs x has = has
-has-drop (suc n) [] x has = absurd has
-has-drop (suc n) (y ∷ ys) x has = inr (has-drop n ys x has)
-
--- those from one place to another wait no longer
-has-cut : (a b : ℕ) (xs : List Waiting) (x : Waiting) → a ≤ b → Has (take a xs ++ drop b xs) x → Has xs x
-has-cut zero b xs x least has = has-drop b xs x has
-has-cut (suc a) zero xs x least has = absurd (omega arith)
-has-cut (suc a) (suc b) [] x least has = absurd has
-has-cut (suc a) (suc b) (y ∷ ys) x least (inl here) = inl here
-has-cut (suc a) (suc b) (y ∷ ys) x least (inr has) = inr (has-cut a b ys x (omega arith) has)
+    (has-less test waiting one (subst (λ (all : List Waiting). Has all one) (removed test waiting) has))
 
 cut-less :
     (a b : ℕ) (waiting : List Waiting) → a ≤ b → (one : Waiting) → Has (take a waiting ++ drop b waiting) one
@@ -208,7 +174,7 @@ turn-less (first ∷ rest) out one has = go (first.gone + 1 == block_count first
     go : (last : Bool) → Has (if last then rest else rest ++ record first { gone = first.gone + 1 } ∷ []) one
         → WaitsIn (first ∷ rest) one.message
     go true has = record { one = one; has = inr has; is = refl }
-    go false has = by (has-last rest (record first { gone = first.gone + 1 }) one has)
+    go false has = by (has-snoc rest (record first { gone = first.gone + 1 }) one has)
 
 -- ---- commands
 

@@ -1,11 +1,11 @@
 -- The parts of a step, with tries in turn.
-use Rattle.std.proofs.Common.{cond, ◌≡◌, refl, sym, ap, subst, ◌∙◌, inl, inr, arith, ◌<◌, ◌+◌, ◌==◌, ◌&&◌, Bool, true, false, ℕ, List, [], ◌∷◌, ◌++◌, append_assoc, length, map, replicate, zero, suc, Option, Some, None, if◌then◌else◌}
+use Rattle.std.proofs.Common.{◌≡◌, refl, sym, ap, subst, ◌∙◌, arith, ◌<◌, ◌+◌, ◌==◌, ◌&&◌, Bool, true, false, ℕ, List, [], ◌∷◌, ◌++◌, append_assoc, map, replicate, zero, suc, Option, Some, None, if◌then◌else◌}
 use Rattle.std.proofs.lemmas.Bool.{eq-eqb}
 use Rattle.std.proofs.lemmas.Bool.Decides.{nat_tests}
 use Rattle.std.specs.Bool.{beq}
 use Rattle.line_end.specs.Plan.{LinePlanFits}
 use Rattle.line_end.specs.Step.{LineCall}
-use Rattle.message_flow.proofs.Firsts.{removed, without-first}
+use Rattle.message_flow.proofs.Firsts.{without-first}
 use Rattle.message_flow.specs.declared.message.Message.{Message}
 use Rattle.message_flow.specs.declared.waiting.Waiting.{Waiting}
 use Rattle.message_flow.specs.Message.{is_primary}
@@ -21,12 +21,14 @@ use Rattle.message_end.specs.Core.Went.{Goes, Spent}
 use Rattle.message_end.specs.Doings.{Doing, own_of}
 use Rattle.message_end.specs.Duties.{all_done}
 use Rattle.message_end.specs.Ends.{AreDecidedAt, AreOfStep, Input, taking_calls}
-use Rattle.message_end.specs.History.{AreApart, AreNew, AreWaiting, IsHistoryOf, Item, waiting_of}
+use Rattle.message_end.specs.History.{AreWaiting, IsHistoryOf, Item, waiting_of}
 use Rattle.message_end.specs.LineCalls.{IsOffer}
-use Rattle.message_end.specs.Own.{Has, given_in, heard_in, sent_at, sent_in}
+use Rattle.message_end.specs.Own.{Has, given_in, heard_in, sent_in}
 use Rattle.message_end.specs.Parts.{Node, after_parts, after_turn, core_after, core_step, fixed_turn, leads, led_turn, went_with}
 use Rattle.message_end.specs.Plan.{EndPlan}
 use Rattle.message_end.proofs.Parts.{OnEither, either-less, either-then}
+use Rattle.message_end.proofs.Lists.{has-less, map-less, none-left, one-place}
+use Rattle.message_end.proofs.Members.{has-map, has-mapped}
 use Rattle.spool_law.specs.Tries.{IsNewest}
 use Rattle.spool_ledger.specs.Unloading.{taken_up}
 use Rattle.tool_step.specs.declared.kind.Kind.{Kind}
@@ -42,95 +44,6 @@ use Rattle.tool_law.proofs.TriedCourse.{TriedAt, at-such-calls, carry-at, drop-a
 is-newest : (tries : List ℕ) (last system : ℕ) → newest_of tries ≡ Some last → IsNewest tries system → last ≡ system
 is-newest [] last system is newest = absurd newest
 is-newest (first ∷ tries) last system is newest = let same : first ≡ last = cc in sym same ∙ newest
-
--- primaries with the same system bytes stand at one place
-has-sent : (place : ℕ) (sents : List Message) (message : Message) → sent_at place sents ≡ Some message → Has sents
-    message
-has-sent place [] message is = cc
-has-sent place (m ∷ before) message is = go (place == length before) (has-sent place before message) is
-  where
-    go : (here : Bool) → (sent_at place before ≡ Some message → Has before message)
-        → (if here then Some m else sent_at place before) ≡ Some message
-        → Has (m ∷ before) message
-    go true earlier is = let same : message ≡ m = cc in inl same
-    go false earlier is = inr (earlier is)
-
-one-place :
-    (sents : List Message) → AreNew sents → (a b : ℕ) (m n : Message) → sent_at a sents ≡ Some m
-    → sent_at b sents ≡ Some n
-    → is_primary m ≡ true → is_primary n ≡ true → m.system ≡ n.system → a ≡ b
-one-place [] new a b m n at_a at_b is_m is_n same = absurd (cc)
-one-place (first ∷ before) new a b m n at_a at_b is_m is_n same =
-    go (a == length before) (b == length before)
-    (λ in_a in_b. one-place before new.1 a b m n in_a in_b is_m is_n same) refl refl at_a at_b
-  where
-    go : (p q : Bool) → (sent_at a before ≡ Some m → sent_at b before ≡ Some n → a ≡ b)
-        → (a == length before) ≡ p → (b == length before) ≡ q
-        → (if p then Some first else sent_at a before) ≡ Some m
-        → (if q then Some first else sent_at b before) ≡ Some n
-        → a ≡ b
-    go true true earlier here_a here_b in_a in_b = grind (arith, nat_tests, here_a, here_b)
-    go true false earlier here_a here_b in_a in_b =
-        let f : first ≡ m = cc in
-        absurd (new.0 (ap is_primary f ∙ is_m) n (has-sent b before n in_b) is_n (sym same ∙ sym (ap (λ
-        (x : Message). x.system) f)))
-    go false true earlier here_a here_b in_a in_b =
-        let f : first ≡ n = cc in
-        absurd (new.0 (ap is_primary f ∙ is_n) m (has-sent a before m in_a) is_m (same ∙ sym (ap (λ
-        (x : Message). x.system) f)))
-    go false false earlier here_a here_b in_a in_b = earlier in_a in_b
-
-has-less : (test : Waiting → Bool) (items : List Item) (item : Item)
-    → Has (without-first (λ i. test i.waiting) items) item → Has items item
-has-less test [] item has = has
-has-less test (first ∷ items) item has = go (test first.waiting) (has-less test items item) has
-  where
-    go : (passes : Bool) → (Has (without-first (λ i. test i.waiting) items) item → Has items item)
-        → Has (cond passes items (first ∷ without-first (λ i. test i.waiting) items)) item → Has (first ∷ items) item
-    go true rest has = inr has
-    go false rest (inl same) = inl same
-    go false rest (inr has) = inr (rest has)
-
--- of those that pass, where all stand at one place, none is left
-none-left :
-    (test : Waiting → Bool) (items : List Item) → AreApart items
-    → ((a b : Item) → Has items a → Has items b → test a.waiting ≡ true → test b.waiting ≡ true → a.place ≡ b.place)
-    → (item : Item) → Has (without-first (λ i. test i.waiting) items) item → test item.waiting ≡ false
-none-left test [] apart one item has = absurd has
-none-left test (first ∷ items) apart one item has =
-    go (test first.waiting) refl
-    (none-left test items apart.1 (λ a b has_a has_b. one a b (inr has_a) (inr has_b)) item)
-    has
-  where
-    other : (passes : Bool) → test item.waiting ≡ passes → test first.waiting ≡ true → Has items item
-        → test item.waiting ≡ false
-    other false is first_passes has = is
-    other true is first_passes has = absurd (apart.0 item has (one item first (inr has) (inl refl) is first_passes))
-
-    go : (passes : Bool) → test first.waiting ≡ passes
-        → (Has (without-first (λ i. test i.waiting) items) item → test item.waiting ≡ false)
-        → Has (cond passes items (first ∷ without-first (λ i. test i.waiting) items)) item
-        → test item.waiting ≡ false
-    go true is rest has = other (test item.waiting) refl is has
-    go false is rest (inl same) = ap (λ (i : Item). test i.waiting) same ∙ is
-    go false is rest (inr has) = rest has
-
-map-less : (test : Waiting → Bool) (items : List Item)
-    → without-first test (map waiting_of items) ≡ map waiting_of (without-first (λ i. test i.waiting) items)
-map-less test [] = refl
-map-less test (item ∷ items) =
-    elim (test item.waiting) as (λ b. cond b (map waiting_of items)
-    (item.waiting ∷ without-first test (map waiting_of items))
-    ≡ map waiting_of (cond b items (item ∷ without-first (λ i. test i.waiting) items))) [
-      | true ↦ refl
-      | false ↦ ap (λ ws. item.waiting ∷ ws) (map-less test items)
-    ]
-
-has-item : (items : List Item) (one : Waiting) → Has (map waiting_of items) one
-    → (item : Item) × Has items item × (item.waiting ≡ one)
-has-item [] one has = absurd has
-has-item (item ∷ items) one (inl same) = (item, inl refl, sym same)
-has-item (item ∷ items) one (inr has) = let rest = has-item items one has in (rest.0, inr rest.1, rest.2)
 
 named : (odd : Bool) (a b : ℕ) → odd ≡ true → b ≡ a → (beq odd true && (a == b)) ≡ true
 named true a b is same = eq-eqb a b (sym same)
@@ -155,7 +68,7 @@ pub removed-none :
     → NoneWaits tries (with_outgoing (with_waiting e.outgoing (without_first (is_named true last) e.outgoing.waiting))
     e)
 removed-none plan base doings e tries last is turn newest message primary waits has =
-    by (has-item (without-first (λ i. test i.waiting) items) waits.one at_items)
+    by (has-mapped waiting_of (without-first passes items) waits.one at_items)
   where
     test : Waiting → Bool
     test = is_named true last
@@ -169,11 +82,13 @@ removed-none plan base doings e tries last is turn newest message primary waits 
     items : List Item
     items = waiting.items
 
-    at_items : Has (map waiting_of (without-first (λ i. test i.waiting) items)) waits.one
+    passes : Item → Bool
+    passes = λ item. test item.waiting
+
+    at_items : Has (map waiting_of (without-first passes items)) waits.one
     at_items =
         subst (λ (all : List Waiting). Has all waits.one)
-        (removed test e.outgoing.waiting ∙ ap (λ (ws : List Waiting). without-first test ws) waiting.are
-        ∙ map-less test items)
+        (ap (λ (ws : List Waiting). without_first test ws) waiting.are ∙ map-less waiting_of test items)
         waits.has
 
     at-one : (a b : Item) → Has items a → Has items b → test a.waiting ≡ true → test b.waiting ≡ true → a.place ≡
@@ -185,30 +100,26 @@ removed-none plan base doings e tries last is turn newest message primary waits 
         b.waiting.message (waiting.each a has_a).sent
         (waiting.each b has_b).sent one.odd two.odd (one.system ∙ sym two.system)
 
-    by : (item : Item) × Has (without-first (λ i. test i.waiting) items) item × (item.waiting ≡ waits.one) → ⊥
+    by : (item : Item) × Has (without-first passes items) item × (waits.one ≡ item.waiting) → ⊥
     by found =
-        let in_items = has-less test items found.0 found.1 in
+        let in_items = has-less passes items found.0 found.1 in
+        let same_one = sym found.2 in
         let stays : WaitsIn e.outgoing.waiting message =
         record {
           one = found.0.waiting;
           has = subst (λ (all : List Waiting). Has all found.0.waiting) (sym waiting.are)
-              (in-map items found.0 in_items);
-          is = ap (λ (w : Waiting). w.message) found.2 ∙ waits.is;
+              (has-map waiting_of items found.0 in_items);
+          is = ap (λ (w : Waiting). w.message) same_one ∙ waits.is;
         }
         in
         let same = is-newest tries last message.system newest (turn.waits message primary stays has) in
-        let odd = ap (λ (w : Waiting). is_primary w.message) found.2 ∙ ap is_primary waits.is ∙ primary in
-        let system = ap (λ (w : Waiting). w.message.system) found.2 ∙ ap (λ (m : Message). m.system) waits.is in
-        let passes : test found.0.waiting ≡ true =
+        let odd = ap (λ (w : Waiting). is_primary w.message) same_one ∙ ap is_primary waits.is ∙ primary in
+        let system = ap (λ (w : Waiting). w.message.system) same_one ∙ ap (λ (m : Message). m.system) waits.is in
+        let is_one : test found.0.waiting ≡ true =
         named (is_primary found.0.waiting.message) found.0.waiting.message.system last odd (same ∙ sym system)
         in
-        let left = none-left test items waiting.apart at-one found.0 found.1 in
+        let left : test found.0.waiting ≡ false = none-left passes items waiting.apart at-one found.0 found.1 in
         absurd (cc)
-      where
-        in-map : (items : List Item) (item : Item) → Has items item → Has (map waiting_of items) item.waiting
-        in-map [] item has = absurd has
-        in-map (first ∷ items) item (inl same) = inl (ap (λ (i : Item). i.waiting) same)
-        in-map (first ∷ items) item (inr has) = inr (in-map items item has)
 
 -- ---- a number that is drawn
 

@@ -1,5 +1,5 @@
 -- Turns that say nothing of reports.
-use Rattle.std.proofs.Common.{◌≡◌, refl, sym, ap, subst, inl, inr, ◌⊎◌, arith, ◌≤◌, ◌+◌, ◌%◌, ◌==◌, ◌&&◌, not, Bool, true, false, ℕ, List, [], ◌∷◌, ◌++◌, length, Option, Some, None, cond, if◌then◌else◌}
+use Rattle.std.proofs.Common.{◌≡◌, refl, sym, ap, subst, inl, inr, ◌⊎◌, arith, ◌≤◌, ◌+◌, ◌%◌, ◌==◌, ◌&&◌, not, Bool, true, false, ℕ, List, [], ◌∷◌, length, Option, Some, None, cond, if◌then◌else◌}
 use Rattle.std.specs.Option.{option_map_or}
 use Rattle.std.specs.Prelude.{IfSome, bytes_eq, filter, flat_map}
 use Rattle.gem_shapes.proofs.ReportPrimaries.{is_report}
@@ -30,6 +30,7 @@ use Rattle.message_end.specs.Core.Command.{Abort, Halt, Note, Primary, Reply}
 use Rattle.message_end.specs.Endings.{ends_failed, ends_front, ends_one, ends_open, is_of_open, notes_failed}
 use Rattle.message_end.specs.Own.{Has}
 use Rattle.message_end.specs.Parts.{fixed_turn, led_turn}
+use Rattle.message_end.proofs.Lists.{has-less, has-snoc}
 use Rattle.equipment_tables.specs.declared.answers.Answer.{Answer as Text}
 use Rattle.equipment_tables.specs.declared.answers.Answer.TheVariants as answer
 use Rattle.equipment_tables.specs.Answers.{identity_of}
@@ -71,26 +72,6 @@ pub record IsNoMore (own other : OwnView) : Type 0 where
   pub live :
       (one : ReportView) → Has other.reports one → is_event_report one.message ≡ true → Has own.reports one
 
-pub has-without : {X : Type 0} (test : X → Bool) (xs : List X) (x : X) → Has (without-first test xs) x → Has xs x
-has-without test [] x has = has
-has-without {X} test (first ∷ xs) x has = go (test first) has (λ later. has-without test xs x later)
-  where
-    go : (b : Bool) → Has (cond b xs (first ∷ without-first test xs)) x
-        → (Has (without-first test xs) x → Has xs x) → Has (first ∷ xs) x
-    go true has more = inr has
-    go false (inl same) more = inl same
-    go false (inr has) more = inr (more has)
-
-pub has-last : {X : Type 0} (xs : List X) (last x : X) → Has (xs ++ last ∷ []) x → Has xs x ⊎ (x ≡ last)
-has-last [] last x (inl same) = inr same
-has-last [] last x (inr none) = absurd none
-has-last (first ∷ xs) last x (inl same) = inl (inl same)
-has-last (first ∷ xs) last x (inr has) = go (has-last xs last x has)
-  where
-    go : Has xs x ⊎ (x ≡ last) → Has (first ∷ xs) x ⊎ (x ≡ last)
-    go (inl has) = inl (inr has)
-    go (inr same) = inr same
-
 pub at-most : (n : ℕ) → n ≤ n
 at-most n = omega arith
 
@@ -131,7 +112,7 @@ unreported own system = record {
   events_are = refl;
   fewer = λ body. at-most (count_waiting body own.for_grant);
   live = λ one has is.
-      has-without (is_report_of system) own.reports one
+      has-less (is_report_of system) own.reports one
       (subst (λ (live : List ReportView). Has live one) (removed (is_report_of system) own.reports) has);
 }
 
@@ -143,7 +124,7 @@ reported own system message none = record {
   tables_are = refl;
   events_are = refl;
   fewer = λ body. at-most (count_waiting body own.for_grant);
-  live = λ one has is. go one (has-last own.reports (record { system = system; message = message }) one has) is;
+  live = λ one has is. go one (has-snoc own.reports (record { system = system; message = message }) one has) is;
 }
   where
     go : (one : ReportView) → Has own.reports one ⊎ (one ≡ record { system = system; message = message })

@@ -26,7 +26,8 @@ use Rattle.message_end.specs.Own.{Has}
 use Rattle.tool_reports.specs.Reported.{Happened, IsOfEvent, IsReport, IsReported, brought_by, commands_in, count_of, count_of_events, due_behind, events_in, is_brought, is_event_report, is_live, is_reported_by, item_of, next_dataid, past_in, reports_in, tables_in, tries_in, was_enabled}
 use Rattle.tool_step.specs.Sent as sent
 use Rattle.tool_step.specs.Tool.{with_event}
-use Rattle.tool_reports.proofs.PlainTurns.{IsNoMore, count_waiting, has-last}
+use Rattle.message_end.proofs.Lists.{has-snoc}
+use Rattle.tool_reports.proofs.PlainTurns.{IsNoMore, count_waiting}
 use Rattle.tool_reports.proofs.QuietNotes.{AreSettled, IsAsBefore, counted, counted-last, one, settled-more, some-passes}
 
 -- how many S6F11 went out with a text, but out of the spool
@@ -228,7 +229,7 @@ with-live plan said own notes text false (Some system) holds some = record {
   commanded = holds.commanded;
   waits = holds.waits;
   live = λ one has is.
-      go one (has-last own.reports (record { system = system; message = event_report text }) one has) is;
+      go one (has-snoc own.reports (record { system = system; message = event_report text }) one has) is;
   tried = holds.tried;
   settled = holds.settled;
 }

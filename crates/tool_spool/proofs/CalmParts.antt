@@ -50,7 +50,7 @@ use Rattle.tool_step.specs.States as states
 use Rattle.tool_step.specs.Tool.{attempt_turn, attempted_turn, online_turn, refused_turn}
 use Rattle.tool_spool.proofs.CalmCommands.{AreCalm, AreCalmDuties, IsOther}
 use Rattle.tool_spool.proofs.KeptLedger.{IsPutWell}
-use Rattle.tool_reports.proofs.PlainTurns.{has-last, has-without}
+use Rattle.message_end.proofs.Lists.{has-snoc, has-less}
 use Rattle.tool_spool.proofs.ShelvedTurns.{ArePutWell, IsLikeIt}
 
 pub record IsCalmTurn (own : OwnView) (turn : ToolTurn) : Type 0 where
@@ -70,7 +70,7 @@ unreported-like own system = record {
   ledger = refl;
   reports = λ are one has.
       are one
-      (has-without (is_report_of system) own.reports one
+      (has-less (is_report_of system) own.reports one
       (subst (λ (live : List ReportView). Has live one) (removed (is_report_of system) own.reports) has));
 }
 
@@ -79,7 +79,7 @@ pub reported-like : (own : OwnView) (system : ℕ) (message : Spooled) → IsPut
     → IsLikeIt own (with_report system message own)
 reported-like own system message well = record {
   ledger = refl;
-  reports = λ are one has. go are one (has-last own.reports (record { system = system; message = message }) one has);
+  reports = λ are one has. go are one (has-snoc own.reports (record { system = system; message = message }) one has);
 }
   where
     go : ArePutWell own.reports → (one : ReportView)
