@@ -17,7 +17,7 @@ use Rattle.message_end.specs.declared.end.Stop.TheVariants as stop
 use Rattle.message_end.specs.Core.{Step, Went, step_in}
 use Rattle.message_end.specs.Core.Went.{Goes, Spent}
 use Rattle.message_end.specs.Ends.{Asked, Input, HasGone, HasSpent, HasStopped, IsFront, IsLeft as LeavesRoom, IsShort, asked_both, none_asked, printed}
-use Rattle.message_end.specs.Own.{Has}
+use Rattle.message_end.proofs.Members.{has-map}
 use Rattle.message_flow.specs.declared.step.Note.{Note}
 use Rattle.message_flow.specs.declared.step.StepOut.{StepOut}
 use Rattle.trace_log.specs.Laws.{NotesAreLines, log_with}
@@ -222,11 +222,6 @@ entries_both : (side : Side) (now : ℕ) (first more : List Happening)
     → entries_at side now (first ++ more) ≡ entries_at side now more ++ entries_at side now first
 entries_both side now first more =
     both_log side now first more [] ∙ front_log side now more (entries_at side now first)
-
-has-map : {X Y : Type 0} (f : X → Y) (xs : List X) (x : X) → Has xs x → Has (map f xs) (f x)
-has-map f [] x has = has
-has-map f (one ∷ xs) x (inl is) = inl (ap f is)
-has-map f (one ∷ xs) x (inr has) = inr (has-map f xs x has)
 
 -- a text was put as far as could be, and nothing else was done
 puts_last : {S C : Type 0} (a : Scene S C) (end : S) (room : Asked) (stop : Option (StopAt S C))

@@ -1,11 +1,12 @@
 -- Whatever S6F11 the equipment sends or spools, in any start, tells of an event of that start or an earlier one: one
 -- that goes out of the spool is what was put, and what is put tells of an event.
-use Rattle.std.proofs.Common.{◌≡◌, ◌⊎◌, ◌&&◌, ◌||◌, ◌==◌, ◌%◌, nat_eq, not, zero, suc, ℕ, Bool, true, false, List, [], ◌∷◌, ◌++◌, drop, length, option_to_list, Option, Some, None, if◌then◌else◌, inl, inr, refl, sym, ap, subst, ◌∙◌, arith}
+use Rattle.std.proofs.Common.{◌≡◌, ◌⊎◌, ◌&&◌, ◌||◌, ◌==◌, ◌%◌, nat_eq, not, ℕ, Bool, true, false, List, [], ◌∷◌, drop, length, option_to_list, Option, Some, None, if◌then◌else◌, inl, inr, refl, sym, ap, subst, ◌∙◌, arith}
 use Rattle.std.specs.List.{list_any}
 use Rattle.std.proofs.lemmas.Bool.Decides.{nat_tests}
 use Rattle.tool_reports.specs.Reported.{Happened, HoldsItsValues, IsOfEvent, Reported, events_in, is_event_report, is_live, is_of, past_in, tries_in}
 use Rattle.equipment_tables.specs.declared.plan.EquipmentPlan.{EquipmentPlan}
 use Rattle.message_end.specs.Own.{Has}
+use Rattle.message_end.proofs.Members.{has-drop, has-either}
 use Rattle.message_flow.specs.Message.{is_primary}
 use Rattle.message_flow.specs.declared.message.Message.{Message}
 use Rattle.spool_law.specs.Shelf.{Carries, Change, IsFirst, IsFoundOf, KeepsSpool, Policy, Shelf, Told, change_of, leaving_of, shelf_changed, shelf_of, stored_if, told_first, told_with}
@@ -13,6 +14,7 @@ use Rattle.spool_law.specs.Shelf.Change.{Finds, HasGone, HasStored, Leaves, Othe
 use Rattle.trace_log.specs.Log.{Happening, Past}
 use Rattle.trace_log.specs.Names.{Spooled}
 use Rattle.line_world.specs.Reports.{TellOfEvents, TellsOf, TellsOfEvent, all_events_in, event_of, with_event}
+use Rattle.spool_delivery.proofs.Sound.{stored-is}
 
 -- ---- notes by what they are
 
@@ -142,28 +144,6 @@ module _ (P : Happening → Type 0)
       other (Happening.Recorded past)
       (record { events = λ before. refl; tries = λ before. refl; tells = λ plan before. tt; quiet = tt })
 
--- ---- members of lists
-
-has-dropped : {X : Type 0} (n : ℕ) (xs : List X) (x : X) → Has (drop n xs) x → Has xs x
-has-dropped zero xs x has = has
-has-dropped (suc n) [] x has = has
-has-dropped (suc n) (y ∷ xs) x has = inr (has-dropped n xs x has)
-
-has-either : {X : Type 0} (one two : List X) (x : X) → Has (one ++ two) x → Has one x ⊎ Has two x
-has-either [] two x has = inr has
-has-either (y ∷ one) two x (inl is) = inl (inl is)
-has-either (y ∷ one) two x (inr has) = elim (has-either one two x has) [
-  | inl there ↦ inl (inr there)
-  | inr there ↦ inr there
-]
-
-has-stored : {X : Type 0} (stored : Bool) (storing : Option X) (x : X) → Has (stored_if stored storing) x
-    → storing ≡ Some x
-has-stored true None x has = absurd has
-has-stored true (Some y) x (inl is) = ap Some (sym is)
-has-stored true (Some y) x (inr none) = absurd none
-has-stored false storing x has = absurd has
-
 -- ---- events of all starts
 
 with-event : (event : Option (ℕ × ℕ)) (past : List Past) (events : List Happened) (one : Happened) → Has events one
@@ -256,12 +236,12 @@ module _ (plan : EquipmentPlan) where
     where
       joined : (one : ℕ × Spooled) → Has shelf.stands one ⊎ Has (option_to_list shelf.storing) one → IsTold notes one.1
       joined one (inl has) = are.stands one has
-      joined one (inr has) = are.storing one (has-stored true shelf.storing one has)
+      joined one (inr has) = are.storing one (stored-is true shelf.storing one has)
   quiet-on notes shelf (Leaves number why) quiet are =
       record { stands = are.stands; storing = are.storing; told = are.told }
   quiet-on notes shelf (HasGone number) quiet are = record {
     stands = λ one has.
-        are.stands one (has-dropped (leaving_of shelf.leaving (length shelf.stands)) shelf.stands one has);
+        are.stands one (has-drop (leaving_of shelf.leaving (length shelf.stands)) shelf.stands one has);
     storing = are.storing;
     told = are.told;
   }
@@ -304,8 +284,8 @@ module _ (plan : EquipmentPlan) where
       from : (one : ℕ × Spooled)
           → Has (drop finds.missing shelf.stands) one ⊎ Has (stored_if finds.stored shelf.storing) one
           → IsTold before one.1
-      from one (inl has) = are.stands one (has-dropped finds.missing shelf.stands one has)
-      from one (inr has) = are.storing one (has-stored finds.stored shelf.storing one has)
+      from one (inl has) = are.stands one (has-drop finds.missing shelf.stands one has)
+      from one (inr has) = are.storing one (stored-is finds.stored shelf.storing one has)
 
   stored :
       (before : List Happening) (shelf : Shelf) (number : ℕ) (message : Spooled) → IsTold before message

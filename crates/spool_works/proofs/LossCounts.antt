@@ -1,5 +1,5 @@
 -- How often power may be lost in a work: once at each of its calls.
-use Rattle.std.proofs.Common.{◌≡◌, refl, ◌⊎◌, inl, inr, arith, zero, suc, ◌+◌, ◌*◌, ℕ, List, [], ◌∷◌, ◌++◌, length, map, Some}
+use Rattle.std.proofs.Common.{◌≡◌, refl, inl, inr, arith, zero, suc, ◌+◌, ◌*◌, ℕ, List, [], ◌∷◌, ◌++◌, length, map, Some}
 use Rattle.std.specs.Prelude.{slice_get}
 use Rattle.gem_spool.specs.Standing.{Standing, count_in}
 use Rattle.gem_spool.specs.Works as spool
@@ -19,15 +19,6 @@ pub length-both : {X Y : Type 0} (f : X → Y) (one : List X) (two : List Y)
     → length (map f one ++ two) ≡ length one + length two
 length-both f [] two = omega arith
 length-both f (x ∷ one) two = let rest = length-both f one two in omega (arith, rest)
-
-pub has-either : {X : Type 0} (one two : List X) (x : X) → Has (one ++ two) x → Has one x ⊎ Has two x
-has-either [] two x has = inr has
-has-either (y ∷ one) two x (inl same) = inl (inl same)
-has-either (y ∷ one) two x (inr has) = more (has-either one two x has)
-  where
-    more : Has one x ⊎ Has two x → Has (y ∷ one) x ⊎ Has two x
-    more (inl has) = inl (inr has)
-    more (inr has) = inr has
 
 -- of each of these calls
 abbrev pub Each : (Left → Type 0) → List Left → Type 0

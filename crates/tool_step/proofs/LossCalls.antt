@@ -12,7 +12,8 @@ use Rattle.tool_step.specs.Equipment.{EquipmentView, begun_step}
 use Rattle.tool_step.specs.Losses.{LossesAreCounted, loss_at, losses_of}
 use Rattle.spool_works.specs.WorkLosses.{calls_at}
 use Rattle.spool_works.specs.SpoolLosses.{Left}
-use Rattle.spool_works.proofs.LossCounts.{length-both, has-either, Each, calls-count}
+use Rattle.message_end.proofs.Members.{has-either}
+use Rattle.spool_works.proofs.LossCounts.{length-both, Each, calls-count}
 
 -- ---- all works of a step
 
