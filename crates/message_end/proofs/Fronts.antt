@@ -150,7 +150,7 @@ dropped-before at (Gives place number block now ∷ later) older is = dropped-be
 dropped-before at (Calls call ∷ later) older is = dropped-before at later older is
 dropped-before at (Says what ∷ later) older is = dropped-before at later older is
 
-calls-behind : (later older : List Doing) → calls_in (later ++ older) ≡ calls_in later ++ calls_in older
+pub calls-behind : (later older : List Doing) → calls_in (later ++ older) ≡ calls_in later ++ calls_in older
 calls-behind [] older = refl
 calls-behind (Does own ∷ later) older = calls-behind later older
 calls-behind (Says what ∷ later) older = calls-behind later older

@@ -31,7 +31,8 @@ use Rattle.tool_step.specs.declared.kind.Kind.{Kind}
 use Rattle.tool_step.specs.Own.{ToolCommands, ToolDuty}
 use Rattle.tool_law.specs.Putting.{where_goes}
 use Rattle.tool_law.specs.SpentSteps.{ends_spent}
-use Rattle.tool_law.proofs.CoreSteps.{CoreStep, OnEither, either-then}
+use Rattle.message_end.proofs.Parts.{OnEither, either-then}
+use Rattle.tool_law.proofs.CoreSteps.{CoreStep}
 
 -- ---- what is drawn
 

@@ -41,9 +41,7 @@ use Rattle.spool_law.specs.Tries.{IsNewest}
 use Rattle.tool_step.specs.declared.kind.Kind.{Kind}
 use Rattle.tool_step.specs.Own.{OwnView, ToolCommands, ToolDuty, ToolPart, ToolTurn}
 use Rattle.tool_law.specs.Tried.{AreInTurn, WaitsIn}
-
-abbrev pub CoreStep : Type 0
-CoreStep = Step (EndView Kind) Happening
+use Rattle.tool_law.proofs.CoreSteps.{CoreStep}
 
 -- what asks for a reply is a primary
 abbrev pub AsksOfPrimary : Option Title → Type 0

@@ -23,24 +23,18 @@ use Rattle.message_end.proofs.Limits.{AddsNone, carry-limit, limit_of}
 use Rattle.message_end.proofs.Lower.{lower}
 use Rattle.message_end.proofs.Parts.{OnEither, commands-due, either-then}
 use Rattle.message_end.proofs.Steps.{CallsNone, Exactly, IsAt, IsDone, OnWent, at-carry, offer-made, take-made, tick-made}
+use Rattle.message_end.proofs.Fronts.{calls-behind}
 use Rattle.message_flow.specs.declared.message.Message.{Message}
 use Rattle.spool_law.specs.Tries.{tries_in}
 use Rattle.tool_step.specs.declared.kind.Kind.{Kind}
 use Rattle.tool_step.specs.Own.{ToolCommands, ToolDuty}
 use Rattle.tool_law.specs.Tried.{AreInTurn, AreTried}
-use Rattle.tool_law.proofs.TriedCores.{AsksOfPrimary, CoreStep, NoneWaits, Turned, carry-turned, still-in-turn, tried-in-turn}
+use Rattle.tool_law.proofs.CoreSteps.{CoreStep}
+use Rattle.tool_law.proofs.TriedCores.{AsksOfPrimary, NoneWaits, Turned, carry-turned, still-in-turn, tried-in-turn}
 use Rattle.tool_law.proofs.TriedDoings.{AreNoTries, GiveNone, GoesTried, done-notes, may-try, offer-done, offer-may, quiet-done, said-history}
 use Rattle.tool_law.proofs.TriedSteps.{IsFree, NotesFree, offer-notes, carry-free, ahead, went_ahead, IsAhead, goes, carry-ahead, calls-ahead, drop-ahead, takes-ahead, offer-ahead, StaysMild, IsMild, mild-off, AreMildDuties}
 
 -- ---- what was done since a step began
-
-calls-both : (later older : List Doing) → calls_in (later ++ older) ≡ calls_in later ++ calls_in older
-calls-both [] older = refl
-calls-both (Does own ∷ later) older = calls-both later older
-calls-both (Gives place number block now ∷ later) older =
-    ap (λ (calls : List LineCall). LineCall.Send block now ∷ calls) (calls-both later older)
-calls-both (Calls call ∷ later) older = ap (λ (calls : List LineCall). call ∷ calls) (calls-both later older)
-calls-both (Says what ∷ later) older = calls-both later older
 
 drops-both :
     (now : ℕ) (later older : List Doing) → AreDroppedAt now later → AreDroppedAt now older
@@ -134,7 +128,7 @@ module _ (plan : EndPlan) (base : ℕ) (fits : LinePlanFits plan.line) (doings :
         ∙ append_assoc (written_in plan doings) step.written later.written;
     called =
         subst Other
-        (sym (calls-both is.done at.done ∙ ap (λ (cs : List LineCall). cs ++ calls_in at.done) is.called)) called;
+        (sym (calls-behind is.done at.done ∙ ap (λ (cs : List LineCall). cs ++ calls_in at.done) is.called)) called;
     drops = drops-both now is.done at.done is.drops at.drops;
     tried = tried.tried;
     tries_are = tried.same ∙ at.tries_are;

@@ -1,6 +1,6 @@
 -- What the law of tries asks of doings: of those that are of no try, of the note of one, and of a block that goes to
 -- the line.
-use Rattle.std.proofs.Common.{◌≡◌, refl, sym, ap, subst, ◌∙◌, inl, ◌+◌, ◌%◌, ◌==◌, true, ℕ, List, [], ◌∷◌, ◌++◌, append-nil, append_assoc, Option, Some, None}
+use Rattle.std.proofs.Common.{◌≡◌, refl, sym, ap, subst, ◌∙◌, inl, ◌+◌, ◌%◌, ◌==◌, true, ℕ, List, [], ◌∷◌, ◌++◌, Option, Some, None}
 use Rattle.block_codec.specs.Block.{BlockView}
 use Rattle.line_end.specs.declared.event.Phase.{Phase}
 use Rattle.line_end.specs.declared.event.Phase.TheVariants as phase
@@ -25,12 +25,13 @@ use Rattle.message_end.specs.Own.{Has, Own, sent_at, sent_in}
 use Rattle.message_end.specs.Own.Own.{DrewNumber, DroppedMessage, GaveBlock, HeardBlock, ReceivedMessage, SentMessage, WroteFrame}
 use Rattle.message_end.specs.Plan.{EndPlan, block_of}
 use Rattle.message_end.proofs.Courses.{in-turn}
+use Rattle.message_end.proofs.Fronts.{noted-behind}
 use Rattle.spool_law.specs.Shelf.{Change, change_of}
 use Rattle.spool_law.specs.Shelf.Change.{Finds, HasGone, HasStored, Leaves, Other, Receives, Sends, Stores, Tries}
 use Rattle.spool_law.specs.Tries.{IsNewest, MayGiveTried, MaySayTried, MayTry, tried_behind, tries_in}
 use Rattle.tool_step.specs.declared.kind.Kind.{Kind}
 use Rattle.tool_law.specs.Tried.{AreInTurn, AreTried}
-use Rattle.tool_law.proofs.TriedCores.{CoreStep}
+use Rattle.tool_law.proofs.CoreSteps.{CoreStep}
 
 -- ---- notes and calls of no try
 
@@ -71,17 +72,6 @@ both-no (x ∷ xs) ys one two = (one.0, both-no xs ys one.1 two)
 
 -- ---- what was noted is the notes of what was done
 
-noted-both : (done doings : List Doing) → noted_in (done ++ doings) ≡ noted_in doings ++ noted_in done
-noted-both [] doings = sym (append-nil (noted_in doings))
-noted-both (Does own ∷ done) doings =
-    ap (λ (ns : List Happening). ns ++ notes_of_own own) (noted-both done doings)
-    ∙ append_assoc (noted_in doings) (noted_in done) (notes_of_own own)
-noted-both (Gives place number block now ∷ done) doings = noted-both done doings
-noted-both (Calls call ∷ done) doings = noted-both done doings
-noted-both (Says what ∷ done) doings =
-    ap (λ (ns : List Happening). ns ++ what ∷ []) (noted-both done doings)
-    ∙ append_assoc (noted_in doings) (noted_in done) (what ∷ [])
-
 tail-is : (x : Happening) (xs ys : List Happening) → x ∷ xs ≡ x ∷ ys → xs ≡ ys
 tail-is x xs ys is = cc
 
@@ -92,7 +82,7 @@ cancel (x ∷ xs) ys zs is = cancel xs ys zs (tail-is x (xs ++ ys) (xs ++ zs) is
 pub done-notes : (done doings : List Doing) (notes : List Happening)
     → noted_in (done ++ doings) ≡ noted_in doings ++ notes → noted_in done ≡ notes
 done-notes done doings notes is =
-    cancel (noted_in doings) (noted_in done) notes (sym (noted-both done doings) ∙ is)
+    cancel (noted_in doings) (noted_in done) notes (sym (noted-behind done doings) ∙ is)
 
 none-in-front : (xs ys : List Happening) → xs ++ ys ≡ [] → xs ≡ []
 none-in-front [] ys is = refl

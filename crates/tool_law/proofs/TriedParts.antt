@@ -35,7 +35,8 @@ use Rattle.tool_step.specs.declared.kind.Kind.{Kind}
 use Rattle.tool_step.specs.Own.{OwnView, ToolPart, ToolTurn, with_ledger, with_tried}
 use Rattle.tool_step.specs.Spooling.{sent_turn, stopped_turn, taking_turn, tried_turn, waiting_text}
 use Rattle.tool_law.specs.Tried.{AreInTurn, WaitsIn, newest_of}
-use Rattle.tool_law.proofs.TriedCores.{CoreStep, NodeStep, NoneWaits}
+use Rattle.tool_law.proofs.CoreSteps.{CoreStep}
+use Rattle.tool_law.proofs.TriedCores.{NodeStep, NoneWaits}
 use Rattle.tool_law.proofs.TriedSteps.{AreMildDuties}
 use Rattle.tool_law.proofs.TriedCourse.{TriedAt, at-such-calls, carry-at, drop-at, duties-at, offer-at, try-at}
 

@@ -28,7 +28,7 @@ use Rattle.message_end.proofs.Parts.{AllStayOff, IsQuiet, OnEither, StaysOff, ei
 use Rattle.spool_law.specs.Shelf.{change_of}
 use Rattle.tool_step.specs.declared.kind.Kind.{Kind}
 use Rattle.tool_step.specs.Own.{ToolCommands, ToolDuty}
-use Rattle.tool_law.proofs.TriedCores.{CoreStep}
+use Rattle.tool_law.proofs.CoreSteps.{CoreStep}
 use Rattle.tool_law.proofs.TriedDoings.{AreNoTries, IsNoTry, both-no}
 
 -- ---- commands that note no try

@@ -45,7 +45,8 @@ use Rattle.tool_reports.proofs.QuietReports.{Holds, IsSpelledSo, holds-as, spell
 use Rattle.tool_reports.proofs.PlainTurns.{IsPlain, count_waiting, answers-silent, abort-silent, all-out-quiet, before-plain, booked-plain, booked-stays, comms-plain, control-lines, itself, long-silent, own-request-silent}
 use Rattle.tool_reports.proofs.QuietNotes.{AreSettled, IsAsBefore, never-live, quiet-note, settled-more}
 use Rattle.tool_reports.proofs.SilentCommands.{AreSilentDuties, both-duties}
-use Rattle.tool_law.proofs.CoreSteps.{CoreStep, either-then}
+use Rattle.message_end.proofs.Parts.{either-then}
+use Rattle.tool_law.proofs.CoreSteps.{CoreStep}
 use Rattle.tool_reports.proofs.HostReports.{AsksOf, asks-none, MayReply, other-silent, lines-quiet, noted-silent, IsNamed, requested, event_asked, report_asked}
 
 module _

@@ -39,8 +39,9 @@ use Rattle.tool_reports.specs.Reported.{Happened, IsKeptReport, count_of_events,
 use Rattle.tool_step.specs.Sent as sent
 use Rattle.tool_reports.proofs.PlainTurns.{AreQuietLines, IsPlain, booked-stays, ungranted}
 use Rattle.tool_reports.proofs.QuietNotes.{AreSettled, IsAsBefore, IsQuietNote, one, one-behind, quiet-note, settled-more}
-use Rattle.tool_reports.proofs.SilentCommands.{AreSilent, IsQuietly, IsSilent, carried-quietly, done-quietly, either-less}
-use Rattle.tool_law.proofs.CoreSteps.{CoreStep, OnEither, either-then}
+use Rattle.tool_reports.proofs.SilentCommands.{AreSilent, IsQuietly, IsSilent, carried-quietly, done-quietly}
+use Rattle.message_end.proofs.Parts.{OnEither, either-then, either-less}
+use Rattle.tool_law.proofs.CoreSteps.{CoreStep}
 use Rattle.tool_reports.proofs.QuietReports.{Holds, HasSpare, holds-less, holds-as, equal-bytes, of-event, report-sent, with-live, found-waiting, granted-spare, has-found}
 
 -- ---- turns, behind what was noted before the step

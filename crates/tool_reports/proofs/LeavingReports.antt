@@ -45,8 +45,9 @@ use Rattle.tool_reports.proofs.HeldReports.{Any, any-lasts, Ends, Free, Keeps, K
 use Rattle.tool_reports.proofs.QuietReports.{Holds, holds-as, holds-less}
 use Rattle.tool_reports.proofs.PlainTurns.{IsNoMore, booked-stays, comms-lines-silent, control-plain, count_waiting, denied-plain, activated-quiet, errors-silent, fixed-plain, itself, lines-silent, open-silent, request-commands-silent, ungranted, unreported, tried-stays}
 use Rattle.tool_reports.proofs.QuietNotes.{AreSettled, one-behind, quiet-note, settled-more}
-use Rattle.tool_reports.proofs.SilentCommands.{AreSilent, AreSilentDuties, IsQuietly, both-silent, done-quietly, either-less}
-use Rattle.tool_law.proofs.CoreSteps.{CoreStep, either-then}
+use Rattle.tool_reports.proofs.SilentCommands.{AreSilent, AreSilentDuties, IsQuietly, both-silent, done-quietly}
+use Rattle.message_end.proofs.Parts.{either-then, either-less}
+use Rattle.tool_law.proofs.CoreSteps.{CoreStep}
 
 -- with the system bytes of a try it is known as one of the spool
 tried-known : (tries : List ℕ) (system : ℕ) → Has tries system → list_any (nat_eq system) tries ≡ true

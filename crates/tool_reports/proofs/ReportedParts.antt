@@ -49,7 +49,8 @@ use Rattle.tool_reports.proofs.QuietReports.{Holds}
 use Rattle.tool_reports.proofs.LeavingReports.{by-t4-keeps, given-up-keeps, leaving-keeps, timeout-keeps, unload-keeps}
 use Rattle.tool_reports.proofs.PlainTurns.{IsPlain, booked-plain, comms-plain, error-plain, errors-silent, fixed-plain, itself, led-plain, nothing-plain, rested-quiet}
 use Rattle.tool_reports.proofs.QuietNotes.{AreSettled, adds-quiet, one-behind}
-use Rattle.tool_law.proofs.CoreSteps.{CoreStep, OnEither, either-then}
+use Rattle.message_end.proofs.Parts.{OnEither, either-then}
+use Rattle.tool_law.proofs.CoreSteps.{CoreStep}
 use Rattle.tool_reports.proofs.SilentCommands.{told-drawn, told-quiet}
 use Rattle.tool_law.proofs.WorkLines.{behind-both}
 

@@ -41,7 +41,7 @@ use Rattle.tool_reports.proofs.HeldReports.{Any, any-lasts, Free}
 use Rattle.tool_reports.proofs.QuietReports.{Holds, holds-as, holds-less}
 use Rattle.tool_reports.proofs.PlainTurns.{booked-stays}
 use Rattle.tool_reports.proofs.QuietNotes.{AreSettled, quiet-note, settled-more}
-use Rattle.tool_law.proofs.CoreSteps.{OnEither}
+use Rattle.message_end.proofs.Parts.{OnEither}
 use Rattle.tool_law.proofs.WorkLines.{behind-both}
 use Rattle.tool_reports.proofs.ReportedParts.{reported-before, front-due, NodeEnds, first-keeps, last-keeps}
 

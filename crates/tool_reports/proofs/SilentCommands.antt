@@ -22,21 +22,16 @@ use Rattle.transact.specs.Numbers.{next_number}
 use Rattle.transact.specs.Transactions as transactions
 use Rattle.transact.specs.Transactions.{is_answered_by}
 use Rattle.message_end.specs.declared.unsent.Unsent.{Unsent}
-use Rattle.message_end.specs.Core.{Command, EndView, Step, Went, answers, cancels, carried, carry, draws, drops, gives, is_crowded_out, is_held_answered, judges, noted, offers, primary_of, queues, replies, reply_function, reply_of, sends, takes_back, tells, times_out, unsent_name, with_asked, with_assembly, with_end, with_outgoing}
-use Rattle.message_end.specs.Core.Went.{Goes, Spent}
+use Rattle.message_end.specs.Core.{Command, EndView, Went, answers, cancels, carried, carry, draws, drops, gives, is_crowded_out, is_held_answered, judges, noted, offers, primary_of, queues, replies, reply_function, reply_of, sends, takes_back, tells, times_out, unsent_name, with_asked, with_assembly, with_end, with_outgoing}
+use Rattle.message_end.specs.Core.Went.{Goes}
 use Rattle.message_end.specs.Course.{noted_behind}
 use Rattle.message_end.specs.Duties.{all_done}
 use Rattle.tool_step.specs.declared.kind.Kind.{Kind}
 use Rattle.tool_step.specs.Own.{ToolCommands, ToolDuty}
 use Rattle.tool_reports.specs.Reported.{is_answer, is_of}
 use Rattle.tool_reports.proofs.QuietNotes.{AddsQuiet, Follows, follows, none-of, none-sent, quiet-note, IsAsBefore, IsQuietNote, as-before-both, as-it-was}
-use Rattle.tool_law.proofs.CoreSteps.{OnEither, either-then, CoreStep}
-
-pub either-less :
-    {S N : Type 0} (P Q R T : Step S N → Type 0) (went : Went S N) → OnEither P Q went
-    → ((step : Step S N) → P step → R step) → ((step : Step S N) → Q step → T step) → OnEither R T went
-either-less P Q R T (Goes step) is goes spent = goes step is
-either-less P Q R T (Spent step) is goes spent = spent step is
+use Rattle.message_end.proofs.Parts.{OnEither, either-then, either-less}
+use Rattle.tool_law.proofs.CoreSteps.{CoreStep}
 
 never : (b : Bool) → (b && false) ≡ false
 never true = refl

@@ -36,7 +36,8 @@ use Rattle.spool_law.specs.Shelf.Change.{Other, Receives, Sends}
 use Rattle.tool_step.specs.declared.kind.Kind.{Kind}
 use Rattle.tool_step.specs.Own.{ToolCommands, ToolDuty}
 use Rattle.tool_reports.specs.Reported.{past_in}
-use Rattle.tool_law.proofs.CoreSteps.{CoreStep, OnEither}
+use Rattle.message_end.proofs.Parts.{OnEither}
+use Rattle.tool_law.proofs.CoreSteps.{CoreStep}
 use Rattle.tool_spool.proofs.UnloadOpen.{IsLess, asks_grant, ends-less, last-open, less-both, timed-same, unloads_in, with_open}
 
 -- ---- what changes of the core

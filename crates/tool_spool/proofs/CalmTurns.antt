@@ -17,8 +17,8 @@ use Rattle.tool_spool.proofs.CalmCommands.{AreCalm, AreCalmDuties, AreDrawn, Ask
 use Rattle.tool_reports.proofs.QuietNotes.{one-behind}
 use Rattle.tool_spool.proofs.Shelved.{IsShelved, noted-shelved}
 use Rattle.tool_law.proofs.WorkLines.{LeavesStanding}
-use Rattle.tool_law.proofs.CoreSteps.{CoreStep, OnEither, either-then}
-use Rattle.tool_reports.proofs.SilentCommands.{either-less}
+use Rattle.message_end.proofs.Parts.{OnEither, either-then, either-less}
+use Rattle.tool_law.proofs.CoreSteps.{CoreStep}
 
 -- ---- notes
 

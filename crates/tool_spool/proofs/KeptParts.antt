@@ -27,7 +27,7 @@ use Rattle.message_end.specs.Duties.{all_done}
 use Rattle.message_end.specs.Ends.{Input}
 use Rattle.message_end.specs.Ends.Input.{Char, Command as Told, Time}
 use Rattle.message_end.specs.Parts.{Node, after_parts, after_turn, core_after, core_step, fixed_turn, went_with}
-use Rattle.message_end.proofs.Parts.{after-take}
+use Rattle.message_end.proofs.Parts.{after-take, OnEither, either-then, either-less}
 use Rattle.spool_ledger.specs.Activity.{rested}
 use Rattle.spool_ledger.specs.Ledger.{stood_count}
 use Rattle.spool_slots.specs.Slot.{Message as Put}
@@ -55,8 +55,7 @@ use Rattle.tool_reports.proofs.QuietNotes.{AreSettled, one-behind}
 use Rattle.tool_reports.proofs.ReportedParts.{HoldsStep, NodeEnds, NodeStep, PartKeeps, begin-plain, input-keeps as input-reports, of-turn as of-reports, offer-plain, plain-part, t3-keeps, t4-keeps, tick-keeps}
 use Rattle.tool_spool.proofs.ShelvedTurns.{Ends, IsSpentAt, Shelves, run-keeps, spent-as}
 use Rattle.tool_law.proofs.Drawing.{Any as AnyStep, Never, goes-either}
-use Rattle.tool_law.proofs.CoreSteps.{CoreStep, OnEither, either-then}
-use Rattle.tool_reports.proofs.SilentCommands.{either-less}
+use Rattle.tool_law.proofs.CoreSteps.{CoreStep}
 use Rattle.tool_spool.proofs.SpoolMessages.{message-keeps, told-keeps}
 use Rattle.tool_spool.proofs.SpoolTurns.{HoldsAt, IsRight, ShelvesAt, TurnEnds, calm-at, calm-turn, leaving-keeps, lost-keeps, so_far}
 use Rattle.tool_spool.proofs.SpoolUnloads.{part-keeps}

@@ -36,8 +36,7 @@ use Rattle.tool_reports.proofs.Reporting.{odd-of}
 use Rattle.tool_spool.proofs.Shelved.{settled-shelved}
 use Rattle.tool_spool.proofs.ShelvedTurns.{IsSpentAt, Shelves, count_at, spent-at}
 use Rattle.tool_law.proofs.WorkLines.{AreLines, lines-none}
-use Rattle.tool_law.proofs.CoreSteps.{OnEither}
-use Rattle.tool_reports.proofs.SilentCommands.{either-less}
+use Rattle.message_end.proofs.Parts.{OnEither, either-less}
 use Rattle.tool_spool.proofs.KeptParts.{BothRight, BothEnd, first-both, Settled, last-both}
 
 module _ (plan : EquipmentPlan) (fits : EquipmentPlanFits plan) (looked : TablesAreLookedBackFor) (slots : ℕ) where

@@ -36,7 +36,8 @@ use Rattle.tool_step.specs.Sent as sent
 use Rattle.tool_step.specs.Spooling.{dataid_in, end_of_spooling, inquiry_turn, needs_grant, sent_turn, stopped_turn, taking_turn, tried_turn, unload_part, unloaded_own, unloading_turn}
 use Rattle.tool_step.specs.States as states
 use Rattle.tool_step.specs.Step.{begun}
-use Rattle.tool_law.proofs.CoreSteps.{CoreStep, OnEither}
+use Rattle.message_end.proofs.Parts.{OnEither}
+use Rattle.tool_law.proofs.CoreSteps.{CoreStep}
 
 -- ---- steps in their course
 

@@ -33,8 +33,8 @@ use Rattle.tool_spool.proofs.CalmCommands.{AreCalmDuties, AreDrawn, AsksOfPrimar
 use Rattle.tool_spool.proofs.CalmTurns.{IsCalmBehind, IsCalmRun, done-run, ready-behind}
 use Rattle.tool_spool.proofs.KeptLedger.{IsKeptBy, IsPutWell, all-kept, all-out-unload, nothing-kept, stored-kept, stored-unload}
 use Rattle.tool_spool.proofs.Shelved.{IsShelved}
-use Rattle.tool_law.proofs.CoreSteps.{CoreStep, OnEither}
-use Rattle.tool_reports.proofs.SilentCommands.{either-less}
+use Rattle.message_end.proofs.Parts.{OnEither, either-less}
+use Rattle.tool_law.proofs.CoreSteps.{CoreStep}
 use Rattle.tool_law.proofs.WorkLines.{AreLines, lines-as}
 use Rattle.tool_spool.proofs.UnloadOpen.{IsOpen, Moves, moves-both, open-less, open-moved, unloads_in}
 

@@ -55,8 +55,8 @@ use Rattle.tool_spool.proofs.KeptUnload.{activated-kept, activated-unload}
 use Rattle.tool_law.proofs.Drawing.{Any, both-free, duties-go, free-goes, goes-either}
 use Rattle.tool_law.proofs.DrawnTurns.{comms-lines-free, noted-free, open-free}
 use Rattle.tool_spool.proofs.ShelvedTurns.{ArePutWell, Ends, IsSpentAt, Shelves, booked-keeps, calm-keeps, like-it, lines-behind, lines-carried, once, put-keeps, run-keeps, same-under, spent-at, stores-kept, stores-unload}
-use Rattle.tool_law.proofs.CoreSteps.{CoreStep, OnEither, either-then}
-use Rattle.tool_reports.proofs.SilentCommands.{either-less}
+use Rattle.message_end.proofs.Parts.{OnEither, either-then, either-less}
+use Rattle.tool_law.proofs.CoreSteps.{CoreStep}
 use Rattle.tool_spool.proofs.TakenTurns.{end-keeps}
 use Rattle.tool_spool.proofs.UnloadOpen.{IsLess, asks_grant, found-fewer, none-behind, unloads_in}
 
