@@ -21,6 +21,7 @@ use Rattle.message_end.specs.Own.Own.{DrewNumber, DroppedMessage, GaveBlock, Hea
 use Rattle.message_end.specs.Plan.{EndPlan, receiver_of}
 use Rattle.message_end.specs.Moves.{IsNextByte, Kind, MayMove, Run, act_of, act_of_call, act_of_doing, run_after}
 use Rattle.message_end.specs.Moves.Kind.{Added, Changed, Did, Lost, Started}
+use Rattle.message_end.proofs.LineKept.{side-kept, times-kept}
 use Rattle.message_flow.specs.Laws.{BlocksMakeMessages}
 use Rattle.delivery.proofs.Ends.{AreEnds, History, LineSide, history_of, line_side, turned-ends}
 use Rattle.delivery.proofs.Steps.{beside_wrote, ends-drew, ends-dropped, ends-gave, ends-heard, ends-held, ends-received, ends-sent, ends-started, ends-wrote, part_wrote}
@@ -60,24 +61,6 @@ slips_in (Some act) view = slips_here act view
 abbrev pub CanDoOne : LineState → Option Act → Type 0
 CanDoOne s None = Unit {0}
 CanDoOne s (Some act) = CanAct s act
-
--- ---- the state of a line keeps its side and times
-
-pub side-kept : (plan : EndPlan) (doings : List Doing) → (line_of plan doings).side ≡ plan.side
-side-kept plan [] = refl
-side-kept plan (Does own ∷ before) = side-kept plan before
-side-kept plan (Gives place number block now ∷ before) =
-    (step_facts (line_of plan before) (Send block now)).side ∙ side-kept plan before
-side-kept plan (Calls call ∷ before) = (step_facts (line_of plan before) call).side ∙ side-kept plan before
-side-kept plan (Says what ∷ before) = side-kept plan before
-
-pub times-kept : (plan : EndPlan) (doings : List Doing) → (line_of plan doings).times ≡ plan.line.times
-times-kept plan [] = refl
-times-kept plan (Does own ∷ before) = times-kept plan before
-times-kept plan (Gives place number block now ∷ before) =
-    (step_facts (line_of plan before) (Send block now)).times ∙ times-kept plan before
-times-kept plan (Calls call ∷ before) = (step_facts (line_of plan before) call).times ∙ times-kept plan before
-times-kept plan (Says what ∷ before) = times-kept plan before
 
 -- ---- the acts of a lawful move can be done
 

@@ -21,7 +21,8 @@ use Rattle.message_flow.specs.Laws.{MessagesGoInBlocks}
 use Rattle.delivery.specs.Worked.{Scene, moves_after, scene_after, plans, takes_after}
 use Rattle.delivery.specs.Worked.Scene.{Block, One, Takes}
 use Rattle.delivery.proofs.Ends.{History, history_of}
-use Rattle.delivery.proofs.Moving.{acted, side-kept, slips_in, times-kept}
+use Rattle.message_end.proofs.LineKept.{side-kept, times-kept}
+use Rattle.delivery.proofs.Moving.{acted, slips_in}
 use Rattle.delivery.proofs.Runs.{seen-acted}
 use Rattle.line_order.proofs.Flows.{both-true}
 use Rattle.delivery.proofs.Tests.{can-give, can_give, IsTakenOnWay, MayPlay, is_on_way, kind-allowed, kind_allowed, not-true, on-way}

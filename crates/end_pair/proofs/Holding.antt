@@ -44,7 +44,7 @@ use Rattle.end_pair.proofs.Causes.{never-on}
 use Rattle.end_pair.proofs.Doing.{IsNext}
 use Rattle.end_pair.proofs.LineDeeds.{lost-more, lost-none, new-stands}
 use Rattle.end_pair.proofs.Fallen.{dark-now, has-fallen, has-stopped}
-use Rattle.end_pair.proofs.LineKept.{side-kept, times-kept}
+use Rattle.message_end.proofs.LineKept.{side-kept, times-kept}
 use Rattle.end_pair.proofs.Moved.{HasFallen, HasLostAll, HasStepped, HasStopped, IsAt, has-made, has-slipped, moves-split, moves_with, other-is}
 use Rattle.end_pair.proofs.Renamed.{IsLike, like-change, like-lost, like-noise, renamed_all}
 

@@ -8,8 +8,6 @@ pub mod Fallen
 pub mod FourWays
 pub mod Holding
 pub mod LineDeeds
-pub mod LineKept
-pub mod LogText
 pub mod Moved
 pub mod Noting
 pub mod Opening

@@ -5,7 +5,7 @@ use Rattle.end_pair.specs.declared.answers.WorldStep.{WorldStep}
 use Rattle.end_pair.specs.declared.answers.WorldStep.TheVariants.{Went, Slip, Turns, NumbersSpent, PowerLost, NoMemory}
 use Rattle.end_pair.specs.Kept.{Comes, IfLeft, IfWent, IsPowered, PutPart, Puts}
 use Rattle.end_pair.specs.World.{Piece, World, and_more, and_on, still}
-use Rattle.end_pair.proofs.LogText.{text_of-append}
+use Rattle.message_end.proofs.LogText.{text_of-append}
 
 -- ---- a text that was put, or a part of it
 

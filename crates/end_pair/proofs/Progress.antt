@@ -17,7 +17,7 @@ use Rattle.end_pair.specs.declared.answers.WorldStep.TheVariants.{Went, Slip, Tu
 use Rattle.end_pair.specs.Kept.{Comes, IfWent, IsPowered, Puts}
 use Rattle.end_pair.specs.Run.{Ends, HandsBack, Runs, closing, whole_log}
 use Rattle.end_pair.specs.World.{Piece, World, and_more, still}
-use Rattle.end_pair.proofs.LogText.{text_of-append}
+use Rattle.message_end.proofs.LogText.{text_of-append}
 use Rattle.end_pair.proofs.Pieces.{Leads, comes_behind, comes_stop, leads_done, leads_on, leads_stop, left_none, left_of, put_none, puts_shift}
 
 -- a world is what it means, and none is dark

@@ -8,20 +8,13 @@ use Rattle.gl_base.specs.declared.link.LinkEntry.{LinkEntry}
 use Rattle.gl_base.specs.declared.link.LinkIn.{LinkIn}
 use Rattle.gl_base.proofs.Appending.{wrote_both, wrote_nothing}
 use Rattle.message_end.specs.Ends.{Asked, IsLeft as LeavesRoom, IsShort, asked_both, none_asked}
+use Rattle.message_end.proofs.LogText.{text_of-append}
 use Rattle.trace_log.specs.Log.{Entry}
-use Rattle.trace_log.specs.Text.{entry_text, text_of}
+use Rattle.trace_log.specs.Text.{text_of}
 use Rattle.end_run.specs.Acts.{Act, StepAt, AreTimely, asked_by, end_by, end_with, lines_of, list_of, listed, log_of, moment_by, moment_with, noted, taken, taken_of}
 use Rattle.end_run.specs.Acts.Act.{Connects, Polls, Sends, Stands, Writes}
 use Rattle.end_run.specs.Outcome.{Did, DiskFails, GoesOn, HasListed, IsLeft, IsSpent, LacksMemory, LinkFails, Linked, Lists, Made, MadePart, PutsLast, WriteFails}
 use Rattle.end_run.specs.Scenes.{Scene, StopAt, written}
-
--- ---- the log's text
-
-pub text_of-append : (newer older : List Entry) → text_of (newer ++ older) ≡ text_of older ++ text_of newer
-text_of-append [] older = sym (append-nil (text_of older))
-text_of-append (entry ∷ newer) older =
-    ap (λ (t : List ℕ). t ++ entry_text entry) (text_of-append newer older)
-    ∙ append_assoc (text_of older) (text_of newer) (entry_text entry)
 
 -- ---- lists of acts
 

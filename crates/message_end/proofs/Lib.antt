@@ -4,12 +4,14 @@ pub mod Duties
 pub mod Ended
 pub mod Fronts
 pub mod Growing
-mod Keeps
+pub mod Keeps
 pub mod Lawful
 pub mod Leaving
 pub mod Limits
+pub mod LineKept
 pub mod Lines
 pub mod Lists
+pub mod LogText
 pub mod Lower
 pub mod Members
 mod Open

@@ -7,7 +7,7 @@ use Rattle.end_pair.specs.declared.answers.WorldStep.TheVariants.{Went}
 use Rattle.end_pair.specs.Kept.{PutPart, Puts}
 use Rattle.end_pair.specs.World.{World, at_start, both_stepped, later}
 use Rattle.end_pair.proofs.Ending.{powered_by}
-use Rattle.end_pair.proofs.LogText.{text_of-append}
+use Rattle.message_end.proofs.LogText.{text_of-append}
 use Rattle.end_pair.proofs.Pieces.{put_before, puts_behind}
 use Rattle.end_pair.proofs.Powered.{first-powered}
 use Rattle.end_pair.proofs.world.World.start.Goals as goal
