@@ -14,6 +14,7 @@ use Rattle.message_end.specs.Course.Course.{Reached}
 use Rattle.message_end.specs.Course.Meeting.{Acts, Breaks, Fills, LosesPower, Restarts, Writes}
 use Rattle.message_end.specs.Ends.{Input, Loss, Machine, call_of}
 use Rattle.message_end.specs.Ends.Input.{Char, Command, Time}
+use Rattle.message_end.proofs.Growing.{behind-both}
 use Rattle.trace_log.specs.Laws.{log_with}
 use Rattle.trace_log.specs.Log.{Entry, Happening}
 use Rattle.trace_log.specs.Log.Entry.{Noted}
@@ -58,12 +59,6 @@ noted-other now side other apart [] log = refl
 noted-other now side other apart (what ∷ notes) log =
     noted-other now side other apart notes (Noted now side what ∷ log)
     ∙ ap (λ (b : Bool). if b then what ∷ noted_by other log else noted_by other log) apart
-
-behind-both :
-    (one two before : List Happening)
-    → noted_behind (one ++ two) before ≡ noted_behind two (noted_behind one before)
-behind-both [] two before = refl
-behind-both (what ∷ one) two before = behind-both one two (what ∷ before)
 
 -- ---- the course of one end
 

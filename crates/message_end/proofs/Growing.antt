@@ -1,5 +1,5 @@
 -- Notes only grow: what was noted before a command, or a part of a step, stands in front of all that is noted then.
-use Rattle.std.proofs.Common.{refl, sym, ap, ◌∙◌, append_assoc, append-nil, if◌then◌else◌, Bool, true, false, ℕ, List, [], ◌∷◌, ◌++◌, length, nat_le, Option, Some, None}
+use Rattle.std.proofs.Common.{◌≡◌, refl, sym, ap, ◌∙◌, append_assoc, append-nil, if◌then◌else◌, Bool, true, false, ℕ, List, [], ◌∷◌, ◌++◌, length, nat_le, Option, Some, None}
 use Rattle.std.specs.List.{find}
 use Rattle.std.specs.Prelude.{is_some}
 use Rattle.block_codec.specs.Block.{BlockView}
@@ -27,6 +27,7 @@ use Rattle.message_end.specs.Core.Went.{Goes, Spent}
 use Rattle.message_end.specs.Duties.{Duty, all_done}
 use Rattle.message_end.specs.Ends.{IsFront}
 use Rattle.message_end.specs.Parts.{Node, Part, Turn, after_parts, after_turn, core_step, went_with}
+use Rattle.message_end.specs.Course.{noted_behind}
 
 -- ---- fronts
 
@@ -223,3 +224,11 @@ module _ {S K : Type 0} where
   parts-grow (part ∷ parts) step =
       grows-then step.notes (after_turn Some (part step.next.own step.next.core) step) (after_parts Some parts)
       (turn-grows (part step.next.own step.next.core) step) (λ next. parts-grow parts next)
+
+-- ---- notes behind others
+
+pub behind-both :
+    (one two before : List Happening)
+    → noted_behind (one ++ two) before ≡ noted_behind two (noted_behind one before)
+behind-both [] two before = refl
+behind-both (what ∷ one) two before = behind-both one two (what ∷ before)

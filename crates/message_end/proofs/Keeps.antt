@@ -1,7 +1,6 @@
 -- What the parts of an end keep as it goes on: each lemma over the fields that it speaks of.
 use Rattle.std.proofs.Common.{◌≡◌, ◌⊎◌, inl, inr, refl, sym, ap, ◌∙◌, subst, arith, Bool, true, false, cond, ◌==◌, ◌&&◌, ℕ, ◌+◌, ◌^◌, ◌%◌, ◌<◌, ◌≤◌, List, [], ◌∷◌, ◌++◌, length, map, Some, None, Option}
 use Rattle.std.specs.Bool.{beq}
-use Rattle.std.specs.List.{find}
 use Rattle.std.proofs.lemmas.Option.{same_Some}
 use Rattle.std.proofs.lemmas.List.{map-append}
 use Rattle.std.proofs.lemmas.Bool.{eq-eqb, ne_eqb}
@@ -25,7 +24,7 @@ use Rattle.message_end.specs.Doings.{IsNoSend}
 use Rattle.message_end.specs.History.{AreApart, AreNew, AreNumbered, AreWaiting, HeldIs, IsItem, IsOpen, IsSpare, Item, SpareIs, waiting_of}
 use Rattle.message_end.specs.Own.{Giving, Has, Heard, IsReplyTo, given_of, sent_at}
 use Rattle.message_end.proofs.Lists.{apart-cut, apart-less, apart-snoc, cut, has-cut, has-less, has-snoc, map-cut, map-less, none-left, one-place, place-below, sent-more, sent-newest}
-use Rattle.message_end.proofs.Members.{has-map, has-mapped}
+use Rattle.message_end.proofs.Members.{has-map, has-mapped, found-in, found-none}
 
 some-block : (message : Message) → 0 < block_count message
 some-block message = omega arith
@@ -175,29 +174,10 @@ first-holds true b c d e all = refl
 first-holds false b c d e all = absurd (cc)
 
 -- a block of a reply has the primary's system bytes
-reply-system :
+pub reply-system :
     (side : Side) (message : Message) (header : Header) → IsReplyTo side message header → message.system ≡ header.system
 reply-system side message header reply =
     let same = first-holds (header.system == message.system) _ _ _ _ reply in grind (arith, nat_tests, same)
-
-pub found-in : {X : Type 0} (test : X → Bool) (xs : List X) (x : X) → find test xs ≡ Some x → Has xs x × (test x ≡ true)
-found-in test [] x is = absurd (cc)
-found-in {X} test (y ∷ ys) x is = go (test y) refl (found-in test ys x) is
-  where
-    go : (b : Bool) → test y ≡ b → (find test ys ≡ Some x → Has ys x × (test x ≡ true))
-        → cond b (Some y) (find test ys) ≡ Some x → Has (y ∷ ys) x × (test x ≡ true)
-    go true passes rest e = let same : x ≡ y = cc in (inl same, ap test same ∙ passes)
-    go false fails rest e = let later = rest e in (inr later.0, later.1)
-
-found-none : {X : Type 0} (test : X → Bool) (xs : List X) (x : X) → find test xs ≡ None → Has xs x → test x ≡ false
-found-none test [] x is has = absurd has
-found-none {X} test (y ∷ ys) x is has = go (test y) refl (found-none test ys x) is has
-  where
-    go : (b : Bool) → test y ≡ b → (find test ys ≡ None → Has ys x → test x ≡ false)
-        → cond b (Some y) (find test ys) ≡ None → Has (y ∷ ys) x → test x ≡ false
-    go true passes rest e which = absurd (cc)
-    go false fails rest e (inl same) = ap test same ∙ fails
-    go false fails rest e (inr later) = rest e later
 
 -- the primary that a block of a reply answers, where it waits, is the one that is found
 answered-found :

@@ -1,6 +1,6 @@
--- Members of lists: in front or behind, of a list that is mapped, of one without its first.
-use Rattle.std.specs.Prelude.{◌≡◌, ◌⊎◌, zero, suc, ℕ, List, [], ◌∷◌, ◌++◌, map, drop, refl}
-use Rattle.std.proofs.Common.{ap, inl, inr}
+-- Members of lists: in front or behind, of a list that is mapped, of one without its first, and the first that passes.
+use Rattle.std.proofs.Common.{◌≡◌, ◌⊎◌, inl, inr, refl, ap, ◌∙◌, Bool, true, false, cond, zero, suc, ℕ, List, [], ◌∷◌, ◌++◌, map, drop, Some, None}
+use Rattle.std.specs.List.{find}
 use Rattle.message_end.specs.Own.{Has}
 
 pub has-front : {X : Type 0} (xs ys : List X) (x : X) → Has xs x → Has (xs ++ ys) x
@@ -35,3 +35,24 @@ pub has-drop : {X : Type 0} (n : ℕ) (xs : List X) (x : X) → Has (drop n xs) 
 has-drop zero xs x has = has
 has-drop (suc n) [] x is = absurd is
 has-drop (suc n) (z ∷ xs) x has = inr (has-drop n xs x has)
+
+-- ---- the first that passes
+
+pub found-in : {X : Type 0} (test : X → Bool) (xs : List X) (x : X) → find test xs ≡ Some x → Has xs x × (test x ≡ true)
+found-in test [] x is = absurd (cc)
+found-in {X} test (y ∷ ys) x is = go (test y) refl (found-in test ys x) is
+  where
+    go : (b : Bool) → test y ≡ b → (find test ys ≡ Some x → Has ys x × (test x ≡ true))
+        → cond b (Some y) (find test ys) ≡ Some x → Has (y ∷ ys) x × (test x ≡ true)
+    go true passes rest e = let same : x ≡ y = cc in (inl same, ap test same ∙ passes)
+    go false fails rest e = let later = rest e in (inr later.0, later.1)
+
+pub found-none : {X : Type 0} (test : X → Bool) (xs : List X) (x : X) → find test xs ≡ None → Has xs x → test x ≡ false
+found-none test [] x is has = absurd has
+found-none {X} test (y ∷ ys) x is has = go (test y) refl (found-none test ys x) is has
+  where
+    go : (b : Bool) → test y ≡ b → (find test ys ≡ None → Has ys x → test x ≡ false)
+        → cond b (Some y) (find test ys) ≡ None → Has (y ∷ ys) x → test x ≡ false
+    go true passes rest e which = absurd (cc)
+    go false fails rest e (inl same) = ap test same ∙ fails
+    go false fails rest e (inr later) = rest e later

@@ -22,7 +22,7 @@ use Rattle.message_end.specs.History.{AreTransactionsOf, IsTransactionOf}
 use Rattle.message_end.specs.Laws.{HasNoPrimary}
 use Rattle.message_end.specs.Own.{Has}
 use Rattle.message_end.specs.Plan.{EndPlan}
-use Rattle.message_end.proofs.Keeps.{found-in}
+use Rattle.message_end.proofs.Members.{found-in}
 use Rattle.message_end.proofs.Lists.{has-cut, has-snoc}
 
 -- one is written over another

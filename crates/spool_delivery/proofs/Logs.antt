@@ -1,8 +1,7 @@
 -- Who has sent and received what, by the log of two ends.
-use Rattle.std.specs.Prelude.{◌≡◌, ◌⊎◌, ◌==◌, ◌&&◌, ℕ, Bool, true, false, List, [], ◌∷◌, ◌++◌, Option, Some, None, refl}
+use Rattle.std.specs.Prelude.{◌≡◌, ◌⊎◌, ℕ, Bool, true, false, List, [], ◌∷◌, ◌++◌, Option, Some, None, refl}
 use Rattle.std.specs.List.{Contains}
-use Rattle.std.proofs.Common.{sym, ap, ◌∙◌, subst, arith, inl, inr}
-use Rattle.std.proofs.lemmas.Bool.Decides.{nat_tests}
+use Rattle.std.proofs.Common.{sym, ap, ◌∙◌, subst, inl, inr}
 use Rattle.gl_base.specs.declared.side.Side.{Side}
 use Rattle.gl_base.specs.declared.side.Side.TheVariants.{Equipment, Host}
 use Rattle.gl_base.specs.Side.{other_side}
@@ -17,6 +16,7 @@ use Rattle.message_end.specs.Plan.{EndPlan, receiver_of}
 use Rattle.message_end.specs.Log.{log_of, noted_at, with_note}
 use Rattle.message_end.specs.Moves.{KeepLaws, Kind, LinePlans, MayMove, Move, Run, all_sent, plan_at, run_after, run_at, seen_at}
 use Rattle.message_end.specs.Moves.Kind.{Added, Changed, Did, Lost, Started}
+use Rattle.message_end.proofs.Keeps.{reply-system}
 use Rattle.message_flow.specs.declared.message.Message.{Message}
 use Rattle.message_flow.specs.Blocks.{header_of}
 use Rattle.message_flow.specs.Message.{is_primary}
@@ -276,13 +276,8 @@ replied-later moment side noted log m is = record {
 abbrev pub AreReplied : List Entry → Type 0
 AreReplied log = (m : Message) → Has (host_sent log) m → is_primary m ≡ false → IsReplied log m
 
-first-holds : (a b c d e : Bool) → (a && b && c && d && e) ≡ true → a ≡ true
-first-holds true b c d e all = refl
-first-holds false b c d e all = absurd (cc)
-
 system-of : (asked m : Message) → IsReplyTo Equipment asked (header_of Host 0 m 1) → asked.system ≡ m.system
-system-of asked m reply =
-    let same = first-holds (m.system == asked.system) _ _ _ _ reply in grind (arith, nat_tests, same)
+system-of asked m reply = reply-system Equipment asked (header_of Host 0 m 1) reply
 
 plain-replies : (moment : ℕ) (what : Happening) (before : List Message) → IsPlain what
     → replied_behind (Noted moment Host what) before ≡ before

@@ -5,6 +5,7 @@ use Rattle.gem_spool.specs.Works.{count_after, counts_after, list_after, lists_a
 use Rattle.gem_spool.specs.declared.count.Count.{Count}
 use Rattle.gem_spool.specs.declared.works.Work.{Work}
 use Rattle.message_end.specs.Course.{noted_behind}
+use Rattle.message_end.proofs.Growing.{behind-both}
 use Rattle.spool_law.specs.Shelf.{Change, Shelf, change_of, shelf_of}
 use Rattle.spool_ledger.specs.Ledger.{IsLedger, LedgerView, next_of, owed, stood_count}
 use Rattle.spool_ledger.specs.declared.ledger.Stand.{Stand}
@@ -126,12 +127,6 @@ comes-later (what ∷ lines) more none = go (is_before_change what) none (λ lat
     go true none later = absurd (cc)
     go false none later =
         let on = later none in (on.0, ap (λ (ls : List Happening). what ∷ ls) on.1, on.2)
-
-pub behind-both :
-    (lines more base : List Happening)
-    → noted_behind (lines ++ more) base ≡ noted_behind more (noted_behind lines base)
-behind-both [] more base = refl
-behind-both (what ∷ lines) more base = behind-both lines more (what ∷ base)
 
 -- what was noted tells the lines
 turned-back : (lines base rest : List Happening)

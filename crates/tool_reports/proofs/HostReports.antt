@@ -1,6 +1,5 @@
 -- What a message of the host leaves of what holds.
-use Rattle.std.proofs.Common.{◌≡◌, refl, sym, ap, subst, ◌∙◌, Bool, true, false, not, ℕ, ◌%◌, ◌==◌, ◌&&◌, List, [], ◌∷◌, map, Option, Some, None, cond, if◌then◌else◌}
-use Rattle.std.specs.List.{find}
+use Rattle.std.proofs.Common.{◌≡◌, refl, sym, ap, subst, ◌∙◌, Bool, true, false, not, ℕ, ◌%◌, ◌==◌, ◌&&◌, List, [], ◌∷◌, map, Option, Some, None, if◌then◌else◌}
 use Rattle.std.proofs.lemmas.Bool.{eqb-true}
 use Rattle.gem_shapes.specs.Primaries.{has_function, primaries, primary_with, stream_and_function}
 use Rattle.gem_shapes.specs.declared.primary.Primary.{Primary}
@@ -15,6 +14,7 @@ use Rattle.trace_log.specs.Log.{Happening, Past}
 use Rattle.trace_log.specs.Names.{title_of}
 use Rattle.message_end.specs.Core.{reply_function, reply_of}
 use Rattle.message_end.specs.Core.Command.{Note, Reply}
+use Rattle.message_end.proofs.Members.{found-in}
 use Rattle.equipment_tables.specs.Answers.{lines_of}
 use Rattle.equipment_tables.specs.Tables.{TablesState, asked_after}
 use Rattle.equipment_tables.proofs.Lines.{lines_hold}
@@ -146,15 +146,6 @@ noted-silent Asks none Fact lasts [] quiet = tt
 noted-silent Asks none Fact lasts (what ∷ lines) quiet =
     (quiet.0, noted-silent Asks none Fact lasts lines quiet.1)
 
-passes : {X : Type 0} (test : X → Bool) (xs : List X) (x : X) → find test xs ≡ Some x → test x ≡ true
-passes test [] x is = absurd (cc)
-passes {X} test (y ∷ ys) x is = go (test y) refl is (passes test ys x)
-  where
-    go : (b : Bool) → test y ≡ b → cond b (Some y) (find test ys) ≡ Some x → (find test ys ≡ Some x → test x ≡ true)
-        → test x ≡ true
-    go true e f next = let same : y ≡ x = cc in ap test (sym same) ∙ e
-    go false e f next = next f
-
 pub record IsNamed (p : Primary) (message : Message) : Type 0 where
   pub stream : message.stream ≡ (stream_and_function p).0
   pub function : message.function ≡ (stream_and_function p).1
@@ -162,7 +153,7 @@ pub record IsNamed (p : Primary) (message : Message) : Type 0 where
 pub named : (p : Primary) (message : Message) → primary_with message.stream message.function ≡ Some p → IsNamed p message
 named p message is =
     both ((stream_and_function p).0 == message.stream) ((stream_and_function p).1 == message.function) refl refl
-    (passes (has_function message.stream message.function) primaries p is)
+    (found-in (has_function message.stream message.function) primaries p is).1
   where
     both : (a b : Bool) → ((stream_and_function p).0 == message.stream) ≡ a
         → ((stream_and_function p).1 == message.function) ≡ b → (a && b) ≡ true → IsNamed p message

@@ -52,7 +52,7 @@ use Rattle.tool_reports.proofs.QuietNotes.{AreSettled, adds-quiet, one-behind}
 use Rattle.message_end.proofs.Parts.{OnEither, either-then}
 use Rattle.tool_law.proofs.CoreSteps.{CoreStep}
 use Rattle.tool_reports.proofs.SilentCommands.{told-drawn, told-quiet}
-use Rattle.tool_law.proofs.WorkLines.{behind-both}
+use Rattle.message_end.proofs.Growing.{behind-both}
 
 asks-newest : (message : Message) → AsksOf message (asked_by message)
 asks-newest message = go (is_primary message) message.wait refl

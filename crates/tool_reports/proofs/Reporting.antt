@@ -42,7 +42,7 @@ use Rattle.tool_reports.proofs.QuietReports.{Holds, holds-as, holds-less}
 use Rattle.tool_reports.proofs.PlainTurns.{booked-stays}
 use Rattle.tool_reports.proofs.QuietNotes.{AreSettled, quiet-note, settled-more}
 use Rattle.message_end.proofs.Parts.{OnEither}
-use Rattle.tool_law.proofs.WorkLines.{behind-both}
+use Rattle.message_end.proofs.Growing.{behind-both}
 use Rattle.tool_reports.proofs.ReportedParts.{reported-before, front-due, NodeEnds, first-keeps, last-keeps}
 
 module _ (plan : EquipmentPlan) (fits : EquipmentPlanFits plan) (looked : TablesAreLookedBackFor) where

@@ -27,7 +27,8 @@ use Rattle.tool_step.proofs.LossCalls.{AtEach}
 use Rattle.spool_works.proofs.LossCounts.{Each}
 use Rattle.spool_works.specs.SpoolLosses.{Left, by_gate, closes, marks, opens, purge_calls, work_calls}
 use Rattle.tool_spool.proofs.Shelved.{run-last, run-rest}
-use Rattle.tool_law.proofs.WorkLines.{Walks, behind-both}
+use Rattle.message_end.proofs.Growing.{behind-both}
+use Rattle.tool_law.proofs.WorkLines.{Walks}
 use Rattle.spool_works.specs.WorkLosses.{storing_at}
 use Rattle.spool_works.proofs.FoundLosses.{length-drop-one, Leaves, each-call}
 use Rattle.spool_ledger.proofs.Keeping.{tests_fit}

@@ -41,7 +41,8 @@ use Rattle.tool_step.specs.Step.{begun}
 use Rattle.tool_reports.proofs.QuietReports.{Holds}
 use Rattle.tool_reports.proofs.Reporting.{IsCourseSo as IsReported, course-so as course-reported}
 use Rattle.tool_spool.proofs.ShelvedTurns.{Shelves}
-use Rattle.tool_law.proofs.WorkLines.{Walks, behind-both, same-lines}
+use Rattle.message_end.proofs.Growing.{behind-both}
+use Rattle.tool_law.proofs.WorkLines.{Walks, same-lines}
 use Rattle.message_end.proofs.Parts.{OnEither}
 use Rattle.tool_spool.proofs.TakenTurns.{full-so}
 use Rattle.tool_spool.proofs.KeptStarts.{rebased, begun-both, IsBegunSo, begun-so, IsDone, IsKeptFile, step-both, first-run, first-bound, Finds, finds-all, started-shelves}

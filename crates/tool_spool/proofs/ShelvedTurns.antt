@@ -34,17 +34,12 @@ use Rattle.tool_spool.proofs.CalmTurns.{IsCalmBehind, IsCalmRun, done-run, ready
 use Rattle.tool_spool.proofs.KeptLedger.{IsKeptBy, IsPutWell, all-kept, all-out-unload, nothing-kept, stored-kept, stored-unload}
 use Rattle.tool_spool.proofs.Shelved.{IsShelved}
 use Rattle.message_end.proofs.Parts.{OnEither, either-less}
+use Rattle.message_end.proofs.Growing.{behind-both}
 use Rattle.tool_law.proofs.CoreSteps.{CoreStep}
 use Rattle.tool_law.proofs.WorkLines.{AreLines, lines-as}
 use Rattle.tool_spool.proofs.UnloadOpen.{IsOpen, Moves, moves-both, open-less, open-moved, unloads_in}
 
 -- ---- lines of the ledger
-
-pub lines-behind :
-    (notes lines before : List Happening)
-    → noted_behind (notes ++ lines) before ≡ noted_behind lines (noted_behind notes before)
-lines-behind [] lines before = refl
-lines-behind (what ∷ notes) lines before = lines-behind notes lines (what ∷ before)
 
 abbrev pub with_lines : List Happening → CoreStep → CoreStep
 with_lines lines step = record step { notes = step.notes ++ lines }
@@ -201,7 +196,7 @@ module _ (plan : EquipmentPlan) (slots : ℕ) (list : List Put) (base before : L
   booked-keeps own next lines step kept under holds =
       subst (Ends (with_ledger next own)) (sym (lines-carried lines step))
       (subst (λ (notes : List Happening). Shelves (with_ledger next own) step.next notes)
-      (sym (lines-behind step.notes lines before))
+      (sym (behind-both step.notes lines before))
       (record {
         is = kept.is;
         all = kept.all ∙ holds.all;
@@ -248,7 +243,7 @@ module _ (plan : EquipmentPlan) (slots : ℕ) (list : List Put) (base before : L
           → IsKeptBy plan slots list base v notes (stores_all (overwrites tables) messages booked.next).next
           (booked.lines ++ (stores_all (overwrites tables) messages booked.next).lines)
       both booked first second =
-          let same = lines-behind booked.lines (stores_all (overwrites tables) messages booked.next).lines notes in
+          let same = behind-both booked.lines (stores_all (overwrites tables) messages booked.next).lines notes in
           record {
             is = second.is;
             all = second.all ∙ first.all;

@@ -1,5 +1,5 @@
 -- What the messages of the host and the commands of the tool keep of the spool as it is noted.
-use Rattle.std.proofs.Common.{◌≡◌, refl, sym, ap, subst, ◌∙◌, inl, arith, ◌==◌, ◌&&◌, not, Bool, true, false, ℕ, List, [], ◌∷◌, Option, Some, None, cond, if◌then◌else◌}
+use Rattle.std.proofs.Common.{◌≡◌, refl, sym, ap, subst, ◌∙◌, inl, arith, ◌==◌, ◌&&◌, not, Bool, true, false, ℕ, List, [], ◌∷◌, Option, Some, None, if◌then◌else◌}
 use Rattle.std.proofs.lemmas.Bool.{eqb-true}
 use Rattle.std.proofs.lemmas.Bool.Decides.{nat_tests}
 use Rattle.std.specs.List.{find}
@@ -31,6 +31,7 @@ use Rattle.message_end.specs.Core.{EndView, answers, at_first, is_crowded_out, n
 use Rattle.message_end.specs.Core.Command.{Answer, Note}
 use Rattle.message_end.specs.Own.{Has}
 use Rattle.message_end.specs.Parts.{core_after}
+use Rattle.message_end.proofs.Members.{found-in}
 use Rattle.spool_law.specs.Shelf.{IsConfirmed, IsPurge, received_since, shelf_of}
 use Rattle.spool_ledger.specs.Activity.{rsda_of}
 use Rattle.spool_ledger.specs.Laws.{Call}
@@ -70,15 +71,6 @@ use Rattle.tool_spool.proofs.TakenTurns.{confirm-keeps, full-so, unload-keeps}
 use Rattle.tool_spool.proofs.UnloadOpen.{IsOpen, asks_grant, found-open, last-tried, none-behind, unloads_in}
 
 -- ---- what is answered
-
-passes : {X : Type 0} (test : X → Bool) (xs : List X) (x : X) → find test xs ≡ Some x → test x ≡ true
-passes test [] x is = absurd (cc)
-passes {X} test (y ∷ ys) x is = go (test y) refl is (passes test ys x)
-  where
-    go : (b : Bool) → test y ≡ b → cond b (Some y) (find test ys) ≡ Some x → (find test ys ≡ Some x → test x ≡ true)
-        → test x ≡ true
-    go true e f next = let same : y ≡ x = cc in ap test (sym same) ∙ e
-    go false e f next = next f
 
 -- a reply has the system bytes of its primary
 answers-system : (primary secondary : Header) → matches primary secondary ≡ true → secondary.system ≡ primary.system
@@ -226,7 +218,7 @@ module _ (plan : EquipmentPlan) (slots : ℕ) (list : List Put) (base before : L
             system =
                 system
                 ∙ answers-system begun.header header
-                (passes (is_answered_by header) step.next.transactions.begun begun is);
+                (found-in (is_answered_by header) step.next.transactions.begun begun is).1;
           }
 
           matched : (aborts : Bool)

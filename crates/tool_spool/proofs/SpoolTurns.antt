@@ -54,7 +54,8 @@ use Rattle.tool_spool.proofs.KeptLedger.{IsKeptBy, IsPutWell}
 use Rattle.tool_spool.proofs.KeptUnload.{activated-kept, activated-unload}
 use Rattle.tool_law.proofs.Drawing.{Any, both-free, duties-go, free-goes, goes-either}
 use Rattle.tool_law.proofs.DrawnTurns.{comms-lines-free, noted-free, open-free}
-use Rattle.tool_spool.proofs.ShelvedTurns.{ArePutWell, Ends, IsSpentAt, Shelves, booked-keeps, calm-keeps, like-it, lines-behind, lines-carried, once, put-keeps, run-keeps, same-under, spent-at, stores-kept, stores-unload}
+use Rattle.message_end.proofs.Growing.{behind-both}
+use Rattle.tool_spool.proofs.ShelvedTurns.{ArePutWell, Ends, IsSpentAt, Shelves, booked-keeps, calm-keeps, like-it, lines-carried, once, put-keeps, run-keeps, same-under, spent-at, stores-kept, stores-unload}
 use Rattle.message_end.proofs.Parts.{OnEither, either-then, either-less}
 use Rattle.tool_law.proofs.CoreSteps.{CoreStep}
 use Rattle.tool_spool.proofs.TakenTurns.{end-keeps}
@@ -275,7 +276,7 @@ module _ (plan : EquipmentPlan) (slots : ℕ) (list : List Put) (base before : L
             subst (Ends plan slots list base before (with_ledger next own)) (lines-carried lines step)
             (booked-keeps plan slots list base before own next lines step kept
             (same-under plan slots list base before own next step.next (so_far step) same holds.shelves) holds.shelves);
-        at = ap (tables_in plan) (lines-behind step.notes lines before) ∙ kept.tables ∙ holds.at;
+        at = ap (tables_in plan) (behind-both step.notes lines before) ∙ kept.tables ∙ holds.at;
       })
 
   stores-at :
