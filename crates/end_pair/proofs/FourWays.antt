@@ -8,7 +8,7 @@ use Rattle.line_schedule.specs.declared.event.Event.TheVariants as event
 use Rattle.line_way.specs.Ways.{Ways, characters_of, is_under_way, next_byte}
 use Rattle.message_end.specs.Core.{Step, Went}
 use Rattle.message_end.specs.Core.Went.{Goes, Spent}
-use Rattle.message_end.specs.Ends.{Input, Loss, Machine, call_of}
+use Rattle.message_end.specs.Ends.{Input, Loss, Machine, call_of, wrote}
 use Rattle.message_end.specs.Ends.Input.{Char, Command, Time}
 use Rattle.trace_log.specs.Laws.{log_with}
 use Rattle.trace_log.specs.Log.{Entry, Happening}
@@ -20,7 +20,7 @@ use Rattle.end_pair.specs.declared.answers.WorldStep.{WorldStep}
 use Rattle.end_pair.specs.declared.answers.WorldStep.TheVariants as answer
 use Rattle.end_pair.specs.Laws.{AreNotes, AreNotesBefore, EndsOneWay, IsEnd, IsSlip, OnNewest}
 use Rattle.end_pair.specs.Run.{closing, piece_of, whole_log}
-use Rattle.end_pair.specs.Steps.{Stepped, entries_of, made, made_by, slipped, slips, stepped, stopped_for, wrote}
+use Rattle.end_pair.specs.Steps.{Stepped, entries_of, made, made_by, slipped, slips, stepped, stopped_for}
 use Rattle.end_pair.specs.World.{Piece, World, after_event, after_events, again, and_more, and_on, armed, at_start, begun, both_stepped, darkened, ended_by, equipment_stepped, given, given_next, given_times, happened, host_stepped, later, met, most_steps, settled, settled_times, started_anew, still, turned_out, way_to, with_equipment, with_host, without}
 use Rattle.end_pair.proofs.Powered.{IsPoweredPiece, run-powered}
 

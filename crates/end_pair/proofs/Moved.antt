@@ -22,7 +22,7 @@ use Rattle.message_end.specs.Core.Went.{Goes, Spent}
 use Rattle.message_end.specs.Doings.{AreLawful, Doing, IsLawful, line_of, own_of}
 use Rattle.message_end.specs.Doings.Doing.{Calls, Does, Gives, Says}
 use Rattle.message_end.specs.Drops.{AreDroppedAt}
-use Rattle.message_end.specs.Ends.{AreBegunOf, AreOfStep, DoesMore, DoesStep, HasRestarted, Input, KeepsLaw, Machine, MayTake, OnStart, taking_calls}
+use Rattle.message_end.specs.Ends.{AreBegunOf, AreOfStep, DoesMore, DoesStep, HasRestarted, Input, KeepsLaw, Machine, MayTake, OnStart, taking_calls, wrote}
 use Rattle.message_end.specs.Ends.Input.{Char, Command, Time}
 use Rattle.message_end.specs.History.{noted_in, notes_of_own, written_in}
 use Rattle.message_end.specs.Log.{log_of, noted_of_own, with_note}
@@ -39,7 +39,7 @@ use Rattle.trace_log.specs.Log.Entry.{Noted}
 use Rattle.trace_log.specs.Log.Happening.{Received, Sent, Wrote}
 use Rattle.end_pair.specs.declared.answers.WorldStep.TheVariants as answer
 use Rattle.end_pair.specs.Laws.{AreNoNotes}
-use Rattle.end_pair.specs.Steps.{Stepped, entries_of, gives, made, slip_of, slipped, slips, wrote}
+use Rattle.end_pair.specs.Steps.{Stepped, entries_of, gives, made, slip_of, slipped, slips}
 use Rattle.end_pair.proofs.ByteWays.{AreByteWays, bytes-after}
 use Rattle.end_pair.proofs.Bytes.{AreBytes, are-written, behind}
 use Rattle.end_pair.proofs.Doing.{AreDone, AreOnWay, IsNext, NoSlipIn, are-done, call_deed, deeds_by, deeds_with, line-after, no-slip, no-slip-first, on-way-first, seen-after, step-deeds, step-no-slip, step-on-way}

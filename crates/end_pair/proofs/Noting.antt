@@ -12,7 +12,7 @@ use Rattle.message_end.specs.Core.Went.{Goes, Spent}
 use Rattle.message_end.specs.Course.{Course, Meeting, broken_at, course_of, filled_at, noted_behind, notes_of, went_on, with_meeting}
 use Rattle.message_end.specs.Course.Course.{Reached}
 use Rattle.message_end.specs.Course.Meeting.{Acts, Breaks, Fills, LosesPower, Restarts, Writes}
-use Rattle.message_end.specs.Ends.{Input, Loss, Machine, call_of}
+use Rattle.message_end.specs.Ends.{Input, Loss, Machine, call_of, wrote}
 use Rattle.message_end.specs.Ends.Input.{Char, Command, Time}
 use Rattle.message_end.proofs.Growing.{behind-both}
 use Rattle.trace_log.specs.Laws.{log_with}
@@ -25,7 +25,7 @@ use Rattle.end_pair.specs.declared.answers.WorldStep.{WorldStep}
 use Rattle.end_pair.specs.declared.answers.WorldStep.TheVariants as answer
 use Rattle.end_pair.specs.Noted.{AreOfCourses, noted_by}
 use Rattle.end_pair.specs.Run.{closing, log_of, piece_of}
-use Rattle.end_pair.specs.Steps.{Stepped, entries_of, made, made_by, slipped, slips, stepped, stopped_at, wrote}
+use Rattle.end_pair.specs.Steps.{Stepped, entries_of, made, made_by, slipped, slips, stepped, stopped_at}
 use Rattle.end_pair.specs.World.{Piece, World, added_to, after_event, after_events, again, and_more, and_on, armed, at_start, begun, both_stepped, changed_at, darkened, ended_by, equipment_stepped, given, given_next, given_times, happened, host_stepped, later, lost_from, met, most_steps, settled, settled_times, started_anew, still, turned_out, way_to, with_equipment, with_host, without}
 use Rattle.end_pair.proofs.Causes.{never-on}
 use Rattle.end_pair.proofs.Powered.{run-powered, unplanned}

@@ -8,7 +8,7 @@ use Rattle.line_way.specs.Kept.{direction_to, makes_slip_in}
 use Rattle.line_way.specs.Ways.{Ways}
 use Rattle.message_end.specs.Core.{Went}
 use Rattle.message_end.specs.Core.Went.{Goes, Spent}
-use Rattle.message_end.specs.Ends.{HasGone, HasLost, Input, IsNearer, Loss, Machine, call_of, printed}
+use Rattle.message_end.specs.Ends.{HasGone, HasLost, Input, IsNearer, Loss, Machine, call_of, printed, wrote}
 use Rattle.message_flow.specs.declared.step.Note.{Note}
 use Rattle.message_flow.specs.declared.step.StepOut.{StepOut}
 use Rattle.trace_log.specs.Laws.{NotesAreLines}
@@ -17,7 +17,7 @@ use Rattle.trace_log.specs.Text.{note_line, text_of}
 use Rattle.end_pair.specs.declared.answers.WorldStep.{WorldStep}
 use Rattle.end_pair.specs.declared.answers.WorldStep.TheVariants as answer
 use Rattle.end_pair.specs.Kept.{IfLeft, IfWent, PutPart, Puts}
-use Rattle.end_pair.specs.Steps.{Stepped, entries_of, gives, made, made_by, slipped, slips, stepped, stopped_at, stopped_for, wrote}
+use Rattle.end_pair.specs.Steps.{Stepped, entries_of, gives, made, made_by, slipped, slips, stepped, stopped_at, stopped_for}
 use Rattle.end_pair.proofs.Causes.{never-on}
 use Rattle.end_pair.proofs.Pieces.{put_all}
 use Rattle.end_pair.proofs.Texts.{noted_text, step_text}

@@ -7,12 +7,12 @@ use Rattle.std.proofs.lemmas.List.Elements.{filter_map-append}
 use Rattle.gl_base.specs.declared.side.Side.{Side}
 use Rattle.gl_base.specs.declared.side.Side.TheVariants.{Equipment, Host}
 use Rattle.message_flow.specs.declared.step.Note.{Note}
-use Rattle.message_end.specs.Ends.{printed}
+use Rattle.message_end.specs.Ends.{printed, wrote}
 use Rattle.trace_log.specs.Laws.{NotesAreLines, log_with}
 use Rattle.trace_log.specs.Log.{Happening}
 use Rattle.trace_log.specs.Text.{note_line, printed_note, text_of}
 use Rattle.end_pair.specs.Kept.{PutPart}
-use Rattle.end_pair.specs.Steps.{entries_of, wrote}
+use Rattle.end_pair.specs.Steps.{entries_of}
 use Rattle.end_pair.proofs.Moved.{log_with-behind}
 use Rattle.message_end.proofs.LogText.{text_of-append}
 

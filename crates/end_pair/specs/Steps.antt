@@ -8,12 +8,11 @@ use Rattle.line_way.specs.Slip.{first_frame}
 use Rattle.line_way.specs.Ways.{Ways, bytes_of, characters_of}
 use Rattle.message_end.specs.Core.{Went}
 use Rattle.message_end.specs.Core.Went.{Goes, Spent}
-use Rattle.message_end.specs.Ends.{Input, Loss, Machine, call_of}
+use Rattle.message_end.specs.Ends.{Input, Loss, Machine, call_of, wrote}
 use Rattle.message_end.specs.Ends.Input.{Char, Command, Time}
 use Rattle.trace_log.specs.Laws.{log_with}
 use Rattle.trace_log.specs.Log.{Entry, Happening}
 use Rattle.trace_log.specs.Log.Entry.{Slipped}
-use Rattle.trace_log.specs.Log.Happening.{Wrote}
 use Rattle.end_pair.specs.declared.answers.WorldStep.{WorldStep}
 use Rattle.end_pair.specs.declared.answers.WorldStep.TheVariants as answer
 
@@ -44,11 +43,6 @@ abbrev pub slip_of : Side → ℕ → Ways → Entry
 slip_of side now ways =
     let characters = characters_of (gathered_with_next (direction_to side ways)) in
     Slipped now side (first_frame characters) (bytes_of characters)
-
--- the characters that a step has written are noted last, where there are any
-abbrev pub wrote : List ℕ → List Happening
-wrote [] = []
-wrote (byte ∷ bytes) = Wrote (byte ∷ bytes) ∷ []
 
 -- what a step has noted, as entries
 abbrev pub entries_of : Side → ℕ → List Happening → List Entry

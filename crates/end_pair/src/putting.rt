@@ -2,15 +2,15 @@
 
 ghost use Rattle.std.specs.Prelude.{◌≡◌, ◌++◌, OnErr, OnOk};
 ghost use Rattle.std.specs.List.{flat_map};
-ghost use Rattle.message_end.specs.Ends.{printed};
+ghost use Rattle.message_end.specs.Ends.{printed, wrote};
 ghost use Rattle.trace_log.specs.Text.{note_line};
 ghost use Rattle.end_pair.specs.Kept.{PutPart};
-ghost use Rattle.end_pair.specs.Steps.{wrote};
 
 use gl_base::{NoMemory, Row, Side};
+use message_end::put_wrote;
 use message_flow::{Note, StepOut};
 use std::alloc::Global;
-use trace_log::{put_note, wrote_note};
+use trace_log::put_note;
 
 /// Puts the lines of a step's notes, and that of the characters that it has written.
 pub(crate) fn put_step(
@@ -48,22 +48,4 @@ pub(crate) fn put_notes(
         put_note(now, side, note, lines)?;
     }
     Ok(())
-}
-
-// Puts the line of the characters that a step has written, where there are any.
-fn put_wrote(
-    alloc: Global,
-    now: u64,
-    side: Side,
-    written: &[u8],
-    lines: &mut Row<u8>,
-) -> Result<(), NoMemory>
-    ensures ok { OnOk result (lines.new ≡ lines.old ++ flat_map (note_line now side) (printed (wrote written.now))) }
-    ensures err { OnErr result (lines.new ≡ lines.old) }
-{
-    if written.is_empty() {
-        return Ok(());
-    }
-    let note = wrote_note(alloc, written)?;
-    put_note(now, side, &note, lines)
 }

@@ -16,7 +16,7 @@ use Rattle.message_end.specs.declared.end.Stop.{Stop}
 use Rattle.message_end.specs.declared.end.Stop.TheVariants as stop
 use Rattle.message_end.specs.Core.{Step, Went, step_in}
 use Rattle.message_end.specs.Core.Went.{Goes, Spent}
-use Rattle.message_end.specs.Ends.{Asked, Input, HasGone, HasSpent, HasStopped, IsFront, IsLeft as LeavesRoom, IsShort, asked_both, none_asked, printed}
+use Rattle.message_end.specs.Ends.{Asked, Input, HasGone, HasSpent, HasStopped, IsFront, IsLeft as LeavesRoom, IsShort, asked_both, none_asked, printed, wrote}
 use Rattle.message_end.proofs.Members.{has-map}
 use Rattle.message_flow.specs.declared.step.Note.{Note}
 use Rattle.message_flow.specs.declared.step.StepOut.{StepOut}
@@ -31,7 +31,7 @@ use Rattle.end_run.specs.Acts.Act.{Sends, Stands, Writes}
 use Rattle.end_run.specs.Calls.{EndsWith, IsExact, PutsAsCan}
 use Rattle.end_run.specs.Outcome.{Comes, Did, DiskFails, Does, IsSpent, Linked, Lists, Made, MadePart, PutsLast, Runs, WriteFails}
 use Rattle.end_run.specs.Scenes.{Scene, StopAt, written}
-use Rattle.end_run.specs.Steps.{entries_at, made, sends, stands, wrote}
+use Rattle.end_run.specs.Steps.{entries_at, made, sends, stands}
 use Rattle.end_run.proofs.Doing.{does_behind}
 use Rattle.end_run.proofs.Joining.{carried_none, did_none, did_step, goes_none, lists_still, made_both, made_none, made_step, room_none, with_end}
 

@@ -4,11 +4,10 @@ use Rattle.gl_base.specs.declared.side.Side.{Side}
 use Rattle.line_schedule.specs.declared.script.ScriptStep.{ScriptStep}
 use Rattle.message_end.specs.Core.{Step, Went}
 use Rattle.message_end.specs.Core.Went.{Goes, Spent}
-use Rattle.message_end.specs.Ends.{Asked, Input, Machine}
+use Rattle.message_end.specs.Ends.{Asked, Input, Machine, wrote}
 use Rattle.message_end.specs.Ends.Input.{Command}
 use Rattle.trace_log.specs.Laws.{log_with}
 use Rattle.trace_log.specs.Log.{Entry, Happening}
-use Rattle.trace_log.specs.Log.Happening.{Wrote}
 use Rattle.end_run.specs.declared.ending.Ending.TheVariants as ending
 use Rattle.end_run.specs.Acts.{Act, StepAt}
 use Rattle.end_run.specs.Acts.Act.{Connects, Sends, Stands, Writes}
@@ -19,11 +18,6 @@ use Rattle.end_run.specs.Script.Telling.{IsOther, Stops, Tells}
 -- what was noted at a moment, as entries
 abbrev pub entries_at : Side → ℕ → List Happening → List Entry
 entries_at side now noted = log_with now side noted []
-
--- the characters that a step has written are noted last, where there are any
-abbrev pub wrote : List ℕ → List Happening
-wrote [] = []
-wrote (byte ∷ bytes) = Wrote (byte ∷ bytes) ∷ []
 
 -- and are sent
 abbrev pub sends : {S C : Type 0} → List ℕ → List (Act S C)

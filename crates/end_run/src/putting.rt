@@ -1,15 +1,15 @@
 //! The lines of a step.
 
-ghost use Rattle.std.specs.Prelude.{◌≡◌, ◌++◌, IfOk, OnOk};
+ghost use Rattle.std.specs.Prelude.{◌≡◌, ◌++◌, IfOk};
 ghost use Rattle.std.specs.List.{flat_map};
-ghost use Rattle.message_end.specs.Ends.{printed};
+ghost use Rattle.message_end.specs.Ends.{printed, wrote};
 ghost use Rattle.trace_log.specs.Text.{note_line};
-ghost use Rattle.end_run.specs.Steps.{wrote};
 
 use gl_base::{NoMemory, Row, Side};
+use message_end::put_wrote;
 use message_flow::{Note, StepOut};
 use std::alloc::Global;
-use trace_log::{put_note, wrote_note};
+use trace_log::put_note;
 
 /// The lines of a step's notes, and behind them that of the characters that it has written.
 pub(crate) fn lines_of_step(
@@ -41,21 +41,4 @@ pub(crate) fn lines_of_notes(
         put_note(now, side, note, &mut lines)?;
     }
     Ok(lines)
-}
-
-// Puts the line of the characters that a step has written, where there are any.
-fn put_wrote(
-    alloc: Global,
-    now: u64,
-    side: Side,
-    written: &[u8],
-    lines: &mut Row<u8>,
-) -> Result<(), NoMemory>
-    ensures { OnOk result (lines.new ≡ lines.old ++ flat_map (note_line now side) (printed (wrote written.now))) }
-{
-    if written.is_empty() {
-        return Ok(());
-    }
-    let note = wrote_note(alloc, written)?;
-    put_note(now, side, &note, lines)
 }

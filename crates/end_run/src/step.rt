@@ -4,7 +4,7 @@ ghost use Rattle.std.specs.Prelude.{◌≡◌, ℕ, ◌<◌, ◌^◌, ◌++◌, 
 ghost use Rattle.std.specs.List.{flat_map};
 ghost use Rattle.gl_base.specs.Sink.{SinkHealth};
 ghost use Rattle.gl_base.specs.Told.{sink_told};
-ghost use Rattle.message_end.specs.Ends.{Asked, MayTake, input_of, printed};
+ghost use Rattle.message_end.specs.Ends.{Asked, MayTake, input_of, printed, wrote};
 ghost use Rattle.trace_log.specs.Log.{Entry};
 ghost use Rattle.trace_log.specs.Text.{note_line, text_of};
 ghost use Rattle.end_run.specs.Acts.Act.{Writes};
@@ -13,7 +13,7 @@ ghost use Rattle.end_run.specs.Calls.{EndsWith, IsExact, IsPlainInput, PutsAsCan
 ghost use Rattle.end_run.specs.Counts.{Counts, Device, counted, counted_by};
 ghost use Rattle.end_run.specs.Outcome.{Comes, Does};
 ghost use Rattle.end_run.specs.Scenes.{StopAt, beside, scene};
-ghost use Rattle.end_run.specs.Steps.{sends, stepped, wrote};
+ghost use Rattle.end_run.specs.Steps.{sends, stepped};
 
 use crate::ending::Ending;
 use crate::linked_end::LinkedEnd;

@@ -66,6 +66,11 @@ pub record Machine (S C : Type 0) : Type 0 where
   pub losses : S → Input C → ℕ → List (Loss S)
   pub start_calls : S → ℕ
 
+-- the characters that a step has written are noted last, where there are any
+abbrev pub wrote : List ℕ → List Happening
+wrote [] = []
+wrote (byte ∷ bytes) = Wrote (byte ∷ bytes) ∷ []
+
 -- the most calls of an end's disk since its file was made, or power was lost (this profile)
 abbrev pub most_calls : ℕ
 most_calls = 65536

@@ -2,11 +2,10 @@
 
 use Rattle.std.proofs.Common.{List, subst}
 use Rattle.std.specs.List.{flat_map}
-use Rattle.message_end.specs.Ends.{printed}
+use Rattle.message_end.specs.Ends.{printed, wrote}
 use Rattle.message_flow.specs.declared.step.Note.{Note}
 use Rattle.trace_log.specs.Text.{note_line}
 use Rattle.end_pair.specs.Kept.{PutPart}
-use Rattle.end_pair.specs.Steps.{wrote}
 use Rattle.end_pair.proofs.Pieces.{put_before}
 use Rattle.end_pair.proofs.Texts.{on_err}
 use Rattle.end_pair.proofs.putting.put_step.Goals as goal
