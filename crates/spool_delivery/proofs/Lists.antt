@@ -1,5 +1,5 @@
 -- Members of lists, and lists whose keys rise.
-use Rattle.std.specs.Prelude.{◌≡◌, ◌<◌, ◌⊎◌, zero, suc, ℕ, Bool, true, false, List, [], ◌∷◌, ◌++◌, cond, filter, map, take, drop, refl}
+use Rattle.std.specs.Prelude.{◌≡◌, ◌<◌, ◌⊎◌, zero, suc, ℕ, Bool, true, false, List, [], ◌∷◌, ◌++◌, cond, filter, take, drop, refl}
 use Rattle.std.proofs.Common.{sym, ap, ◌∙◌, subst, inl, inr}
 use Rattle.message_end.specs.Own.{Has}
 use Rattle.message_end.proofs.Members.{has-back, has-either}
