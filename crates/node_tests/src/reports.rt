@@ -272,7 +272,7 @@ fn an_event_is_reported(rt: HostRuntime) -> Result<(), Fail> {
 }
 
 #[test]
-fn a_long_report_goes_by_leave(rt: HostRuntime) -> Result<(), Fail> {
+fn a_long_report_goes_by_grant(rt: HostRuntime) -> Result<(), Fail> {
     assert!(rt;
         runs(
             rt.alloc(),
@@ -328,7 +328,7 @@ fn the_host_is_told_of_t3(rt: HostRuntime) -> Result<(), Fail> {
 }
 
 #[test]
-fn bad_replies_are_no_leave(rt: HostRuntime) -> Result<(), Fail> {
+fn bad_replies_are_no_grant(rt: HostRuntime) -> Result<(), Fail> {
     assert!(rt;
         runs(
             rt.alloc(),

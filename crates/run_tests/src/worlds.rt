@@ -130,7 +130,7 @@ static ESTABLISHED: Case = (
         0 end\n",
 );
 
-/// Nothing befalls them, so the equipment waits for leave to send.
+/// Nothing befalls them, so the equipment waits for an answer to its ENQ.
 static NOTHING: Case = (
     b"",
     RunEnd::Whole,
