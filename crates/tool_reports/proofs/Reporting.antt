@@ -33,6 +33,7 @@ use Rattle.tool_law.proofs.LawfulLosses.{LeavesWell, all-well}
 use Rattle.tool_step.proofs.LossCalls.{IsAtCall, at-call, losses-counted}
 use Rattle.spool_works.proofs.LossCounts.{has-call}
 use Rattle.tool_step.specs.Losses.{losses}
+use Rattle.tool_reports.specs.LookedBack.{HasSetSoFar, HasWhatWasSet, SetsInSteps}
 use Rattle.tool_reports.specs.Reported.{Reported}
 use Rattle.tool_law.specs.Sound.{AllCanBeSent, CanBeSent}
 use Rattle.tool_law.proofs.SpoolSound.{new-good}
@@ -320,3 +321,35 @@ module _ (plan : EquipmentPlan) (fits : EquipmentPlanFits plan) (looked : Tables
         done = so.holds.settled.none_due;
       }
       go (Stopped notes) so = record { reported = so.reported; counted = tt; done = so.none_due }
+
+  pub tables-so :
+      (slots : ℕ) (list : List Kept) (mark : ℕ) → AllCanBeSent list → (meetings : List (Meeting ToolCommand))
+      → HasWhatWasSet plan (course_of (started_on plan slots list mark) machine meetings)
+  tables-so slots list mark can meetings =
+      go (course_of (started_on plan slots list mark) machine meetings) (course-so slots list mark can meetings)
+    where
+      go : (course : Course EquipmentView) → IsCourseSo (commands_met (started_on plan slots list mark) meetings) course
+          → HasWhatWasSet plan course
+      go (Reached s notes) so = so.holds.tables_are
+      go (Stopped notes) so = tt
+
+  -- also within a step
+  pub steps-so :
+      (slots : ℕ) (list : List Kept) (mark : ℕ) → AllCanBeSent list → (meetings : List (Meeting ToolCommand))
+      → SetsInSteps plan (course_of (started_on plan slots list mark) machine meetings)
+  steps-so slots list mark can meetings =
+      go (course_of (started_on plan slots list mark) machine meetings) (course-so slots list mark can meetings)
+    where
+      said : List ToolCommand
+      said = commands_met (started_on plan slots list mark) meetings
+
+      so-far : (all : List ToolCommand) (notes : List Happening) (went : Went EquipmentView Happening)
+          → FileEnds all notes went → HasSetSoFar plan notes went
+      so-far all notes (Goes step) at = at.tables_are
+      so-far all notes (Spent step) at = tt
+
+      go : (course : Course EquipmentView) → IsCourseSo said course → SetsInSteps plan course
+      go (Reached s notes) so = λ input now.
+          so-far (with_command input said) notes (begun_step s input now)
+          (begun-keeps said notes input now s so.holds)
+      go (Stopped notes) so = tt

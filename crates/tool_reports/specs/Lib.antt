@@ -1,4 +1,6 @@
 pub mod Histories
 pub mod Laws
+pub mod LookedBack
 pub mod Reported
 pub mod WorkedReports
+pub mod WorkedSettings

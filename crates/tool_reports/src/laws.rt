@@ -1,7 +1,9 @@
 //! What holds of the reports of the equipment.
 
 ghost use Rattle.tool_reports.specs.Laws.{ReportsAreOfTheirEvents};
+ghost use Rattle.tool_reports.specs.LookedBack.{StepsHaveWhatWasSet, TablesAreWhatWasSet};
 ghost use Rattle.tool_reports.specs.WorkedReports.{LaterSettingsAreNotReported};
+ghost use Rattle.tool_reports.specs.WorkedSettings.{AlarmsStayEnabled};
 
 use equipment_tables::tables_are_looked_back_for;
 
@@ -21,4 +23,21 @@ pub fn reports_are_of_their_events()
 /// out.
 pub fn later_settings_are_not_reported()
     ensures { LaterSettingsAreNotReported }
+{}
+
+/// Between any two steps, over all starts, each table of the equipment has what was set last of it in this start, as it
+/// is looked back for in the history of the law above, and else what the plan says; and so it has within a step, behind
+/// what that is given. Nothing else changes a table: no state of communication or control, no time, no loss of the
+/// line.
+pub fn tables_are_what_was_set()
+    ensures between { TablesAreWhatWasSet }
+    ensures within { StepsHaveWhatWasSet }
+{
+    tables_are_looked_back_for();
+}
+
+/// An example of what is said of the tables: an alarm that the host has enabled is enabled still behind a `disable`,
+/// and an equipment that forgets it doesn't keep the law.
+pub fn worked_settings()
+    ensures { AlarmsStayEnabled }
 {}

@@ -1,0 +1,50 @@
+-- That the equipment's tables are what its history makes of the plan's.
+use Rattle.std.specs.Prelude.{◌≡◌, ℕ, List}
+use Rattle.spool_slots.specs.Slot.{Message}
+use Rattle.trace_log.specs.declared.commands.ToolCommand.{ToolCommand}
+use Rattle.message_end.specs.Core.{Went}
+use Rattle.message_end.specs.Core.Went.{Goes, Spent}
+use Rattle.message_end.specs.Course.{Course, Meeting, course_of, noted_behind}
+use Rattle.message_end.specs.Course.Course.{Reached, Stopped}
+use Rattle.message_end.specs.Ends.{Input}
+use Rattle.trace_log.specs.Log.{Happening}
+use Rattle.equipment_tables.specs.declared.plan.EquipmentPlan.{EquipmentPlan}
+use Rattle.equipment_tables.specs.Plan.{EquipmentPlanFits}
+use Rattle.tool_law.specs.Sound.{AllCanBeSent}
+use Rattle.tool_step.specs.End.{machine}
+use Rattle.tool_step.specs.Equipment.{EquipmentView, begun_step, started_on}
+use Rattle.tool_reports.specs.Reported.{tables_in}
+
+-- as long as the equipment goes on, each variable, constant, report, event and alarm, and what is spooled, has what was
+-- set last of it in this start, by all that the tool has commanded and the host has asked for, and else what the plan
+-- says (SEMI E30)
+abbrev pub HasWhatWasSet : EquipmentPlan → Course EquipmentView → Type 0
+HasWhatWasSet plan (Reached s notes) = s.node.own.tables ≡ tables_in plan notes
+HasWhatWasSet plan (Stopped notes) = Unit {0}
+
+-- so it has between any two steps, whatever it meets over all its starts, over a spool with whatever messages that can
+-- be sent
+abbrev pub TablesAreWhatWasSet : Type 0
+TablesAreWhatWasSet =
+    (plan : EquipmentPlan) (slots : ℕ) (list : List Message) (mark : ℕ) → EquipmentPlanFits plan → AllCanBeSent list
+    → (meetings : List (Meeting ToolCommand))
+    → HasWhatWasSet plan (course_of (started_on plan slots list mark) machine meetings)
+
+-- behind all that is due and given in a step, before its disk is asked: by all that was noted so far
+abbrev pub HasSetSoFar : EquipmentPlan → List Happening → Went EquipmentView Happening → Type 0
+HasSetSoFar plan notes (Goes step) = step.next.node.own.tables ≡ tables_in plan (noted_behind step.notes notes)
+HasSetSoFar plan notes (Spent step) = Unit {0}
+
+abbrev pub SetsInSteps : EquipmentPlan → Course EquipmentView → Type 0
+SetsInSteps plan (Reached s notes) =
+    (input : Input ToolCommand) (now : ℕ) → HasSetSoFar plan notes (begun_step s input now)
+SetsInSteps plan (Stopped notes) = Unit {0}
+
+-- so it has within a step. What is due in it is decided by the tables between two steps, and what goes on behind its
+-- input by these; its input alone changes them, and is answered by the former, with its own setting. So each answer,
+-- each S5F1, the delay and what becomes of the spool are of what was set last
+abbrev pub StepsHaveWhatWasSet : Type 0
+StepsHaveWhatWasSet =
+    (plan : EquipmentPlan) (slots : ℕ) (list : List Message) (mark : ℕ) → EquipmentPlanFits plan → AllCanBeSent list
+    → (meetings : List (Meeting ToolCommand))
+    → SetsInSteps plan (course_of (started_on plan slots list mark) machine meetings)
