@@ -1,5 +1,5 @@
 -- That the spool is kept, over all starts.
-use Rattle.std.proofs.Common.{◌≡◌, refl, sym, ap, subst, ◌∙◌, arith, ◌<◌, ◌≤◌, ◌+◌, ◌^◌, ◌&&◌, not, Bool, true, false, ℕ, List, [], ◌∷◌, ◌++◌, length, Option, Some, None, if◌then◌else◌}
+use Rattle.std.proofs.Common.{◌≡◌, refl, sym, ap, subst, ◌∙◌, inl, inr, arith, ◌<◌, ◌≤◌, ◌+◌, ◌^◌, ◌&&◌, not, Bool, true, false, ℕ, List, [], ◌∷◌, ◌++◌, length, Option, Some, None, if◌then◌else◌}
 use Rattle.std.proofs.lemmas.List.Elements.{All-nil}
 use Rattle.trace_log.specs.declared.commands.ToolCommand.{ToolCommand}
 use Rattle.trace_log.specs.Log.{Happening}
@@ -11,7 +11,7 @@ use Rattle.message_end.specs.Course.Meeting.{Acts, Breaks, Fills, LosesPower, Re
 use Rattle.message_end.specs.Ends.{Input, IsFront, Loss, call_of}
 use Rattle.message_end.specs.Own.{Has}
 use Rattle.disk_base.specs.declared.cut.CutChoice.{CutChoice}
-use Rattle.spool_law.specs.Shelf.{KeepsSpool, change_of, shelf_of}
+use Rattle.spool_law.specs.Shelf.{change_of, shelf_of}
 use Rattle.spool_law.specs.Shelf.Change.{Other}
 use Rattle.spool_ledger.specs.Ledger.{LedgerView, decided_count, next_of, stood_count}
 use Rattle.spool_ledger.specs.declared.ledger.Stand.{Stand}
@@ -34,9 +34,10 @@ use Rattle.tool_step.proofs.LossCalls.{AtEach, IsAtCall, at-call, losses-counted
 use Rattle.spool_works.proofs.LossCounts.{has-call}
 use Rattle.tool_step.specs.Losses.{losses}
 use Rattle.tool_law.proofs.Lawful.{IsGoodView, begun-stood, fronts-are}
+use Rattle.tool_spool.proofs.FromStarts.{KeepsOn, begins-course, kept-before, kept-empty, kept-from, some-behind, some-kept}
 use Rattle.tool_spool.proofs.Interrupted.{FoundAt, IsFoundAt, StandsWell, WhereGoes, reserve-found, where-as, works-found}
 use Rattle.tool_law.specs.Sound.{CanBeSent}
-use Rattle.tool_spool.specs.SpoolKept.{SpoolIsKept, policy_of}
+use Rattle.tool_spool.specs.SpoolKept.{KeepsSpoolFrom, MayHold, SpoolIsKept, SpoolIsKeptFrom, policy_of}
 use Rattle.tool_step.specs.Step.{begun}
 use Rattle.tool_reports.proofs.QuietReports.{Holds}
 use Rattle.tool_reports.proofs.Reporting.{IsCourseSo as IsReported, course-so as course-reported}
@@ -45,7 +46,7 @@ use Rattle.message_end.proofs.Growing.{behind-both}
 use Rattle.tool_law.proofs.WorkLines.{Walks, same-lines}
 use Rattle.message_end.proofs.Parts.{OnEither}
 use Rattle.tool_spool.proofs.TakenTurns.{full-so}
-use Rattle.tool_spool.proofs.KeptStarts.{rebased, begun-both, IsBegunSo, begun-so, IsDone, IsKeptFile, step-both, first-run, first-bound, Finds, finds-all, started-shelves}
+use Rattle.tool_spool.proofs.KeptStarts.{rebased, begun-both, IsBegunSo, begun-so, IsDone, IsKeptFile, step-both, first-run, first-bound, finds-all, started-shelves}
 
 module _ (plan : EquipmentPlan) (fits : EquipmentPlanFits plan) (looked : TablesAreLookedBackFor) (slots : ℕ) where
   -- ---- over all starts
@@ -56,7 +57,7 @@ module _ (plan : EquipmentPlan) (fits : EquipmentPlanFits plan) (looked : Tables
 
   abbrev pub IsCourseKept : Course EquipmentView → Type 0
   IsCourseKept (Reached s notes) = IsSpoolSo s notes
-  IsCourseKept (Stopped notes) = KeepsSpool (policy_of plan slots) notes
+  IsCourseKept (Stopped notes) = KeepsOn (policy_of plan slots) notes
 
   went-so :
       (said : List ToolCommand) (before : List Happening) (went : Went EquipmentView Happening)
@@ -76,12 +77,12 @@ module _ (plan : EquipmentPlan) (fits : EquipmentPlanFits plan) (looked : Tables
   module _ (some : 0 < slots) (most : slots < 2 ^ 16) where
     started-so :
         (other : EquipmentPlan) (size : ℕ) (list : List Put) (mark : ℕ) (notes : List Happening) → other ≡ plan
-        → size ≡ slots → KeepsSpool (policy_of plan slots) notes → (Finds plan fits looked slots) notes list
+        → size ≡ slots → KeepsOn (policy_of plan slots) (Happening.EquipmentStarted (found_in list) mark ∷ notes)
         → IsRunFrom (first_in list) list → length list ≤ slots
         → first_in list + length list ≤ 2 ^ 63 + 65535
         → IsSpoolSo (started_on other size list mark).next
         (noted_behind (started_on other size list mark).notes notes)
-    started-so other size list mark notes same all kept finds run room bound =
+    started-so other size list mark notes same all kept run room bound =
         subst
         (λ (p : EquipmentPlan).
         IsSpoolSo (started_on p size list mark).next (noted_behind (started_on p size list mark).notes notes))
@@ -92,7 +93,7 @@ module _ (plan : EquipmentPlan) (fits : EquipmentPlanFits plan) (looked : Tables
         (record {
           shelves =
               (started-shelves plan fits looked slots) list mark (Happening.EquipmentStarted (found_in list) mark ∷ notes) notes some most kept
-              finds run room bound;
+              run room bound;
           none = refl;
         }))
 
@@ -112,7 +113,7 @@ module _ (plan : EquipmentPlan) (fits : EquipmentPlanFits plan) (looked : Tables
     lost-so :
         (said : List ToolCommand) (before : List Happening) (input : Input ToolCommand) (now : ℕ) (s : EquipmentView)
         → Holds plan said s.node.own s.node.core.drawn before → IsGoodView plan fits s → IsSpoolSo s before
-        → KeepsSpool (policy_of plan slots) (noted_behind (step_in (begun_step s input now)).notes before)
+        → KeepsOn (policy_of plan slots) (noted_behind (step_in (begun_step s input now)).notes before)
         × AtEach (FoundAt slots before) (standing_in s) [] (step_works s input now)
         (step_in (begun_step s input now)).notes
     lost-so said before input now s holds good so =
@@ -212,21 +213,16 @@ module _ (plan : EquipmentPlan) (fits : EquipmentPlanFits plan) (looked : Tables
         go false =
             works-found slots before v.works went (standing_in s) [] notes so.shelves.all due well walks ended
 
-    -- the notes before keep it as well
-    kept-before : (rest notes : List Happening) → KeepsSpool (policy_of plan slots) (noted_behind rest notes)
-        → KeepsSpool (policy_of plan slots) notes
-    kept-before [] notes kept = kept
-    kept-before (what ∷ rest) notes kept = (kept-before rest (what ∷ notes) kept).1
-
     -- so do those at a call of the disk
     kept-at-call :
         (input : Input ToolCommand) (now : ℕ) (said : List ToolCommand) (s : EquipmentView) (notes : List Happening)
         (loss : Loss EquipmentView) → Has (losses s input now) loss
         → Holds plan said s.node.own s.node.core.drawn notes → IsGoodView plan fits s → IsSpoolSo s notes
-        → KeepsSpool (policy_of plan slots) (noted_behind loss.front notes)
+        → KeepsOn (policy_of plan slots) (noted_behind loss.front notes)
     kept-at-call input now said s notes loss has holds good so =
-        kept-before first.rest (noted_behind loss.front notes)
-        (subst (KeepsSpool (policy_of plan slots))
+        kept-before (policy_of plan slots) first.rest (noted_behind loss.front notes)
+        (some-behind loss.front notes (some-kept (policy_of plan slots) notes so.shelves.shelved.kept))
+        (subst (KeepsOn (policy_of plan slots))
         (ap (λ (ns : List Happening). noted_behind ns notes) first.whole ∙ behind-both loss.front first.rest notes)
         (lost-so said notes input now s holds good so).0)
       where
@@ -259,7 +255,7 @@ module _ (plan : EquipmentPlan) (fits : EquipmentPlanFits plan) (looked : Tables
         has : Has (losses s input now) loss
         has = has-call call (losses s input now) loss is
 
-        lost : KeepsSpool (policy_of plan slots) (noted_behind (step_in (begun_step s input now)).notes notes)
+        lost : KeepsOn (policy_of plan slots) (noted_behind (step_in (begun_step s input now)).notes notes)
             × AtEach (FoundAt slots notes) (standing_in s) [] (step_works s input now)
             (step_in (begun_step s input now)).notes
         lost = lost-so said notes input now s holds good so
@@ -275,7 +271,7 @@ module _ (plan : EquipmentPlan) (fits : EquipmentPlanFits plan) (looked : Tables
         is-found : IsFoundAt slots (shelf_of (noted_behind loss.front notes)) st
         is-found = at.at choice
 
-        kept : KeepsSpool (policy_of plan slots) (noted_behind loss.front notes)
+        kept : KeepsOn (policy_of plan slots) (noted_behind loss.front notes)
         kept = kept-at-call input now said s notes loss has holds good so
 
         below : is-found.well.first + length st.list ≤ 2 ^ 63 + 65535
@@ -291,10 +287,11 @@ module _ (plan : EquipmentPlan) (fits : EquipmentPlanFits plan) (looked : Tables
             (record (started_on s.node.own.plan s.node.own.ledger.slots st.list st.mark).next { mark = st.mark }))
             else Goes (started_on s.node.own.plan s.node.own.ledger.slots st.list st.mark))
             (Happening.Power ∷ noted_behind loss.front notes))
-        go true = (tt, kept)
+        go true = inr (tt, kept)
         go false =
             started-so s.node.own.plan s.node.own.ledger.slots st.list st.mark
-            (Happening.Power ∷ noted_behind loss.front notes) holds.plan_is so.shelves.all (tt, kept) is-found.found
+            (Happening.Power ∷ noted_behind loss.front notes) holds.plan_is so.shelves.all
+            (inr (is-found.found, inr (tt, kept)))
             ((first-run plan fits looked slots) is-found.well.first st.list is-found.well.run) is-found.well.room
             ((first-bound plan fits looked slots) is-found.well.first (2 ^ 63 + 65535) st.list is-found.well.run below)
 
@@ -336,7 +333,10 @@ module _ (plan : EquipmentPlan) (fits : EquipmentPlanFits plan) (looked : Tables
         go true = so.shelves.shelved.kept
         go false =
             started-so s.node.own.plan v.slots s.list s.mark notes reported.holds.plan_is so.shelves.all
-            so.shelves.shelved.kept ((finds-all plan fits looked slots) notes s.list (so.shelves.shelved.stands ∙ ap found_in same))
+            (inr (
+              (finds-all plan fits looked slots) notes s.list (so.shelves.shelved.stands ∙ ap found_in same),
+              so.shelves.shelved.kept,
+            ))
             ((first-run plan fits looked slots) v.first s.list run) room ((first-bound plan fits looked slots) v.first (2 ^ 63 + 65535) s.list run bound)
     meeting-so (Writes characters) said (Reached s notes) reported so =
         noted-so s notes (Happening.Wrote characters) refl so
@@ -347,24 +347,50 @@ module _ (plan : EquipmentPlan) (fits : EquipmentPlanFits plan) (looked : Tables
     meeting-so (Fills input now call) said (Reached s notes) reported so =
         filled-so input now call said s notes (call_of call (losses s input now)) refl reported.holds reported.good so
 
-    course-kept : (meetings : List (Meeting ToolCommand))
-        → IsCourseKept (course_of (started_on plan slots [] 0) machine meetings)
-    course-kept [] =
-        started-so plan slots [] 0 [] refl refl tt ((finds-all plan fits looked slots) [] [] refl) tt (omega arith) (omega arith)
-    course-kept (meeting ∷ meetings) =
-        meeting-so meeting (commands_met (started_on plan slots [] 0) meetings)
-        (course_of (started_on plan slots [] 0) machine meetings)
-        (course-reported plan fits looked slots [] 0 (All-nil (λ (m : Put). CanBeSent (spooled_of m))) meetings)
-        (course-kept meetings)
+    module _ (list : List Put) (mark : ℕ) (may : MayHold slots list) where
+      course-kept : (meetings : List (Meeting ToolCommand))
+          → IsCourseKept (course_of (started_on plan slots list mark) machine meetings)
+      course-kept [] =
+          started-so plan slots list mark [] refl refl
+          (inl (record { found = found_in list; is = refl; alone = refl })) may.run may.room may.bound
+      course-kept (meeting ∷ meetings) =
+          meeting-so meeting (commands_met (started_on plan slots list mark) meetings)
+          (course_of (started_on plan slots list mark) machine meetings)
+          (course-reported plan fits looked slots list mark may.sent meetings) (course-kept meetings)
 
-    pub kept-so : (meetings : List (Meeting ToolCommand))
-        → KeepsSpool (policy_of plan slots) (notes_of (course_of (started_on plan slots [] 0) machine meetings))
-    kept-so meetings = go (course_of (started_on plan slots [] 0) machine meetings) (course-kept meetings)
-      where
-        go : (course : Course EquipmentView) → IsCourseKept course → KeepsSpool (policy_of plan slots) (notes_of course)
-        go (Reached s notes) so = so.shelves.shelved.kept
-        go (Stopped notes) so = so
+      kept-on : (meetings : List (Meeting ToolCommand))
+          → KeepsOn (policy_of plan slots) (notes_of (course_of (started_on plan slots list mark) machine meetings))
+      kept-on meetings = go (course_of (started_on plan slots list mark) machine meetings) (course-kept meetings)
+        where
+          go : (course : Course EquipmentView) → IsCourseKept course
+              → KeepsOn (policy_of plan slots) (notes_of course)
+          go (Reached s notes) so = so.shelves.shelved.kept
+          go (Stopped notes) so = so
 
--- whatever it meets
+      pub kept-so : (meetings : List (Meeting ToolCommand))
+          → KeepsSpoolFrom (policy_of plan slots) (found_in list)
+          (notes_of (course_of (started_on plan slots list mark) machine meetings))
+      kept-so meetings =
+          kept-from (policy_of plan slots) (found_in list) mark
+          (notes_of (course_of (started_on plan slots list mark) machine meetings))
+          (begins-course machine (Happening.EquipmentStarted (found_in list) mark) (started_on plan slots list mark)
+          refl meetings)
+          (kept-on meetings)
+
+-- whatever it meets, over whatever its file holds
+pub spool-is-kept-from : TablesAreLookedBackFor → SpoolIsKeptFrom
+spool-is-kept-from looked plan slots list mark fits some most may meetings =
+    kept-so plan fits looked slots some most list mark may meetings
+
+-- over an empty file
 pub spool-is-kept : TablesAreLookedBackFor → SpoolIsKept
-spool-is-kept looked plan slots fits some most meetings = kept-so plan fits looked slots some most meetings
+spool-is-kept looked plan slots fits some most meetings =
+    kept-empty (policy_of plan slots) (notes_of (course_of (started_on plan slots [] 0) machine meetings))
+    (spool-is-kept-from looked plan slots [] 0 fits some most
+    (record {
+      run = tt;
+      room = omega arith;
+      bound = omega arith;
+      sent = All-nil (λ (m : Put). CanBeSent (spooled_of m));
+    })
+    meetings)

@@ -9,7 +9,7 @@ use Rattle.message_end.specs.Course.{noted_behind}
 use Rattle.message_end.specs.Ends.{Input}
 use Rattle.message_end.specs.Laws.{new_end}
 use Rattle.message_end.specs.Parts.{Node, after_parts}
-use Rattle.spool_law.specs.Shelf.{IsFoundOf, KeepsSpool, shelf_of}
+use Rattle.spool_law.specs.Shelf.{IsFoundOf, shelf_of}
 use Rattle.spool_ledger.specs.Laws.{Call}
 use Rattle.spool_ledger.specs.Ledger.{carried_out, new_ledger}
 use Rattle.spool_slots.specs.Run.{IsRunFrom}
@@ -29,6 +29,7 @@ use Rattle.tool_spool.specs.SpoolKept.{policy_of}
 use Rattle.tool_step.specs.Step.{begun, end_plan, first_parts, last_parts}
 use Rattle.tool_reports.proofs.HeldReports.{Any, Free, any-lasts}
 use Rattle.tool_reports.proofs.QuietReports.{Holds, holds-less}
+use Rattle.tool_spool.proofs.FromStarts.{KeepsOn}
 use Rattle.tool_spool.proofs.KeptLedger.{one-call}
 use Rattle.tool_reports.proofs.PlainTurns.{booked-stays}
 use Rattle.tool_reports.proofs.QuietNotes.{AreSettled}
@@ -167,7 +168,7 @@ module _ (plan : EquipmentPlan) (fits : EquipmentPlanFits plan) (looked : Tables
   -- what was noted goes with the works, each of which finds room, or its message; and where the step goes on the shelf
   -- stands as they make the list
   pub record IsBegunSo (before : List Happening) (went : Went EquipmentView Happening) : Type 0 where
-    pub kept : KeepsSpool (policy_of plan slots) (noted_behind (step_in went).notes before)
+    pub kept : KeepsOn (policy_of plan slots) (noted_behind (step_in went).notes before)
     pub lines :
         AreLines (step_in went).next.node.own.ledger (step_in went).next.list before
         (noted_behind (step_in went).notes before)
@@ -198,7 +199,7 @@ module _ (plan : EquipmentPlan) (fits : EquipmentPlanFits plan) (looked : Tables
     pub none : step.next.node.own.ledger.works ≡ []
 
   abbrev pub IsKeptFile : List Happening → FileStep → Type 0
-  IsKeptFile before step = KeepsSpool (policy_of plan slots) (noted_behind step.notes before)
+  IsKeptFile before step = KeepsOn (policy_of plan slots) (noted_behind step.notes before)
 
   pub step-both :
       (said : List ToolCommand) (before : List Happening) (input : Input ToolCommand) (now : ℕ) (s : EquipmentView)
@@ -255,12 +256,12 @@ module _ (plan : EquipmentPlan) (fits : EquipmentPlanFits plan) (looked : Tables
 
   pub started-shelves :
       (list : List Put) (mark : ℕ) (before notes : List Happening) → 0 < slots → slots < 2 ^ 16
-      → KeepsSpool (policy_of plan slots) notes → Finds notes list → IsRunFrom (first_in list) list
-      → length list ≤ slots → first_in list + length list ≤ 2 ^ 63 + 65535
+      → KeepsOn (policy_of plan slots) (Happening.EquipmentStarted (found_in list) mark ∷ notes)
+      → IsRunFrom (first_in list) list → length list ≤ slots → first_in list + length list ≤ 2 ^ 63 + 65535
       → Shelves plan slots list (Happening.EquipmentStarted (found_in list) mark ∷ notes) before
       (new_own plan (new_ledger slots (first_in list) (length list))) (new_end (end_plan plan) (numbers_from mark 4096))
       (Happening.EquipmentStarted (found_in list) mark ∷ notes)
-  started-shelves list mark before notes some most kept finds run room bound = record {
+  started-shelves list mark before notes some most kept run room bound = record {
     is = record {
       some = some;
       most = below slots most;
@@ -272,7 +273,7 @@ module _ (plan : EquipmentPlan) (fits : EquipmentPlanFits plan) (looked : Tables
     };
     all = refl;
     shelved = record {
-      kept = (finds, kept);
+      kept = kept;
       rest = record { none_stored = refl; none_leaves = refl };
       stands = refl;
       run = run;

@@ -1,6 +1,7 @@
 pub mod CalmCommands
 pub mod CalmParts
 pub mod CalmTurns
+pub mod FromStarts
 pub mod Interrupted
 pub mod KeptLedger
 pub mod KeptParts

@@ -10,7 +10,7 @@ use Rattle.gem_spool.specs.declared.works.Work.{Work}
 use Rattle.gem_spool.specs.declared.works.Work.TheVariants as work
 use Rattle.message_end.specs.Course.{noted_behind}
 use Rattle.message_end.specs.Own.{Has}
-use Rattle.spool_law.specs.Shelf.{Change, IsAtRest, IsFirst, KeepsSpool, MayChange, MayLeaveFor, Policy, change_of, leaves_by, shelf_changed, shelf_of}
+use Rattle.spool_law.specs.Shelf.{Change, IsAtRest, IsFirst, MayChange, MayLeaveFor, Policy, change_of, leaves_by, shelf_changed, shelf_of}
 use Rattle.spool_ledger.specs.Ledger.{Booked, IsLedger, LedgerView, carried_out, next_of, owed, quiet, room_for, stood_count}
 use Rattle.spool_ledger.specs.Storing.{all_out, oldest_out, put, stored, stored_by}
 use Rattle.spool_ledger.proofs.Keeping.{full_has_some, oldest_out_keeps}
@@ -26,6 +26,7 @@ use Rattle.tool_step.specs.Equipment.{settled_list}
 use Rattle.spool_works.specs.WorkLosses.{MayLeaveAt}
 use Rattle.spool_works.specs.DiskWorks.{DiskWork}
 use Rattle.spool_works.proofs.FoundLosses.{found-behind, found-long}
+use Rattle.tool_spool.proofs.FromStarts.{KeepsOn}
 use Rattle.tool_law.proofs.WorkLines.{AreLines, LeavesStanding, lines-more, lines-none, lines-work, quiet-change}
 
 -- ---- lists
@@ -82,7 +83,7 @@ settled-more v list one is =
 -- its numbers are those of the ledger. Behind what was noted before, these works go with their lines
 pub record IsShelved
     (policy : Policy) (v : LedgerView) (list : List Message) (base notes : List Happening) : Type 0 where
-  pub kept : KeepsSpool policy notes
+  pub kept : KeepsOn policy notes
   pub rest : IsAtRest (shelf_of notes)
   pub stands : (shelf_of notes).stands ≡ found_in (settled_list v list)
   pub run : IsRunFrom v.first (settled_list v list)
@@ -102,7 +103,7 @@ module _ (policy : Policy) where
   noted-shelved v list base notes what leaves may is =
       let all = same (change_of what) leaves in
       record {
-        kept = (may, is.kept);
+        kept = inr (may, is.kept);
         rest = all.0;
         stands = all.1 ∙ is.stands;
         run = is.run;
@@ -157,9 +158,9 @@ module _ (policy : Policy) where
 
       pub put-shelved : IsShelved policy (put message v).next list base (noted_behind (put message v).lines notes)
       put-shelved = record {
-        kept = (
+        kept = inr (
           record { message = message; is = refl },
-          (
+          inr (
             record {
               rest = shelved.rest;
               above = λ one has.
@@ -215,9 +216,9 @@ module _ (policy : Policy) where
           why ≢ cause.Purged → MayLeaveFor policy notes why
           → IsShelved policy (oldest_out why v).next list base (noted_behind (oldest_out why v).lines notes)
       out-shelved one may = record {
-        kept = (
+        kept = inr (
           record { cause = why; is = refl; first = first-is },
-          (record { rest = shelved.rest; first = first-is; cause = may }, shelved.kept),
+          inr (record { rest = shelved.rest; first = first-is; cause = may }, shelved.kept),
         );
         rest = record { none_stored = shelved.rest.none_stored; none_leaves = refl };
         stands =
@@ -264,13 +265,13 @@ module _ (policy : Policy) where
               else record { next = emptied; lines = Leaving v.first cause.Purged ∷ Gone v.first ∷ [] }).lines notes)
           go true e = shelved
           go false e = record {
-            kept = (
+            kept = inr (
               record {
                 cause = cause.Purged;
                 is = refl;
                 first = first-is v list base notes cause.Purged is shelved (some-left v.len e);
               },
-              (
+              inr (
                 record {
                   rest = shelved.rest;
                   first = first-is v list base notes cause.Purged is shelved (some-left v.len e);

@@ -12,7 +12,7 @@ use Rattle.message_end.specs.Course.{noted_behind}
 use Rattle.message_end.specs.Duties.{all_done}
 use Rattle.message_end.specs.Own.{Has}
 use Rattle.message_end.specs.Parts.{fixed_turn}
-use Rattle.spool_law.specs.Shelf.{IsPurge, KeepsSpool, Told, received_since, shelf_of}
+use Rattle.spool_law.specs.Shelf.{IsPurge, Told, received_since, shelf_of}
 use Rattle.spool_ledger.specs.Ledger.{Booked, IsLedger, LedgerView}
 use Rattle.spool_ledger.specs.Storing.{all_out, stored}
 use Rattle.spool_ledger.specs.Unloading.{tried_in}
@@ -31,6 +31,7 @@ use Rattle.tool_step.specs.Spooling.{booked_turn, lines_commands, stored_turn, s
 use Rattle.tool_spool.specs.SpoolKept.{policy_of}
 use Rattle.tool_spool.proofs.CalmCommands.{AreCalmDuties, AreDrawn, AsksOfPrimary, IsCalmly}
 use Rattle.tool_spool.proofs.CalmTurns.{IsCalmBehind, IsCalmRun, done-run, ready-behind}
+use Rattle.tool_spool.proofs.FromStarts.{KeepsOn}
 use Rattle.tool_spool.proofs.KeptLedger.{IsKeptBy, IsPutWell, all-kept, all-out-unload, nothing-kept, stored-kept, stored-unload}
 use Rattle.tool_spool.proofs.Shelved.{IsShelved}
 use Rattle.message_end.proofs.Parts.{OnEither, either-less}
@@ -88,7 +89,7 @@ module _ (plan : EquipmentPlan) (slots : ℕ) (list : List Put) (base before : L
   -- where the numbers are spent the notes keep the law all the same, and go with what is owed, and each work finds
   -- room, or its message
   pub record IsSpentAt (v : LedgerView) (notes : List Happening) : Type 0 where
-    pub kept : KeepsSpool (policy_of plan slots) notes
+    pub kept : KeepsOn (policy_of plan slots) notes
     pub lines : AreLines v list base notes
     pub due : AreDue (count_at v.stood) v.works
 

@@ -1,1 +1,2 @@
 pub mod SpoolKept
+pub mod WorkedHeld

@@ -1,11 +1,17 @@
 -- That the equipment keeps the laws of its spool: over its notes, and over what it sends.
-use Rattle.std.specs.Prelude.{◌<◌, ◌==◌, ◌&&◌, ◌^◌, ℕ, Bool, true, false, List, [], length, Option, Some}
+use Rattle.std.specs.Prelude.{◌≡◌, ◌<◌, ◌≤◌, ◌+◌, ◌==◌, ◌&&◌, ◌^◌, ℕ, Bool, true, false, List, [], ◌∷◌, length, Option, Some}
 use Rattle.gem_shapes.specs.declared.request.Request.{Request}
 use Rattle.gem_shapes.specs.declared.request.Request.TheVariants as request
 use Rattle.trace_log.specs.declared.commands.ToolCommand.{ToolCommand}
 use Rattle.message_end.specs.Course.{Meeting, course_of, notes_of}
 use Rattle.message_end.specs.Doings.{Doing}
-use Rattle.spool_law.specs.Shelf.{KeepsSpool, Policy}
+use Rattle.spool_law.specs.Shelf.{Change, KeepsSpool, MayChange, Policy, change_of}
+use Rattle.spool_law.specs.Shelf.Change.{Finds}
+use Rattle.spool_slots.specs.Run.{IsRunFrom}
+use Rattle.spool_slots.specs.Slot.{Message}
+use Rattle.spool_works.specs.Found.{first_in, found_in}
+use Rattle.trace_log.specs.Log.{Happening}
+use Rattle.trace_log.specs.Names.{Spooled}
 use Rattle.equipment_tables.specs.declared.plan.EquipmentPlan.{EquipmentPlan}
 use Rattle.equipment_tables.specs.Plan.{EquipmentPlanFits}
 use Rattle.equipment_tables.specs.Requests.{request_of}
@@ -13,6 +19,7 @@ use Rattle.equipment_tables.specs.Tables.{overwrites}
 use Rattle.tool_step.specs.End.{machine}
 use Rattle.tool_step.specs.Equipment.{EquipmentView, started_on}
 use Rattle.tool_law.specs.Laws.{DidOf}
+use Rattle.tool_law.specs.Sound.{AllCanBeSent}
 use Rattle.tool_reports.specs.Reported.{tables_in}
 use Rattle.tool_step.specs.Step.{end_plan}
 use Rattle.tool_law.specs.Tried.{AreTried}
@@ -31,6 +38,31 @@ policy_of plan slots = record {
   overwrites = λ notes stands. length stands == slots && overwrites (tables_in plan notes);
 }
 
+-- ---- over a file of an earlier run
+
+-- what the file of so many slots may hold as the equipment starts over it: as many messages at most, numbered one after
+-- the other, each of which can be sent (this profile)
+pub record MayHold (slots : ℕ) (list : List Message) : Type 0 where
+  pub run : IsRunFrom (first_in list) list
+  pub room : length list ≤ slots
+  pub bound : first_in list + length list ≤ 2 ^ 63 + 65535
+  pub sent : AllCanBeSent list
+
+-- the first of all notes is a start that finds these messages; each later one agrees with all before it
+abbrev pub StartsWith : List (ℕ × Spooled) → Change → Type 0
+StartsWith held (Finds found) = found ≡ held
+StartsWith held _ = ⊥
+
+abbrev pub MayFollow : Policy → List (ℕ × Spooled) → List Happening → Change → Type 0
+MayFollow policy held [] change = StartsWith held change
+MayFollow policy held (newest ∷ before) change = MayChange policy (newest ∷ before) change
+
+-- the law of the notes, over a file that held these messages before the first of them (this profile)
+abbrev pub KeepsSpoolFrom : Policy → List (ℕ × Spooled) → List Happening → Type 0
+KeepsSpoolFrom policy held [] = Unit {0}
+KeepsSpoolFrom policy held (what ∷ before) =
+    MayFollow policy held before (change_of what) × KeepsSpoolFrom policy held before
+
 -- ---- the laws
 
 -- whatever it meets over all its starts, from an empty spool on: what it stores goes behind all others, what leaves is
@@ -41,6 +73,14 @@ SpoolIsKept =
     (plan : EquipmentPlan) (slots : ℕ) → EquipmentPlanFits plan → 0 < slots → slots < 2 ^ 16
     → (meetings : List (Meeting ToolCommand))
     → KeepsSpool (policy_of plan slots) (notes_of (course_of (started_on plan slots [] 0) machine meetings))
+
+-- the same over whatever its file holds before its first start
+abbrev pub SpoolIsKeptFrom : Type 0
+SpoolIsKeptFrom =
+    (plan : EquipmentPlan) (slots : ℕ) (list : List Message) (mark : ℕ) → EquipmentPlanFits plan → 0 < slots
+    → slots < 2 ^ 16 → MayHold slots list → (meetings : List (Meeting ToolCommand))
+    → KeepsSpoolFrom (policy_of plan slots) (found_in list)
+    (notes_of (course_of (started_on plan slots list mark) machine meetings))
 
 -- whatever it is told: each try has new system bytes, and behind a try no block of an earlier one goes to the line
 -- (this

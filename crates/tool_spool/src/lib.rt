@@ -3,4 +3,4 @@
 
 mod laws;
 
-pub use laws::spool_is_kept;
+pub use laws::{spool_is_kept, worked_held};
