@@ -27,7 +27,7 @@ use Rattle.equipment_tables.specs.Plan.{EquipmentPlanFits}
 use Rattle.tool_step.specs.End.{machine}
 use Rattle.tool_step.specs.Equipment.{EquipmentView, act, begun_step, is_marked_out, needs_numbers, restarts, settled_list, started_on}
 use Rattle.spool_works.specs.Found.{first_in, found_in, spooled_of}
-use Rattle.tool_step.specs.Disk.{standing_in, works_behind, works_of as step_works}
+use Rattle.tool_step.specs.Disk.{owed_in, standing_in, works_behind, works_of as step_works}
 use Rattle.spool_works.specs.DiskWorks.DiskWork.{Reserve}
 use Rattle.tool_reports.specs.Histories.{commands_met, with_command}
 use Rattle.tool_step.proofs.LossCalls.{AtEach, IsAtCall, at-call, losses-counted}
@@ -35,8 +35,10 @@ use Rattle.spool_works.proofs.LossCounts.{has-call}
 use Rattle.tool_step.specs.Losses.{losses}
 use Rattle.tool_law.proofs.Lawful.{IsGoodView, begun-stood, fronts-are}
 use Rattle.tool_spool.proofs.FromStarts.{KeepsOn, begins-course, kept-before, kept-empty, kept-from, some-behind, some-kept}
+use Rattle.tool_spool.proofs.PairedLines.{AreTold}
 use Rattle.tool_spool.proofs.Interrupted.{FoundAt, IsFoundAt, StandsWell, WhereGoes, reserve-found, where-as, works-found}
 use Rattle.tool_law.specs.Sound.{CanBeSent}
+use Rattle.tool_spool.specs.InPairs.{AreInPairs, TellsWorks, WorksAreInPairs, changes_in}
 use Rattle.tool_spool.specs.SpoolKept.{KeepsSpoolFrom, MayHold, SpoolIsKept, SpoolIsKeptFrom, policy_of}
 use Rattle.tool_step.specs.Step.{begun}
 use Rattle.tool_reports.proofs.QuietReports.{Holds}
@@ -347,6 +349,49 @@ module _ (plan : EquipmentPlan) (fits : EquipmentPlanFits plan) (looked : Tables
     meeting-so (Fills input now call) said (Reached s notes) reported so =
         filled-so input now call said s notes (call_of call (losses s input now)) refl reported.holds reported.good so
 
+    -- ---- each work stands between its two lines
+
+    -- the lines of a step up to its works tell of these
+    told-so :
+        (said : List ToolCommand) (before : List Happening) (input : Input ToolCommand) (now : ℕ) (s : EquipmentView)
+        → Holds plan said s.node.own s.node.core.drawn before → IsGoodView plan fits s → IsSpoolSo s before
+        → AreInPairs (standing_in s).next s.list (owed_in (begun_step s input now))
+        (changes_in (step_in (begun_step s input now)).notes)
+    told-so said before input now s holds good so =
+        subst (λ (lines : List Happening). AreInPairs (next_of w) s.list v.works (changes_in lines))
+        (sym (same-lines notes told.lines before told.noted))
+        (subst (λ (list : List Put). AreInPairs (next_of w) list v.works (changes_in told.lines)) stays.0
+        (subst
+        (λ (n : ℕ). AreInPairs n (step_in went).next.list v.works (changes_in told.lines)) next-is told.pairs))
+      where
+        went : Went EquipmentView Happening
+        went = begun_step s input now
+
+        notes : List Happening
+        notes = (step_in went).notes
+
+        w : LedgerView
+        w = s.node.own.ledger
+
+        v : LedgerView
+        v = (step_in went).next.node.own.ledger
+
+        told : AreTold v (step_in went).next.list before (noted_behind notes before)
+        told =
+            ((begun-so plan fits looked slots) (with_command input said) before went
+            ((begun-both plan fits looked slots) said before input now s holds so.shelves)).told
+
+        stays : ((step_in went).next.list ≡ s.list) × (v.stood ≡ w.stood)
+        stays = begun-stood plan fits s input now good
+
+        stood-is : stood_count w ≡ decided_count w
+        stood-is =
+            ap (λ (works : List Work). counts_after (stood_count w) works) (sym so.none) ∙ so.shelves.is.come_to
+
+        next-is : v.stood.first + v.stood.len ≡ next_of w
+        next-is =
+            ap (λ (at : Stand). at.first + at.len) stays.1 ∙ ap (λ (c : Count). c.next) stood-is
+
     module _ (list : List Put) (mark : ℕ) (may : MayHold slots list) where
       course-kept : (meetings : List (Meeting ToolCommand))
           → IsCourseKept (course_of (started_on plan slots list mark) machine meetings)
@@ -357,6 +402,20 @@ module _ (plan : EquipmentPlan) (fits : EquipmentPlanFits plan) (looked : Tables
           meeting-so meeting (commands_met (started_on plan slots list mark) meetings)
           (course_of (started_on plan slots list mark) machine meetings)
           (course-reported plan fits looked slots list mark may.sent meetings) (course-kept meetings)
+
+      pub pairs-so : (meetings : List (Meeting ToolCommand)) (input : Input ToolCommand) (now : ℕ)
+          → TellsWorks (course_of (started_on plan slots list mark) machine meetings) input now
+      pairs-so meetings input now =
+          go (course_of (started_on plan slots list mark) machine meetings)
+          (course-reported plan fits looked slots list mark may.sent meetings) (course-kept meetings)
+        where
+          said : List ToolCommand
+          said = commands_met (started_on plan slots list mark) meetings
+
+          go : (course : Course EquipmentView) → IsReported plan fits looked said course → IsCourseKept course
+              → TellsWorks course input now
+          go (Reached s notes) reported so = told-so said notes input now s reported.holds reported.good so
+          go (Stopped notes) reported so = tt
 
       kept-on : (meetings : List (Meeting ToolCommand))
           → KeepsOn (policy_of plan slots) (notes_of (course_of (started_on plan slots list mark) machine meetings))
@@ -394,3 +453,8 @@ spool-is-kept looked plan slots fits some most meetings =
       sent = All-nil (λ (m : Put). CanBeSent (spooled_of m));
     })
     meetings)
+
+-- whatever it is given next
+pub works-in-pairs : TablesAreLookedBackFor → WorksAreInPairs
+works-in-pairs looked plan slots list mark fits some most may meetings input now =
+    pairs-so plan fits looked slots some most list mark may meetings input now

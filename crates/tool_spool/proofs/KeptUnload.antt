@@ -67,6 +67,7 @@ module _ (plan : EquipmentPlan) (slots : ℕ) (list : List Put) (base : List Hap
         (subst (IsRunFrom v.first) (sym same) shelved.run);
     long = ap length same ∙ shelved.long ∙ sym len;
     lines = lines-as v w list base notes owes.0 owes.1 shelved.lines;
+    told = told-as v w list base notes owes.0 owes.1 shelved.told;
   }
     where
       same : settled_list w list ≡ settled_list v list

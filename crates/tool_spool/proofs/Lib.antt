@@ -9,6 +9,7 @@ pub mod KeptSpool
 pub mod KeptStarts
 pub mod KeptUnload
 pub mod LastWorks
+pub mod PairedLines
 pub mod Shelved
 pub mod ShelvedTurns
 pub mod SpoolMessages

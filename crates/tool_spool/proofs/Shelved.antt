@@ -26,7 +26,9 @@ use Rattle.tool_step.specs.Equipment.{settled_list}
 use Rattle.spool_works.specs.WorkLosses.{MayLeaveAt}
 use Rattle.spool_works.specs.DiskWorks.{DiskWork}
 use Rattle.spool_works.proofs.FoundLosses.{found-behind, found-long}
+use Rattle.tool_spool.specs.InPairs.{IsOfOne}
 use Rattle.tool_spool.proofs.FromStarts.{KeepsOn}
+use Rattle.tool_spool.proofs.PairedLines.{AreTold, told-more, told-none, told-work}
 use Rattle.tool_law.proofs.WorkLines.{AreLines, LeavesStanding, lines-more, lines-none, lines-work, quiet-change}
 
 -- ---- lists
@@ -89,6 +91,7 @@ pub record IsShelved
   pub run : IsRunFrom v.first (settled_list v list)
   pub long : length (settled_list v list) ≡ v.len
   pub lines : AreLines v list base notes
+  pub told : AreTold v list base notes
 
 some-inj : {X : Type 0} (x y : X) → Some x ≡ Some y → x ≡ y
 some-inj x y same = cc
@@ -109,6 +112,7 @@ module _ (policy : Policy) where
         run = is.run;
         long = is.long;
         lines = lines-more v list base notes what (quiet-change what leaves) is.lines;
+        told = told-more v list base notes what leaves is.told;
       }
     where
       same : (change : Change) → LeavesStanding change
@@ -138,6 +142,7 @@ module _ (policy : Policy) where
         run = is.run;
         long = is.long;
         lines = lines-none (carried_out v) (settled_list v list) notes refl;
+        told = told-none (carried_out v) (settled_list v list) notes refl;
       }
 
   -- ---- a message is put
@@ -188,6 +193,10 @@ module _ (policy : Policy) where
             (work.Put message.stream message.function message.body) (Happening.Storing (next_of v) message)
             (Happening.Stored (next_of v)) is refl refl refl refl
             (record { stands = shelved.stands; storing = refl; leaving = tt }) shelved.lines;
+        told =
+            told-work v (put message v).next list base notes
+            (work.Put message.stream message.function message.body) (Happening.Storing (next_of v) message)
+            (Happening.Stored (next_of v)) is refl refl refl (refl, refl) shelved.told;
       }
 
   -- ---- the oldest one leaves
@@ -198,10 +207,12 @@ module _ (policy : Policy) where
       out-list : settled_list (oldest_out why v).next list ≡ drop 1 (settled_list v list)
       out-list = settled-more v list work.DropOldest is
 
+      pub first-listed : IsFirst (found_in (settled_list v list)) v.first
+      first-listed =
+          run-first v.first (settled_list v list) shelved.run (let long = shelved.long in omega (arith, some, long))
+
       pub first-is : IsFirst (shelf_of notes).stands v.first
-      first-is =
-          subst (λ (all : List (ℕ × Spooled)). IsFirst all v.first) (sym shelved.stands)
-          (run-first v.first (settled_list v list) shelved.run (let long = shelved.long in omega (arith, some, long)))
+      first-is = subst (λ (all : List (ℕ × Spooled)). IsFirst all v.first) (sym shelved.stands) first-listed
 
       one-leaves : (why2 : Cause) → why2 ≢ cause.Purged → (count : ℕ) → leaves_by why2 count ≡ 1
       one-leaves cause.Confirmed not count = refl
@@ -232,12 +243,29 @@ module _ (policy : Policy) where
             refl refl refl refl
             (record { stands = shelved.stands; storing = shelved.rest.none_stored; leaving = by why one })
             shelved.lines;
+        told =
+            told-work v (oldest_out why v).next list base notes work.DropOldest (Leaving v.first why) (Gone v.first) is
+            refl refl refl
+            (record {
+              number = v.first;
+              why = why;
+              first = first-listed;
+              cause_is = of-one why one;
+              before_is = refl;
+              behind_is = refl;
+            })
+            shelved.told;
       }
         where
           by : (why : Cause) → why ≢ cause.Purged → MayLeaveAt (DiskWork.Change work.DropOldest) (Some why)
           by cause.Confirmed not = inl refl
           by cause.Purged not = absurd (not refl)
           by cause.Overwritten not = inr refl
+
+          of-one : (why : Cause) → why ≢ cause.Purged → IsOfOne why
+          of-one cause.Confirmed not = tt
+          of-one cause.Purged not = absurd (not refl)
+          of-one cause.Overwritten not = tt
 
   -- ---- all leave
 
@@ -288,6 +316,18 @@ module _ (policy : Policy) where
                 lines-work v emptied list base notes work.Purge (Leaving v.first cause.Purged) (Gone v.first) is refl
                 refl refl refl
                 (record { stands = shelved.stands; storing = shelved.rest.none_stored; leaving = refl }) shelved.lines;
+            told =
+                told-work v emptied list base notes work.Purge (Leaving v.first cause.Purged) (Gone v.first) is refl
+                refl refl
+                (record {
+                  number = v.first;
+                  why = cause.Purged;
+                  first = first-listed v list base notes cause.Purged is shelved (some-left v.len e);
+                  cause_is = tt;
+                  before_is = refl;
+                  behind_is = refl;
+                })
+                shelved.told;
           }
 
   -- ---- one comes, in place of the oldest in a full spool

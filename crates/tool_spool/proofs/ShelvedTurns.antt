@@ -32,6 +32,7 @@ use Rattle.tool_spool.specs.SpoolKept.{policy_of}
 use Rattle.tool_spool.proofs.CalmCommands.{AreCalmDuties, AreDrawn, AsksOfPrimary, IsCalmly}
 use Rattle.tool_spool.proofs.CalmTurns.{IsCalmBehind, IsCalmRun, done-run, ready-behind}
 use Rattle.tool_spool.proofs.FromStarts.{KeepsOn}
+use Rattle.tool_spool.proofs.PairedLines.{AreTold, told-as}
 use Rattle.tool_spool.proofs.KeptLedger.{IsKeptBy, IsPutWell, all-kept, all-out-unload, nothing-kept, stored-kept, stored-unload}
 use Rattle.tool_spool.proofs.Shelved.{IsShelved}
 use Rattle.message_end.proofs.Parts.{OnEither, either-less}
@@ -91,6 +92,7 @@ module _ (plan : EquipmentPlan) (slots : ℕ) (list : List Put) (base before : L
   pub record IsSpentAt (v : LedgerView) (notes : List Happening) : Type 0 where
     pub kept : KeepsOn (policy_of plan slots) notes
     pub lines : AreLines v list base notes
+    pub told : AreTold v list base notes
     pub due : AreDue (count_at v.stood) v.works
 
   pub spent-at :
@@ -99,6 +101,7 @@ module _ (plan : EquipmentPlan) (slots : ℕ) (list : List Put) (base before : L
   spent-at v notes is all shelved = record {
     kept = shelved.kept;
     lines = shelved.lines;
+    told = shelved.told;
     due =
         subst (λ (n : ℕ). AreDue (record { slots = n; next = v.stood.first + v.stood.len; len = v.stood.len }) v.works)
         all is.due;
@@ -110,6 +113,7 @@ module _ (plan : EquipmentPlan) (slots : ℕ) (list : List Put) (base before : L
   spent-as v w notes stood works is = record {
     kept = is.kept;
     lines = lines-as v w list base notes stood works is.lines;
+    told = told-as v w list base notes stood works is.told;
     due =
         subst (λ (at : Stand). AreDue (count_at at) w.works) (sym stood)
         (subst (λ (ws : List Work). AreDue (count_at v.stood) ws) (sym works) is.due);

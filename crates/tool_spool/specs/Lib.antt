@@ -1,2 +1,4 @@
+pub mod InPairs
 pub mod SpoolKept
 pub mod WorkedHeld
+pub mod WorkedPairs

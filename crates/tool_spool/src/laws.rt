@@ -1,7 +1,9 @@
 //! What holds of the spool of the equipment.
 
+ghost use Rattle.tool_spool.specs.InPairs.{WorksAreInPairs};
 ghost use Rattle.tool_spool.specs.SpoolKept.{SpoolIsKept, SpoolIsKeptFrom, TriesAreInTurn};
 ghost use Rattle.tool_spool.specs.WorkedHeld.{KeepsWhatIsHeld};
+ghost use Rattle.tool_spool.specs.WorkedPairs.{TellsEachWork};
 
 use equipment_tables::tables_are_looked_back_for;
 
@@ -22,4 +24,20 @@ pub fn spool_is_kept()
 /// there, or gives its number again, doesn't keep the law.
 pub fn worked_held()
     ensures { KeepsWhatIsHeld }
+{}
+
+/// In each step there are as many pairs of lines of changes as works of the spool's list, and the n-th pair names the
+/// number and the message of the n-th work: a put stands between its `storing` and its `stored`, the removal of the
+/// oldest, and that of all, between a `leaving` and a `gone` of the message that stood first.
+pub fn works_are_in_pairs()
+    ensures { WorksAreInPairs }
+{
+    tables_are_looked_back_for();
+}
+
+/// Examples of works with their lines: a put in a full spool that takes the place of the oldest. A purge without its
+/// lines, lines without a work, a put under another number or of another message, and a removal that is never done
+/// don't go in pairs.
+pub fn worked_pairs()
+    ensures { TellsEachWork }
 {}

@@ -3,4 +3,4 @@
 
 mod laws;
 
-pub use laws::{spool_is_kept, worked_held};
+pub use laws::{spool_is_kept, worked_held, worked_pairs, works_are_in_pairs};
