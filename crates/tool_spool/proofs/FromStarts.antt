@@ -12,6 +12,7 @@ use Rattle.spool_law.specs.Shelf.{Change, KeepsSpool, MayChange, Policy, change_
 use Rattle.spool_law.specs.Shelf.Change.{Finds}
 use Rattle.trace_log.specs.Log.{Happening}
 use Rattle.trace_log.specs.Names.{Spooled}
+use Rattle.tool_spool.specs.MadeRoom.{MakesRoomForPuts, MayUse}
 use Rattle.tool_spool.specs.SpoolKept.{KeepsSpoolFrom, StartsWith}
 
 -- ---- whatever the first start finds
@@ -22,11 +23,13 @@ pub record IsFirstStart (change : Change) (before : List Happening) : Type 0 whe
   pub is : change ≡ Finds found
   pub alone : before ≡ []
 
--- the first note is a start, and each later one agrees with all before it
+-- the first note is a start, and each later one agrees with all before it; a place that was made for a put is used by
+-- it
 abbrev pub KeepsOn : Policy → List Happening → Type 0
 KeepsOn policy [] = ⊥
 KeepsOn policy (what ∷ before) =
-    IsFirstStart (change_of what) before ⊎ (MayChange policy before (change_of what) × KeepsOn policy before)
+    IsFirstStart (change_of what) before
+    ⊎ (MayChange policy before (change_of what) × MayUse before what × KeepsOn policy before)
 
 abbrev pub IsSome : List Happening → Type 0
 IsSome [] = ⊥
@@ -45,7 +48,7 @@ without-newest : (policy : Policy) (what : Happening) (notes : List Happening) �
     → KeepsOn policy (what ∷ notes) → KeepsOn policy notes
 without-newest policy what [] some kept = absurd some
 without-newest policy what (newest ∷ before) some (inl first) = let alone = first.alone in absurd (cc)
-without-newest policy what (newest ∷ before) some (inr more) = more.1
+without-newest policy what (newest ∷ before) some (inr more) = more.2
 
 pub kept-before : (policy : Policy) (rest notes : List Happening) → IsSome notes
     → KeepsOn policy (noted_behind rest notes) → KeepsOn policy notes
@@ -126,7 +129,15 @@ kept-from policy held base [] begins kept = absurd begins
 kept-from policy held base (what ∷ []) begins kept = (starts-with held base what begins, tt)
 kept-from policy held base (what ∷ newest ∷ before) begins (inl first) = let alone = first.alone in absurd (cc)
 kept-from policy held base (what ∷ newest ∷ before) begins (inr more) =
-    (more.0, kept-from policy held base (newest ∷ before) begins more.1)
+    (more.0, kept-from policy held base (newest ∷ before) begins more.2)
+
+-- ---- what was made room for is put
+
+pub room-used : (policy : Policy) (notes : List Happening) → KeepsOn policy notes → MakesRoomForPuts notes
+room-used policy [] kept = absurd kept
+room-used policy (what ∷ []) kept = (inl tt, tt)
+room-used policy (what ∷ newest ∷ before) (inl first) = let alone = first.alone in absurd (cc)
+room-used policy (what ∷ newest ∷ before) (inr more) = (more.1, room-used policy (newest ∷ before) more.2)
 
 -- ---- over an empty file
 

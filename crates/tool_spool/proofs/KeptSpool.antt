@@ -34,11 +34,13 @@ use Rattle.tool_step.proofs.LossCalls.{AtEach, IsAtCall, at-call, losses-counted
 use Rattle.spool_works.proofs.LossCounts.{has-call}
 use Rattle.tool_step.specs.Losses.{losses}
 use Rattle.tool_law.proofs.Lawful.{IsGoodView, begun-stood, fronts-are}
-use Rattle.tool_spool.proofs.FromStarts.{KeepsOn, begins-course, kept-before, kept-empty, kept-from, some-behind, some-kept}
+use Rattle.tool_spool.proofs.FromStarts.{KeepsOn, begins-course, kept-before, kept-empty, kept-from, room-used, some-behind, some-kept}
 use Rattle.tool_spool.proofs.PairedLines.{AreTold}
+use Rattle.tool_spool.proofs.UsedRoom.{fronts-used}
 use Rattle.tool_spool.proofs.Interrupted.{FoundAt, IsFoundAt, StandsWell, WhereGoes, reserve-found, where-as, works-found}
 use Rattle.tool_law.specs.Sound.{CanBeSent}
 use Rattle.tool_spool.specs.InPairs.{AreInPairs, TellsWorks, WorksAreInPairs, changes_in}
+use Rattle.tool_spool.specs.MadeRoom.{IsRoomUsed, LeavesNoRoom, OverwritesForPuts, UsesRoom}
 use Rattle.tool_spool.specs.SpoolKept.{KeepsSpoolFrom, MayHold, SpoolIsKept, SpoolIsKeptFrom, policy_of}
 use Rattle.tool_step.specs.Step.{begun}
 use Rattle.tool_reports.proofs.QuietReports.{Holds}
@@ -233,6 +235,19 @@ module _ (plan : EquipmentPlan) (fits : EquipmentPlanFits plan) (looked : Tables
             fronts-are (step_works s input now) [] (step_in (begun_step s input now)).notes loss.front
             ((losses-counted s input now).1 loss has)
 
+    -- no place is left there that was made for a put
+    used-at-call :
+        (input : Input ToolCommand) (now : ℕ) (said : List ToolCommand) (s : EquipmentView) (notes : List Happening)
+        (loss : Loss EquipmentView) → Has (losses s input now) loss
+        → Holds plan said s.node.own s.node.core.drawn notes → IsGoodView plan fits s → IsSpoolSo s notes
+        → IsRoomUsed (noted_behind loss.front notes)
+    used-at-call input now said s notes loss has holds good so =
+        fronts-used notes (step_works s input now) [] (step_in (begun_step s input now)).notes loss.front
+        so.shelves.shelved.closed
+        ((begun-so plan fits looked slots) (with_command input said) notes (begun_step s input now)
+        ((begun-both plan fits looked slots) said notes input now s holds so.shelves)).closed
+        ((losses-counted s input now).1 loss has)
+
     filled-so :
         (input : Input ToolCommand) (now call : ℕ) (said : List ToolCommand) (s : EquipmentView)
         (notes : List Happening) (found : Option (Loss EquipmentView)) → call_of call (losses s input now) ≡ found
@@ -276,6 +291,9 @@ module _ (plan : EquipmentPlan) (fits : EquipmentPlanFits plan) (looked : Tables
         kept : KeepsOn (policy_of plan slots) (noted_behind loss.front notes)
         kept = kept-at-call input now said s notes loss has holds good so
 
+        used : IsRoomUsed (noted_behind loss.front notes)
+        used = used-at-call input now said s notes loss has holds good so
+
         below : is-found.well.first + length st.list ≤ 2 ^ 63 + 65535
         below =
             let next = is-found.well.next_is in let bound = is-found.well.bound in omega (arith, next, bound)
@@ -289,11 +307,11 @@ module _ (plan : EquipmentPlan) (fits : EquipmentPlanFits plan) (looked : Tables
             (record (started_on s.node.own.plan s.node.own.ledger.slots st.list st.mark).next { mark = st.mark }))
             else Goes (started_on s.node.own.plan s.node.own.ledger.slots st.list st.mark))
             (Happening.Power ∷ noted_behind loss.front notes))
-        go true = inr (tt, kept)
+        go true = inr (tt, inl used, kept)
         go false =
             started-so s.node.own.plan s.node.own.ledger.slots st.list st.mark
             (Happening.Power ∷ noted_behind loss.front notes) holds.plan_is so.shelves.all
-            (inr (is-found.found, inr (tt, kept)))
+            (inr (is-found.found, inl tt, inr (tt, inl used, kept)))
             ((first-run plan fits looked slots) is-found.well.first st.list is-found.well.run) is-found.well.room
             ((first-bound plan fits looked slots) is-found.well.first (2 ^ 63 + 65535) st.list is-found.well.run below)
 
@@ -337,6 +355,7 @@ module _ (plan : EquipmentPlan) (fits : EquipmentPlanFits plan) (looked : Tables
             started-so s.node.own.plan v.slots s.list s.mark notes reported.holds.plan_is so.shelves.all
             (inr (
               (finds-all plan fits looked slots) notes s.list (so.shelves.shelved.stands ∙ ap found_in same),
+              inl so.shelves.shelved.closed,
               so.shelves.shelved.kept,
             ))
             ((first-run plan fits looked slots) v.first s.list run) room ((first-bound plan fits looked slots) v.first (2 ^ 63 + 65535) s.list run bound)
@@ -426,6 +445,19 @@ module _ (plan : EquipmentPlan) (fits : EquipmentPlanFits plan) (looked : Tables
           go (Reached s notes) so = so.shelves.shelved.kept
           go (Stopped notes) so = so
 
+      pub room-so : (meetings : List (Meeting ToolCommand))
+          → UsesRoom (course_of (started_on plan slots list mark) machine meetings)
+      room-so meetings = record {
+        puts =
+            room-used (policy_of plan slots) (notes_of (course_of (started_on plan slots list mark) machine meetings))
+            (kept-on meetings);
+        none = go (course_of (started_on plan slots list mark) machine meetings) (course-kept meetings);
+      }
+        where
+          go : (course : Course EquipmentView) → IsCourseKept course → LeavesNoRoom course
+          go (Reached s notes) so = so.shelves.shelved.closed
+          go (Stopped notes) so = tt
+
       pub kept-so : (meetings : List (Meeting ToolCommand))
           → KeepsSpoolFrom (policy_of plan slots) (found_in list)
           (notes_of (course_of (started_on plan slots list mark) machine meetings))
@@ -458,3 +490,8 @@ spool-is-kept looked plan slots fits some most meetings =
 pub works-in-pairs : TablesAreLookedBackFor → WorksAreInPairs
 works-in-pairs looked plan slots list mark fits some most may meetings input now =
     pairs-so plan fits looked slots some most list mark may meetings input now
+
+-- whatever is overwritten
+pub overwrites-for-puts : TablesAreLookedBackFor → OverwritesForPuts
+overwrites-for-puts looked plan slots list mark fits some most may meetings =
+    room-so plan fits looked slots some most list mark may meetings

@@ -29,6 +29,7 @@ use Rattle.tool_spool.specs.SpoolKept.{policy_of}
 use Rattle.tool_step.specs.Step.{begun, end_plan, first_parts, last_parts}
 use Rattle.tool_reports.proofs.HeldReports.{Any, Free, any-lasts}
 use Rattle.tool_reports.proofs.QuietReports.{Holds, holds-less}
+use Rattle.tool_spool.specs.MadeRoom.{IsRoomUsed}
 use Rattle.tool_spool.proofs.FromStarts.{KeepsOn}
 use Rattle.tool_spool.proofs.KeptLedger.{one-call}
 use Rattle.tool_spool.proofs.PairedLines.{AreTold, told-none}
@@ -116,6 +117,7 @@ module _ (plan : EquipmentPlan) (fits : EquipmentPlanFits plan) (looked : Tables
       long = holds.shelved.long;
       lines = lines-none own.ledger list notes none;
       told = told-none own.ledger list notes none;
+      closed = holds.shelved.closed;
     };
     drawn = holds.drawn;
     asks = holds.asks;
@@ -177,6 +179,7 @@ module _ (plan : EquipmentPlan) (fits : EquipmentPlanFits plan) (looked : Tables
     pub told :
         AreTold (step_in went).next.node.own.ledger (step_in went).next.list before
         (noted_behind (step_in went).notes before)
+    pub closed : IsRoomUsed (noted_behind (step_in went).notes before)
     pub due :
         AreDue (count_at plan slots (step_in went).next.list before before (step_in went).next.node.own.ledger.stood)
         (step_in went).next.node.own.ledger.works
@@ -193,9 +196,23 @@ module _ (plan : EquipmentPlan) (fits : EquipmentPlanFits plan) (looked : Tables
       spent-at plan slots step.next.list before before step.next.node.own.ledger (noted_behind step.notes before)
       at.1.is
       at.1.all at.1.shelved in
-      record { kept = spent.kept; lines = spent.lines; told = spent.told; due = spent.due; stands = at.1.shelved.stands }
+      record {
+        kept = spent.kept;
+        lines = spent.lines;
+        told = spent.told;
+        closed = spent.closed;
+        due = spent.due;
+        stands = at.1.shelved.stands;
+      }
   begun-so said before (Spent step) at =
-      record { kept = at.1.kept; lines = at.1.lines; told = at.1.told; due = at.1.due; stands = tt }
+      record {
+        kept = at.1.kept;
+        lines = at.1.lines;
+        told = at.1.told;
+        closed = at.1.closed;
+        due = at.1.due;
+        stands = tt;
+      }
 
   -- what a step leaves
   pub record IsDone (said : List ToolCommand) (before : List Happening) (step : FileStep) : Type 0 where
@@ -289,6 +306,7 @@ module _ (plan : EquipmentPlan) (fits : EquipmentPlanFits plan) (looked : Tables
       told =
           told-none (new_ledger slots (first_in list) (length list)) list
           (Happening.EquipmentStarted (found_in list) mark ∷ notes) refl;
+      closed = tt;
     };
     drawn = λ one has. absurd has;
     asks = tt;

@@ -26,7 +26,8 @@ use Rattle.tool_step.specs.Equipment.{settled_list}
 use Rattle.tool_step.specs.Spooling.{unloaded}
 use Rattle.tool_spool.specs.SpoolKept.{policy_of}
 use Rattle.tool_spool.proofs.KeptLedger.{IsKeptBy, one-call}
-use Rattle.tool_spool.proofs.Shelved.{IsShelved, first-is, noted-shelved, out-shelved}
+use Rattle.tool_spool.proofs.PairedLines.{told-as}
+use Rattle.tool_spool.proofs.Shelved.{IsShelved, first-is, noted-shelved, out-shelved, shelved-closed}
 use Rattle.tool_law.proofs.WorkLines.{lines-as}
 
 -- ---- what goes out
@@ -68,6 +69,7 @@ module _ (plan : EquipmentPlan) (slots : ℕ) (list : List Put) (base : List Hap
     long = ap length same ∙ shelved.long ∙ sym len;
     lines = lines-as v w list base notes owes.0 owes.1 shelved.lines;
     told = told-as v w list base notes owes.0 owes.1 shelved.told;
+    closed = shelved.closed;
   }
     where
       same : settled_list w list ≡ settled_list v list
@@ -177,8 +179,10 @@ module _ (plan : EquipmentPlan) (slots : ℕ) (list : List Put) (base : List Hap
                 moved-shelved (oldest_out cause.Confirmed v).next
                 (with_each counted (oldest_out cause.Confirmed v).next)
                 (noted_behind (oldest_out cause.Confirmed v).lines notes) refl refl (refl, refl)
+                (shelved-closed (policy_of plan slots) (oldest_out cause.Confirmed v).next list base
+                (noted_behind (oldest_out cause.Confirmed v).lines notes) tt
                 (out-shelved (policy_of plan slots) v list base notes cause.Confirmed is shelved
-                (some v.len (tries v.first v.unload) e) (λ e2. absurd (grind (arith, e2))) (may e));
+                (some v.len (tries v.first v.unload) e) (λ e2. absurd (grind (arith, e2))) (may e)));
             told = refl;
             tables = refl;
             moves = inr (omega arith);

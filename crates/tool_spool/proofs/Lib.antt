@@ -17,3 +17,4 @@ pub mod SpoolTurns
 pub mod SpoolUnloads
 pub mod TakenTurns
 pub mod UnloadOpen
+pub mod UsedRoom

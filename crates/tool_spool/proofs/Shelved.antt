@@ -27,6 +27,7 @@ use Rattle.spool_works.specs.WorkLosses.{MayLeaveAt}
 use Rattle.spool_works.specs.DiskWorks.{DiskWork}
 use Rattle.spool_works.proofs.FoundLosses.{found-behind, found-long}
 use Rattle.tool_spool.specs.InPairs.{IsOfOne}
+use Rattle.tool_spool.specs.MadeRoom.{IsRoomUsed, IsUsedBy}
 use Rattle.tool_spool.proofs.FromStarts.{KeepsOn}
 use Rattle.tool_spool.proofs.PairedLines.{AreTold, told-more, told-none, told-work}
 use Rattle.tool_law.proofs.WorkLines.{AreLines, LeavesStanding, lines-more, lines-none, lines-work, quiet-change}
@@ -83,7 +84,7 @@ settled-more v list one is =
 
 -- the notes keep the law so far, and nothing is amid a change; what they tell is the list that the works come to, and
 -- its numbers are those of the ledger. Behind what was noted before, these works go with their lines
-pub record IsShelved
+pub record IsShelvedSo (Closed : List Happening → Type 0)
     (policy : Policy) (v : LedgerView) (list : List Message) (base notes : List Happening) : Type 0 where
   pub kept : KeepsOn policy notes
   pub rest : IsAtRest (shelf_of notes)
@@ -92,6 +93,57 @@ pub record IsShelved
   pub long : length (settled_list v list) ≡ v.len
   pub lines : AreLines v list base notes
   pub told : AreTold v list base notes
+  pub closed : Closed notes
+
+-- no place is left that was made for a put
+abbrev pub IsShelved : Policy → LedgerView → List Message → (base notes : List Happening) → Type 0
+IsShelved policy v list base notes = IsShelvedSo IsRoomUsed policy v list base notes
+
+-- one may be
+abbrev pub Free : List Happening → Type 0
+Free notes = Unit {0}
+
+abbrev pub IsShelvedFree : Policy → LedgerView → List Message → (base notes : List Happening) → Type 0
+IsShelvedFree policy v list base notes = IsShelvedSo Free policy v list base notes
+
+pub shelved-free :
+    (policy : Policy) (v : LedgerView) (list : List Message) (base notes : List Happening)
+    → IsShelved policy v list base notes → IsShelvedFree policy v list base notes
+shelved-free policy v list base notes is = record {
+  kept = is.kept;
+  rest = is.rest;
+  stands = is.stands;
+  run = is.run;
+  long = is.long;
+  lines = is.lines;
+  told = is.told;
+  closed = tt;
+}
+
+pub shelved-closed :
+    (policy : Policy) (v : LedgerView) (list : List Message) (base notes : List Happening)
+    → IsRoomUsed notes → IsShelvedFree policy v list base notes → IsShelved policy v list base notes
+shelved-closed policy v list base notes closed is = record {
+  kept = is.kept;
+  rest = is.rest;
+  stands = is.stands;
+  run = is.run;
+  long = is.long;
+  lines = is.lines;
+  told = is.told;
+  closed = closed;
+}
+
+used-behind : (change : Change) (notes : List Happening) → LeavesStanding change → IsUsedBy change notes
+used-behind (Change.Tries number system) notes leaves = tt
+used-behind (Change.Sends message) notes leaves = tt
+used-behind (Change.Receives message) notes leaves = tt
+used-behind Change.Other notes leaves = tt
+used-behind (Change.Finds found) notes leaves = absurd leaves
+used-behind (Change.Stores number message) notes leaves = absurd leaves
+used-behind (Change.HasStored number) notes leaves = absurd leaves
+used-behind (Change.Leaves number why) notes leaves = absurd leaves
+used-behind (Change.HasGone number) notes leaves = absurd leaves
 
 some-inj : {X : Type 0} (x y : X) → Some x ≡ Some y → x ≡ y
 some-inj x y same = cc
@@ -106,13 +158,14 @@ module _ (policy : Policy) where
   noted-shelved v list base notes what leaves may is =
       let all = same (change_of what) leaves in
       record {
-        kept = inr (may, is.kept);
+        kept = inr (may, inl is.closed, is.kept);
         rest = all.0;
         stands = all.1 ∙ is.stands;
         run = is.run;
         long = is.long;
         lines = lines-more v list base notes what (quiet-change what leaves) is.lines;
         told = told-more v list base notes what leaves is.told;
+        closed = used-behind (change_of what) notes leaves;
       }
     where
       same : (change : Change) → LeavesStanding change
@@ -143,12 +196,13 @@ module _ (policy : Policy) where
         long = is.long;
         lines = lines-none (carried_out v) (settled_list v list) notes refl;
         told = told-none (carried_out v) (settled_list v list) notes refl;
+        closed = is.closed;
       }
 
   -- ---- a message is put
 
   module _ (v : LedgerView) (list : List Message) (base notes : List Happening) (message : Spooled)
-      (is : IsLedger v) (shelved : IsShelved policy v list base notes)
+      (is : IsLedger v) (shelved : IsShelvedFree policy v list base notes)
     where
       abbrev numbered : Message
       numbered = record {
@@ -165,6 +219,7 @@ module _ (policy : Policy) where
       put-shelved = record {
         kept = inr (
           record { message = message; is = refl },
+          inl tt,
           inr (
             record {
               rest = shelved.rest;
@@ -174,6 +229,7 @@ module _ (policy : Policy) where
                   let long = shelved.long in
                   omega (arith, below, long);
             },
+            inr tt,
             shelved.kept,
           ),
         );
@@ -197,6 +253,7 @@ module _ (policy : Policy) where
             told-work v (put message v).next list base notes
             (work.Put message.stream message.function message.body) (Happening.Storing (next_of v) message)
             (Happening.Stored (next_of v)) is refl refl refl (refl, refl) shelved.told;
+        closed = tt;
       }
 
   -- ---- the oldest one leaves
@@ -225,11 +282,12 @@ module _ (policy : Policy) where
 
       pub out-shelved :
           why ≢ cause.Purged → MayLeaveFor policy notes why
-          → IsShelved policy (oldest_out why v).next list base (noted_behind (oldest_out why v).lines notes)
+          → IsShelvedFree policy (oldest_out why v).next list base (noted_behind (oldest_out why v).lines notes)
       out-shelved one may = record {
         kept = inr (
           record { cause = why; is = refl; first = first-is },
-          inr (record { rest = shelved.rest; first = first-is; cause = may }, shelved.kept),
+          inl tt,
+          inr (record { rest = shelved.rest; first = first-is; cause = may }, inl shelved.closed, shelved.kept),
         );
         rest = record { none_stored = shelved.rest.none_stored; none_leaves = refl };
         stands =
@@ -255,6 +313,7 @@ module _ (policy : Policy) where
               behind_is = refl;
             })
             shelved.told;
+        closed = tt;
       }
         where
           by : (why : Cause) → why ≢ cause.Purged → MayLeaveAt (DiskWork.Change work.DropOldest) (Some why)
@@ -299,12 +358,14 @@ module _ (policy : Policy) where
                 is = refl;
                 first = first-is v list base notes cause.Purged is shelved (some-left v.len e);
               },
+              inl tt,
               inr (
                 record {
                   rest = shelved.rest;
                   first = first-is v list base notes cause.Purged is shelved (some-left v.len e);
                   cause = may (some-left v.len e);
                 },
+                inl shelved.closed,
                 shelved.kept,
               ),
             );
@@ -328,6 +389,7 @@ module _ (policy : Policy) where
                   behind_is = refl;
                 })
                 shelved.told;
+            closed = tt;
           }
 
   -- ---- one comes, in place of the oldest in a full spool
@@ -360,7 +422,7 @@ module _ (policy : Policy) where
               → IsShelved policy booked.next list base (noted_behind booked.lines notes)
           go room.Fits overwriting e may same =
               subst (λ (b : Booked). IsShelved policy b.next list base (noted_behind b.lines notes)) (some-inj _ _ same)
-              (put-shelved v list base notes message is shelved)
+              (put-shelved v list base notes message is (shelved-free policy v list base notes shelved))
           go room.Full true e may same =
               let full =
               all-used (nat_lt 4081 (length message.body)) (nat_le (2 ^ 63) (next_of v)) (v.len == v.slots) e in

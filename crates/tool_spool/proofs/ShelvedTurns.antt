@@ -31,6 +31,7 @@ use Rattle.tool_step.specs.Spooling.{booked_turn, lines_commands, stored_turn, s
 use Rattle.tool_spool.specs.SpoolKept.{policy_of}
 use Rattle.tool_spool.proofs.CalmCommands.{AreCalmDuties, AreDrawn, AsksOfPrimary, IsCalmly}
 use Rattle.tool_spool.proofs.CalmTurns.{IsCalmBehind, IsCalmRun, done-run, ready-behind}
+use Rattle.tool_spool.specs.MadeRoom.{IsRoomUsed}
 use Rattle.tool_spool.proofs.FromStarts.{KeepsOn}
 use Rattle.tool_spool.proofs.PairedLines.{AreTold, told-as}
 use Rattle.tool_spool.proofs.KeptLedger.{IsKeptBy, IsPutWell, all-kept, all-out-unload, nothing-kept, stored-kept, stored-unload}
@@ -93,6 +94,7 @@ module _ (plan : EquipmentPlan) (slots : ℕ) (list : List Put) (base before : L
     pub kept : KeepsOn (policy_of plan slots) notes
     pub lines : AreLines v list base notes
     pub told : AreTold v list base notes
+    pub closed : IsRoomUsed notes
     pub due : AreDue (count_at v.stood) v.works
 
   pub spent-at :
@@ -102,6 +104,7 @@ module _ (plan : EquipmentPlan) (slots : ℕ) (list : List Put) (base before : L
     kept = shelved.kept;
     lines = shelved.lines;
     told = shelved.told;
+    closed = shelved.closed;
     due =
         subst (λ (n : ℕ). AreDue (record { slots = n; next = v.stood.first + v.stood.len; len = v.stood.len }) v.works)
         all is.due;
@@ -114,6 +117,7 @@ module _ (plan : EquipmentPlan) (slots : ℕ) (list : List Put) (base before : L
     kept = is.kept;
     lines = lines-as v w list base notes stood works is.lines;
     told = told-as v w list base notes stood works is.told;
+    closed = is.closed;
     due =
         subst (λ (at : Stand). AreDue (count_at at) w.works) (sym stood)
         (subst (λ (ws : List Work). AreDue (count_at v.stood) ws) (sym works) is.due);

@@ -1,4 +1,6 @@
 pub mod InPairs
+pub mod MadeRoom
 pub mod SpoolKept
 pub mod WorkedHeld
 pub mod WorkedPairs
+pub mod WorkedRoom

@@ -1,9 +1,11 @@
 //! What holds of the spool of the equipment.
 
 ghost use Rattle.tool_spool.specs.InPairs.{WorksAreInPairs};
+ghost use Rattle.tool_spool.specs.MadeRoom.{OverwritesForPuts};
 ghost use Rattle.tool_spool.specs.SpoolKept.{SpoolIsKept, SpoolIsKeptFrom, TriesAreInTurn};
 ghost use Rattle.tool_spool.specs.WorkedHeld.{KeepsWhatIsHeld};
 ghost use Rattle.tool_spool.specs.WorkedPairs.{TellsEachWork};
+ghost use Rattle.tool_spool.specs.WorkedRoom.{RoomIsMadeForPuts};
 
 use equipment_tables::tables_are_looked_back_for;
 
@@ -40,4 +42,17 @@ pub fn works_are_in_pairs()
 /// don't go in pairs.
 pub fn worked_pairs()
     ensures { TellsEachWork }
+{}
+
+/// A message that is overwritten leaves for another that is put right behind it, in the same step.
+pub fn overwrites_for_puts()
+    ensures { OverwritesForPuts }
+{
+    tables_are_looked_back_for();
+}
+
+/// Examples of a full spool: the oldest is overwritten by a report that is put. Where the report is discarded then, or
+/// the step ends, the law doesn't hold.
+pub fn worked_room()
+    ensures { RoomIsMadeForPuts }
 {}

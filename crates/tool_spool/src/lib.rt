@@ -3,4 +3,6 @@
 
 mod laws;
 
-pub use laws::{spool_is_kept, worked_held, worked_pairs, works_are_in_pairs};
+pub use laws::{
+    overwrites_for_puts, spool_is_kept, worked_held, worked_pairs, worked_room, works_are_in_pairs,
+};
