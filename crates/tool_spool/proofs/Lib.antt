@@ -16,5 +16,6 @@ pub mod SpoolMessages
 pub mod SpoolTurns
 pub mod SpoolUnloads
 pub mod TakenTurns
+pub mod TriedRuns
 pub mod UnloadOpen
 pub mod UsedRoom

@@ -3,11 +3,13 @@
 ghost use Rattle.tool_spool.specs.InPairs.{WorksAreInPairs};
 ghost use Rattle.tool_spool.specs.MadeRoom.{OverwritesForPuts};
 ghost use Rattle.tool_spool.specs.SpoolKept.{SpoolIsKept, SpoolIsKeptFrom, TriesAreInTurn};
+ghost use Rattle.tool_spool.specs.TriedRuns.{RunsTryInTurn};
 ghost use Rattle.tool_spool.specs.WorkedHeld.{KeepsWhatIsHeld};
 ghost use Rattle.tool_spool.specs.WorkedPairs.{TellsEachWork};
 ghost use Rattle.tool_spool.specs.WorkedRoom.{RoomIsMadeForPuts};
 
 use equipment_tables::tables_are_looked_back_for;
+use tool_law::equipment_keeps_the_law;
 
 /// Over all its starts, from an empty spool on, and from whatever a file holds that it is started over, what is stored
 /// goes behind all others; what leaves is the oldest, and it leaves once the host has taken it, as the host empties the
@@ -20,6 +22,15 @@ pub fn spool_is_kept()
     ensures tries { TriesAreInTurn }
 {
     tables_are_looked_back_for();
+}
+
+/// In every run, over all starts: what the equipment notes in a start is of doings that keep the law of an end; in
+/// these each try of a message of the spool has new system bytes, and behind a try no block of an earlier one is given
+/// to the line.
+pub fn runs_try_in_turn()
+    ensures { RunsTryInTurn }
+{
+    equipment_keeps_the_law();
 }
 
 /// Examples of a file of an earlier run that holds one message: it is found and purged. An equipment that finds nothing
