@@ -7,6 +7,7 @@ mod Disks
 mod Events
 mod Lines
 mod Made
+mod OrderSoFar
 mod OverStarts
 mod RoundEvents
 mod SoFar

@@ -11,6 +11,7 @@ use Rattle.trace_log.specs.Log.{Entry}
 use Rattle.trace_log.specs.Log.Entry.{Ended, Noted, Slipped}
 use Rattle.line_world.specs.Reports.{TellOfEvents}
 use Rattle.line_world.specs.Safe.{HoldsAtEachEntry}
+use Rattle.line_world.proofs.OrderSoFar.{order-at, order-so-far}
 
 delivered-so-far : (later log : List Entry) → Delivered (later ++ log) → Delivered log
 delivered-so-far [] log all = all
@@ -41,6 +42,7 @@ told-so-far plan (Ended moment ∷ later) log all = told-so-far plan later log a
 pub holds-at-each : HoldsAtEachEntry
 holds-at-each plans later log safe = record {
   delivered = delivered-so-far later log safe.delivered;
+  in_order = order-so-far plans later log (order-at plans (later ++ log) safe.in_order);
   reported =
       record {
         in_their_start = reported-so-far plans.equipment later log safe.reported.in_their_start;

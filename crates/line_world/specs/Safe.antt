@@ -1,7 +1,7 @@
 -- All that is claimed of the log of a run (this profile).
-use Rattle.std.specs.Prelude.{ℕ, List, ◌++◌}
+use Rattle.std.specs.Prelude.{◌≡◌, ℕ, List, ◌++◌}
 use Rattle.delivery.specs.Order.{AreInOrder}
-use Rattle.end_pair.specs.Laws.{IsOfMoves}
+use Rattle.end_pair.specs.Laws.{AreNoNotes, IsOfMoves}
 use Rattle.end_pair.specs.Noted.{noted_by}
 use Rattle.tool_law.specs.Laws.{DidOf}
 use Rattle.tool_reports.specs.Reported.{Reported}
@@ -11,7 +11,10 @@ use Rattle.gl_base.specs.declared.side.Side.TheVariants as side
 use Rattle.host_node.specs.Host as host
 use Rattle.line_end.specs.declared.plan.HostPlan.{HostPlan}
 use Rattle.message_end.specs.Doings.{Doing}
-use Rattle.message_end.specs.Moves.{LinePlans}
+use Rattle.line_order.specs.Acts.{HasNoSlip}
+use Rattle.line_order.specs.Line.{new_line}
+use Rattle.message_end.specs.Log.{log_of}
+use Rattle.message_end.specs.Moves.{KeepLaws, LinePlans, Move, deeds_of}
 use Rattle.message_end.specs.Parts.{Did, Node}
 use Rattle.spool_delivery.specs.Laws.{IsSpoolTaken}
 use Rattle.trace_log.specs.Delivered.{Delivered}
@@ -53,9 +56,22 @@ pub record IsSafe (plans : Plans) (log : List Entry) : Type 0 where
   pub reported : HoldsReports plans log
   pub spooled : HoldsSpool plans log
 
+-- of the entries so far, the newest of which may stand in the middle of a step: they are those of moves on one line,
+-- each of which its end may make, and in these messages are received in order; at most what no end has noted stands
+-- behind them
+pub record HasComeInOrder (plans : Plans) (log : List Entry) : Type 0 where
+  pub moves : List Move
+  pub keep : KeepLaws (plans_of plans) moves
+  pub no_slip : HasNoSlip (new_line plans.equipment.line.times plans.host.line.times) (deeds_of moves)
+  pub in_order : AreInOrder (plans_of plans) moves
+  pub last : List Entry
+  pub no_notes : AreNoNotes last
+  pub is : log ≡ last ++ log_of moves
+
 -- what of that is said of the entries so far
 pub record HoldsSoFar (plans : Plans) (log : List Entry) : Type 0 where
   pub delivered : Delivered log
+  pub in_order : HasComeInOrder plans log
   pub reported : HoldsReports plans log
   pub spooled : HoldsSpool plans log
 
