@@ -20,4 +20,5 @@ pub mod Restarting
 pub mod Stepping
 pub mod Texts
 pub mod Times
+pub mod TurnCauses
 pub mod Turning

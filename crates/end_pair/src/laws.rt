@@ -9,6 +9,7 @@ ghost use Rattle.end_pair.specs.Kept.{MayHappen};
 ghost use Rattle.end_pair.specs.Laws.{AreOnLine, HasBytes, IsOfMoves, RunsAreBounded, RunsEndFourWays, StepsEndByCause};
 ghost use Rattle.end_pair.specs.Noted.{EntriesAreOfCourses};
 ghost use Rattle.end_pair.specs.Run.{log_of};
+ghost use Rattle.end_pair.specs.TurnCauses.{TurnsEndByCause};
 ghost use Rattle.end_pair.specs.Worked.{WorkedLosses, WorkedRuns};
 
 use message_end::End;
@@ -32,6 +33,12 @@ pub fn runs_end_four_ways<E: End<Command = ToolCommand>, H: End<Command = HostCo
 /// call of its disk that is planned.
 pub fn steps_end_by_cause<E: End>()
     ensures { StepsEndByCause E.State E.Command }
+{}
+
+/// A step that is asked for leaves a run no turn exactly where 4,000,000 steps were made before it, or where it comes
+/// to a call that its disk has no room for and at which no cut has the power go. No more is asked for then.
+pub fn turns_end_by_cause<E: End<Command = ToolCommand>, H: End<Command = HostCommand>>()
+    ensures { TurnsEndByCause E.State H.State }
 {}
 
 /// Whatever a schedule does to two ends that keep their law, its log is that of moves on one line, each of which its
