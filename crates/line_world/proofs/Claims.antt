@@ -7,7 +7,7 @@ use Rattle.tool_step.specs.End as equipment
 use Rattle.tool_law.specs.Laws.{DidOf}
 use Rattle.tool_reports.specs.Laws.{ReportsAreOfTheirEvents}
 use Rattle.tool_reports.specs.Reported.{Reported}
-use Rattle.tool_spool.specs.SpoolKept.{SpoolIsKept, TriesAreInTurn, policy_of}
+use Rattle.tool_spool.specs.SpoolKept.{SpoolIsKept, policy_of}
 use Rattle.equipment_tables.specs.Plan.{PlansFit}
 use Rattle.equipment_tables.specs.declared.plan.Plans.{Plans}
 use Rattle.gl_base.specs.declared.side.Side.TheVariants.{Equipment}
@@ -29,7 +29,6 @@ pub record LawsHold : Type 0 where
   pub take : SpoolIsTakenInOrder
   pub reports : ReportsAreOfTheirEvents
   pub kept : SpoolIsKept
-  pub tries : TriesAreInTurn
 
 module _ (plans : Plans) (schedule : Schedule) (fit : PlansFit plans) (laws : LawsHold)
     (moved : IsOfMoves (DidOf plans.equipment) (HostDid plans.host) (plans_of plans) (log_of plans schedule))
@@ -62,5 +61,5 @@ module _ (plans : Plans) (schedule : Schedule) (fit : PlansFit plans) (laws : La
             over_all_starts =
                 over-starts plans.equipment (policy_of plans.equipment plans.slots) notes reports kept;
           };
-      spooled = holds-spool plans fit laws.take laws.tries (log_of plans schedule) kept moved;
+      spooled = holds-spool plans fit laws.take (log_of plans schedule) kept moved;
     }

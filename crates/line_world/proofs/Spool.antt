@@ -3,7 +3,7 @@ use Rattle.std.proofs.Common.{◌≡◌, ◌++◌, List, [], ◌∷◌, refl, ap
 use Rattle.end_pair.specs.Laws.{AreNoNotes, IsOfMoves}
 use Rattle.end_pair.specs.Noted.{noted_by}
 use Rattle.tool_law.specs.Laws.{DidOf}
-use Rattle.tool_spool.specs.SpoolKept.{TriesAreInTurn, policy_of}
+use Rattle.tool_spool.specs.SpoolKept.{policy_of}
 use Rattle.equipment_tables.specs.Plan.{PlansFit}
 use Rattle.equipment_tables.specs.declared.plan.Plans.{Plans}
 use Rattle.gl_base.specs.declared.side.Side.TheVariants.{Equipment, Host}
@@ -48,7 +48,7 @@ taken-behind policy (Ended moment ∷ last) log none is =
     let rest = taken-behind policy last log none.1 is in
     record { kept = (tt, rest.kept); taken = (newest (last ++ log) rest.taken, rest.taken) }
 
-module _ (plans : Plans) (fit : PlansFit plans) (law : SpoolIsTakenInOrder) (tries : TriesAreInTurn) (log : List Entry)
+module _ (plans : Plans) (fit : PlansFit plans) (law : SpoolIsTakenInOrder) (log : List Entry)
     (notes : KeepsSpool (policy_of plans.equipment plans.slots) (noted_by Equipment log))
     (moved : IsOfMoves (DidOf plans.equipment) (HostDid plans.host) (plans_of plans) log) where
   abbrev policy : Policy
@@ -66,7 +66,7 @@ module _ (plans : Plans) (fit : PlansFit plans) (law : SpoolIsTakenInOrder) (tri
       let keep : KeepSpoolLaws policy (plans_of plans) moved.moves = record {
         ends = moved.keep;
         notes = moved-notes;
-        tries = keeps-tries plans (HostDid plans.host) tries moved.moves moved.steps;
+        tries = keeps-tries plans (HostDid plans.host) moved.moves moved.steps;
       }
       in
       let taken =

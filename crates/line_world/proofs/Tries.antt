@@ -4,7 +4,6 @@ use Rattle.end_pair.specs.Laws.{AreStarts, AreSteps, HasNoStart, IsNoStart, IsSt
 use Rattle.end_pair.specs.Laws.AreSteps.{cut_short, ends_start, no_moves, one_step, world_says}
 use Rattle.tool_step.specs.Equipment.{EquipmentView}
 use Rattle.tool_law.specs.Laws.{DidOf}
-use Rattle.tool_spool.specs.SpoolKept.{TriesAreInTurn}
 use Rattle.tool_law.specs.Tried.{AreTried}
 use Rattle.tool_law.proofs.TriedDoings.{may-say, world-free}
 use Rattle.equipment_tables.specs.declared.plan.Plans.{Plans}
@@ -100,7 +99,7 @@ module _ {T : Type 0} (plans : LinePlans) (host : ℕ → List Doing → T → T
       subst (KeepsTries plans) (sym is) (world-may side what before world, steps-keep equipment law before steps)
 
 pub keeps-tries :
-    {T : Type 0} (plans : Plans) (host : ℕ → List Doing → T → Type 0) → TriesAreInTurn → (moves : List Move)
+    {T : Type 0} (plans : Plans) (host : ℕ → List Doing → T → Type 0) (moves : List Move)
     → AreSteps (DidOf plans.equipment) host (plans_of plans) moves → KeepsTries (plans_of plans) moves
-keeps-tries plans host law moves steps =
-    steps-keep (plans_of plans) host (DidOf plans.equipment) (law plans.equipment) moves steps
+keeps-tries plans host moves steps =
+    steps-keep (plans_of plans) host (DidOf plans.equipment) (λ base doings s did. did.tried) moves steps

@@ -1,10 +1,9 @@
--- That the equipment keeps the laws of its spool: over its notes, and over what it sends.
+-- That the equipment keeps the law of its spool over its notes.
 use Rattle.std.specs.Prelude.{◌≡◌, ◌<◌, ◌≤◌, ◌+◌, ◌==◌, ◌&&◌, ◌^◌, ℕ, Bool, true, false, List, [], ◌∷◌, length, Option, Some}
 use Rattle.gem_shapes.specs.declared.request.Request.{Request}
 use Rattle.gem_shapes.specs.declared.request.Request.TheVariants as request
 use Rattle.trace_log.specs.declared.commands.ToolCommand.{ToolCommand}
 use Rattle.message_end.specs.Course.{Meeting, course_of, notes_of}
-use Rattle.message_end.specs.Doings.{Doing}
 use Rattle.spool_law.specs.Shelf.{Change, KeepsSpool, MayChange, Policy, change_of}
 use Rattle.spool_law.specs.Shelf.Change.{Finds}
 use Rattle.spool_slots.specs.Run.{IsRunFrom}
@@ -17,12 +16,9 @@ use Rattle.equipment_tables.specs.Plan.{EquipmentPlanFits}
 use Rattle.equipment_tables.specs.Requests.{request_of}
 use Rattle.equipment_tables.specs.Tables.{overwrites}
 use Rattle.tool_step.specs.End.{machine}
-use Rattle.tool_step.specs.Equipment.{EquipmentView, started_on}
-use Rattle.tool_law.specs.Laws.{DidOf}
+use Rattle.tool_step.specs.Equipment.{started_on}
 use Rattle.tool_law.specs.Sound.{AllCanBeSent}
 use Rattle.tool_reports.specs.Reported.{tables_in}
-use Rattle.tool_step.specs.Step.{end_plan}
-use Rattle.tool_law.specs.Tried.{AreTried}
 
 -- ---- what makes room
 
@@ -81,11 +77,3 @@ SpoolIsKeptFrom =
     → slots < 2 ^ 16 → MayHold slots list → (meetings : List (Meeting ToolCommand))
     → KeepsSpoolFrom (policy_of plan slots) (found_in list)
     (notes_of (course_of (started_on plan slots list mark) machine meetings))
-
--- whatever it is told: each try has new system bytes, and behind a try no block of an earlier one goes to the line
--- (this
--- profile)
-abbrev pub TriesAreInTurn : Type 0
-TriesAreInTurn =
-    (plan : EquipmentPlan) (base : ℕ) (doings : List Doing) (s : EquipmentView) → DidOf plan base doings s
-    → AreTried (end_plan plan) doings

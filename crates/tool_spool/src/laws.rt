@@ -2,7 +2,7 @@
 
 ghost use Rattle.tool_spool.specs.InPairs.{WorksAreInPairs};
 ghost use Rattle.tool_spool.specs.MadeRoom.{OverwritesForPuts};
-ghost use Rattle.tool_spool.specs.SpoolKept.{SpoolIsKept, SpoolIsKeptFrom, TriesAreInTurn};
+ghost use Rattle.tool_spool.specs.SpoolKept.{SpoolIsKept, SpoolIsKeptFrom};
 ghost use Rattle.tool_spool.specs.TriedRuns.{RunsTryInTurn};
 ghost use Rattle.tool_spool.specs.WorkedHeld.{KeepsWhatIsHeld};
 ghost use Rattle.tool_spool.specs.WorkedPairs.{TellsEachWork};
@@ -14,12 +14,10 @@ use tool_law::equipment_keeps_the_law;
 /// Over all its starts, from an empty spool on, and from whatever a file holds that it is started over, what is stored
 /// goes behind all others; what leaves is the oldest, and it leaves once the host has taken it, as the host empties the
 /// spool, or as it is overwritten in a full one; what is tried is the oldest, and goes out as it was put; and each
-/// start finds what stood. Each try of a message of the spool has new system bytes, and behind a try no block of an
-/// earlier one is given to the line.
+/// start finds what stood.
 pub fn spool_is_kept()
     ensures notes { SpoolIsKept }
     ensures held { SpoolIsKeptFrom }
-    ensures tries { TriesAreInTurn }
 {
     tables_are_looked_back_for();
 }

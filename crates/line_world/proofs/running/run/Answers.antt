@@ -28,7 +28,6 @@ returns-in_default g c =
       take = c.spool_is_taken_in_order.ensures;
       reports = c.reports_are_of_their_events.ensures;
       kept = c.spool_is_kept.ensures.notes;
-      tries = c.spool_is_kept.ensures.tries;
     }
     in
     let moved =
@@ -69,7 +68,6 @@ returns g c =
       take = c.spool_is_taken_in_order.ensures;
       reports = c.reports_are_of_their_events.ensures;
       kept = c.spool_is_kept.ensures.notes;
-      tries = c.spool_is_kept.ensures.tries;
     }
     in
     let moved =

@@ -6,6 +6,3 @@ returns-clause-notes c = spool-is-kept c.tables_are_looked_back_for.ensures
 
 pub returns-clause-held : goal.returns-clause-held
 returns-clause-held c = spool-is-kept-from c.tables_are_looked_back_for.ensures
-
-pub returns-clause-tries : goal.returns-clause-tries
-returns-clause-tries c = λ plan base doings s did. did.tried
