@@ -5,6 +5,7 @@ mod Carried
 mod Claims
 mod Disks
 mod Events
+mod FewCalls
 mod Lines
 mod Made
 mod OrderSoFar

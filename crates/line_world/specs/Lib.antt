@@ -1,5 +1,6 @@
 pub mod Counting
 pub mod Disk
+pub mod FewCalls
 pub mod Make
 pub mod Making
 pub mod Reports
