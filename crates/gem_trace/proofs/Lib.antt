@@ -1,0 +1,5 @@
+pub mod Answering
+pub mod Groups
+pub mod History
+pub mod Passes
+pub mod Reading
