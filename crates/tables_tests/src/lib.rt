@@ -19,4 +19,6 @@ mod spelled;
 #[cfg(test)]
 mod tables;
 #[cfg(test)]
+mod traces;
+#[cfg(test)]
 mod vars;
