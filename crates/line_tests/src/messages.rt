@@ -21,7 +21,7 @@ fn report(alloc: Global, system: u32, text: &[u8]) -> Result<Message, NoMemory> 
 }
 
 // The header of one of its blocks.
-fn header(device: u16, system: u32, number: u16, last: bool) -> Header {
+pub(crate) fn header(device: u16, system: u32, number: u16, last: bool) -> Header {
     Header {
         from_equipment: true,
         device,
@@ -63,7 +63,7 @@ fn told(assembly: &mut Assembly, block: Option<Block>, now: u32) -> &'static str
     };
     match assembly.accept(&block, u64::from(now)) {
         Ok(Flow::Part) => "part",
-        Ok(Flow::Whole(message)) => {
+        Ok(Flow::Whole(message, _)) => {
             if message.body.as_slice() == b"ac".as_slice() {
                 "whole ac"
             } else {

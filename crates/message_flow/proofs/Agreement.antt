@@ -11,11 +11,11 @@ use Rattle.block_codec.specs.declared.header.Header.{Header}
 use Rattle.message_flow.specs.declared.flow.Flow.{Flow}
 use Rattle.message_flow.specs.declared.flow.Flow.TheVariants.{Part, Whole, Duplicate, Foreign, Unexpected, TooLong, Crowded}
 use Rattle.message_flow.specs.declared.partial.Partial.{Partial}
-use Rattle.message_flow.specs.Assembly.{body_so_far, flow_of, next_partial, has_key, header_so_far, with_part, new_partial, partials_after, without_key}
+use Rattle.message_flow.specs.Assembly.{body_so_far, check_so_far, flow_of, next_partial, has_key, header_so_far, with_part, new_partial, partials_after, without_key}
 use Rattle.message_flow.specs.Deadlines.{deadline_of, moment_of, t4_end}
 use Rattle.message_flow.specs.Entries.{FlowEntry, Kept, kept_after, next_kept}
 use Rattle.message_flow.specs.Entries.FlowEntry.{Dropped, Given}
-use Rattle.message_flow.specs.History.{Met, is_cut, is_end, first_of, first_part, flow_after, is_part, last_given, met_of, newest_header, open_blocks, open_firsts, part_of, text_of}
+use Rattle.message_flow.specs.History.{Met, is_cut, is_end, first_of, first_part, flow_after, is_part, last_given, met_of, newest_header, open_blocks, open_firsts, part_of, text_check, text_of}
 use Rattle.message_flow.specs.History.Met.{Arrived, TimedOut}
 use Rattle.message_flow.specs.Key.{same_key}
 use Rattle.message_flow.specs.Laws.{AreFirsts, deadline_so_far}
@@ -24,6 +24,7 @@ use Rattle.message_flow.proofs.Distinct.{AreDistinct, IsOther, distinct-next}
 use Rattle.message_flow.proofs.Firsts.{one-more, removed, replace-first, replaced, without-first}
 use Rattle.message_flow.proofs.Keys.{key-left, key-right, key-self, key-turned}
 use Rattle.message_flow.proofs.Kept.{kept_push}
+use Rattle.secs_items.specs.Checking.{check_of}
 
 -- one entry more in front
 before_first-cons :
@@ -51,10 +52,11 @@ open-uncut f header entry met uncut =
     ap (filter_map f) (before_first-cons (is_cut header) entry met
     ∙ ap (λ (b : Bool). cond b [] (entry ∷ before_first (is_cut header) met)) uncut)
 
--- for a key: the header of its last block, its text so far, and when T4 runs out on it
+-- for a key: the header of its last block, its text so far with its check, and when T4 runs out on it
 pub record IsSoFar (found : Option Partial) (blocks : List BlockView) (deadline : Option ℕ) : Type 0 where
   pub header : header_so_far found ≡ newest_header blocks
   pub body : body_so_far found ≡ text_of blocks
+  pub check : check_so_far found ≡ text_check blocks
   pub deadline_is : deadline_so_far found ≡ deadline
 
 pub record Agrees (receiver : Receiver) (kept : Kept) (met : List Met) : Type 0 where
@@ -221,7 +223,7 @@ each-cut :
     → IsSoFar (find (has_key header) (without_key key kept.partials)) (open_blocks header (entry ∷ met))
     (deadline_of receiver header (entry ∷ met))
 each-cut receiver kept met entry key header true agrees same cut none never =
-    so-far-as None _ [] _ None _ (record { header = refl; body = refl; deadline_is = refl })
+    so-far-as None _ [] _ None _ (record { header = refl; body = refl; check = refl; deadline_is = refl })
     (ap (find (has_key header)) (removed (has_key key) kept.partials)
     ∙ find-without-same key header kept.partials same agrees.distinct)
     (open-cut (part_of header) header entry met cut)
@@ -273,7 +275,12 @@ part-so-far partials block deadline header None blocks before is same so_far =
     let there : find (has_key header) (partials ++ new_partial block deadline ∷ [])
     ≡ Some (new_partial block deadline) =
     find-push (new_partial block deadline) header partials ∙ rw (e, same) refl in
-    rw there (record { header = refl; body = ap (λ (bytes : List ℕ). bytes ++ block.body) text; deadline_is = refl })
+    rw there (record {
+      header = refl;
+      body = ap (λ (bytes : List ℕ). bytes ++ block.body) text;
+      check = ap (λ (bytes : List ℕ). Some (check_of (bytes ++ block.body))) text;
+      deadline_is = refl;
+    })
 part-so-far partials block deadline header (Some found) blocks before is same so_far =
     let e : find (has_key header) partials ≡ Some found = find-same-key block.header header partials same ∙ is in
     let text : found.body ≡ text_of blocks = sym (ap body_so_far e) ∙ so_far.body in
@@ -281,7 +288,12 @@ part-so-far partials block deadline header (Some found) blocks before is same so
     ≡ Some (next_partial found block deadline) =
     ap (find (has_key header)) (replaced (has_key block.header) (next_partial found block deadline) partials)
     ∙ find-replace-same (next_partial found block deadline) header partials found same is in
-    rw there (record { header = refl; body = ap (λ (bytes : List ℕ). bytes ++ block.body) text; deadline_is = refl })
+    rw there (record {
+      header = refl;
+      body = ap (λ (bytes : List ℕ). bytes ++ block.body) text;
+      check = ap (λ (bytes : List ℕ). Some (check_of (bytes ++ block.body))) text;
+      deadline_is = refl;
+    })
 
 -- what a part gives, in front of what the entries before it give
 pub open-part :
@@ -458,10 +470,10 @@ agrees-flow receiver kept met block now Part agrees distinct = record {
   firsts = firsts-part receiver kept met block now (now + receiver.t4) agrees;
   distinct = distinct;
 }
-agrees-flow receiver kept met block now (Whole message) agrees distinct = record {
+agrees-flow receiver kept met block now (Whole message check) agrees distinct = record {
   last = refl;
-  each = λ header. each-ended receiver kept met block now (Whole message) header agrees refl refl;
-  firsts = firsts-ended receiver kept met (Arrived block now (Whole message)) block.header agrees
+  each = λ header. each-ended receiver kept met block now (Whole message check) header agrees refl refl;
+  firsts = firsts-ended receiver kept met (Arrived block now (Whole message check)) block.header agrees
       (λ header. and-true-right _ _ refl) refl;
   distinct = distinct;
 }
@@ -520,7 +532,7 @@ agrees-next receiver kept before (Dropped header now) agrees =
 agrees-start : (receiver : Receiver) → Agrees receiver (record { last = None; partials = [] }) []
 agrees-start receiver = record {
   last = refl;
-  each = λ header. record { header = refl; body = refl; deadline_is = refl };
+  each = λ header. record { header = refl; body = refl; check = refl; deadline_is = refl };
   firsts = tt;
   distinct = tt;
 }

@@ -8,11 +8,11 @@ use Rattle.block_codec.specs.Protocol.{longest_body}
 use Rattle.block_codec.specs.declared.header.Header.{Header}
 use Rattle.gl_base.specs.declared.side.Side.{Side}
 use Rattle.message_flow.specs.declared.flow.Flow.{Flow}
-use Rattle.message_flow.specs.declared.flow.Flow.TheVariants.{Part, Whole, Duplicate, Crowded}
+use Rattle.message_flow.specs.declared.flow.Flow.TheVariants.{Part, Duplicate, Crowded}
 use Rattle.message_flow.specs.declared.message.Message.{Message}
 use Rattle.message_flow.specs.Arrivals.{CanBegin, HaveCome, IsOfOther, first_blocks, part_or_whole}
 use Rattle.message_flow.specs.Arrivals.HaveCome.{again, start, between, next}
-use Rattle.message_flow.specs.Assembly.{is_crowded, is_next, flow_behind, message_of}
+use Rattle.message_flow.specs.Assembly.{is_crowded, is_next, flow_behind, message_of, whole_with}
 use Rattle.message_flow.specs.Blocks.{block_count, header_of, numbered_block}
 use Rattle.message_flow.specs.Entries.{FlowEntry}
 use Rattle.message_flow.specs.Entries.FlowEntry.{Dropped, Given}
@@ -69,14 +69,14 @@ judged-is :
     → is_next before block.header ≡ true → length body + length block.body ≤ receiver.max_body
     → (block.header.last ≡ true) ⊎ (is_crowded before open_count ≡ false)
     → flow_behind receiver before body open_count block
-    ≡ cond block.header.last (Whole (message_of block.header (body ++ block.body))) Part
+    ≡ cond block.header.last (whole_with (message_of block.header (body ++ block.body))) Part
 judged-is receiver before body open_count block follows short room =
     rw (follows, le-ltb receiver.max_body (length body + length block.body) short) (go block.header.last room)
   where
     go : (last : Bool) → (last ≡ true) ⊎ (is_crowded before open_count ≡ false)
-        → cond last (Whole (message_of block.header (body ++ block.body)))
+        → cond last (whole_with (message_of block.header (body ++ block.body)))
         (cond (is_crowded before open_count) Crowded Part)
-        ≡ cond last (Whole (message_of block.header (body ++ block.body))) Part
+        ≡ cond last (whole_with (message_of block.header (body ++ block.body))) Part
     go true some = refl
     go false (inl is) = absurd (cc)
     go false (inr is) = rw is refl
@@ -123,16 +123,16 @@ short-next side device message number most fits =
 
 pub whole-next :
     (side : Side) (device : ℕ) (message : Message) (number : ℕ) (t : Bool) → number + 1 == block_count message ≡ t
-    → cond t (Whole (message_of (header_of side device message (number + 1))
+    → cond t (whole_with (message_of (header_of side device message (number + 1))
     (text_of (first_blocks side device message number) ++ (numbered_block side device message (number + 1)).body))) Part
-    ≡ cond t (Whole message) Part
+    ≡ cond t (whole_with message) Part
 whole-next side device message number false e = refl
 whole-next side device message number true e =
     let all : text_of (first_blocks side device message number) ++
     (numbered_block side device message (number + 1)).body ≡ message.body =
     text-next side device message number ∙ ap (λ n. take (longest_body * n) message.body) (eqb-true _ _ e)
     ∙ take-count message in
-    ap (λ (bytes : List ℕ). Whole (message_of (header_of side device message (number + 1)) bytes)) all
+    ap (λ (bytes : List ℕ). whole_with (message_of (header_of side device message (number + 1)) bytes)) all
 
 flow-next :
     (receiver : Receiver) (side : Side) (device : ℕ) (message : Message) (met : List Met) (number : ℕ)
@@ -174,7 +174,8 @@ after-next receiver side device message met number now fits own ready =
       ready = λ less.
           let part : flow_after receiver met block ≡ Part =
           flow-next receiver side device message met number fits own ready
-          ∙ ap (λ t. cond t (Whole message) Part) (ne_eqb (number + 1) (block_count message) (λ same. omega arith)) in
+          ∙ ap (λ t. cond t (whole_with message) Part)
+          (ne_eqb (number + 1) (block_count message) (λ same. omega arith)) in
           record {
             open_are = ap (λ flow. open_blocks key (Arrived block now flow ∷ met)) part
                 ∙ open-part (part_of key) block key block now met (part-some block _ (and_from _ _ (key-self key) refl))

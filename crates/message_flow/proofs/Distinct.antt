@@ -80,7 +80,7 @@ distinct-partials :
     (partials : List Partial) (block : BlockView) (deadline : ℕ) (flow : Flow)
     → AreDistinct partials → AreDistinct (partials_after partials block deadline flow)
 distinct-partials partials block deadline Part are = distinct-joined partials block deadline _ refl are
-distinct-partials partials block deadline (Whole message) are = distinct-without_key block.header partials are
+distinct-partials partials block deadline (Whole message check) are = distinct-without_key block.header partials are
 distinct-partials partials block deadline Duplicate are = are
 distinct-partials partials block deadline (Foreign address) are = are
 distinct-partials partials block deadline Unexpected are = distinct-without_key block.header partials are

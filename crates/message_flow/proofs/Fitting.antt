@@ -1,14 +1,16 @@
--- A whole message fits.
+-- A whole message fits, and its check is that of its text.
 use Rattle.std.proofs.Common.{◌≡◌, refl, arith, Bool, true, false, cond, ℕ, ◌+◌, ◌≤◌, List, ◌++◌, length, nat_lt, Option}
 use Rattle.std.proofs.lemmas.Bool.{ltb-false}
 use Rattle.std.proofs.lemmas.List.{length-append}
+use Rattle.std.specs.List.{find}
 use Rattle.block_codec.specs.Block.{BlockView}
 use Rattle.block_codec.specs.Header.{Fits}
 use Rattle.block_codec.specs.declared.header.Header.{Header}
 use Rattle.message_flow.specs.declared.flow.Flow.{Flow}
-use Rattle.message_flow.specs.declared.flow.Flow.TheVariants.{Part, Whole, Duplicate, Foreign, Unexpected, TooLong, Crowded}
+use Rattle.message_flow.specs.declared.flow.Flow.TheVariants.{Part, Duplicate, Foreign, Unexpected, TooLong, Crowded}
+use Rattle.message_flow.specs.declared.message.Message.{Message}
 use Rattle.message_flow.specs.declared.partial.Partial.{Partial}
-use Rattle.message_flow.specs.Assembly.{WholeFits, flow_behind, flow_of, is_crowded, is_next, message_of}
+use Rattle.message_flow.specs.Assembly.{WholeFits, WholeIsChecked, body_so_far, flow_behind, flow_of, has_key, header_so_far, is_crowded, is_next, message_of, whole_with}
 use Rattle.message_flow.specs.Key.{is_given}
 use Rattle.message_flow.specs.Receiver.{IsReceiver, Receiver, address_of, is_foreign}
 
@@ -19,7 +21,8 @@ behind-fits receiver before body count block is fits = follow (is_next before bl
   where
     ended : (last : Bool) → length body + length block.body ≤ receiver.max_body
         → WholeFits receiver.max_body
-        (cond last (Whole (message_of block.header (body ++ block.body))) (cond (is_crowded before count) Crowded Part))
+        (cond last (whole_with (message_of block.header (body ++ block.body)))
+        (cond (is_crowded before count) Crowded Part))
     ended true short =
         let e = length-append body block.body in
         let most = is.max_body_at_most in
@@ -30,7 +33,7 @@ behind-fits receiver before body count block is fits = follow (is_next before bl
     enough : (long : Bool) → nat_lt receiver.max_body (length body + length block.body) ≡ long
         → WholeFits receiver.max_body
         (cond long TooLong
-        (cond block.header.last (Whole (message_of block.header (body ++ block.body)))
+        (cond block.header.last (whole_with (message_of block.header (body ++ block.body)))
         (cond (is_crowded before count) Crowded Part)))
     enough true e = tt
     enough false e = ended block.header.last (ltb-false _ _ e)
@@ -38,7 +41,7 @@ behind-fits receiver before body count block is fits = follow (is_next before bl
     follow : (next : Bool) → WholeFits receiver.max_body
         (cond next
         (cond (nat_lt receiver.max_body (length body + length block.body)) TooLong
-        (cond block.header.last (Whole (message_of block.header (body ++ block.body)))
+        (cond block.header.last (whole_with (message_of block.header (body ++ block.body)))
         (cond (is_crowded before count) Crowded Part)))
         Unexpected)
     follow true = enough _ refl
@@ -59,3 +62,26 @@ flow-fits receiver last partials block is fits =
     chosen-fits receiver.max_body (address_of block.header) (is_given last block.header)
     (is_foreign receiver block.header) _
     (behind-fits receiver _ _ (length partials) block is fits)
+
+checked-by :
+    (address : ℕ) (message : Message) (given foreign follows long last crowded : Bool)
+    → WholeIsChecked
+    (cond given Duplicate (cond foreign (Foreign address)
+    (cond follows (cond long TooLong (cond last (whole_with message) (cond crowded Crowded Part))) Unexpected)))
+checked-by address message true foreign follows long last crowded = tt
+checked-by address message false true follows long last crowded = tt
+checked-by address message false false false long last crowded = tt
+checked-by address message false false true true last crowded = tt
+checked-by address message false false true false true crowded = refl
+checked-by address message false false true false false true = tt
+checked-by address message false false true false false false = tt
+
+pub flow-checked :
+    (receiver : Receiver) (last : Option Header) (partials : List Partial) (block : BlockView)
+    → WholeIsChecked (flow_of receiver last partials block)
+flow-checked receiver last partials block =
+    let found = find (has_key block.header) partials in
+    checked-by (address_of block.header) (message_of block.header (body_so_far found ++ block.body))
+    (is_given last block.header) (is_foreign receiver block.header) (is_next (header_so_far found) block.header)
+    (nat_lt receiver.max_body (length (body_so_far found) + length block.body)) block.header.last
+    (is_crowded (header_so_far found) (length partials))

@@ -25,7 +25,7 @@ pub after_next-is :
     → place ≡ position_or_len (has_key block.header) partials → find (has_key block.header) partials ≡ Some found
     → after_next partials place found block deadline flow ≡ partials_after partials block deadline flow
 after_next-is partials place found block deadline Part at e = rw (at, e) refl
-after_next-is partials place found block deadline (Whole message) at e = rw at refl
+after_next-is partials place found block deadline (Whole message check) at e = rw at refl
 after_next-is partials place found block deadline Duplicate at e = refl
 after_next-is partials place found block deadline (Foreign address) at e = refl
 after_next-is partials place found block deadline Unexpected at e = rw at refl
@@ -42,7 +42,7 @@ pub after_first-is :
     → find (has_key block.header) partials ≡ None
     → after_first partials block deadline flow ≡ partials_after partials block deadline flow
 after_first-is partials block deadline Part e = rw e refl
-after_first-is partials block deadline (Whole message) e = without_key-none block.header partials e
+after_first-is partials block deadline (Whole message check) e = without_key-none block.header partials e
 after_first-is partials block deadline Duplicate e = refl
 after_first-is partials block deadline (Foreign address) e = refl
 after_first-is partials block deadline Unexpected e = without_key-none block.header partials e

@@ -12,7 +12,7 @@ use Rattle.message_flow.specs.declared.flow.Flow.{Flow}
 use Rattle.message_flow.specs.declared.flow.Flow.TheVariants.{Part, Whole, Duplicate, Foreign, Unexpected, TooLong, Crowded}
 use Rattle.message_flow.specs.declared.message.Message.{Message}
 use Rattle.message_flow.specs.Arrivals.{AreBlocksOf, IsBlockOf, first_blocks}
-use Rattle.message_flow.specs.Assembly.{WholeFits, is_crowded, is_next, message_of}
+use Rattle.message_flow.specs.Assembly.{WholeFits, is_crowded, is_next, message_of, whole_with}
 use Rattle.message_flow.specs.Blocks.{block_count, header_of, numbered_block}
 use Rattle.message_flow.specs.Entries.{FlowEntry, blocks_in}
 use Rattle.message_flow.specs.Entries.FlowEntry.{Dropped, Given}
@@ -26,6 +26,7 @@ use Rattle.message_flow.proofs.Arrivals.{flow-back, text-next}
 use Rattle.message_flow.proofs.Fitting.{behind-fits, chosen-fits}
 use Rattle.message_flow.proofs.Missed.{whole-numbered}
 use Rattle.message_flow.proofs.Numbered.{few-blocks, length-block, take-count}
+use Rattle.secs_items.specs.Checking.{Checking}
 
 -- ---- the open blocks of a key have what all blocks that were given have, and the key
 
@@ -119,27 +120,28 @@ record IsWholeBy (given last : Bool) (message whole : Message) : Type 0 where
   pub same : message ≡ whole
 
 whole-by :
-    (address : ℕ) (message whole : Message) (given foreign follows long last crowded : Bool)
+    (address : ℕ) (message whole : Message) (check : Checking) (given foreign follows long last crowded : Bool)
     → cond given Duplicate (cond foreign (Foreign address)
-    (cond follows (cond long TooLong (cond last (Whole message) (cond crowded Crowded Part))) Unexpected)) ≡ Whole whole
+    (cond follows (cond long TooLong (cond last (whole_with message) (cond crowded Crowded Part))) Unexpected))
+    ≡ Whole whole check
     → IsWholeBy given last message whole
-whole-by address message whole true foreign follows long last crowded e = absurd (cc)
-whole-by address message whole false true follows long last crowded e = absurd (cc)
-whole-by address message whole false false false long last crowded e = absurd (cc)
-whole-by address message whole false false true true last crowded e = absurd (cc)
-whole-by address message whole false false true false true crowded e =
+whole-by address message whole check true foreign follows long last crowded e = absurd (cc)
+whole-by address message whole check false true follows long last crowded e = absurd (cc)
+whole-by address message whole check false false false long last crowded e = absurd (cc)
+whole-by address message whole check false false true true last crowded e = absurd (cc)
+whole-by address message whole check false false true false true crowded e =
     record { given_is = refl; last_is = refl; same = cc }
-whole-by address message whole false false true false false true e = absurd (cc)
-whole-by address message whole false false true false false false e = absurd (cc)
+whole-by address message whole check false false true false false true e = absurd (cc)
+whole-by address message whole check false false true false false false e = absurd (cc)
 
 whole-of :
-    (receiver : Receiver) (met : List Met) (block : BlockView) (whole : Message)
-    → flow_after receiver met block ≡ Whole whole
+    (receiver : Receiver) (met : List Met) (block : BlockView) (whole : Message) (check : Checking)
+    → flow_after receiver met block ≡ Whole whole check
     → IsWholeBy (is_given (last_given met) block.header) block.header.last
     (message_of block.header (text_of (open_blocks block.header met) ++ block.body)) whole
-whole-of receiver met block whole e =
+whole-of receiver met block whole check e =
     whole-by (address_of block.header)
-    (message_of block.header (text_of (open_blocks block.header met) ++ block.body)) whole
+    (message_of block.header (text_of (open_blocks block.header met) ++ block.body)) whole check
     (is_given (last_given met) block.header) (is_foreign receiver block.header)
     (is_next (newest_header (open_blocks block.header met)) block.header)
     (nat_lt receiver.max_body (length (text_of (open_blocks block.header met)) + length block.body)) block.header.last
@@ -160,21 +162,21 @@ record IsMade (message : Message) (number : ℕ) (given : Bool) (whole : Message
 
 made :
     (receiver : Receiver) (entries : List FlowEntry) (side : Side) (device : ℕ) (message : Message) (number : ℕ)
-    (whole : Message)
+    (whole : Message) (check : Checking)
     → 1 ≤ number → AreBlocksOf side device message (header_of side device message number) entries
-    → flow_after receiver (met_of receiver entries) (numbered_block side device message number) ≡ Whole whole
+    → flow_after receiver (met_of receiver entries) (numbered_block side device message number) ≡ Whole whole check
     → IsMade message number
     (is_given (last_given (met_of receiver entries)) (header_of side device message number)) whole
-made receiver entries side device message number whole some of e =
+made receiver entries side device message number whole check some of e =
     let met = met_of receiver entries in
     let block = numbered_block side device message number in
     let blocks = open_blocks block.header met in
-    let by = whole-of receiver met block whole e in
+    let by = whole-of receiver met block whole check e in
     let first : blocks ≡ first_blocks side device message (length blocks) =
     open-first receiver entries side device message block.header of in
     let next : number ≡ length blocks + 1 =
     follows number blocks block refl some
-    (whole-numbered.whole receiver entries block whole (flow-back receiver entries block ∙ e)) in
+    (whole-numbered.whole receiver entries block whole check (flow-back receiver entries block ∙ e)) in
     let last : number ≡ block_count message = eqb-true number (block_count message) by.last_is in
     let text : text_of blocks ++ block.body ≡ message.body =
     ap (λ (bs : List BlockView). text_of bs ++ block.body) first
@@ -190,22 +192,22 @@ made receiver entries side device message number whole some of e =
 
 made-of :
     (receiver : Receiver) (entries : List FlowEntry) (side : Side) (device : ℕ) (message : Message) (block : BlockView)
-    (whole : Message)
+    (whole : Message) (check : Checking)
     (number : ℕ) → 1 ≤ number → block ≡ numbered_block side device message number
     → AreBlocksOf side device message block.header entries
-    → flow_after receiver (met_of receiver entries) block ≡ Whole whole
+    → flow_after receiver (met_of receiver entries) block ≡ Whole whole check
     → IsMade message number (is_given (last_given (met_of receiver entries)) block.header) whole
-made-of receiver entries side device message block whole number some is of e =
+made-of receiver entries side device message block whole check number some is of e =
     rw is
-    (made receiver entries side device message number whole some
+    (made receiver entries side device message number whole check some
     (subst (λ (b : BlockView). AreBlocksOf side device message b.header entries) is of)
     (ap (flow_after receiver (met_of receiver entries)) (sym is) ∙ e))
 
 pub make-messages : BlocksMakeMessages
 make-messages = λ receiver entries side device message. record {
   open_are = λ header of. open-first receiver entries side device message header of;
-  whole_is = λ block whole one of e.
-      let is = made-of receiver entries side device message block whole one.number one.first one.is of e in
+  whole_is = λ block whole check one of e.
+      let is = made-of receiver entries side device message block whole check one.number one.first one.is of e in
       (is.whole_is, one.is ∙ ap (numbered_block side device message) is.last, is.new);
 }
 
@@ -218,9 +220,9 @@ text-bytes (block ∷ before) are =
     (All-head IsBlock block before are).bytes
 
 pub whole-fit : WholeMessagesFit
-whole-fit = λ receiver entries block whole is are one e.
+whole-fit = λ receiver entries block whole check is are one e.
     let met = met_of receiver entries in
-    let by = whole-of receiver met block whole e in
+    let by = whole-of receiver met block whole check e in
     let fits = subst (WholeFits receiver.max_body) e
     (chosen-fits receiver.max_body (address_of block.header) (is_given (last_given met) block.header)
     (is_foreign receiver block.header) _ (behind-fits receiver _ _ _ block is one.header.fits)) in

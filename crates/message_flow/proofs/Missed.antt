@@ -8,7 +8,7 @@ use Rattle.message_flow.specs.declared.flow.Flow.{Flow}
 use Rattle.message_flow.specs.declared.flow.Flow.TheVariants.{Part, Whole, Duplicate, Foreign, Unexpected, TooLong, Crowded}
 use Rattle.message_flow.specs.declared.message.Message.{Message}
 use Rattle.message_flow.specs.Arrivals.{is_given_since}
-use Rattle.message_flow.specs.Assembly.{is_crowded, is_next, message_of}
+use Rattle.message_flow.specs.Assembly.{is_crowded, is_next, message_of, whole_with}
 use Rattle.message_flow.specs.Blocks.{block_count, numbered_block}
 use Rattle.message_flow.specs.Entries.{FlowEntry}
 use Rattle.message_flow.specs.Entries.FlowEntry.{Dropped, Given}
@@ -20,6 +20,7 @@ use Rattle.message_flow.specs.Receiver.{Receiver, address_of, is_foreign}
 use Rattle.message_flow.proofs.Agreement.{open-cut, open-other, open-part, open-uncut, part-none, part-some}
 use Rattle.message_flow.proofs.Arrivals.{flow-back}
 use Rattle.message_flow.proofs.Keys.{key-left, key-right, key-same, key-self}
+use Rattle.secs_items.specs.Checking.{Checking}
 
 -- ---- what is known where a block is this
 
@@ -28,7 +29,7 @@ Facts receiver met block Part =
     (is_foreign receiver block.header ≡ false)
     × (is_next (newest_header (open_blocks block.header met)) block.header ≡ true)
     × (block.header.last ≡ false)
-Facts receiver met block (Whole message) =
+Facts receiver met block (Whole message check) =
     (is_next (newest_header (open_blocks block.header met)) block.header ≡ true) × (block.header.last ≡ true)
 Facts receiver met block Duplicate = is_given (last_given met) block.header ≡ true
 Facts receiver met block (Foreign address) = is_foreign receiver block.header ≡ true
@@ -45,7 +46,7 @@ facts-by :
     → is_crowded (newest_header (open_blocks block.header met)) (length (open_firsts met)) ≡ crowded
     → Facts receiver met block
     (cond given Duplicate (cond foreign (Foreign address)
-    (cond follows (cond long TooLong (cond last (Whole message) (cond crowded Crowded Part))) Unexpected)))
+    (cond follows (cond long TooLong (cond last (whole_with message) (cond crowded Crowded Part))) Unexpected)))
 facts-by receiver met block address message true foreign follows long last crowded g f n l c = g
 facts-by receiver met block address message false true follows long last crowded g f n l c = f
 facts-by receiver met block address message false false false long last crowded g f n l c = tt
@@ -308,9 +309,9 @@ counted-same receiver header entries met block now Part same facts is =
     go : IsFollowing (open_blocks header met) block
         → IsCounted receiver header (Given block now ∷ entries) (Arrived block now Part ∷ met)
     go following = step following following.number
-counted-same receiver header entries met block now (Whole message) same facts is =
+counted-same receiver header entries met block now (Whole message check) same facts is =
     none-counted receiver header _ _
-    (open-cut (part_of header) header (Arrived block now (Whole message)) met (and_from _ _ same refl))
+    (open-cut (part_of header) header (Arrived block now (Whole message check)) met (and_from _ _ same refl))
 counted-same receiver header entries met block now Unexpected same facts is =
     none-counted receiver header _ _
     (open-cut (part_of header) header (Arrived block now Unexpected) met (and_from _ _ same refl))
@@ -387,29 +388,29 @@ each-given receiver before block now number some less (inl e) =
 each-given receiver before block now number some less (inr only) = absurd (let e = only.0 in omega arith)
 
 whole-facts :
-    (receiver : Receiver) (before : List FlowEntry) (block : BlockView) (whole : Message)
-    → flow_at receiver (reverse before) block ≡ Whole whole
+    (receiver : Receiver) (before : List FlowEntry) (block : BlockView) (whole : Message) (check : Checking)
+    → flow_at receiver (reverse before) block ≡ Whole whole check
     → (is_next (newest_header (open_blocks block.header (met_of receiver before))) block.header ≡ true)
     × (block.header.last ≡ true)
-whole-facts receiver before block whole e =
+whole-facts receiver before block whole check e =
     subst (Facts receiver (met_of receiver before) block) (sym (flow-back receiver before block) ∙ e)
     (facts receiver (met_of receiver before) block)
 
 pub whole-numbered : WholeIsNumbered
 whole-numbered = record {
   parts = λ receiver before header. (counted receiver header before).numbered;
-  whole = λ receiver before block whole e. whole-number receiver before block
-      (whole-facts receiver before block whole e).0;
+  whole = λ receiver before block whole check e. whole-number receiver before block
+      (whole-facts receiver before block whole check e).0;
 }
 
 pub left-out : LeftOutIsMissed
 left-out = record {
-  each_given = λ receiver before block now whole e number some less.
+  each_given = λ receiver before block now whole check e number some less.
       each-given receiver before block now number some less
-      (whole-number receiver before block (whole-facts receiver before block whole e).0);
-  left_out = λ receiver before side device message number missed now some less lacks whole e.
+      (whole-number receiver before block (whole-facts receiver before block whole check e).0);
+  left_out = λ receiver before side device message number missed now some less lacks whole check e.
       let block = numbered_block side device message number in
-      let facts = whole-facts receiver before block whole e in
+      let facts = whole-facts receiver before block whole check e in
       let last = eqb-true number (block_count message) facts.1 in
       both_ways _ lacks
       (each-given receiver before block now missed some (omega arith) (whole-number receiver before block facts.0));

@@ -6,11 +6,11 @@ use Rattle.block_codec.specs.Block.{BlockView}
 use Rattle.block_codec.specs.declared.header.Header.{Header}
 use Rattle.message_flow.specs.declared.flow.Flow.{Flow}
 use Rattle.message_flow.specs.declared.partial.Partial.{Partial}
-use Rattle.message_flow.specs.Assembly.{AssemblyView, flow_of, flow_to, header_so_far, is_due, partials_after, with_block, without_due, without_key}
+use Rattle.message_flow.specs.Assembly.{AssemblyView, check_so_far, flow_of, has_key, flow_to, header_so_far, is_due, partials_after, with_block, without_due, without_key}
 use Rattle.message_flow.specs.Deadlines.{IsDeadlineAfter, dropped_after}
 use Rattle.message_flow.specs.Entries.{FlowEntry, StandsFor, flow_kept, kept_after}
 use Rattle.message_flow.specs.Entries.FlowEntry.{Dropped, Given}
-use Rattle.message_flow.specs.History.{flow_at, met_of}
+use Rattle.message_flow.specs.History.{checked_at, flow_at, met_of, open_blocks, text_check}
 use Rattle.message_flow.specs.Laws.{StandingGoesOn}
 use Rattle.message_flow.proofs.Agreement.{agrees-after, flow-same}
 use Rattle.message_flow.proofs.Arrivals.{flow-back}
@@ -31,6 +31,13 @@ flow_stands assembly entries block stands =
     ∙ flow-same assembly.receiver (kept_after assembly.receiver entries)
     (met_of assembly.receiver (reverse entries)) block
     (agrees-after assembly.receiver entries)
+
+pub checked_stands :
+    (assembly : AssemblyView) (entries : List FlowEntry) (header : Header) → StandsFor assembly entries
+    → check_so_far (find (has_key header) assembly.partials) ≡ checked_at assembly.receiver entries header
+checked_stands assembly entries header stands =
+    ap (λ (ps : List Partial). check_so_far (find (has_key header) ps)) stands.partials
+    ∙ ((agrees-after assembly.receiver entries).each header).check
 
 pub stands_given :
     (old new : AssemblyView) (entries : List FlowEntry) (block : BlockView) (now : ℕ) (flow : Flow)
@@ -91,6 +98,9 @@ goes-on = λ assembly entries stands.
       given = λ block now.
           one-in-front (with_block assembly block now) entries (Given block now)
           (stands_given assembly _ (reverse entries) block now (flow_to assembly block) stands refl refl refl refl);
+      checked = λ header.
+          checked_stands assembly (reverse entries) header stands
+          ∙ ap (λ (es : List FlowEntry). text_check (open_blocks header (met_of assembly.receiver es))) back;
       due = due;
       dropped = λ now header e.
           let found = is-due (find (is_due now) assembly.partials) header (due now ∙ e) in

@@ -4,8 +4,9 @@ use Rattle.block_codec.specs.Block.{BlockView}
 use Rattle.block_codec.specs.declared.header.Header.{Header}
 use Rattle.gl_base.specs.declared.side.Side.{Side}
 use Rattle.message_flow.specs.declared.flow.Flow.{Flow}
-use Rattle.message_flow.specs.declared.flow.Flow.TheVariants.{Part, Whole}
+use Rattle.message_flow.specs.declared.flow.Flow.TheVariants.{Part}
 use Rattle.message_flow.specs.declared.message.Message.{Message}
+use Rattle.message_flow.specs.Assembly.{whole_with}
 use Rattle.message_flow.specs.Blocks.{block_count, header_of, numbered_block}
 use Rattle.message_flow.specs.Entries.{FlowEntry, blocks_in}
 use Rattle.message_flow.specs.Entries.FlowEntry.{Dropped, Given}
@@ -49,7 +50,7 @@ pub data HaveCome
 
 -- what the block of this number is where those before it have come
 abbrev pub part_or_whole : Message → ℕ → Flow
-part_or_whole message number = if number == block_count message then Whole message else Part
+part_or_whole message number = if number == block_count message then whole_with message else Part
 
 -- a block of a header's key with this number stands among those of its key that were given since number 1 of the key
 -- was given last, that one too

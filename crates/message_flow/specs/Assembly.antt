@@ -1,6 +1,7 @@
 -- The messages that come in, as they are kept block by block.
 use Rattle.std.specs.Prelude.{◌≡◌, ℕ, Bool, false, ◌+◌, ◌≤◌, ◌==◌, ◌&&◌, ◌||◌, nat_lt, nat_le, List, [], ◌∷◌, ◌++◌, length, set, slice_index_or, All, Option, Some, None, Result, IfOk, if◌then◌else◌}
 use Rattle.std.specs.List.{find, position_or_len, remove}
+use Rattle.std.specs.Option.{option_map}
 use Rattle.block_codec.specs.Block.{BlockView}
 use Rattle.block_codec.specs.Header.{Fits}
 use Rattle.block_codec.specs.declared.header.Header.{Header}
@@ -11,6 +12,7 @@ use Rattle.message_flow.specs.declared.partial.Partial.{Partial}
 use Rattle.message_flow.specs.Key.{is_given, same_key}
 use Rattle.message_flow.specs.Message.{MessageFits}
 use Rattle.message_flow.specs.Receiver.{IsReceiver, Receiver, address_of, is_foreign}
+use Rattle.secs_items.specs.Checking.{Checking, check_of}
 
 -- a message with this key and this text
 abbrev pub message_of : Header → List ℕ → Message
@@ -24,7 +26,12 @@ message_of header body = record {
 
 -- a message of which this block is the first
 abbrev pub new_partial : BlockView → ℕ → Partial
-new_partial block deadline = record { header = block.header; deadline = deadline; body = block.body }
+new_partial block deadline = record {
+  header = block.header;
+  deadline = deadline;
+  body = block.body;
+  check = check_of block.body;
+}
 
 -- the next block of a message has come
 abbrev pub next_partial : Partial → BlockView → ℕ → Partial
@@ -32,13 +39,14 @@ next_partial partial block deadline = record {
   header = block.header;
   deadline = deadline;
   body = partial.body ++ block.body;
+  check = check_of (partial.body ++ block.body);
 }
 
 -- a message with the key of a header
 abbrev pub has_key : Header → Partial → Bool
 has_key header partial = same_key partial.header header
 
--- the header of the last block, and the text so far
+-- the header of the last block, the text so far, and its check
 abbrev pub header_so_far : Option Partial → Option Header
 header_so_far None = None
 header_so_far (Some partial) = Some partial.header
@@ -46,6 +54,9 @@ header_so_far (Some partial) = Some partial.header
 abbrev pub body_so_far : Option Partial → List ℕ
 body_so_far None = []
 body_so_far (Some partial) = partial.body
+
+abbrev pub check_so_far : Option Partial → Option Checking
+check_so_far found = option_map (λ partial. partial.check) found
 
 -- a block is the next of its message: its number follows that of the block before it, and the first one has number 1,
 -- or 0 where it is the only one (SEMI E4, block number)
@@ -58,13 +69,17 @@ abbrev pub is_crowded : Option Header → ℕ → Bool
 is_crowded None count = nat_le 16 count
 is_crowded (Some before) count = false
 
+-- a message that is whole, with the check of its text
+abbrev pub whole_with : Message → Flow
+whole_with message = Whole message (check_of message.body)
+
 -- what a block of this receiver is that is no duplicate, from the block of its key before it, the text so far and how
 -- many messages are open: the first that applies (SEMI E4, receive; the limits are this profile's)
 abbrev pub flow_behind : Receiver → Option Header → List ℕ → ℕ → BlockView → Flow
 flow_behind receiver before body count block =
     if is_next before block.header then
     (if nat_lt receiver.max_body (length body + length block.body) then TooLong
-    else if block.header.last then Whole (message_of block.header (body ++ block.body))
+    else if block.header.last then whole_with (message_of block.header (body ++ block.body))
     else if is_crowded before count then Crowded
     else Part)
     else Unexpected
@@ -91,7 +106,7 @@ with_part (Some found) partials block deadline =
 -- from now; whole, unexpected and too long end it (SEMI E4, T4 and receive)
 abbrev pub partials_after : List Partial → BlockView → ℕ → Flow → List Partial
 partials_after partials block deadline Part = with_part (find (has_key block.header) partials) partials block deadline
-partials_after partials block deadline (Whole message) = without_key block.header partials
+partials_after partials block deadline (Whole message check) = without_key block.header partials
 partials_after partials block deadline Duplicate = partials
 partials_after partials block deadline (Foreign address) = partials
 partials_after partials block deadline Unexpected = without_key block.header partials
@@ -101,7 +116,7 @@ partials_after partials block deadline Crowded = partials
 -- the same, with the message of the block's key open at this place
 abbrev pub after_next : List Partial → ℕ → Partial → BlockView → ℕ → Flow → List Partial
 after_next partials place found block deadline Part = set partials place (next_partial found block deadline)
-after_next partials place found block deadline (Whole message) = remove partials place
+after_next partials place found block deadline (Whole message check) = remove partials place
 after_next partials place found block deadline Duplicate = partials
 after_next partials place found block deadline (Foreign address) = partials
 after_next partials place found block deadline Unexpected = remove partials place
@@ -111,7 +126,7 @@ after_next partials place found block deadline Crowded = partials
 -- the same, with no message of the block's key open
 abbrev pub after_first : List Partial → BlockView → ℕ → Flow → List Partial
 after_first partials block deadline Part = partials ++ new_partial block deadline ∷ []
-after_first partials block deadline (Whole message) = partials
+after_first partials block deadline (Whole message check) = partials
 after_first partials block deadline Duplicate = partials
 after_first partials block deadline (Foreign address) = partials
 after_first partials block deadline Unexpected = partials
@@ -124,11 +139,13 @@ pub record AssemblyView : Type 0 where
   pub last : Option Header
   pub partials : List Partial
 
--- at most 16 messages are open, none with more text than the receiver takes (this profile), and their headers fit
+-- at most 16 messages are open, none with more text than the receiver takes (this profile), each with the check of its
+-- text, and their headers fit
 pub record IsAssembly (assembly : AssemblyView) : Type 0 where
   pub receiver : IsReceiver assembly.receiver
   pub few : length assembly.partials ≤ 16
   pub bodies : All (λ partial. length partial.body ≤ assembly.receiver.max_body) assembly.partials
+  pub checks : All (λ partial. partial.check ≡ check_of partial.body) assembly.partials
   pub headers : All (λ partial. Fits partial.header) assembly.partials
 
 -- what an arrived block is to an assembly
@@ -190,5 +207,10 @@ without_due now assembly = record {
 
 -- a whole message fits, and has no more text than this
 abbrev pub WholeFits : ℕ → Flow → Type 0
-WholeFits max_body (Whole message) = MessageFits message × (length message.body ≤ max_body)
+WholeFits max_body (Whole message check) = MessageFits message × (length message.body ≤ max_body)
 WholeFits max_body _ = Unit {0}
+
+-- the check that comes with a whole message is that of its text
+abbrev pub WholeIsChecked : Flow → Type 0
+WholeIsChecked (Whole message check) = check ≡ check_of message.body
+WholeIsChecked _ = Unit {0}

@@ -10,6 +10,7 @@ use Rattle.message_flow.specs.Entries.{FlowEntry}
 use Rattle.message_flow.specs.Entries.FlowEntry.{Dropped, Given}
 use Rattle.message_flow.specs.Key.{is_given, same_key}
 use Rattle.message_flow.specs.Receiver.{Receiver, address_of, is_foreign}
+use Rattle.secs_items.specs.Checking.{Checking, check_of}
 
 -- a block with its moment and what it was; or the header and the moment of a drop by T4. Lists of these have the
 -- newest first
@@ -27,7 +28,7 @@ last_given (TimedOut header now ∷ before) = last_given before
 -- profile's)
 abbrev pub is_end : Flow → Bool
 is_end Part = false
-is_end (Whole message) = true
+is_end (Whole message check) = true
 is_end Duplicate = false
 is_end (Foreign address) = false
 is_end Unexpected = true
@@ -36,7 +37,7 @@ is_end Crowded = false
 
 abbrev pub is_part : Flow → Bool
 is_part Part = true
-is_part (Whole message) = false
+is_part (Whole message check) = false
 is_part Duplicate = false
 is_part (Foreign address) = false
 is_part Unexpected = false
@@ -59,7 +60,7 @@ part_of header (TimedOut dropped now) = None
 abbrev pub open_blocks : Header → List Met → List BlockView
 open_blocks header met = filter_map (part_of header) (before_first (is_cut header) met)
 
--- the header of the newest of them, and their text in order
+-- the header of the newest of them, their text in order, and its check, if there are any
 abbrev pub newest_header : List BlockView → Option Header
 newest_header [] = None
 newest_header (block ∷ before) = Some block.header
@@ -67,6 +68,10 @@ newest_header (block ∷ before) = Some block.header
 abbrev pub text_of : List BlockView → List ℕ
 text_of [] = []
 text_of (block ∷ before) = text_of before ++ block.body
+
+abbrev pub text_check : List BlockView → Option Checking
+text_check [] = None
+text_check (block ∷ before) = Some (check_of (text_of (block ∷ before)))
 
 -- a part with no open block of its key before it opens a message
 abbrev pub first_part : Bool → Header → List BlockView → List Header
@@ -102,3 +107,8 @@ met_of receiver (Dropped header now ∷ before) = TimedOut header now ∷ met_of
 -- what a block is after these entries, the oldest first (SEMI E4, receive)
 abbrev pub flow_at : Receiver → List FlowEntry → BlockView → Flow
 flow_at receiver entries block = flow_after receiver (met_of receiver (reverse entries)) block
+
+-- the check of the text so far of a header's key after these entries, the oldest first; none exactly where no block of
+-- the key is open (this profile)
+abbrev pub checked_at : Receiver → List FlowEntry → Header → Option Checking
+checked_at receiver entries header = text_check (open_blocks header (met_of receiver (reverse entries)))

@@ -9,15 +9,16 @@ use Rattle.message_flow.specs.declared.flow.Flow.TheVariants.{Duplicate, Whole}
 use Rattle.message_flow.specs.declared.message.Message.{Message}
 use Rattle.message_flow.specs.declared.partial.Partial.{Partial}
 use Rattle.message_flow.specs.Arrivals.{AreBlocksOf, CanBegin, HaveCome, IsBlockOf, first_blocks, is_given_since, part_or_whole}
-use Rattle.message_flow.specs.Assembly.{AssemblyView, body_so_far, flow_to, has_key, header_so_far, is_due, with_block, without_due}
+use Rattle.message_flow.specs.Assembly.{AssemblyView, body_so_far, check_so_far, flow_to, has_key, header_so_far, is_due, with_block, without_due}
 use Rattle.message_flow.specs.Blocks.{block_count, blocks_of, header_of, numbered_block}
 use Rattle.message_flow.specs.Deadlines.{IsDeadlineAfter, IsDeadlineAt, deadline_of, dropped_after, dropped_at}
 use Rattle.message_flow.specs.Entries.{FlowEntry, StandsFor, blocks_in, kept_after}
 use Rattle.message_flow.specs.Entries.FlowEntry.{Dropped, Given}
-use Rattle.message_flow.specs.History.{flow_after, flow_at, last_given, met_of, newest_header, open_blocks, open_firsts, text_of}
+use Rattle.message_flow.specs.History.{flow_after, flow_at, last_given, met_of, newest_header, open_blocks, open_firsts, text_check, text_of}
 use Rattle.message_flow.specs.Key.{is_given, same_key}
 use Rattle.message_flow.specs.Message.{IsMessage}
 use Rattle.message_flow.specs.Receiver.{IsReceiver, Receiver}
+use Rattle.secs_items.specs.Checking.{Checking}
 
 -- the blocks of a message are numbered from 1 in their order (SEMI E4, block number)
 pub record BlocksAreNumbered : Type 0 where
@@ -58,9 +59,9 @@ AreFirsts (partial ∷ partials) [] = ⊥
 AreFirsts (partial ∷ partials) (header ∷ headers) = (same_key partial.header header ≡ true) × AreFirsts partials headers
 
 -- what is kept of the entries is what is looked back for: the header that was given last; of each key the header and
--- the text of its open blocks and the moment at which T4 runs out on it; the messages in the order of the first
--- blocks of open ones; the deadline of them all; and at each moment the message that is dropped then (SEMI E4,
--- receive and T4)
+-- the text of its open blocks, the check of that text, and the moment at which T4 runs out on it; the messages in the
+-- order of the first blocks of open ones; the deadline of them all; and at each moment the message that is dropped then
+-- (SEMI E4, receive and T4)
 pub record IsLookedBackFor (receiver : Receiver) (entries : List FlowEntry) : Type 0 where
   pub last : (kept_after receiver entries).last ≡ last_given (met_of receiver (reverse entries))
   pub headers :
@@ -71,6 +72,10 @@ pub record IsLookedBackFor (receiver : Receiver) (entries : List FlowEntry) : Ty
       (header : Header)
       → body_so_far (find (has_key header) (kept_after receiver entries).partials)
       ≡ text_of (open_blocks header (met_of receiver (reverse entries)))
+  pub checks :
+      (header : Header)
+      → check_so_far (find (has_key header) (kept_after receiver entries).partials)
+      ≡ text_check (open_blocks header (met_of receiver (reverse entries)))
   pub deadlines :
       (header : Header)
       → deadline_so_far (find (has_key header) (kept_after receiver entries).partials)
@@ -122,8 +127,8 @@ pub record WholeIsNumbered : Type 0 where
       (receiver : Receiver) (before : List FlowEntry) (header : Header)
       → AreNumbered (open_blocks header (met_of receiver before))
   pub whole :
-      (receiver : Receiver) (before : List FlowEntry) (block : BlockView) (whole : Message)
-      → flow_at receiver (reverse before) block ≡ Whole whole
+      (receiver : Receiver) (before : List FlowEntry) (block : BlockView) (whole : Message) (check : Checking)
+      → flow_at receiver (reverse before) block ≡ Whole whole check
       → IsNextNumber (open_blocks block.header (met_of receiver before)) block
 
 -- a block is the last of a whole message only where each number up to its own was given since number 1 of its key
@@ -131,8 +136,9 @@ pub record WholeIsNumbered : Type 0 where
 -- have the newest first
 pub record LeftOutIsMissed : Type 0 where
   pub each_given :
-      (receiver : Receiver) (before : List FlowEntry) (block : BlockView) (now : ℕ) (whole : Message)
-      → flow_at receiver (reverse before) block ≡ Whole whole → (number : ℕ) → 1 ≤ number → number ≤ block.header.number
+      (receiver : Receiver) (before : List FlowEntry) (block : BlockView) (now : ℕ) (whole : Message) (check : Checking)
+      → flow_at receiver (reverse before) block ≡ Whole whole check
+      → (number : ℕ) → 1 ≤ number → number ≤ block.header.number
       → is_given_since block.header number (Given block now ∷ before) ≡ true
   pub left_out :
       (receiver : Receiver) (before : List FlowEntry) (side : Side) (device : ℕ) (message : Message)
@@ -141,7 +147,8 @@ pub record LeftOutIsMissed : Type 0 where
       → is_given_since (header_of side device message 1) missed
       (Given (numbered_block side device message number) now ∷ before)
       ≡ false
-      → (whole : Message) → flow_at receiver (reverse before) (numbered_block side device message number) ≢ Whole whole
+      → (whole : Message) (check : Checking)
+      → flow_at receiver (reverse before) (numbered_block side device message number) ≢ Whole whole check
 
 -- what an assembly stands for goes on with each call, and its answers are what is looked back for. Entries have the
 -- newest first here, so that a list of them grows in front
@@ -152,6 +159,10 @@ pub record GoesOn (assembly : AssemblyView) (entries : List FlowEntry) : Type 0 
   pub given :
       (block : BlockView) (now : ℕ)
       → StandsFor (with_block assembly block now) (reverse (Given block now ∷ entries))
+  pub checked :
+      (header : Header)
+      → check_so_far (find (has_key header) assembly.partials)
+      ≡ text_check (open_blocks header (met_of assembly.receiver entries))
   pub due :
       (now : ℕ)
       → header_so_far (find (is_due now) assembly.partials)
@@ -172,9 +183,9 @@ StandingGoesOn =
 -- text than the receiver takes; so it can be sent again (SEMI E4, header; the limit is this profile's)
 abbrev pub WholeMessagesFit : Type 0
 WholeMessagesFit =
-    (receiver : Receiver) (entries : List FlowEntry) (block : BlockView) (whole : Message) → IsReceiver receiver
-    → All IsBlock (blocks_in entries) → IsBlock block
-    → flow_after receiver (met_of receiver entries) block ≡ Whole whole
+    (receiver : Receiver) (entries : List FlowEntry) (block : BlockView) (whole : Message) (check : Checking)
+    → IsReceiver receiver → All IsBlock (blocks_in entries) → IsBlock block
+    → flow_after receiver (met_of receiver entries) block ≡ Whole whole check
     → IsMessage whole × (length whole.body ≤ receiver.max_body)
 
 -- the blocks of a message are blocks (SEMI E4, block)
@@ -194,9 +205,9 @@ pub record MakesMessage
       → let blocks = open_blocks header (met_of receiver entries) in
       blocks ≡ first_blocks side device message (length blocks)
   pub whole_is :
-      (block : BlockView) (whole : Message) → IsBlockOf side device message block
+      (block : BlockView) (whole : Message) (check : Checking) → IsBlockOf side device message block
       → AreBlocksOf side device message block.header entries
-      → flow_after receiver (met_of receiver entries) block ≡ Whole whole
+      → flow_after receiver (met_of receiver entries) block ≡ Whole whole check
       → (whole ≡ message) × (block ≡ numbered_block side device message (block_count message))
       × (is_given (last_given (met_of receiver entries)) block.header ≡ false)
 

@@ -7,7 +7,8 @@ use Rattle.message_flow.specs.Assembly.{AssemblyView}
 use Rattle.message_flow.specs.Deadlines.{IsDeadlineAt, dropped_at}
 use Rattle.message_flow.specs.Entries.{FlowEntry, StandsFor}
 use Rattle.message_flow.specs.Entries.FlowEntry.{Dropped, Given}
-use Rattle.message_flow.specs.History.{flow_at}
+use Rattle.message_flow.specs.History.{checked_at, flow_at}
+use Rattle.secs_items.specs.Checking.{Checking}
 
 -- what is answered is what the block is after the entries
 abbrev pub IsFlowAt : {E : Type 0} → AssemblyView → BlockView → Result Flow E → Type 0
@@ -18,6 +19,11 @@ IsFlowAt old block result =
 abbrev pub StandsWithBlock : {E : Type 0} → AssemblyView → AssemblyView → BlockView → ℕ → Result Flow E → Type 0
 StandsWithBlock old new block now result =
     (entries : List FlowEntry) → StandsFor old entries → OnOk result (StandsFor new (entries ++ Given block now ∷ []))
+
+-- what is answered is the check of the text so far of the header's key after the entries
+abbrev pub IsCheckedAt : AssemblyView → Header → Option Checking → Type 0
+IsCheckedAt assembly header result =
+    (entries : List FlowEntry) → StandsFor assembly entries → result ≡ checked_at assembly.receiver entries header
 
 -- what is answered is the header of the message that T4 drops after the entries
 abbrev pub IsDroppedAt : AssemblyView → ℕ → Option Header → Type 0

@@ -2,9 +2,10 @@
 use Rattle.std.specs.Prelude.{◌≡◌, ◌<◌, ◌≤◌, ℕ, true, false, List, [], ◌∷◌, replicate, reverse, Some}
 use Rattle.block_codec.specs.Block.{BlockView}
 use Rattle.gl_base.specs.declared.side.Side.TheVariants.{Equipment, Host}
-use Rattle.message_flow.specs.declared.flow.Flow.TheVariants.{Part, Whole, Duplicate, Unexpected}
+use Rattle.message_flow.specs.declared.flow.Flow.TheVariants.{Part, Duplicate, Unexpected}
 use Rattle.message_flow.specs.declared.message.Message.{Message}
 use Rattle.message_flow.specs.Arrivals.{CanBegin, HaveCome, is_given_since}
+use Rattle.message_flow.specs.Assembly.{whole_with}
 use Rattle.message_flow.specs.Blocks.{block_count, header_of, numbered_block}
 use Rattle.message_flow.specs.Entries.{FlowEntry}
 use Rattle.message_flow.specs.Entries.FlowEntry.{Given}
@@ -44,7 +45,7 @@ pub record ComesInThree : Type 0 where
   pub first : flow_at a_host [] (block 1 1) ≡ Part
   pub again : flow_at a_host (reverse once) (block 1 1) ≡ Duplicate
   pub second : flow_at a_host (reverse mixed) (block 1 2) ≡ Part
-  pub last : flow_at a_host (reverse all_but_last) (block 1 3) ≡ Whole (report 1)
+  pub last : flow_at a_host (reverse all_but_last) (block 1 3) ≡ whole_with (report 1)
 
 -- block 3 comes after block 1
 pub record LacksOne : Type 0 where

@@ -2,20 +2,21 @@
 
 ghost use Rattle.std.specs.Prelude.{◌≡◌, ◌+◌, ◌^◌, ◌<◌, ◌≤◌, ◌↔◌, ◌++◌, ◌&&◌, [], ◌∷◌, List, Some, None, length, map, min, slice_index_or, IfOk, IfSome, IfNone, OnErr, OnOk};
 ghost use Rattle.std.specs.List.{find, position, position_or_len, reduce, remove};
-ghost use Rattle.std.specs.Option.{option_map, OnSome};
+ghost use Rattle.std.specs.Option.{option_copied, option_map, OnSome};
 ghost use Rattle.block_codec.specs.Header.{Fits};
 ghost use Rattle.message_flow.specs.declared.partial.Partial.{Partial};
-ghost use Rattle.message_flow.specs.Assembly.{AssemblyView, FlowsNext, IsAccepted, IsAssembly, IsNextAfter, WholeFits, first_flow, flow_to, has_key, header_so_far, is_due, with_first, with_flow, without_due};
+ghost use Rattle.message_flow.specs.Assembly.{AssemblyView, FlowsNext, IsAccepted, IsAssembly, IsNextAfter, WholeFits, WholeIsChecked, check_so_far, first_flow, flow_to, has_key, header_so_far, is_due, with_first, with_flow, without_due};
 ghost use Rattle.message_flow.specs.Entries.{StandsFor};
 ghost use Rattle.message_flow.specs.Key.{is_given};
 ghost use Rattle.message_flow.specs.Receiver.{IsReceiver, Receiver, address_of, is_foreign};
-ghost use Rattle.message_flow.specs.Standing.{IsDroppedAt, IsFlowAt, IsNextDeadline, StandsWithBlock, StandsWithDrop};
+ghost use Rattle.message_flow.specs.Standing.{IsCheckedAt, IsDroppedAt, IsFlowAt, IsNextDeadline, StandsWithBlock, StandsWithDrop};
 
 use crate::key::{same_header, same_key};
 use crate::partial::Partial;
 use crate::{Flow, Message};
 use block_codec::{Block, Header};
 use gl_base::{NoMemory, Row, Side};
+use secs_items::BodyCheck;
 use std::alloc::Global;
 use std::marker::Model;
 
@@ -73,7 +74,8 @@ impl Assembly {
     }
 
     /// What a block is that arrives now, after all blocks that were given so far and all messages that T4 dropped. A
-    /// whole message fits, and its text has no more bytes than this side takes.
+    /// whole message fits, and its text has no more bytes than this side takes. Its text was checked as it came, each
+    /// block by itself.
     ///
     /// Where memory runs out nothing has changed, and the block was not given.
     #[tactic(auto, using(crate::proofs::Standing::flow_stands, crate::proofs::Standing::stands_given))]
@@ -81,6 +83,7 @@ impl Assembly {
         requires { now < 2 ^ 62 }
         ensures kept { IfOk result (IsAccepted self.old block.now now self.new) }
         ensures whole { IfOk result (WholeFits self.old.receiver.max_body) }
+        ensures checked { IfOk result WholeIsChecked }
         ensures answer { IsFlowAt self.old block.now result }
         ensures stands { StandsWithBlock self.old self.new block.now now result }
         ensures receiver { self.new.receiver ≡ self.old.receiver }
@@ -116,6 +119,19 @@ impl Assembly {
         ensures answer { IsNextDeadline self.now result }
     {
         self.least_deadline()
+    }
+
+    /// The check of the text that has come so far of the message with this header's key. E bit and block number don't
+    /// count.
+    ///
+    /// `None` exactly where no message of the key is open. The check went with the blocks, so no text is looked at
+    /// here, and no memory is taken.
+    #[tactic(auto, using(crate::proofs::Standing::checked_stands))]
+    pub fn checked(&self, header: &Header) -> Option<&BodyCheck>
+        ensures kept { option_copied result ≡ check_so_far (find (has_key header.now) self.now.partials) }
+        ensures answer { IsCheckedAt self.now header.now (option_copied result) }
+    {
+        self.check_so_far(header)
     }
 
     // What a block is, with the change of the open messages that follows.
@@ -159,7 +175,7 @@ impl Assembly {
         }
         partial.grow(block, deadline)?;
         if header.last {
-            Ok(Flow::Whole(self.partials.remove(place).into_message()))
+            Ok(self.partials.remove(place).into_whole())
         } else {
             Ok(Flow::Part)
         }
@@ -181,7 +197,7 @@ impl Assembly {
         }
         let partial = Partial::new(self.alloc, block, now + u64::from(self.t4))?;
         if header.last {
-            return Ok(Flow::Whole(partial.into_message()));
+            return Ok(partial.into_whole());
         }
         self.partials.push(partial)?;
         Ok(Flow::Part)
@@ -192,6 +208,17 @@ impl Assembly {
         ensures { result ≡ reduce min (map (λ partial. partial.deadline) self.now.partials) }
     {
         self.partials.iter().map(|partial| partial.deadline).min()
+    }
+
+    // The check of the message with the key of this header.
+    fn check_so_far(&self, header: &Header) -> Option<&BodyCheck>
+        ensures { option_copied result ≡ check_so_far (find (has_key header.now) self.now.partials) }
+    {
+        let partial = self
+            .partials
+            .iter()
+            .find(|partial| same_key(&partial.header, header))?;
+        Some(&partial.check)
     }
 
     // The place of the message with the key of this header.

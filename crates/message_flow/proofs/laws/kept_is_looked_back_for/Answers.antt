@@ -11,6 +11,7 @@ returns c = λ receiver entries.
       last = agrees.last;
       headers = λ header. (agrees.each header).header;
       texts = λ header. (agrees.each header).body;
+      checks = λ header. (agrees.each header).check;
       deadlines = λ header. (agrees.each header).deadline_is;
       order = agrees.firsts;
       count = firsts-length _ _ agrees.firsts;
