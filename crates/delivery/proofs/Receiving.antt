@@ -17,6 +17,7 @@ use Rattle.message_flow.specs.Key.{is_given, same_header, same_key}
 use Rattle.message_flow.specs.Laws.{BlocksMakeMessages}
 use Rattle.message_flow.specs.Message.{is_primary}
 use Rattle.message_flow.proofs.Keys.{beq-self, key-same, key-self}
+use Rattle.secs_items.specs.Checking.{Checking}
 use Rattle.delivery.proofs.Facts.{IsFrameOf, IsMade, IsNewest, IsReceiving, IsSound, Rise, newest_of}
 use Rattle.delivery.proofs.Facts.IsLive.{past, present}
 use Rattle.delivery.proofs.Facts.Fact.{Back, ThereSends}
@@ -27,7 +28,8 @@ use Rattle.delivery.proofs.Tags.{Arrives, TaggedBlock, TaggedEnd, TaggedHearing,
 -- ---- a block that makes a message whole
 
 record IsWholeBy (block : TaggedBlock) (flow : Flow) (w : TaggedWhole) : Type 0 where
-  pub flow_is : flow ≡ Whole w.message
+  pub check : Checking
+  pub flow_is : flow ≡ Whole w.message check
   pub block_is : w.block ≡ block
 
 abbrev whole-with : TaggedBlock → Message → TaggedWhole
@@ -35,10 +37,11 @@ whole-with block message = record { message = message; block = block }
 
 whole-by : (block : TaggedBlock) (flow : Flow) (w : TaggedWhole) → with_block block (whole_of flow) ≡ Some w
     → IsWholeBy block flow w
-whole-by block (Whole message) w e =
+whole-by block (Whole message check) w e =
     let same : whole-with block message ≡ w = cc in
     record {
-      flow_is = ap (λ (t : TaggedWhole). Whole t.message) same;
+      check = check;
+      flow_is = ap (λ (t : TaggedWhole). Whole t.message check) same;
       block_is = sym (ap (λ (t : TaggedWhole). t.block) same);
     }
 whole-by block Part w e = absurd (cc)
@@ -142,7 +145,8 @@ last-of make x y block view flow w is arrives flow_is e = record {
         × (is_given (last_given (met_of (receiver_of x.plan) x.entries)) view.header ≡ false)
     makes =
         let of = (is ThereSends).given_are block frame.is_given in
-        (make (receiver_of x.plan) x.entries y.plan.side y.plan.line.device block.of.message).whole_is view w.message
+        (make (receiver_of x.plan) x.entries y.plan.side y.plan.line.device block.of.message).whole_is view
+        w.message by.check
         (record { number = block.number; first = of.first; last = of.last; is = arrives.is })
         (all-of _ (blocks_in x.entries) of_message) (sym flow_is ∙ by.flow_is)
 

@@ -182,7 +182,7 @@ heeds own e header message =
 
 -- what a block was: a reply that is no good is given up
 abbrev pub judges : HostOwn → EndView Kind → Header → Flow → HostTurn
-judges own e header (flow.Whole message) = heeds own e header message
+judges own e header (flow.Whole message check) = heeds own e header message
 judges own e header flow.Unexpected = fixed_turn own (GiveUp header ∷ [])
 judges own e header flow.TooLong = fixed_turn own (GiveUp header ∷ [])
 judges own e header flow.Crowded = fixed_turn own (GiveUp header ∷ [])

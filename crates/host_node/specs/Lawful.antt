@@ -236,7 +236,7 @@ module _ (plan : HostPlan) (base : ℕ) where
   judges-quiet :
       (own : HostOwn) (e : EndView Kind) (header : Header) (came : Flow) → HasPlan plan own
       → Quiet (judges own e header came)
-  judges-quiet own e header (flow.Whole message) sound = heeds-quiet own e header message sound
+  judges-quiet own e header (flow.Whole message check) sound = heeds-quiet own e header message sound
   judges-quiet own e header flow.Unexpected sound = fixed-quiet own (GiveUp header ∷ []) sound
       (record { calls = (tt, tt); may = (tt, tt) })
   judges-quiet own e header flow.TooLong sound = fixed-quiet own (GiveUp header ∷ []) sound

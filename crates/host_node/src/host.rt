@@ -309,7 +309,7 @@ impl Host {
         ensures line { out.new.line ≡ out.old.line }
     {
         match flow {
-            Flow::Whole(message) => self.heed(alloc, header, message, out),
+            Flow::Whole(message, _) => self.heed(alloc, header, message, out),
             Flow::Unexpected | Flow::TooLong | Flow::Crowded => {
                 match self.core.give_up(alloc, header, out) {
                     Ok(_) => Ok(()),

@@ -30,7 +30,7 @@ put_decimal old text mid new m n one two is =
 flow_parts : (place : ℕ) (from_equipment : Bool) (flow : Flow)
     → flow_head place from_equipment flow ++ flow_rest flow ≡ flow_text place from_equipment flow
 flow_parts place from_equipment Part = refl
-flow_parts place from_equipment (Whole message) =
+flow_parts place from_equipment (Whole message check) =
     sym (append_assoc (message_head place from_equipment message) (body_text message.body) (codes "\n"))
 flow_parts place from_equipment Duplicate = append-nil _
 flow_parts place from_equipment (Foreign address) = refl

@@ -48,7 +48,7 @@ message_text place from_equipment message =
 -- receiver.
 abbrev pub flow_text : ℕ → Bool → Flow → List ℕ
 flow_text place from_equipment Part = []
-flow_text place from_equipment (Whole message) = message_text place from_equipment message
+flow_text place from_equipment (Whole message check) = message_text place from_equipment message
 flow_text place from_equipment Duplicate = decimal place ++ codes " duplicate\n"
 flow_text place from_equipment (Foreign address) = []
 flow_text place from_equipment Unexpected = decimal place ++ codes " unexpected\n"
@@ -58,7 +58,7 @@ flow_text place from_equipment Crowded = decimal place ++ codes " crowded\n"
 -- the same up to a message's text, and from there to the end of its line
 abbrev pub flow_head : ℕ → Bool → Flow → List ℕ
 flow_head place from_equipment Part = []
-flow_head place from_equipment (Whole message) = message_head place from_equipment message
+flow_head place from_equipment (Whole message check) = message_head place from_equipment message
 flow_head place from_equipment Duplicate = decimal place ++ codes " duplicate\n"
 flow_head place from_equipment (Foreign address) = []
 flow_head place from_equipment Unexpected = decimal place ++ codes " unexpected\n"
@@ -67,7 +67,7 @@ flow_head place from_equipment Crowded = decimal place ++ codes " crowded\n"
 
 abbrev pub flow_rest : Flow → List ℕ
 flow_rest Part = []
-flow_rest (Whole message) = body_text message.body ++ codes "\n"
+flow_rest (Whole message check) = body_text message.body ++ codes "\n"
 flow_rest Duplicate = []
 flow_rest (Foreign address) = []
 flow_rest Unexpected = []

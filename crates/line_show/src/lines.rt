@@ -67,7 +67,7 @@ fn put_flow_head<const N: usize>(
 {
     match flow {
         Flow::Part | Flow::Foreign(_) => {}
-        Flow::Whole(message) => put_message_head(line, place, from_equipment, message),
+        Flow::Whole(message, _) => put_message_head(line, place, from_equipment, message),
         Flow::Duplicate => put_place(line, place, b" duplicate\n"),
         Flow::Unexpected => put_place(line, place, b" unexpected\n"),
         Flow::TooLong => put_place(line, place, b" too long\n"),

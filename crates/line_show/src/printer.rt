@@ -161,7 +161,7 @@ fn make_rest(alloc: Global, text: &mut Row<u8>, flow: &Flow) -> Result<(), NoMem
     ensures { OnOk result (text.new ≡ flow_rest flow.now) }
 {
     text.truncate(0);
-    if let Flow::Whole(message) = flow {
+    if let Flow::Whole(message, _) = flow {
         put_body(alloc, text, message.body.as_slice())?;
         text.push(b'\n')?;
     }

@@ -107,7 +107,7 @@ module _ {K : Type 0} where
       (header : Header) (flow : Flow) (step : Step (EndView K) Happening)
       → IsFront step.notes (judges Some header flow step).notes
   judges-grow header PartOf step = front-same step.notes
-  judges-grow header (Whole message) step = front-more step.notes (Happening.Received message ∷ [])
+  judges-grow header (Whole message check) step = front-more step.notes (Happening.Received message ∷ [])
   judges-grow header Duplicate step = front-more step.notes (Happening.Duplicate header ∷ [])
   judges-grow header (Foreign address) step = front-more step.notes (Happening.Foreign header ∷ [])
   judges-grow header Unexpected step = front-more step.notes (Happening.Unexpected header ∷ [])

@@ -90,7 +90,7 @@ module _ {K : Type 0} where
       (header : Header) (flow : Flow) (step : Step (EndView K) Happening)
       → limit_of (judges Some header flow step) ≡ limit_of step
   judges-limit header PartOf step = refl
-  judges-limit header (Whole message) step = refl
+  judges-limit header (Whole message check) step = refl
   judges-limit header Duplicate step = refl
   judges-limit header (Foreign address) step = refl
   judges-limit header Unexpected step = refl

@@ -230,7 +230,8 @@ judged :
     → other.next ≡ step.next → (judges Some header flow other).next ≡ (judges say header flow step).next
 judged {K} say header PartOf step other same =
     ap (λ (e : EndView K). with_transactions (with_deadline (is_answered_by header) None e.transactions) e) same
-judged {K} say header (Whole message) step other same = ap (λ (e : EndView K). with_asked (asked_by message) e) same
+judged {K} say header (Whole message check) step other same =
+    ap (λ (e : EndView K). with_asked (asked_by message) e) same
 judged say header Duplicate step other same = same
 judged say header (Foreign address) step other same = same
 judged say header Unexpected step other same = same

@@ -106,7 +106,7 @@ module _ {K N : Type 0} (say : Happening → Option N) where
       (header : Header) (flow : Flow) (step : Step (EndView K) Happening)
       → judges say header flow (read step) ≡ read (judges Some header flow step)
   read-judges header Part step = refl
-  read-judges header (Whole message) step = read-noted (Happening.Received message) _
+  read-judges header (Whole message check) step = read-noted (Happening.Received message) _
   read-judges header Duplicate step = read-noted (Happening.Duplicate header) step
   read-judges header (Foreign address) step = read-noted (Happening.Foreign header) step
   read-judges header Unexpected step = read-noted (Happening.Unexpected header) step

@@ -41,6 +41,7 @@ use Rattle.message_flow.specs.Message.{IsMessage, is_primary}
 use Rattle.message_flow.specs.Outgoing.{OutgoingView, after_block, is_source_of, next_block_of, with_waiting}
 use Rattle.message_flow.specs.Receiver.{IsReceiver, Receiver}
 use Rattle.message_flow.specs.Waiting.{is_named}
+use Rattle.secs_items.specs.Checking.{Checking}
 use Rattle.trace_log.specs.declared.names.Title.{Title}
 use Rattle.trace_log.specs.Log.{Happening}
 use Rattle.trace_log.specs.Names.{header_title, message_name, title_of}
@@ -1179,7 +1180,7 @@ module _ {K : Type 0} (laws : Laws) (plan : EndPlan) (base : ℕ) (fits : LinePl
   -- what the block was
   at-judges :
       (made : List LineCall) (header : Header) (flow : Flow) (step : Step (EndView K) Happening)
-      → ((message : Message) → flow ≡ Whole message → IsMessage message)
+      → ((message : Message) (check : Checking) → flow ≡ Whole message check → IsMessage message)
       → IsHeard made step (whole_of flow)
       → AtMade made (judges Some header flow step)
   at-judges made header Part step whole is =
@@ -1187,7 +1188,7 @@ module _ {K : Type 0} (laws : Laws) (plan : EndPlan) (base : ℕ) (fits : LinePl
       at-transactions laws plan base fits doings Moment (Exactly made) step _ at
       (open-timed plan (sent_in (own_of plan (is.done ++ doings))) (is_answered_by header) None step.next.transactions
       is.core.transactions)
-  at-judges made header (Whole message) step whole is = record {
+  at-judges made header (Whole message check) step whole is = record {
     done = Does (ReceivedMessage message) ∷ is.done;
     course = course-changed plan base doings _ _ (with_asked (asked_by message) step.next) refl
         (course-did plan base doings is.done step (ReceivedMessage message) _ is.course
@@ -1221,7 +1222,7 @@ module _ {K : Type 0} (laws : Laws) (plan : EndPlan) (base : ℕ) (fits : LinePl
             primary = odd;
             wait = waits;
             title = sym (same_Some _ _ e);
-            fits = whole message refl;
+            fits = whole message check refl;
           }
   at-judges made header Duplicate step whole is =
       at-said laws plan base fits doings Moment (Exactly made) step (Happening.Duplicate header) tt
@@ -1272,9 +1273,12 @@ module _ {K : Type 0} (laws : Laws) (plan : EndPlan) (base : ℕ) (fits : LinePl
       is_block : IsBlock block
       is_block = (arrival laws.small step.next.line byte now block is.core.line below told).is_block
 
-      fits_whole : (message : Message) → flow_to step.next.assembly block ≡ Whole message → IsMessage message
-      fits_whole message e =
-          (laws.whole (receiver_of plan) entries block message (receiver-fits plan fits) is.core.met.blocks is_block
+      fits_whole :
+          (message : Message) (check : Checking) → flow_to step.next.assembly block ≡ Whole message check
+          → IsMessage message
+      fits_whole message check e =
+          (laws.whole (receiver_of plan) entries block message check (receiver-fits plan fits) is.core.met.blocks
+          is_block
           (sym flow_is ∙ e)).0
 
   pub take-made :

@@ -15,7 +15,7 @@ use Rattle.line_end.specs.Step.LineCall.{Take, Tick}
 use Rattle.message_flow.specs.declared.step.Note.{Note}
 use Rattle.message_flow.specs.declared.step.StepOut.{StepOut}
 use Rattle.message_flow.specs.Assembly as assembly
-use Rattle.message_flow.specs.Assembly.{WholeFits, flow_to, header_so_far}
+use Rattle.message_flow.specs.Assembly.{WholeFits, WholeIsChecked, flow_to, header_so_far}
 use Rattle.trace_log.specs.Text.{printed_note}
 use Rattle.transact.specs.declared.begun.Begun.{Begun}
 use Rattle.transact.specs.Numbers.{NumbersView}
@@ -106,6 +106,11 @@ took_at e byte now = took_by e (line_step e.line (Take byte now)).event
 abbrev pub IsGood : Took → Type 0
 IsGood (took.Came header flow) = WholeFits longest_text flow
 IsGood _ = Unit {0}
+
+-- the check that has come with it is that of its text
+abbrev pub IsChecked : Took → Type 0
+IsChecked (took.Came header flow) = WholeIsChecked flow
+IsChecked _ = Unit {0}
 
 -- the header of a block that has come fits
 abbrev pub HasHeader : Took → Type 0

@@ -310,7 +310,7 @@ abbrev pub judges :
     {K N : Type 0} → (Happening → Option N) → Header → Flow → Step (EndView K) N → Step (EndView K) N
 judges say header Part step =
     with_end (with_transactions (with_deadline (is_answered_by header) None step.next.transactions) step.next) step
-judges say header (Whole message) step =
+judges say header (Whole message check) step =
     noted say (Happening.Received message) (with_end (with_asked (asked_by message) step.next) step)
 judges say header Duplicate step = noted say (Happening.Duplicate header) step
 judges say header (Foreign address) step = noted say (Happening.Foreign header) step

@@ -86,7 +86,7 @@ entries_in (_ ∷ before) = entries_in before
 
 -- the message that the newest block made whole, where it isn't received yet
 abbrev pub whole_of : Flow → Option Message
-whole_of (Whole message) = Some message
+whole_of (Whole message check) = Some message
 whole_of Part = None
 whole_of Duplicate = None
 whole_of (Foreign address) = None

@@ -8,7 +8,7 @@ ghost use Rattle.arrayvec.specs.ArrayVec.{array_vec_len};
 ghost use Rattle.block_codec.specs.Header.{Fits};
 ghost use Rattle.block_codec.specs.Protocol.{longest_text};
 ghost use Rattle.line_end.specs.Plan.{LinePlanFits};
-ghost use Rattle.message_end.specs.Calls.{Becomes, Begins, Carries, FitsLine, HasHeader, IsCame, IsCarried, IsGood, IsNew, answered_by, deadline_of_end, dropped_now, due_now, failed_as, failed_at, is_sent, is_waiting_for, least, took_at};
+ghost use Rattle.message_end.specs.Calls.{Becomes, Begins, Carries, FitsLine, HasHeader, IsCame, IsCarried, IsChecked, IsGood, IsNew, answered_by, deadline_of_end, dropped_now, due_now, failed_as, failed_at, is_sent, is_waiting_for, least, took_at};
 ghost use Rattle.message_end.specs.Core.{Command, acknowledges, asked_by, hears, held_header, is_crowded_out, is_held_answered, judges, queues, replies_to, reply_text, sends, takes_back, unsent_name, with_transactions};
 ghost use Rattle.message_end.specs.Endings.{is_of_open};
 ghost use Rattle.message_end.specs.Laws.{new_end};
@@ -285,6 +285,7 @@ impl<K: Copy> MessageEnd<K> {
         ensures took { IfOk result (λ brought. brought ≡ took_at self.old byte now) }
         ensures at_most { array_vec_len out.new.line ≤ array_vec_len out.old.line + 257 }
         ensures whole { IfOk result (λ brought. IsGood brought) }
+        ensures checked { IfOk result (λ brought. IsChecked brought) }
         ensures header { IfOk result (λ brought. HasHeader brought) }
     {
         let held = self.parts.line.held();
@@ -635,6 +636,7 @@ impl<K: Copy> MessageEnd<K> {
         ensures took { IfOk result (IsCame self.old block.now) }
         ensures line { out.new.line ≡ out.old.line }
         ensures whole { IfOk result (λ brought. IsGood brought) }
+        ensures checked { IfOk result (λ brought. IsChecked brought) }
         ensures header { IfOk result (λ brought. HasHeader brought) }
     {
         let header = block.header();
@@ -701,7 +703,7 @@ impl<K: Copy> MessageEnd<K> {
                 self.parts.transactions.reply_began(header);
                 return Ok(());
             }
-            Flow::Whole(message) => {
+            Flow::Whole(message, _) => {
                 self.parts.asked = asked_by(message);
                 received_note(alloc, message)?
             }
