@@ -2,7 +2,7 @@
 #![tactic(auto)]
 
 use gl_base::Row;
-use secs_items::{Item, check, decode, encode_into};
+use secs_items::{BodyCheck, Item, Verdict, check, decode, encode_into};
 use std::alloc::Global;
 use std::env;
 use std::io::{self, Read};
@@ -14,6 +14,7 @@ enum Work {
     Decode,
     Check,
     Encode,
+    Feed,
 }
 
 fn main(rt: HostRuntime) -> io::Result<ExitCode> {
@@ -42,6 +43,7 @@ fn work_named(word: &str) -> Option<Work> {
         "decode" => Some(Work::Decode),
         "check" => Some(Work::Check),
         "encode" => Some(Work::Encode),
+        "feed" => Some(Work::Feed),
         _ => None,
     }
 }
@@ -54,8 +56,27 @@ fn work_on(alloc: Global, work: Work, turns: u32, bytes: &[u8], item: &Item) -> 
             Work::Decode => decode(alloc, bytes).is_ok(),
             Work::Check => check(bytes).is_ok(),
             Work::Encode => encode_into(item, &mut Row::new(alloc)).is_ok(),
+            Work::Feed => is_whole_in_blocks(bytes),
         };
         done = done.wrapping_add(u64::from(well));
     }
     done
+}
+
+// No body has more bytes.
+const MOST: usize = 7_995_148;
+
+// Whether the bytes are an item, by a check that gets as many at once as a block has.
+fn is_whole_in_blocks(bytes: &[u8]) -> bool {
+    let mut check = BodyCheck::new();
+    let mut rest = bytes;
+    for _ in 0..bytes.len() / 244 + 1 {
+        let (block, behind) = rest.split_at(rest.len().min(244));
+        if block.len() > MOST.saturating_sub(check.fed() as usize) {
+            return false;
+        }
+        check.feed(block);
+        rest = behind;
+    }
+    check.verdict() == Verdict::Whole
 }
