@@ -162,7 +162,7 @@ replies-stay function body step (Some title) = go (nat_le 128 (length step.next.
 judges-stay : (header : Header) (came : Flow) (step : CoreStep)
     → numbers_of (judges Some header came step) ≡ numbers_of step
 judges-stay header flow.Part step = refl
-judges-stay header (flow.Whole message) step = refl
+judges-stay header (flow.Whole message check) step = refl
 judges-stay header flow.Duplicate step = refl
 judges-stay header (flow.Foreign address) step = refl
 judges-stay header flow.Unexpected step = refl

@@ -347,7 +347,7 @@ flow-need : (now : ℕ) (header : Header) (came : Flow) (own : OwnView) (e : End
     → Needs 2 ((is_long_flow came && is_spent e) || lacks_number (flow_puts now header came own e))
     (flow_turn now header came own e).duties
 flow-need now header flow.Part own e = needs-none 2
-flow-need now header (flow.Whole message) own e = two-need _ _ (message-need now header message own e)
+flow-need now header (flow.Whole message check) own e = two-need _ _ (message-need now header message own e)
 flow-need now header flow.Duplicate own e = needs-none 2
 flow-need now header (flow.Foreign address) own e = two-need false _ (errors-need 1 header own)
 flow-need now header flow.Unexpected own e = two-need _ _ (given-up-need now header own e)

@@ -69,7 +69,8 @@ module _ (plan : EquipmentPlan) (TriedIs : Option ℕ → Type 0) (fits : Equipm
         (now : ℕ) (header : Header) (came : Flow) (own : OwnView) (e : EndView Kind) → (Sound plan TriedIs fits slots stood) own
         → (Quiet plan TriedIs fits slots stood) (flow_turn now header came own e)
     flow-quiet now header flow.Part own e sound = (nothing-quiet plan TriedIs fits slots stood) own sound
-    flow-quiet now header (flow.Whole message) own e sound = (message-quiet plan TriedIs fits slots stood) now header message own e sound
+    flow-quiet now header (flow.Whole message check) own e sound =
+        (message-quiet plan TriedIs fits slots stood) now header message own e sound
     flow-quiet now header flow.Duplicate own e sound = (nothing-quiet plan TriedIs fits slots stood) own sound
     flow-quiet now header (flow.Foreign address) own e sound =
         (error-is-quiet plan TriedIs fits slots stood) 1 (record { byte = omega arith; odd = refl }) header own sound

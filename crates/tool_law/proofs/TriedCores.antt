@@ -338,7 +338,7 @@ judged-turned :
     (header : Header) (judged : Flow) (step : CoreStep) → AsksOfPrimary step.next.asked
     → Turned step (judges Some header judged step)
 judged-turned header flow.Part step asks = same step.next _ refl refl refl asks
-judged-turned header (flow.Whole message) step asks =
+judged-turned header (flow.Whole message check) step asks =
     same step.next (with_asked (asked_by message) step.next) refl refl refl (asked-primary message)
 judged-turned header flow.Duplicate step asks = itself step.next asks
 judged-turned header (flow.Foreign address) step asks = itself step.next asks

@@ -129,7 +129,7 @@ offer-notes at held now step = go at held
 judged-free : (header : Header) (judged : Flow) (step : CoreStep) → NotesFree step → NotesFree
     (judges Some header judged step)
 judged-free header flow.Part step so = so
-judged-free header (flow.Whole message) step so = one-free (Happening.Received message) step.notes tt so
+judged-free header (flow.Whole message check) step so = one-free (Happening.Received message) step.notes tt so
 judged-free header flow.Duplicate step so = one-free (Happening.Duplicate header) step.notes tt so
 judged-free header (flow.Foreign address) step so = one-free (Happening.Foreign header) step.notes tt so
 judged-free header flow.Unexpected step so = one-free (Happening.Unexpected header) step.notes tt so
@@ -388,7 +388,7 @@ takes-ahead byte now step = told (line_step step.next.line (LineCall.Take byte n
         → judges Some header came (with_end next (calls (LineCall.Take byte now) step))
         ≡ ahead step (judges Some header came (with_end next (calls (LineCall.Take byte now) (at_first step.next))))
     judged header flow.Part next = still _
-    judged header (flow.Whole message) next = refl
+    judged header (flow.Whole message check) next = refl
     judged header flow.Duplicate next = refl
     judged header (flow.Foreign address) next = refl
     judged header flow.Unexpected next = refl

@@ -163,7 +163,7 @@ message_puts now header message own e =
     else puts_none own
 
 abbrev pub flow_puts : ℕ → Header → Flow → OwnView → EndView Kind → Putting
-flow_puts now header (flow.Whole message) own e = message_puts now header message own e
+flow_puts now header (flow.Whole message check) own e = message_puts now header message own e
 flow_puts now header flow.Unexpected own e = given_up_puts now header own e
 flow_puts now header flow.TooLong own e = given_up_puts now header own e
 flow_puts now header flow.Crowded own e = given_up_puts now header own e

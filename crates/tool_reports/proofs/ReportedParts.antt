@@ -251,7 +251,7 @@ module _ (plan : EquipmentPlan) (fits : EquipmentPlanFits plan) (looked : Tables
         (all_done Some (flow_turn now header came own e).duties next)
     came-keeps now header flow.Part own e old next is =
         plain plan said before own (quiet_turn own) (nothing-plain Free tt Any any-lasts own) next
-    came-keeps now header (flow.Whole message) own e old next is =
+    came-keeps now header (flow.Whole message check) own e old next is =
         message-keeps plan fits looked said before now header message own e (so_far plan said before old) next
         (subst (λ (s : CoreStep). AsksOf message s.next.asked) (sym is) (asks-newest message))
         (ap (λ (s : CoreStep). so_far plan said before s) is ∙ one-behind old.notes (Happening.Received message) before)

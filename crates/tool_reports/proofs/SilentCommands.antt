@@ -306,7 +306,7 @@ cancelled-drawn false e = refl
 judged-drawn : (header : Header) (flow : Flow) (step : CoreStep)
     → (judges Some header flow step).next.drawn ≡ step.next.drawn
 judged-drawn header flow.Part step = refl
-judged-drawn header (flow.Whole message) step = refl
+judged-drawn header (flow.Whole message check) step = refl
 judged-drawn header flow.Duplicate step = refl
 judged-drawn header (flow.Foreign address) step = refl
 judged-drawn header flow.Unexpected step = refl
@@ -328,7 +328,7 @@ told-drawn held (event.Refused cause) now step = refl
 judged-quiet :
     (header : Header) (flow : Flow) (step : CoreStep) → AddsQuiet step.notes (judges Some header flow step).notes
 judged-quiet header flow.Part step = inl refl
-judged-quiet header (flow.Whole message) step = inr (Happening.Received message, tt, refl)
+judged-quiet header (flow.Whole message check) step = inr (Happening.Received message, tt, refl)
 judged-quiet header flow.Duplicate step = inr (Happening.Duplicate header, tt, refl)
 judged-quiet header (flow.Foreign address) step = inr (Happening.Foreign header, tt, refl)
 judged-quiet header flow.Unexpected step = inr (Happening.Unexpected header, tt, refl)

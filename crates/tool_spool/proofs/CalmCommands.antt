@@ -351,7 +351,7 @@ module _ (hears : Bool) (told : List Told) where
       no-note step _
       (still step.next _ refl refl (inl (timed-same (is_answered_by header) None step.next.transactions))
       (λ asks. asks))
-  judged-calm header (flow.Whole message) step heard =
+  judged-calm header (flow.Whole message check) step heard =
       one-note (Happening.Received message) step (with_asked (asked_by message) step.next) (heard, λ notes. refl)
       (still step.next _ refl refl (inl refl) (λ asks. asked-calm message))
   judged-calm header flow.Duplicate step heard =

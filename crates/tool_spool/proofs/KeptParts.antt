@@ -12,6 +12,7 @@ use Rattle.message_flow.specs.declared.flow.Flow.{Flow}
 use Rattle.message_flow.specs.declared.flow.Flow.TheVariants as flow
 use Rattle.message_flow.specs.declared.message.Message.{Message}
 use Rattle.message_flow.specs.Assembly.{flow_to, with_block}
+use Rattle.secs_items.specs.Checking.{Checking}
 use Rattle.trace_log.specs.declared.commands.ToolCommand.{ToolCommand}
 use Rattle.trace_log.specs.Log.{Happening, Past}
 use Rattle.trace_log.specs.Names.{Spooled}
@@ -153,16 +154,17 @@ module _ (plan : EquipmentPlan) (fits : EquipmentPlanFits plan) (looked : Tables
     came-turns :
         (now : ℕ) (header : Header) (came : Flow) (own : OwnView) (e : EndView Kind) (old next : CoreStep)
         → next ≡ judges Some header came old → e ≡ next.next
-        → ((message : Message) → came ≡ flow.Whole message → message.system ≡ header.system) → At own next
+        → ((message : Message) (check : Checking) → came ≡ flow.Whole message check → message.system ≡ header.system)
+        → At own next
         → Turns (flow_turn now header came own e) next
     came-turns now header flow.Part own e old next is same system holds = holds.shelves
-    came-turns now header (flow.Whole message) own e old next is same system holds =
+    came-turns now header (flow.Whole message check) own e old next is same system holds =
         message-keeps plan slots list base before now header message own e (so_far plan slots list base before old)
         next same
         (ap (λ (s : CoreStep). so_far plan slots list base before s) is
         ∙ one-behind old.notes (Happening.Received message)
         before)
-        (system message refl) holds
+        (system message check refl) holds
     came-turns now header flow.Duplicate own e old next is same system holds = holds.shelves
     came-turns now header (flow.Foreign address) own e old next is same system holds =
         calm-turn plan slots list base before own (turn_of own (sent.error_duty 1 header own ∷ [])) next
@@ -247,7 +249,7 @@ module _ (plan : EquipmentPlan) (fits : EquipmentPlanFits plan) (looked : Tables
         (calls (LineCall.Take byte now) step).next)) (calls (LineCall.Take byte now) step))
         (tells Some (held_header step.next.line.held) (event.Arrived block) now (calls (LineCall.Take byte now) step))
         refl
-        same (λ message whole. whole-system step.next.assembly block message whole) holds
+        same (λ message check whole. whole-system step.next.assembly block message check whole) holds
 
     char-part : (byte now : ℕ) → PartKeepsIt (character byte now)
     char-part byte now step holds =

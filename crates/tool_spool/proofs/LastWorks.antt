@@ -11,8 +11,9 @@ use Rattle.message_flow.specs.declared.flow.Flow.TheVariants as flow
 use Rattle.message_flow.specs.declared.message.Message.{Message}
 use Rattle.message_flow.specs.Assembly as assembly
 use Rattle.message_flow.specs.Key.{is_given}
+use Rattle.secs_items.specs.Checking.{Checking, check_of}
 use Rattle.message_flow.specs.Receiver.{address_of, is_foreign}
-use Rattle.message_flow.specs.Assembly.{AssemblyView, flow_behind, flow_to, header_so_far, message_of}
+use Rattle.message_flow.specs.Assembly.{AssemblyView, flow_behind, flow_to, header_so_far, message_of, whole_with}
 use Rattle.trace_log.specs.Log.{Happening}
 use Rattle.trace_log.specs.Names.{Spooled}
 use Rattle.transact.specs.Numbers.{next_number}
@@ -50,26 +51,26 @@ both-either P Q R T (Spent step) one two = (one, two)
 -- ---- what a block is
 
 pub whole-system :
-    (a : AssemblyView) (block : BlockView) (message : Message) → flow_to a block ≡ flow.Whole message
-    → message.system ≡ block.header.system
-whole-system a block message is =
+    (a : AssemblyView) (block : BlockView) (message : Message) (check : Checking)
+    → flow_to a block ≡ flow.Whole message check → message.system ≡ block.header.system
+whole-system a block message check is =
     given (is_given a.last block.header) (is_foreign a.receiver block.header) is
   where
-    inj : (x y : Message) → flow.Whole x ≡ flow.Whole y → x ≡ y
-    inj x y e = cc
+    inj : (x y : Message) (c d : Checking) → flow.Whole x c ≡ flow.Whole y d → x ≡ y
+    inj x y c d e = cc
 
     behind : (next long last crowded : Bool) (body : List ℕ)
         → (if next then
         (if long then flow.TooLong
-        else if last then flow.Whole (message_of block.header body)
+        else if last then whole_with (message_of block.header body)
         else if crowded then flow.Crowded
         else flow.Part)
         else flow.Unexpected)
-        ≡ flow.Whole message → message.system ≡ block.header.system
+        ≡ flow.Whole message check → message.system ≡ block.header.system
     behind false long last crowded body e = absurd (cc)
     behind true true last crowded body e = absurd (cc)
     behind true false true crowded body e =
-        ap (λ (m : Message). m.system) (sym (inj (message_of block.header body) message e))
+        ap (λ (m : Message). m.system) (sym (inj (message_of block.header body) message (check_of body) check e))
     behind true false false true body e = absurd (cc)
     behind true false false false body e = absurd (cc)
 
@@ -78,7 +79,7 @@ whole-system a block message is =
         else if foreign then flow.Foreign (address_of block.header)
         else flow_behind a.receiver (header_so_far (find (assembly.has_key block.header) a.partials))
         (assembly.body_so_far (find (assembly.has_key block.header) a.partials)) (length a.partials) block)
-        ≡ flow.Whole message → message.system ≡ block.header.system
+        ≡ flow.Whole message check → message.system ≡ block.header.system
     given true foreign e = absurd (cc)
     given false true e = absurd (cc)
     given false false e =

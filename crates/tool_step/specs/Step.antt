@@ -46,7 +46,7 @@ long_turn false header own turn = turn_of turn.own (error_duty 11 header own ∷
 -- good is given up (SEMI E5, S9F1, S9F11; the latter is this profile's)
 abbrev pub flow_turn : ℕ → Header → Flow → OwnView → EndView Kind → ToolTurn
 flow_turn now header flow.Part own e = quiet_turn own
-flow_turn now header (flow.Whole message) own e = message_turn now header message own e
+flow_turn now header (flow.Whole message check) own e = message_turn now header message own e
 flow_turn now header flow.Duplicate own e = quiet_turn own
 flow_turn now header (flow.Foreign address) own e = turn_of own (error_duty 1 header own ∷ [])
 flow_turn now header flow.Unexpected own e = given_up_turn now header own e
