@@ -3,6 +3,7 @@
 ghost use Rattle.std.specs.Prelude.{◌≡◌, ◌≤◌, ◌++◌, ◌∷◌, [], ℕ, List, true, false, length, nat_lt, IfOk, IfSome, OnOk};
 ghost use Rattle.std.specs.List.{filter_map, list_all};
 ghost use Rattle.secs_items.specs.declared.item.Item.{Item};
+ghost use Rattle.secs_items.specs.Checking.{check_of};
 ghost use Rattle.secs_items.specs.Measures.{capped};
 ghost use Rattle.secs_items.specs.Spelling.{shortest_spelling};
 ghost use Rattle.trace_log.specs.Text.{printed_note};
@@ -26,7 +27,7 @@ use gem_spool::RuleEntry;
 use gem_vars::Eac;
 use gl_base::{NoMemory, Row};
 use message_flow::Note;
-use secs_items::{EncodeFault, Item, ItemView, encode_into};
+use secs_items::{BodyCheck, EncodeFault, Item, ItemView, encode_into};
 use std::alloc::Global;
 use trace_log::{carried_note, display_note};
 
@@ -40,18 +41,20 @@ pub enum Answer {
 }
 
 /// What a message asks the equipment for; `None` exactly where the equipment takes no such primary, or where the body
-/// isn't of its shape.
-pub fn request_of(
+/// isn't of its shape. The body was checked as it came.
+pub fn request_of<'a>(
     alloc: Global,
     stream: u8,
     function: u8,
-    body: &[u8],
-) -> Result<Option<Request<'_>>, NoMemory>
+    body: &'a [u8],
+    check: &BodyCheck,
+) -> Result<Option<Request<'a>>, NoMemory>
+    requires { check.now ≡ check_of body.now }
     ensures found { IfOk result (λ found. found ≡ request_of stream function body.now) }
     ensures asked { IfOk result (λ found. IfSome found IsAsked) }
 {
     parameters_are_read();
-    read_request(alloc, stream, function, body)
+    read_request(alloc, stream, function, body, check)
 }
 
 /// Whether a body of this length has more bytes than may be sent.

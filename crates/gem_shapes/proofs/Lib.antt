@@ -4,3 +4,4 @@ mod Fronts
 mod Lists
 mod Raw
 pub mod ReportPrimaries
+pub mod Wholes

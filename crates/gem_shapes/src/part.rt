@@ -3,13 +3,14 @@
 ghost use Rattle.std.specs.Prelude.{◌≡◌, ◌≤◌, ◌∷◌, List, length, IfOk, IfSome, IsSomeAnd};
 ghost use Rattle.std.specs.Option.{is_some, option_map};
 ghost use Rattle.secs_items.specs.declared.item.Item.{Item, out-Item};
+ghost use Rattle.secs_items.specs.Checking.{check_of};
 ghost use Rattle.secs_items.specs.Spelling.{Spells, SpellsEach};
 ghost use Rattle.secs_items.specs.Views.{number_of};
 ghost use Rattle.gem_shapes.specs.Elements.{byte_of, flag_of, is_empty_list, list_of, numbers_of, one_flag_of, one_of, text_of, two};
 ghost use Rattle.gem_shapes.specs.Parts.{AreSpelled, Begins, IsFrontLength, end_of};
 
 use gl_base::NoMemory;
-use secs_items::{Item, ItemFault, ItemView, Kind, check};
+use secs_items::{BodyCheck, Item, ItemFault, ItemView, Kind, Verdict, check, view};
 use std::alloc::Global;
 use std::marker::Model;
 
@@ -96,6 +97,20 @@ pub(crate) fn part_of(bytes: &[u8]) -> Option<Part<'_>>
     match check(bytes) {
         Ok(view) => Some(Part { view }),
         Err(_) => None,
+    }
+}
+
+/// The same of bytes that were checked as they came: none behind the head is looked at.
+pub(crate) fn checked_part<'a>(bytes: &'a [u8], check: &BodyCheck) -> Option<Part<'a>>
+    requires { check.now ≡ check_of bytes.now }
+    ensures found { IfSome result (λ part. Spells part.item bytes.now) }
+    ensures only { (item : Item) → Spells item bytes.now → IsSomeAnd result (λ part. part.item ≡ item) }
+{
+    match check.verdict() {
+        Verdict::Whole => Some(Part {
+            view: view(bytes, check),
+        }),
+        _ => None,
     }
 }
 

@@ -1,6 +1,7 @@
 //! What a message asks for, read of its body.
 
 ghost use Rattle.std.specs.Prelude.{◌≡◌, ◌↔◌, Some, IfOk, IsTrue};
+ghost use Rattle.secs_items.specs.Checking.{check_of};
 ghost use Rattle.gem_shapes.specs.declared.primary.Primary.TheVariants as primary;
 ghost use Rattle.gem_shapes.specs.Requests.{Asks, AsksFor, FitsShape, IsAskedByItem, IsFound, IsNothing, request_in, shape_of};
 ghost use Rattle.gem_shapes.specs.Requests.Shape.{Nothing};
@@ -10,63 +11,80 @@ use crate::form::{
     Anything, Both, Code, Each, Flag, Form, Identifier, IdentifierOrAll, Identifiers, Setting,
     SmallNumber, Words,
 };
-use crate::part::{Part, part_of, two_of};
+use crate::part::{Part, checked_part, two_of};
 use crate::primary::Primary;
 use crate::request::{Request, TablesRequest};
 use gl_base::NoMemory;
+use secs_items::BodyCheck;
 use std::alloc::Global;
 
 /// What the message asks the equipment for; `None` exactly where the equipment takes no such primary, or where the body
-/// isn't of its shape.
-pub fn read_request(
+/// isn't of its shape. The body was checked as it came.
+pub fn read_request<'a>(
     alloc: Global,
     stream: u8,
     function: u8,
-    body: &[u8],
-) -> Result<Option<Request<'_>>, NoMemory>
+    body: &'a [u8],
+    check: &BodyCheck,
+) -> Result<Option<Request<'a>>, NoMemory>
+    requires { check.now ≡ check_of body.now }
     ensures { IfOk result (λ found. IsFound (Asks stream function body.now) found) }
 {
     match Primary::with(stream, function) {
-        Some(primary) => primary.request(alloc, body),
+        Some(primary) => primary.request(alloc, body, check),
         None => Ok(None),
     }
 }
 
 /// Whether the body is nothing: no byte, or an empty list.
-fn is_nothing(body: &[u8]) -> bool
+fn is_nothing(body: &[u8], check: &BodyCheck) -> bool
+    requires { check.now ≡ check_of body.now }
     ensures { IsTrue result ↔ IsNothing body.now }
 {
-    match part_of(body) {
+    match checked_part(body, check) {
         Some(part) => part.is_empty_list(),
         None => body.is_empty(),
     }
 }
 
 /// This, where the body is nothing.
-fn asked_by_nothing<'a>(body: &[u8], asked: Request<'a>) -> Option<Request<'a>>
+fn asked_by_nothing<'a>(body: &[u8], check: &BodyCheck, asked: Request<'a>) -> Option<Request<'a>>
+    requires { check.now ≡ check_of body.now }
     ensures { IsFound (FitsShape (Nothing asked.entry) body.now) result }
 {
-    if is_nothing(body) { Some(asked) } else { None }
+    if is_nothing(body, check) {
+        Some(asked)
+    } else {
+        None
+    }
 }
 
 impl Primary {
     /// What a body asks for.
-    fn request<'a>(self, alloc: Global, body: &'a [u8]) -> Result<Option<Request<'a>>, NoMemory>
+    fn request<'a>(
+        self,
+        alloc: Global,
+        body: &'a [u8],
+        check: &BodyCheck,
+    ) -> Result<Option<Request<'a>>, NoMemory>
+        requires { check.now ≡ check_of body.now }
         ensures { IfOk result (λ found. IsFound (AsksFor (Some self) body.now) found) }
     {
         match self {
             Primary::S1F1 => Ok(asked_by_nothing(
                 body,
+                check,
                 Request::OfTables(TablesRequest::AreYouThere),
             )),
             Primary::S1F13 => Ok(Some(Request::Establish)),
-            Primary::S1F15 => Ok(asked_by_nothing(body, Request::GoOffline)),
-            Primary::S1F17 => Ok(asked_by_nothing(body, Request::GoOnline)),
+            Primary::S1F15 => Ok(asked_by_nothing(body, check, Request::GoOffline)),
+            Primary::S1F17 => Ok(asked_by_nothing(body, check, Request::GoOnline)),
             Primary::S5F7 => Ok(asked_by_nothing(
                 body,
+                check,
                 Request::OfTables(TablesRequest::EnabledAlarms),
             )),
-            _ => self.request_of_item(alloc, body),
+            _ => self.request_of_item(alloc, body, check),
         }
     }
 
@@ -75,10 +93,12 @@ impl Primary {
         self,
         alloc: Global,
         body: &'a [u8],
+        check: &BodyCheck,
     ) -> Result<Option<Request<'a>>, NoMemory>
+        requires { check.now ≡ check_of body.now }
         ensures { IfOk result (λ found. IsFound (IsAskedByItem (request_in (shape_of self)) body.now) found) }
     {
-        match part_of(body) {
+        match checked_part(body, check) {
             Some(part) => self.read(alloc, part),
             None => Ok(None),
         }

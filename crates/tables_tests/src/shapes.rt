@@ -6,7 +6,7 @@ use gem_shapes::{
     read_request,
 };
 use gl_base::NoMemory;
-use secs_items::Item;
+use secs_items::{BodyCheck, Item};
 use std::alloc::Global;
 use std::test::Fail;
 
@@ -274,12 +274,27 @@ static THIRD: [Bodies; 7] = [
     },
 ];
 
+// What is read of a body that came in one piece, and is no longer than a message's.
+fn read<'a>(
+    alloc: Global,
+    stream: u8,
+    function: u8,
+    body: &'a [u8],
+) -> Result<Option<Request<'a>>, NoMemory> {
+    if body.len() > 7_995_148 {
+        return Ok(None);
+    }
+    let mut check = BodyCheck::new();
+    check.feed(body);
+    read_request(alloc, stream, function, body, &check)
+}
+
 fn is_read(alloc: Global, stream: u8, function: u8, body: &[u8]) -> bool {
-    matches!(read_request(alloc, stream, function, body), Ok(Some(_)))
+    matches!(read(alloc, stream, function, body), Ok(Some(_)))
 }
 
 fn is_refused(alloc: Global, stream: u8, function: u8, body: &[u8]) -> bool {
-    matches!(read_request(alloc, stream, function, body), Ok(None))
+    matches!(read(alloc, stream, function, body), Ok(None))
 }
 
 fn goes(alloc: Global, row: &Bodies) -> bool {
@@ -361,7 +376,7 @@ fn enables(request: &Request<'_>, wanted: Option<u32>) -> bool {
 
 // What a message asks for, to be looked at.
 fn asked<'a>(alloc: Global, stream: u8, function: u8, body: &'a [u8]) -> Request<'a> {
-    match read_request(alloc, stream, function, body) {
+    match read(alloc, stream, function, body) {
         Ok(Some(request)) => request,
         _ => Request::OfTables(TablesRequest::AreYouThere),
     }

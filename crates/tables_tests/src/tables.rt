@@ -8,7 +8,7 @@ use gem_states::ControlState;
 use gem_vars::{VariablePlan, VarsPlan};
 use gl_base::{NoMemory, Row};
 use line_end::{LinePlan, Times};
-use secs_items::{Item, Kind};
+use secs_items::{BodyCheck, Item, Kind};
 use std::alloc::Global;
 use std::test::Fail;
 
@@ -126,7 +126,12 @@ fn is_wanted(answer: &Answer, wanted: &Wanted) -> bool {
 fn goes(alloc: Global, tables: &mut Tables, case: &Case) -> bool {
     let (stream, function, body, wanted, lines) = case;
     let mut notes = Row::new(alloc);
-    match request_of(alloc, *stream, *function, body) {
+    if body.len() > 7_995_148 {
+        return false;
+    }
+    let mut check = BodyCheck::new();
+    check.feed(body);
+    match request_of(alloc, *stream, *function, body, &check) {
         Ok(Some(Request::OfTables(request))) => match tables.answer(
             alloc, &request, false, 244, &mut notes,
         ) {

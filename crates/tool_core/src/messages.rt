@@ -2,6 +2,7 @@
 
 ghost use Rattle.std.specs.Prelude.{IfOk, ◌≡◌, ◌<◌, ◌^◌, ◌∷◌, [], ◌++◌};
 ghost use Rattle.block_codec.specs.Header.{Fits};
+ghost use Rattle.secs_items.specs.Checking.{check_of};
 ghost use Rattle.message_end.specs.Parts.{AreCarried, after_turn, on_the_way};
 ghost use Rattle.message_end.specs.Core.Went.{Goes};
 ghost use Rattle.trace_log.specs.Text.{printed_note};
@@ -22,22 +23,25 @@ use gem_states::{CommsIn, ControlIn, ControlOut};
 use gl_base::NoMemory;
 use message_end::Stop;
 use message_flow::{Message, StepOut};
+use secs_items::BodyCheck;
 use std::alloc::Global;
 use tool_step::Kind;
 use trace_log::Name;
 
 impl Tool {
-    /// A whole message came, the last block of which has this header.
+    /// A whole message came, the last block of which has this header, and the check of its text.
     pub(crate) fn heed(
         &mut self,
         alloc: Global,
         header: &Header,
         message: &Message,
+        check: &BodyCheck,
         now: u64,
         out: &mut StepOut,
     ) -> Result<(), Stop>
         requires now { now < 2 ^ 62 }
         requires header { Fits header.now }
+        requires checked { check.now ≡ check_of message.now.body }
         ensures does { TakesPart (message_turn now header.now message.now) self.old out.old self.new out.new result }
         ensures line { out.new.line ≡ out.old.line }
     {
@@ -46,9 +50,9 @@ impl Tool {
             return Ok(());
         }
         if message.function % 2 == 1 {
-            return self.heed_primary(alloc, header, message, now, out);
+            return self.heed_primary(alloc, header, message, check, now, out);
         }
-        self.take_reply(alloc, header, message, now, out)
+        self.take_reply(alloc, header, message, check, now, out)
     }
 
     // A whole primary came.
@@ -57,11 +61,13 @@ impl Tool {
         alloc: Global,
         header: &Header,
         message: &Message,
+        check: &BodyCheck,
         now: u64,
         out: &mut StepOut,
     ) -> Result<(), Stop>
         requires now { now < 2 ^ 62 }
         requires header { Fits header.now }
+        requires checked { check.now ≡ check_of message.now.body }
         ensures does { TakesTurn (primary_turn now header.now message.now) self.old out.old self.new out.new result }
         ensures line { out.new.line ≡ out.old.line }
     {
@@ -74,7 +80,7 @@ impl Tool {
         if !self.own.is_online() && !is_online_request(message) {
             return self.abort_offline(alloc, message, out);
         }
-        self.read(alloc, header, message, out)
+        self.read(alloc, header, message, check, out)
     }
 
     // A message comes while the communication isn't established.
@@ -187,9 +193,11 @@ impl Tool {
         alloc: Global,
         header: &Header,
         message: &Message,
+        check: &BodyCheck,
         out: &mut StepOut,
     ) -> Result<(), Stop>
-        requires { Fits header.now }
+        requires header { Fits header.now }
+        requires checked { check.now ≡ check_of message.now.body }
         ensures does { TakesTurn (known_turn header.now message.now) self.old out.old self.new out.new result }
         ensures line { out.new.line ≡ out.old.line }
     {
@@ -200,7 +208,7 @@ impl Tool {
             return self.tell_error(alloc, 5, header, out);
         }
         let body = message.body.as_slice();
-        match request_of(alloc, message.stream, message.function, body)? {
+        match request_of(alloc, message.stream, message.function, body, check)? {
             Some(request) => self.fulfil(alloc, &request, message, out),
             None => self.tell_error(alloc, 7, header, out),
         }

@@ -2,6 +2,8 @@
 
 ghost use Rattle.std.specs.Prelude.{◌≡◌, ◌<◌, ◌^◌, false, replicate, if◌then◌else◌, IfOk, Some};
 ghost use Rattle.block_codec.specs.Header.{Fits};
+ghost use Rattle.secs_items.specs.Checking.{check_of};
+ghost use Rattle.equipment_tables.specs.Requests.{item_in};
 ghost use Rattle.gem_states.specs.declared.control.ControlIn.TheVariants.{AttemptDone, AttemptFailed};
 ghost use Rattle.tool_step.specs.declared.kind.Kind.TheVariants as kind;
 ghost use Rattle.tool_step.specs.Own.{waiting_report, without_grant};
@@ -23,7 +25,7 @@ use gem_states::{CommsIn, ControlIn};
 use gl_base::NoMemory;
 use message_end::Stop;
 use message_flow::{Message, StepOut};
-use secs_items::{Item, check};
+use secs_items::{BodyCheck, Item, Verdict, view};
 use std::alloc::Global;
 use tool_step::Kind;
 use trace_log::denied_note;
@@ -265,15 +267,17 @@ impl Tool {
         alloc: Global,
         header: &Header,
         message: &Message,
+        check: &BodyCheck,
         now: u64,
         out: &mut StepOut,
     ) -> Result<(), Stop>
-        requires { now < 2 ^ 62 }
+        requires now { now < 2 ^ 62 }
+        requires checked { check.now ≡ check_of message.now.body }
         ensures does { TakesPart (secondary_turn now header.now message.now) self.old out.old self.new out.new result }
         ensures line { out.new.line ≡ out.old.line }
     {
         match self.core.answer(alloc, header, out) {
-            Ok(Match::Reply(kind)) => self.heed_reply(alloc, kind, message, now, out),
+            Ok(Match::Reply(kind)) => self.heed_reply(alloc, kind, message, check, now, out),
             Ok(Match::Abort(kind)) => self.lose_reply(alloc, kind, message.system, now, out),
             Ok(Match::Stranger) => Ok(()),
             Err(stop) => Err(stop),
@@ -286,18 +290,20 @@ impl Tool {
         alloc: Global,
         kind: Kind,
         message: &Message,
+        check: &BodyCheck,
         now: u64,
         out: &mut StepOut,
     ) -> Result<(), Stop>
-        requires { now < 2 ^ 62 }
+        requires now { now < 2 ^ 62 }
+        requires checked { check.now ≡ check_of message.now.body }
         ensures does { TakesPart (reply_turn now kind message.now.system message.now.body)
             self.old out.old self.new out.new result }
         ensures line { out.new.line ≡ out.old.line }
     {
         match kind {
-            Kind::Establish => self.heed_establishing(alloc, message, now, out),
+            Kind::Establish => self.heed_establishing(alloc, message, check, now, out),
             Kind::Attempt => self.end_attempt(alloc, out),
-            Kind::Grant => self.heed_grant(alloc, message, out),
+            Kind::Grant => self.heed_grant(alloc, message, check, out),
             Kind::Report => {
                 let _ = take_awaiting(&mut self.own.reports, message.system);
                 Ok(())
@@ -306,7 +312,7 @@ impl Tool {
                 self.own.ledger.confirm(alloc, out)?;
                 Ok(())
             }
-            Kind::UnloadGrant => self.heed_unload_grant(alloc, message, out),
+            Kind::UnloadGrant => self.heed_unload_grant(alloc, message, check, out),
         }
     }
 
@@ -315,15 +321,17 @@ impl Tool {
         &mut self,
         alloc: Global,
         message: &Message,
+        check: &BodyCheck,
         now: u64,
         out: &mut StepOut,
     ) -> Result<(), Stop>
-        requires { now < 2 ^ 62 }
+        requires now { now < 2 ^ 62 }
+        requires checked { check.now ≡ check_of message.now.body }
         ensures does { TakesPart (reply_turn now kind.Establish message.now.system message.now.body)
             self.old out.old self.new out.new result }
         ensures line { out.new.line ≡ out.old.line }
     {
-        if is_accepted(alloc, message.body.as_slice())? {
+        if is_accepted(alloc, message.body.as_slice(), check)? {
             return self.meet(alloc, CommsIn::Accepted, now, out);
         }
         self.end_talk(alloc, CommsIn::Denied, None, now, out)
@@ -334,8 +342,10 @@ impl Tool {
         &mut self,
         alloc: Global,
         message: &Message,
+        check: &BodyCheck,
         out: &mut StepOut,
     ) -> Result<(), Stop>
+        requires { check.now ≡ check_of message.now.body }
         ensures does { TakesPart
             (λ own core. if is_granted_in message.now.body
             then granted_turn (waiting_report message.now.system own) (without_grant message.now.system own) core
@@ -343,7 +353,7 @@ impl Tool {
             self.old out.old self.new out.new result }
         ensures line { out.new.line ≡ out.old.line }
     {
-        if is_granted(alloc, message.body.as_slice())? {
+        if is_granted(alloc, message.body.as_slice(), check)? {
             return self.grant(alloc, message.system, out);
         }
         self.deny(alloc, message.system, out)
@@ -354,15 +364,17 @@ impl Tool {
         &mut self,
         alloc: Global,
         message: &Message,
+        check: &BodyCheck,
         out: &mut StepOut,
     ) -> Result<(), Stop>
+        requires { check.now ≡ check_of message.now.body }
         ensures does { TakesPart
             (λ own core. if is_granted_in message.now.body then grant_given_turn own core
             else denied_turn (unloaded_own own))
             self.old out.old self.new out.new result }
         ensures line { out.new.line ≡ out.old.line }
     {
-        if is_granted(alloc, message.body.as_slice())? {
+        if is_granted(alloc, message.body.as_slice(), check)? {
             return self.let_go(alloc, out);
         }
         self.deny_unload(alloc, out)?;
@@ -370,13 +382,25 @@ impl Tool {
     }
 }
 
+// The item that a text is, by the check that came with it.
+fn item_of(alloc: Global, body: &[u8], check: &BodyCheck) -> Result<Option<Item>, NoMemory>
+    requires { check.now ≡ check_of body.now }
+    ensures { IfOk result (λ item. item ≡ item_in body.now) }
+{
+    match check.verdict() {
+        Verdict::Whole => Ok(Some(view(body, check).item(alloc)?)),
+        _ => Ok(None),
+    }
+}
+
 // Whether a text is L,2 of COMMACK 0 and anything.
-fn is_accepted(alloc: Global, body: &[u8]) -> Result<bool, NoMemory>
+fn is_accepted(alloc: Global, body: &[u8], check: &BodyCheck) -> Result<bool, NoMemory>
+    requires { check.now ≡ check_of body.now }
     ensures { IfOk result (λ is. is ≡ is_accepted_in body.now) }
 {
-    match check(body) {
-        Ok(view) => Ok(accepts(&view.item(alloc)?)),
-        Err(_) => Ok(false),
+    match item_of(alloc, body, check)? {
+        Some(item) => Ok(accepts(&item)),
+        None => Ok(false),
     }
 }
 
@@ -401,12 +425,13 @@ fn is_zero_in(items: &[Item]) -> bool
 }
 
 // Whether a text is GRANT6 0.
-fn is_granted(alloc: Global, body: &[u8]) -> Result<bool, NoMemory>
+fn is_granted(alloc: Global, body: &[u8], check: &BodyCheck) -> Result<bool, NoMemory>
+    requires { check.now ≡ check_of body.now }
     ensures { IfOk result (λ is. is ≡ is_granted_in body.now) }
 {
-    match check(body) {
-        Ok(view) => Ok(grants(&view.item(alloc)?)),
-        Err(_) => Ok(false),
+    match item_of(alloc, body, check)? {
+        Some(item) => Ok(grants(&item)),
+        None => Ok(false),
     }
 }
 

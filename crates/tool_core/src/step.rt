@@ -4,6 +4,7 @@ ghost use Rattle.std.specs.Prelude.{◌≡◌, ◌+◌, ◌<◌, ◌≤◌, ◌^
 ghost use Rattle.arrayvec.specs.ArrayVec.{array_vec_len};
 ghost use Rattle.block_codec.specs.Header.{Fits};
 ghost use Rattle.message_flow.specs.declared.flow.Flow.TheVariants as flow;
+ghost use Rattle.message_flow.specs.Assembly.{WholeIsChecked};
 ghost use Rattle.trace_log.specs.Commands.{ToolCommandFits};
 ghost use Rattle.trace_log.specs.Text.{printed_note};
 ghost use Rattle.message_end.specs.Core.Went.{Goes};
@@ -219,12 +220,13 @@ impl Tool {
     ) -> Result<(), Stop>
         requires now { now < 2 ^ 62 }
         requires header { Fits header.now }
+        requires checked { WholeIsChecked flow }
         ensures does { ReachesPart (flow_turn now header.now flow) self.old out.old self.new out.new result }
         ensures line { out.new.line ≡ out.old.line }
     {
         match flow {
             Flow::Part => Ok(()),
-            Flow::Whole(message) => self.heed(alloc, header, &message, now, out),
+            Flow::Whole(message, check) => self.heed(alloc, header, &message, &check, now, out),
             Flow::Duplicate => Ok(()),
             Flow::Foreign(_) => self.tell_error(alloc, 1, header, out),
             Flow::Unexpected => self.give_up(alloc, header, now, out),
