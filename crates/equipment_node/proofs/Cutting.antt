@@ -5,20 +5,20 @@ use Rattle.std.specs.List.{cons_option, slice_get}
 use Rattle.gem_spool.specs.declared.works.Work.{Work}
 use Rattle.message_flow.specs.declared.step.Note.{Note}
 use Rattle.message_end.specs.Ends.{IsFront, printed}
-use Rattle.trace_log.specs.Log.{Happening}
+use Rattle.trace_log.specs.Log.{Happening, is_before_change}
 use Rattle.trace_log.specs.Log.Happening.{EquipmentStarted, HostStarted, Power, Closed, Sent, Received, Wrote, Comms, Control, Spool, Set, Event, Alarm, Carried, Display, Refused, Storing, Stored, Leaving, Gone, Try, Duplicate, Unexpected, Foreign, TooLongBlock, Crowded, DroppedByT4, Failed, TimedOut, Stranger, Dropped, Denied, Discarded, TooLong, Full, Recorded}
 use Rattle.trace_log.specs.Text.{note_of, printed_note}
-use Rattle.equipment_node.specs.Cut.{announces, cut_at, noted_to}
-use Rattle.spool_works.specs.DiskWorks.{DiskWork, behind_change, fronts_of, is_before_change, up_to_change}
+use Rattle.equipment_node.specs.Cut.{cut_at, noted_to}
+use Rattle.spool_works.specs.DiskWorks.{DiskWork, behind_change, fronts_of, up_to_change}
 use Rattle.spool_works.specs.DiskWorks.DiskWork.{Change, ReadOldest}
 
 -- ---- the lines
 
--- a line announces a work exactly where what was noted stands before one; what is recorded alone has none
+-- a line is told to stand before a change where what was noted does; what is recorded alone has none
 abbrev pub IsTold : Happening → Type 0
 IsTold what =
     ((printed_note what ≡ None) × (is_before_change what ≡ false))
-    ⊎ ((printed_note what ≡ Some (note_of what)) × (announces (note_of what) ≡ is_before_change what))
+    ⊎ ((printed_note what ≡ Some (note_of what)) × ((note_of what).before_change ≡ is_before_change what))
 
 pub told : (what : Happening) → IsTold what
 told (EquipmentStarted found base) = inr (refl, refl)
@@ -177,13 +177,13 @@ noted-front (suc at) notes =
 
 -- ---- how the code counts
 
-cut-over : (left : ℕ) (one : Note) (rest : List Note) → announces one ≡ false → cut_at left (one ∷ rest) ≡ one ∷ cut_at left rest
+cut-over : (left : ℕ) (one : Note) (rest : List Note) → one.before_change ≡ false → cut_at left (one ∷ rest) ≡ one ∷ cut_at left rest
 cut-over zero one rest no_work = ap (λ (b : Bool). one ∷ (if b then [] else cut_at zero rest)) no_work
 cut-over (suc left) one rest no_work =
     ap (λ (b : Bool). one ∷ (if b then cut_at left rest else cut_at (suc left) rest)) no_work
 
 cut-past :
-    (left : ℕ) (one : Note) (rest : List Note) → announces one ≡ true → 0 < left
+    (left : ℕ) (one : Note) (rest : List Note) → one.before_change ≡ true → 0 < left
     → cut_at left (one ∷ rest) ≡ one ∷ cut_at (left - 1) rest
 cut-past zero one rest work some = absurd (omega (arith, some))
 cut-past (suc left) one rest work some =
@@ -220,15 +220,15 @@ module _ (notes : List Note) (i : ℕ) (one : Note) (is : one ≡ get_or notes i
         ∙ whole
 
     pub cut-passes :
-        announces one ≡ false → take (i + 1) notes ++ cut_at left (drop (i + 1) notes) ≡ cut_at at notes
+        one.before_change ≡ false → take (i + 1) notes ++ cut_at left (drop (i + 1) notes) ≡ cut_at at notes
     cut-passes no_work = passes left (cut-over left one rest no_work)
 
     pub cut-counts :
-        announces one ≡ true → 0 < left
+        one.before_change ≡ true → 0 < left
         → take (i + 1) notes ++ cut_at (left - 1) (drop (i + 1) notes) ≡ cut_at at notes
     cut-counts work some = passes (left - 1) (cut-past left one rest work some)
 
-    pub cut-found : announces one ≡ true → left ≡ 0 → take (i + 1) notes ≡ cut_at at notes
+    pub cut-found : one.before_change ≡ true → left ≡ 0 → take (i + 1) notes ≡ cut_at at notes
     cut-found work none =
         sym front
         ∙ ap (λ (xs : List Note). take i notes ++ xs)

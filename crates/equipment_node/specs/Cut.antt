@@ -1,19 +1,14 @@
 -- The notes of a step up to the line of a work of the disk, and what follows from a step's definition for them.
-use Rattle.std.specs.Prelude.{ℕ, zero, suc, Bool, ◌||◌, nat_eq, List, [], ◌∷◌, ◌++◌, codes, if◌then◌else◌}
-use Rattle.std.specs.List.{starts_with}
+use Rattle.std.specs.Prelude.{ℕ, zero, suc, List, [], ◌∷◌, ◌++◌, if◌then◌else◌}
 use Rattle.message_flow.specs.declared.step.Note.{Note}
 use Rattle.trace_log.specs.Log.{Happening}
 use Rattle.spool_works.specs.DiskWorks.{behind_change, up_to_change}
 
--- a line that stands before a change of the list
-abbrev pub announces : Note → Bool
-announces note = starts_with nat_eq note.text (codes "storing ") || starts_with nat_eq note.text (codes "leaving ")
-
--- the lines up to the one of these that has so many before it, and all of them where there are fewer
+-- the lines up to the one before a change that has so many of these before it, and all where there are fewer
 abbrev pub cut_at : ℕ → List Note → List Note
 cut_at at [] = []
-cut_at zero (note ∷ notes) = note ∷ (if announces note then [] else cut_at zero notes)
-cut_at (suc at) (note ∷ notes) = note ∷ (if announces note then cut_at at notes else cut_at (suc at) notes)
+cut_at zero (note ∷ notes) = note ∷ (if note.before_change then [] else cut_at zero notes)
+cut_at (suc at) (note ∷ notes) = note ∷ (if note.before_change then cut_at at notes else cut_at (suc at) notes)
 
 -- the same of what was noted
 abbrev pub noted_to : ℕ → List Happening → List Happening

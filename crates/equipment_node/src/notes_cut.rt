@@ -1,12 +1,12 @@
 //! The notes of a step up to a work of the disk that failed.
 
 ghost use Rattle.std.specs.Prelude.{◌≡◌, take};
-ghost use Rattle.equipment_node.specs.Cut.{announces, cut_at};
+ghost use Rattle.equipment_node.specs.Cut.{cut_at};
 
 use gl_base::Row;
 use message_flow::Note;
 
-/// Keeps the notes up to the line that announces the work with this place among those of the step.
+/// Keeps the notes up to the line before the change with this place among those of the step.
 pub(crate) fn cut_notes(notes: &mut Row<Note>, at: usize)
     ensures { notes.new ≡ cut_at at notes.old }
 {
@@ -20,7 +20,7 @@ fn cut_place(notes: &[Note], at: usize) -> usize
 {
     let mut left = at;
     'notes: for i in 0..notes.len() {
-        if announces_work(&notes[i]) {
+        if notes[i].before_change {
             if left == 0 {
                 return i + 1;
             }
@@ -28,12 +28,4 @@ fn cut_place(notes: &[Note], at: usize) -> usize
         }
     }
     notes.len()
-}
-
-// Whether a line stands before a work of the disk: `storing`, or `leaving`.
-fn announces_work(note: &Note) -> bool
-    ensures { result ≡ announces note.now }
-{
-    let text = note.text.as_slice();
-    text.starts_with(b"storing ") || text.starts_with(b"leaving ")
 }

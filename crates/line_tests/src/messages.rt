@@ -276,6 +276,7 @@ fn holds_a_step(rt: HostRuntime) -> Result<(), Fail> {
     out.line.push(character(NodeInput::Command(&6)));
     out.notes.push(Note {
         text: Row::new(alloc),
+        before_change: false,
     })?;
     assert_eq!(rt; out.line.as_slice(), b"\x05\x00\x06".as_slice());
     assert_eq!(rt; out.notes.len(), 1);

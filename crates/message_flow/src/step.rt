@@ -19,6 +19,8 @@ pub enum NodeInput<'a, C> {
 pub struct Note {
     /// The line's bytes.
     pub text: Row<u8>,
+    /// Whether it stands before a change of the spool's list. Where that change fails nothing behind this is told.
+    pub before_change: bool,
 }
 
 /// What an end gives in one step: the characters that it writes, and its notes.

@@ -6,8 +6,7 @@ use Rattle.gem_spool.specs.Standing.{Standing, count_in, file_of}
 use Rattle.gem_spool.specs.Works as spool
 use Rattle.gem_spool.specs.Works.{IsMarked, IsOnWay, reserved as marked, standing_after}
 use Rattle.spool_slots.specs.File.{StandsFor}
-use Rattle.trace_log.specs.Log.{Happening}
-use Rattle.trace_log.specs.Log.Happening.{Leaving, Storing}
+use Rattle.trace_log.specs.Log.{Happening, is_before_change}
 use Rattle.message_end.specs.Ends.{Asked}
 
 -- ---- the works of a step
@@ -19,12 +18,6 @@ pub data DiskWork : Type 0 where
   ReadOldest : DiskWork
 
 -- ---- what is noted where the disk fails at one of them
-
--- a line that stands before a change of the list
-abbrev pub is_before_change : Happening → Bool
-is_before_change (Storing number message) = true
-is_before_change (Leaving number cause) = true
-is_before_change _ = false
 
 -- up to the first such line, and behind it
 abbrev pub up_to_change : List Happening → List Happening

@@ -9,7 +9,7 @@ use Rattle.disk_base.specs.declared.cut.CutChoice.{CutChoice}
 use Rattle.gem_states.specs.Comms.{asks}
 use Rattle.gem_states.specs.declared.comms.CommsIn.TheVariants as comms_in
 use Rattle.trace_log.specs.Commands.{ToolCommandFits}
-use Rattle.trace_log.specs.Log.{Happening}
+use Rattle.trace_log.specs.Log.{Happening, is_before_change}
 use Rattle.trace_log.specs.Names.{Spooled}
 use Rattle.trace_log.specs.declared.commands.ToolCommand.{ToolCommand}
 use Rattle.trace_log.specs.declared.names.CommsName.TheVariants as comms_name
@@ -40,7 +40,7 @@ use Rattle.tool_step.specs.Sent as sent
 use Rattle.tool_law.specs.Sound.{AllCanBeSent, CanBeSent, IsHeld, IsSound}
 use Rattle.tool_step.specs.Spooling.{end_of_spooling, taking_turn}
 use Rattle.tool_law.proofs.SpoolSound.{carried-good, new-good, settled-good}
-use Rattle.spool_works.specs.DiskWorks.{DiskWork, behind_change, fronts_of, is_before_change, up_to_change}
+use Rattle.spool_works.specs.DiskWorks.{DiskWork, behind_change, fronts_of, up_to_change}
 use Rattle.tool_step.specs.Disk.{stops, works_of}
 use Rattle.tool_step.specs.End.{machine}
 use Rattle.tool_step.specs.Losses.{losses}

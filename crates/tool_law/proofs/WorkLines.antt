@@ -10,8 +10,8 @@ use Rattle.spool_law.specs.Shelf.{Change, Shelf, change_of, shelf_of}
 use Rattle.spool_ledger.specs.Ledger.{IsLedger, LedgerView, next_of, owed, stood_count}
 use Rattle.spool_ledger.specs.declared.ledger.Stand.{Stand}
 use Rattle.spool_slots.specs.Slot.{Message}
-use Rattle.trace_log.specs.Log.{Happening}
-use Rattle.spool_works.specs.DiskWorks.{DiskWork, behind_change, is_before_change, up_to_change}
+use Rattle.trace_log.specs.Log.{Happening, is_before_change}
+use Rattle.spool_works.specs.DiskWorks.{DiskWork, behind_change, up_to_change}
 use Rattle.spool_works.specs.Found.{found_in}
 use Rattle.tool_step.specs.Equipment.{settled_list}
 use Rattle.tool_law.proofs.Lawful.{split-change}

@@ -13,7 +13,7 @@ use Rattle.message_flow.specs.declared.message.Message.{Message}
 use Rattle.message_flow.specs.Assembly.{flow_to, with_block}
 use Rattle.message_flow.specs.Message.{is_primary}
 use Rattle.trace_log.specs.declared.commands.ToolCommand.{ToolCommand}
-use Rattle.trace_log.specs.Log.{Happening, Past}
+use Rattle.trace_log.specs.Log.{Happening, Past, is_before_change}
 use Rattle.trace_log.specs.Names.{Spooled, title_of}
 use Rattle.message_end.specs.Calls.{dropped_now, due_now, failed_as, failed_at, took_by}
 use Rattle.message_end.specs.Core.{EndView, Step, Went, asked_by, calls, carried, held_header, judges, takes_back, tells, with_assembly, with_end}
@@ -31,7 +31,7 @@ use Rattle.equipment_tables.specs.Plan.{EquipmentPlanFits}
 use Rattle.tool_step.specs.declared.kind.Kind.{Kind}
 use Rattle.tool_step.specs.Own.{OwnView, ToolPart, ToolTurn, is_communicating, quiet_turn, turn_of}
 use Rattle.tool_step.specs.Replies.{block_timer, given_up_by_t4, given_up_turn, reply_timer, timeout_turn}
-use Rattle.spool_works.specs.DiskWorks.{DiskWork, behind_change, fronts_of, is_before_change, up_to_change}
+use Rattle.spool_works.specs.DiskWorks.{DiskWork, behind_change, fronts_of, up_to_change}
 use Rattle.spool_works.specs.DiskWorks.DiskWork.{Change, ReadOldest, Reserve}
 use Rattle.tool_reports.specs.Histories.{with_command}
 use Rattle.tool_step.specs.Sent as sent

@@ -3,8 +3,8 @@ use Rattle.std.proofs.Common.{◌≡◌, refl, sym, ap, subst, ◌∙◌, inl, i
 use Rattle.message_end.specs.Course.{noted_behind}
 use Rattle.message_end.specs.Own.{Has}
 use Rattle.spool_law.specs.Shelf.{change_of}
-use Rattle.spool_works.specs.DiskWorks.{DiskWork, behind_change, fronts_of, is_before_change, up_to_change}
-use Rattle.trace_log.specs.Log.{Happening}
+use Rattle.spool_works.specs.DiskWorks.{DiskWork, behind_change, fronts_of, up_to_change}
+use Rattle.trace_log.specs.Log.{Happening, is_before_change}
 use Rattle.tool_law.proofs.Lawful.{split-change}
 use Rattle.message_end.proofs.Growing.{behind-both}
 use Rattle.tool_spool.specs.MadeRoom.{IsRoomUsed, IsUsedBy}

@@ -1,5 +1,5 @@
 -- The log of a run: what both ends note, in its order.
-use Rattle.std.specs.Prelude.{ℕ, Bool, List, Option}
+use Rattle.std.specs.Prelude.{ℕ, Bool, true, false, List, Option}
 use Rattle.block_codec.specs.Block.{BlockView}
 use Rattle.block_codec.specs.declared.header.Header.{Header}
 use Rattle.gl_base.specs.declared.side.Side.{Side}
@@ -80,6 +80,12 @@ pub data Happening : Type 0 where
   TooLong : (name : Name) → Happening
   Full : (name : Name) → Happening
   Recorded : (past : Past) → Happening
+
+-- a line that stands before a change of the spool's list
+abbrev pub is_before_change : Happening → Bool
+is_before_change (Storing number message) = true
+is_before_change (Leaving number cause) = true
+is_before_change _ = false
 
 -- an entry of a log, with its moment in milliseconds: what an end has noted; the characters of a block that are no
 -- frame's, with the number of the frame of the first of them; the end of the run (this profile)

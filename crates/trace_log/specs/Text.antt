@@ -1,5 +1,5 @@
 -- The lines of a log (this profile).
-use Rattle.std.specs.Prelude.{◌≡◌, ℕ, Bool, List, [], ◌∷◌, ◌++◌, length, codes, decimal, Option, Some, None, if◌then◌else◌}
+use Rattle.std.specs.Prelude.{◌≡◌, ℕ, Bool, List, [], ◌∷◌, ◌++◌, length, codes, decimal, Option, Some, None, false, if◌then◌else◌}
 use Rattle.std.specs.List.{flat_map}
 use Rattle.std.specs.Option.{option_map_or}
 use Rattle.hex.specs.Hex.{encode_upper}
@@ -10,7 +10,7 @@ use Rattle.gl_base.specs.Side.{side_letter}
 use Rattle.message_flow.specs.declared.message.Message.{Message}
 use Rattle.message_flow.specs.declared.step.Note.{Note}
 use Rattle.short_text.specs.Shown.{shown_text}
-use Rattle.trace_log.specs.Log.{Entry, Happening}
+use Rattle.trace_log.specs.Log.{Entry, Happening, is_before_change}
 use Rattle.trace_log.specs.Log.Entry.{Noted, Slipped, Ended}
 use Rattle.trace_log.specs.Log.Happening.{EquipmentStarted, HostStarted, Power, Closed, Sent, Received, Wrote, Comms, Control, Spool, Set, Event, Alarm, Carried, Display, Refused, Storing, Stored, Leaving, Gone, Try, Duplicate, Unexpected, Foreign, TooLongBlock, Crowded, DroppedByT4, Failed, TimedOut, Stranger, Dropped, Denied, Discarded, TooLong, Full, Recorded}
 use Rattle.trace_log.specs.Names.{Spooled, cause_text, comms_text, control_text, name_text, spooled_name, system_text, title_of, title_text}
@@ -75,9 +75,13 @@ happening_text (TooLong name) = codes "toolong " ++ name_text name
 happening_text (Full name) = codes "full " ++ name_text name
 happening_text (Recorded past) = []
 
+-- a note that stands before no change of the spool's list
+abbrev pub plain : List ℕ → Note
+plain text = record { text = text; before_change = false }
+
 -- what is noted as a note of its end, without moment and end
 abbrev pub note_of : Happening → Note
-note_of what = record { text = happening_text what }
+note_of what = record { text = happening_text what; before_change = is_before_change what }
 
 -- that of a start whose spool holds so many messages, and that of a message that is put into the spool
 abbrev pub IsStartNote : ℕ → ℕ → Note → Type 0

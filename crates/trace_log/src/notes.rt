@@ -1,11 +1,11 @@
 //! What an end notes, as one line without its moment and its end.
 
-ghost use Rattle.std.specs.Prelude.{◌≡◌, ◌≤◌, ◌++◌, length, decimal, IfOk};
+ghost use Rattle.std.specs.Prelude.{◌≡◌, ◌≤◌, ◌++◌, true, length, decimal, IfOk};
 ghost use Rattle.arrayvec.specs.ArrayVec.{array_vec_len};
 ghost use Rattle.block_codec.specs.Header.{Fits};
 ghost use Rattle.trace_log.specs.Log.Happening.{HostStarted, Power, Closed, Sent, Received, Wrote, Comms, Control, Spool, Set, Event, Alarm, Carried, Display, Refused, Stored, Leaving, Gone, Try, Duplicate, Unexpected, Foreign, TooLongBlock, Crowded, DroppedByT4, Failed, TimedOut, Stranger, Dropped, Denied, Discarded, TooLong, Full};
 ghost use Rattle.trace_log.specs.Names.{name_text, title_text};
-ghost use Rattle.trace_log.specs.Text.{IsStartNote, IsStoringNote, body_text, header_text, message_text, note_of};
+ghost use Rattle.trace_log.specs.Text.{IsStartNote, IsStoringNote, body_text, header_text, message_text, note_of, plain};
 
 use crate::names::{
     Cause, CommsName, ControlName, Name, Title, cause_word, comms_word, control_word, put_system,
@@ -75,7 +75,10 @@ pub fn wrote_note(alloc: Global, characters: &[u8]) -> Result<Note, NoMemory>
 {
     let mut text = Row::of(alloc, b"tx ")?;
     put_bytes(characters, &mut text)?;
-    Ok(Note { text })
+    Ok(Note {
+        text,
+        before_change: false,
+    })
 }
 
 /// The state of communication, which has changed.
@@ -140,7 +143,10 @@ pub fn carried_note(alloc: Global, rcmd: &[u8]) -> Result<Note, NoMemory>
 {
     let mut text = Row::of(alloc, b"command ")?;
     put_text(rcmd, &mut text)?;
-    Ok(Note { text })
+    Ok(Note {
+        text,
+        before_change: false,
+    })
 }
 
 /// A text that a terminal displays.
@@ -170,7 +176,7 @@ pub fn storing_note(alloc: Global, number: u64, stream: u8, function: u8) -> Res
     put_number(&mut head, number);
     put(&mut head, b" ");
     put_name(&mut head, stream, function, true);
-    plain_note(alloc, &head)
+    change_note(alloc, &head)
 }
 
 /// A message is in the spool.
@@ -189,7 +195,7 @@ pub fn leaving_note(alloc: Global, number: u64, cause: Cause) -> Result<Note, No
     put_number(&mut head, number);
     put(&mut head, b" ");
     put(&mut head, cause_word(cause));
-    plain_note(alloc, &head)
+    change_note(alloc, &head)
 }
 
 /// A message is removed from the spool; by a purge, all are, and this was the first of them.
@@ -317,17 +323,28 @@ pub fn full_note(alloc: Global, name: Name) -> Result<Note, NoMemory>
 
 // A note with this text.
 fn plain_note(alloc: Global, text: &[u8]) -> Result<Note, NoMemory>
-    ensures { IfOk result (λ note. note ≡ record { text = text.now }) }
+    ensures { IfOk result (λ note. note ≡ plain text.now) }
 {
     Ok(Note {
         text: Row::of(alloc, text)?,
+        before_change: false,
+    })
+}
+
+// One that stands before a change of the spool's list.
+fn change_note(alloc: Global, text: &[u8]) -> Result<Note, NoMemory>
+    ensures { IfOk result (λ note. note ≡ record { text = text.now; before_change = true }) }
+{
+    Ok(Note {
+        text: Row::of(alloc, text)?,
+        before_change: true,
     })
 }
 
 fn word_note(alloc: Global, front: &[u8], word: &[u8]) -> Result<Note, NoMemory>
     requires front { length front.now ≤ 20 }
     requires word { length word.now ≤ 20 }
-    ensures { IfOk result (λ note. note ≡ record { text = front.now ++ word.now }) }
+    ensures { IfOk result (λ note. note ≡ plain (front.now ++ word.now)) }
 {
     let mut head = Head::new();
     put(&mut head, front);
@@ -337,7 +354,7 @@ fn word_note(alloc: Global, front: &[u8], word: &[u8]) -> Result<Note, NoMemory>
 
 fn number_note(alloc: Global, front: &[u8], number: u64) -> Result<Note, NoMemory>
     requires { length front.now ≤ 20 }
-    ensures { IfOk result (λ note. note ≡ record { text = front.now ++ decimal number }) }
+    ensures { IfOk result (λ note. note ≡ plain (front.now ++ decimal number)) }
 {
     let mut head = Head::new();
     put(&mut head, front);
@@ -348,7 +365,7 @@ fn number_note(alloc: Global, front: &[u8], number: u64) -> Result<Note, NoMemor
 fn header_note(alloc: Global, front: &[u8], header: &Header) -> Result<Note, NoMemory>
     requires front { length front.now ≤ 20 }
     requires header { Fits header.now }
-    ensures { IfOk result (λ note. note ≡ record { text = front.now ++ header_text header.now }) }
+    ensures { IfOk result (λ note. note ≡ plain (front.now ++ header_text header.now)) }
 {
     let mut head = Head::new();
     put(&mut head, front);
@@ -358,7 +375,7 @@ fn header_note(alloc: Global, front: &[u8], header: &Header) -> Result<Note, NoM
 
 fn name_note(alloc: Global, front: &[u8], name: Name) -> Result<Note, NoMemory>
     requires { length front.now ≤ 20 }
-    ensures { IfOk result (λ note. note ≡ record { text = front.now ++ name_text name }) }
+    ensures { IfOk result (λ note. note ≡ plain (front.now ++ name_text name)) }
 {
     let mut head = Head::new();
     put(&mut head, front);
@@ -368,7 +385,7 @@ fn name_note(alloc: Global, front: &[u8], name: Name) -> Result<Note, NoMemory>
 
 fn title_note(alloc: Global, front: &[u8], title: Title) -> Result<Note, NoMemory>
     requires { length front.now ≤ 20 }
-    ensures { IfOk result (λ note. note ≡ record { text = front.now ++ title_text title }) }
+    ensures { IfOk result (λ note. note ≡ plain (front.now ++ title_text title)) }
 {
     let mut head = Head::new();
     put(&mut head, front);
@@ -378,7 +395,7 @@ fn title_note(alloc: Global, front: &[u8], title: Title) -> Result<Note, NoMemor
 
 fn message_note(alloc: Global, front: &[u8], message: &Message) -> Result<Note, NoMemory>
     requires { length front.now ≤ 20 }
-    ensures { IfOk result (λ note. note ≡ record { text = front.now ++ message_text message.now }) }
+    ensures { IfOk result (λ note. note ≡ plain (front.now ++ message_text message.now)) }
 {
     let mut head = Head::new();
     put(&mut head, front);
@@ -386,14 +403,20 @@ fn message_note(alloc: Global, front: &[u8], message: &Message) -> Result<Note, 
     put(&mut head, b" ");
     let mut text = Row::of(alloc, &head)?;
     put_body(message.body.as_slice(), &mut text)?;
-    Ok(Note { text })
+    Ok(Note {
+        text,
+        before_change: false,
+    })
 }
 
 // A note with this head and then the text of a message.
 fn body_note(alloc: Global, head: &[u8], body: &[u8]) -> Result<Note, NoMemory>
-    ensures { IfOk result (λ note. note ≡ record { text = head.now ++ body_text body.now }) }
+    ensures { IfOk result (λ note. note ≡ plain (head.now ++ body_text body.now)) }
 {
     let mut text = Row::of(alloc, head)?;
     put_body(body, &mut text)?;
-    Ok(Note { text })
+    Ok(Note {
+        text,
+        before_change: false,
+    })
 }
