@@ -46,8 +46,8 @@ pub record IsSoundOwn (own : OwnView) : Type 0 where
   pub fits : EquipmentPlanFits plan
   pub sound : IsSound plan own.ledger.slots own.ledger.stood own
 
--- the spool in hand has as many messages as its ledger takes the disk to have, and what is kept is sound: so it is between
--- two steps, whatever its disk tells
+-- the spool in hand has as many messages as its ledger takes the disk to have, and what is kept is sound: so it is
+-- between two steps, whatever its disk tells
 pub record IsReady {D : Type 0} (v : SpoolView D) (node : Node OwnView Kind) : Type 0 where
   pub count : count_of v ≡ stood_count node.own.ledger
   pub sound : IsSoundOwn node.own

@@ -5,8 +5,8 @@ ghost use Rattle.gem_trace.specs.Worked.{NoTraceOutlivesItsTotal, TwoSamplesAreW
 
 /// After each history of accepted S2F23 and steps, the traces that run are those looked back for: each that was set and
 /// is neither set anew nor ended since, with the samples that were due of it, while these are fewer than its total. And
-/// the S6F1 that are due at a step are those that the history has due there, each of the values at the samples since the
-/// one before it.
+/// the S6F1 that are due at a step are those that the history has due there, each of the values at the samples since
+/// the one before it.
 pub fn what_runs_is_looked_back_for()
     ensures { WhatRunsIsLookedBackFor }
 {}

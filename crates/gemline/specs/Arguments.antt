@@ -45,7 +45,8 @@ pub record IsRefusal (refusal : Outcome) (source : SourceTold) (files : FilesTol
 
 -- a run over the words of the arguments, unless memory runs out before it; or, where there are none, a refusal by the
 -- cause
-abbrev pub RunsOver : Result Arguments Error → SourceTold → FilesTold → DiskTold → LinkTold → SinkTold → SinkTold → ℕ → Type 0
+abbrev pub RunsOver :
+    Result Arguments Error → SourceTold → FilesTold → DiskTold → LinkTold → SinkTold → SinkTold → ℕ → Type 0
 RunsOver (Ok arguments) source files disk link out err status =
     IsRun (words_of arguments) source files disk link out err status
     ⊎ IsRefusal outcome.NoMemory source files disk link out err status

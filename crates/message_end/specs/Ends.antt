@@ -53,8 +53,8 @@ pub record Loss (S : Type 0) : Type 0 where
 
 -- what an end makes of its state in a step at a moment, and when it starts anew without power; and its line. Its disk
 -- may stop a step, or a start, with these notes: one list for each piece of work that it asks of the disk, in their
--- order; and all of them ask so much of it. A step may be stopped, or its power lost, at each call of the disk, in their
--- order; and so many calls has a start left behind it, those that have made or taken up its file among them
+-- order; and all of them ask so much of it. A step may be stopped, or its power lost, at each call of the disk, in
+-- their order; and so many calls has a start left behind it, those that have made or taken up its file among them
 pub record Machine (S C : Type 0) : Type 0 where
   pub act : S → Input C → ℕ → Went S Happening
   pub restart : S → ℕ → Went S Happening

@@ -1,5 +1,5 @@
-//! What runs as a whole, through its public calls: words as commands, the world of a tool and its host, and the program,
-//! with its runs over a link.
+//! What runs as a whole, through its public calls: words as commands, the world of a tool and its host, and the
+//! program, with its runs over a link.
 #![tactic(auto)]
 
 #[cfg(test)]

@@ -202,8 +202,8 @@ fn first_slot(disk: &mut MemDisk) -> Option<[u8; SLOT_SIZE]> {
     Some(slot)
 }
 
-// Writes the message of a slot under this number into the slot for it, as a spool does: four calls. Its gate comes last,
-// and is its first byte.
+// Writes the message of a slot under this number into the slot for it, as a spool does: four calls. Its gate comes
+// last, and is its first byte.
 fn write_message(disk: &mut MemDisk, number: u32, slot: &mut [u8; SLOT_SIZE]) -> Option<()> {
     let at = slot_place(number);
     if disk.size() < at + SLOT_SIZE as u64 {

@@ -14,8 +14,8 @@ marked_at next mark s =
       mark = mark;
     }
 
--- as the line fails three reports are to be put, and there is a number for the first of them alone. Where the mark is at
--- its end, a step is made as long as 128 system bytes are left
+-- as the line fails three reports are to be put, and there is a number for the first of them alone. Where the mark is
+-- at its end, a step is made as long as 128 system bytes are left
 pub record NumbersEnd : Type 0 where
   pub puts :
       (line_timer_puts 10000 last_view.node.own last_view.node.core).messages
