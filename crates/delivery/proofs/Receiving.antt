@@ -17,7 +17,7 @@ use Rattle.message_flow.specs.Key.{is_given, same_header, same_key}
 use Rattle.message_flow.specs.Laws.{BlocksMakeMessages}
 use Rattle.message_flow.specs.Message.{is_primary}
 use Rattle.message_flow.proofs.Keys.{beq-self, key-same, key-self}
-use Rattle.secs_items.specs.Checking.{Checking}
+use Rattle.secs_items.specs.Checking.{Checking, check_of}
 use Rattle.delivery.proofs.Facts.{IsFrameOf, IsMade, IsNewest, IsReceiving, IsSound, Rise, newest_of}
 use Rattle.delivery.proofs.Facts.IsLive.{past, present}
 use Rattle.delivery.proofs.Facts.Fact.{Back, ThereSends}
@@ -143,6 +143,7 @@ last-of make x y block view flow w is arrives flow_is e = record {
     makes : (w.message ≡ block.of.message)
         × (view ≡ block_of y.plan block.of.message (block_count block.of.message))
         × (is_given (last_given (met_of (receiver_of x.plan) x.entries)) view.header ≡ false)
+        × (by.check ≡ check_of block.of.message.body)
     makes =
         let of = (is ThereSends).given_are block frame.is_given in
         (make (receiver_of x.plan) x.entries y.plan.side y.plan.line.device block.of.message).whole_is view

@@ -41,7 +41,7 @@ pub enum Answer {
 }
 
 /// What a message asks the equipment for; `None` exactly where the equipment takes no such primary, or where the body
-/// isn't of its shape. The body was checked as it came.
+/// isn't of its shape. `check` is the check of this body, made as it came.
 pub fn request_of<'a>(
     alloc: Global,
     stream: u8,

@@ -19,7 +19,7 @@ use secs_items::BodyCheck;
 use std::alloc::Global;
 
 /// What the message asks the equipment for; `None` exactly where the equipment takes no such primary, or where the body
-/// isn't of its shape. The body was checked as it came.
+/// isn't of its shape. `check` is the check of this body, made as it came.
 pub fn read_request<'a>(
     alloc: Global,
     stream: u8,

@@ -26,7 +26,7 @@ use Rattle.message_flow.proofs.Arrivals.{flow-back, text-next}
 use Rattle.message_flow.proofs.Fitting.{behind-fits, chosen-fits}
 use Rattle.message_flow.proofs.Missed.{whole-numbered}
 use Rattle.message_flow.proofs.Numbered.{few-blocks, length-block, take-count}
-use Rattle.secs_items.specs.Checking.{Checking}
+use Rattle.secs_items.specs.Checking.{Checking, check_of}
 
 -- ---- the open blocks of a key have what all blocks that were given have, and the key
 
@@ -114,23 +114,24 @@ open-first receiver entries side device message header of =
 
 -- ---- what is known where a message is whole
 
-record IsWholeBy (given last : Bool) (message whole : Message) : Type 0 where
+record IsWholeBy (given last : Bool) (message whole : Message) (check : Checking) : Type 0 where
   pub given_is : given ≡ false
   pub last_is : last ≡ true
   pub same : message ≡ whole
+  pub check_is : check_of message.body ≡ check
 
 whole-by :
     (address : ℕ) (message whole : Message) (check : Checking) (given foreign follows long last crowded : Bool)
     → cond given Duplicate (cond foreign (Foreign address)
     (cond follows (cond long TooLong (cond last (whole_with message) (cond crowded Crowded Part))) Unexpected))
     ≡ Whole whole check
-    → IsWholeBy given last message whole
+    → IsWholeBy given last message whole check
 whole-by address message whole check true foreign follows long last crowded e = absurd (cc)
 whole-by address message whole check false true follows long last crowded e = absurd (cc)
 whole-by address message whole check false false false long last crowded e = absurd (cc)
 whole-by address message whole check false false true true last crowded e = absurd (cc)
 whole-by address message whole check false false true false true crowded e =
-    record { given_is = refl; last_is = refl; same = cc }
+    record { given_is = refl; last_is = refl; same = cc; check_is = cc }
 whole-by address message whole check false false true false false true e = absurd (cc)
 whole-by address message whole check false false true false false false e = absurd (cc)
 
@@ -138,7 +139,7 @@ whole-of :
     (receiver : Receiver) (met : List Met) (block : BlockView) (whole : Message) (check : Checking)
     → flow_after receiver met block ≡ Whole whole check
     → IsWholeBy (is_given (last_given met) block.header) block.header.last
-    (message_of block.header (text_of (open_blocks block.header met) ++ block.body)) whole
+    (message_of block.header (text_of (open_blocks block.header met) ++ block.body)) whole check
 whole-of receiver met block whole check e =
     whole-by (address_of block.header)
     (message_of block.header (text_of (open_blocks block.header met) ++ block.body)) whole check
@@ -155,8 +156,9 @@ follows number blocks block e some (inr only) = absurd (let none = only.0 in ome
 
 -- ---- the whole message is the one that was sent
 
-record IsMade (message : Message) (number : ℕ) (given : Bool) (whole : Message) : Type 0 where
+record IsMade (message : Message) (number : ℕ) (given : Bool) (whole : Message) (check : Checking) : Type 0 where
   pub whole_is : whole ≡ message
+  pub check_is : check ≡ check_of message.body
   pub last : number ≡ block_count message
   pub new : given ≡ false
 
@@ -166,7 +168,7 @@ made :
     → 1 ≤ number → AreBlocksOf side device message (header_of side device message number) entries
     → flow_after receiver (met_of receiver entries) (numbered_block side device message number) ≡ Whole whole check
     → IsMade message number
-    (is_given (last_given (met_of receiver entries)) (header_of side device message number)) whole
+    (is_given (last_given (met_of receiver entries)) (header_of side device message number)) whole check
 made receiver entries side device message number whole check some of e =
     let met = met_of receiver entries in
     let block = numbered_block side device message number in
@@ -186,6 +188,7 @@ made receiver entries side device message number whole check some of e =
     ∙ ap (λ n. take (longest_body * n) message.body) (sym next ∙ last) ∙ take-count message in
     record {
       whole_is = sym by.same ∙ ap (message_of block.header) text;
+      check_is = sym by.check_is ∙ ap check_of text;
       last = last;
       new = by.given_is;
     }
@@ -196,7 +199,7 @@ made-of :
     (number : ℕ) → 1 ≤ number → block ≡ numbered_block side device message number
     → AreBlocksOf side device message block.header entries
     → flow_after receiver (met_of receiver entries) block ≡ Whole whole check
-    → IsMade message number (is_given (last_given (met_of receiver entries)) block.header) whole
+    → IsMade message number (is_given (last_given (met_of receiver entries)) block.header) whole check
 made-of receiver entries side device message block whole check number some is of e =
     rw is
     (made receiver entries side device message number whole check some
@@ -208,7 +211,7 @@ make-messages = λ receiver entries side device message. record {
   open_are = λ header of. open-first receiver entries side device message header of;
   whole_is = λ block whole check one of e.
       let is = made-of receiver entries side device message block whole check one.number one.first one.is of e in
-      (is.whole_is, one.is ∙ ap (numbered_block side device message) is.last, is.new);
+      (is.whole_is, one.is ∙ ap (numbered_block side device message) is.last, is.new, is.check_is);
 }
 
 -- ---- parts in their ranges

@@ -60,7 +60,8 @@ part_of header (TimedOut dropped now) = None
 abbrev pub open_blocks : Header → List Met → List BlockView
 open_blocks header met = filter_map (part_of header) (before_first (is_cut header) met)
 
--- the header of the newest of them, their text in order, and its check, if there are any
+-- the header of the newest of them, if there are any; their text in order, empty where there are none; and its check,
+-- if there are any
 abbrev pub newest_header : List BlockView → Option Header
 newest_header [] = None
 newest_header (block ∷ before) = Some block.header

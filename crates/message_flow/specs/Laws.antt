@@ -18,7 +18,7 @@ use Rattle.message_flow.specs.History.{flow_after, flow_at, last_given, met_of, 
 use Rattle.message_flow.specs.Key.{is_given, same_key}
 use Rattle.message_flow.specs.Message.{IsMessage}
 use Rattle.message_flow.specs.Receiver.{IsReceiver, Receiver}
-use Rattle.secs_items.specs.Checking.{Checking}
+use Rattle.secs_items.specs.Checking.{Checking, check_of}
 
 -- the blocks of a message are numbered from 1 in their order (SEMI E4, block number)
 pub record BlocksAreNumbered : Type 0 where
@@ -195,8 +195,8 @@ MessagesGoInBlocks =
     → number ≤ block_count message → IsBlock (numbered_block side device message number)
 
 -- where all blocks of a key that were given are of one message, the open ones are its first ones in order; and a
--- block of it with which a message is whole is its last one, gives the message as it was sent, and isn't the block
--- that was given last (SEMI E4, receive)
+-- block of it with which a message is whole is its last one, gives the message as it was sent and the check of its
+-- text, and isn't the block that was given last (SEMI E4, receive)
 pub record MakesMessage
     (receiver : Receiver) (entries : List FlowEntry) (side : Side) (device : ℕ) (message : Message)
     : Type 0 where
@@ -210,6 +210,7 @@ pub record MakesMessage
       → flow_after receiver (met_of receiver entries) block ≡ Whole whole check
       → (whole ≡ message) × (block ≡ numbered_block side device message (block_count message))
       × (is_given (last_given (met_of receiver entries)) block.header ≡ false)
+      × (check ≡ check_of message.body)
 
 abbrev pub BlocksMakeMessages : Type 0
 BlocksMakeMessages =

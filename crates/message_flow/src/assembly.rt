@@ -74,8 +74,8 @@ impl Assembly {
     }
 
     /// What a block is that arrives now, after all blocks that were given so far and all messages that T4 dropped. A
-    /// whole message fits, and its text has no more bytes than this side takes. Its text was checked as it came, each
-    /// block by itself.
+    /// whole message fits, and its text has no more bytes than this side takes. Its text was checked block by block, as
+    /// it came, and the check comes with it.
     ///
     /// Where memory runs out nothing has changed, and the block was not given.
     #[tactic(auto, using(crate::proofs::Standing::flow_stands, crate::proofs::Standing::stands_given))]

@@ -8,7 +8,7 @@ use secs_items::BodyCheck;
 pub enum Flow {
     /// A block of a message of which more blocks are to come.
     Part,
-    /// The last block of this message, and the check of its text.
+    /// The last block of this message, and the check of its whole text.
     Whole(Message, BodyCheck),
     /// The block that came last, once more.
     Duplicate,

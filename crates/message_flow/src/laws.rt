@@ -16,9 +16,9 @@ pub fn blocks_carry_text()
 {}
 
 /// What an assembly keeps of each key is what the look-back over all entries finds: the header and the text of the
-/// key's open blocks, T4 after the newest of them, and one message for each first block whose key has had no cut
-/// since, in their order. So the deadline is the earliest moment at which T4 runs out on an open block, and what is
-/// dropped is the message opened first among those on which it has run out.
+/// key's open blocks, the check of that text, T4 after the newest of them, and one message for each first block whose
+/// key has had no cut since, in their order. So the deadline is the earliest moment at which T4 runs out on an open
+/// block, and what is dropped is the message opened first among those on which it has run out.
 pub fn kept_is_looked_back_for()
     ensures { KeptIsLookedBackFor }
 {}
@@ -57,7 +57,7 @@ pub fn messages_go_in_blocks()
 {}
 
 /// Where all blocks of a key are of one message, whatever else comes, the open ones are its first ones, and a message
-/// that is whole is that message.
+/// that is whole is that message, with the check of its text.
 pub fn blocks_make_messages()
     ensures { BlocksMakeMessages }
 {}
