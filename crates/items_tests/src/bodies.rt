@@ -84,6 +84,7 @@ fn verdicts_of_nothing_and_of_items(rt: HostRuntime) {
 
 #[test]
 fn verdicts_at_the_end(rt: HostRuntime) {
+    assert!(rt; is_verdict(&[0x41, 2], broken_short(2)));
     assert!(rt; is_verdict(&[0x41, 2, 0x41], broken_short(3)));
     assert!(rt; is_verdict(&[0x43, 0, 0], broken_short(3)));
     assert!(rt; is_verdict(&[0x01, 2, 0x01, 0], broken_short(4)));
@@ -210,6 +211,15 @@ fn is_viewed(bytes: &[u8], len: usize) -> bool {
 fn views_by_a_check(rt: HostRuntime) {
     assert!(rt; is_viewed(&[0x01, 2, 0x01, 0, 0xB1, 4, 0, 0, 0, 7], 2));
     assert!(rt; !is_viewed(&[0x01, 2, 0x01, 0, 0xB1, 4, 0, 0, 0], 2));
+}
+
+/// A check says at each piece what holds of the bytes so far.
+#[test]
+fn verdicts_come_at_each_piece(rt: HostRuntime) {
+    let mut check = BodyCheck::new();
+    assert!(rt; feed(&mut check, &[0x41]) && check.verdict() == broken_short(1));
+    assert!(rt; feed(&mut check, &[2]) && check.verdict() == broken_short(2));
+    assert!(rt; feed(&mut check, &[0x41, 0x42]) && check.verdict() == Verdict::Whole);
 }
 
 /// A check is small, and a copy of it goes on by itself.
