@@ -1,6 +1,11 @@
+use Rattle.std.proofs.Common.{subst}
+use Rattle.message_flow.specs.Assembly.{WholeIsChecked}
 use Rattle.tool_core.specs.Node.{node_of}
 use Rattle.tool_core.proofs.Following.{reached}
 use Rattle.tool_core.proofs.own.Tool.judge.Goals as goal
+
+pub heed-requires-clause-checked : goal.heed-requires-clause-checked
+heed-requires-clause-checked c = subst WholeIsChecked c.in-Whole.is c.requires.checked
 
 pub returns-in-Whole-clause-does : goal.returns-in-Whole-clause-does
 returns-in-Whole-clause-does c =
