@@ -11,9 +11,9 @@ use Rattle.message_flow.specs.declared.flow.Flow.TheVariants as flow
 use Rattle.message_flow.specs.declared.message.Message.{Message}
 use Rattle.message_flow.specs.Assembly as assembly
 use Rattle.message_flow.specs.Key.{is_given}
-use Rattle.secs_items.specs.Checking.{Checking, check_of}
 use Rattle.message_flow.specs.Receiver.{address_of, is_foreign}
 use Rattle.message_flow.specs.Assembly.{AssemblyView, flow_behind, flow_to, header_so_far, message_of, whole_with}
+use Rattle.secs_items.specs.Checking.{Checking, check_of}
 use Rattle.trace_log.specs.Log.{Happening}
 use Rattle.trace_log.specs.Names.{Spooled}
 use Rattle.transact.specs.Numbers.{next_number}
