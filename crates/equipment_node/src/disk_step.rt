@@ -38,6 +38,7 @@ use disk_base::Disk;
 use gem_spool::{GemSpool, Kept, Unread, Work};
 use message_end::Stop;
 use message_flow::{NodeInput, StepOut};
+use spool_slots::BODY_MOST;
 use spool_works::Ended;
 use std::alloc::Global;
 use tool_core::{MORE, Spoolable, Tool, primary_function};
@@ -45,9 +46,6 @@ use trace_log::ToolCommand;
 
 // Fewer system bytes than a step may need.
 const FEW: u64 = 128;
-
-// How many bytes a body of the spool has at most.
-const BODY_MOST: usize = 4081;
 
 /// One step. Where it stops nothing is sent.
 pub(crate) fn step_on<D: Disk>(
@@ -496,7 +494,7 @@ fn report_of(kept: Kept) -> Spoolable
         function,
         mut body,
     } = kept;
-    body.truncate(BODY_MOST);
+    body.truncate(BODY_MOST as usize);
     are_bytes(body.as_slice());
     Spoolable::of_kept(Kept {
         stream: stream % 128,
