@@ -63,8 +63,14 @@ fn work_on(alloc: Global, work: Work, turns: u32, bytes: &[u8], item: &Item) -> 
     done
 }
 
-// No body has more bytes.
-const MOST: usize = 7_995_148;
+// Goes on with a block. Nothing that is timed has so many bytes.
+fn feed(check: &mut BodyCheck, block: &[u8]) -> bool {
+    if check.fed() > 7_000_000 || block.len() > 244 {
+        return false;
+    }
+    check.feed(block);
+    true
+}
 
 // Whether the bytes are an item, by a check that gets as many at once as a block has.
 fn is_whole_in_blocks(bytes: &[u8]) -> bool {
@@ -72,10 +78,9 @@ fn is_whole_in_blocks(bytes: &[u8]) -> bool {
     let mut rest = bytes;
     for _ in 0..bytes.len() / 244 + 1 {
         let (block, behind) = rest.split_at(rest.len().min(244));
-        if block.len() > MOST.saturating_sub(check.fed() as usize) {
+        if !feed(&mut check, block) {
             return false;
         }
-        check.feed(block);
         rest = behind;
     }
     check.verdict() == Verdict::Whole
