@@ -274,17 +274,17 @@ static THIRD: [Bodies; 7] = [
     },
 ];
 
-// What is read of a body that came in one piece, and is no longer than a message's.
+// What is read of a body that came in one piece. All are short here.
 fn read<'a>(
     alloc: Global,
     stream: u8,
     function: u8,
     body: &'a [u8],
 ) -> Result<Option<Request<'a>>, NoMemory> {
-    if body.len() > 7_995_148 {
+    let mut check = BodyCheck::new();
+    if check.fed() > 1_000 || body.len() > 1_000 {
         return Ok(None);
     }
-    let mut check = BodyCheck::new();
     check.feed(body);
     read_request(alloc, stream, function, body, &check)
 }

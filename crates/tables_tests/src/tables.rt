@@ -126,10 +126,10 @@ fn is_wanted(answer: &Answer, wanted: &Wanted) -> bool {
 fn goes(alloc: Global, tables: &mut Tables, case: &Case) -> bool {
     let (stream, function, body, wanted, lines) = case;
     let mut notes = Row::new(alloc);
-    if body.len() > 7_995_148 {
+    let mut check = BodyCheck::new();
+    if check.fed() > 1_000 || body.len() > 1_000 {
         return false;
     }
-    let mut check = BodyCheck::new();
     check.feed(body);
     match request_of(alloc, *stream, *function, body, &check) {
         Ok(Some(Request::OfTables(request))) => match tables.answer(
