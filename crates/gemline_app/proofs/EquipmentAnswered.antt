@@ -12,7 +12,7 @@ use Rattle.end_run.specs.Counts.{Counts}
 use Rattle.end_run.specs.Script.{ScriptLine}
 use Rattle.end_run.specs.declared.ending.Ending.{Ending}
 use Rattle.end_run.specs.declared.ending.Ending.TheVariants as ending
-use Rattle.gemline_app.specs.Equipment.{FileRuns, IsAllIdle, StartRefuses, counted_after, counted_before, with_file}
+use Rattle.gemline_app.specs.Equipment.{FileRuns, IsAllIdle, StartRefuses, counted_after, counted_before, bytes_told}
 use Rattle.gemline_app.specs.Gemline.{RunComes}
 use Rattle.gemline_app.specs.Laws.{EquipmentsAreAnswered, IsGiven}
 use Rattle.gemline_app.specs.LinkTold.{LinkTold}
@@ -32,7 +32,7 @@ module _ (source : SourceTold) (files : FilesTold) (disk : DiskTold) (link : Lin
 
     by_ending :
         (how : Ending)
-        → Counts (counted_before (with_file disk) link out) (counted_after (with_file disk) link out) (Some how)
+        → Counts (counted_before (bytes_told disk) link out) (counted_after (bytes_told disk) link out) (Some how)
         → AnsweredSo (outcome_of_ending how)
     by_ending ending.Stopped counts = inl (inl refl)
     by_ending ending.Closed counts = inl (inl refl)
@@ -43,7 +43,7 @@ module _ (source : SourceTold) (files : FilesTold) (disk : DiskTold) (link : Lin
     by_ending ending.WriteFailed counts = inr counts.1
     by_ending ending.NoMemory counts = inr tt
 
-    by_start : (outcome : Outcome) → StartRefuses (with_file disk) outcome → AnsweredSo outcome
+    by_start : (outcome : Outcome) → StartRefuses (bytes_told disk) outcome → AnsweredSo outcome
     by_start (NotSpool at) refuses = absurd (no_break (spool_break s.now.bytes) at (refuses.1 s told).0 sound)
     by_start NumbersSpent refuses = inl (inr (inr refl))
     by_start DiskFailed refuses = inr (rose_of refuses.0)

@@ -15,7 +15,7 @@ use Rattle.end_run.specs.Counts.{Counts}
 use Rattle.end_run.specs.Script.{ScriptLine}
 use Rattle.end_run.specs.declared.ending.Ending.{Ending}
 use Rattle.end_run.specs.declared.ending.Ending.TheVariants as ending
-use Rattle.gemline_app.specs.Equipment.{EquipmentComes, FileRuns, IsAllIdle, RanOver, SpoolRuns, StartRefuses, WasRunOn, counted_after, counted_before, equipment_run, with_file}
+use Rattle.gemline_app.specs.Equipment.{EquipmentComes, FileRuns, IsAllIdle, RanOver, SpoolRuns, StartRefuses, WasRunOn, counted_after, counted_before, equipment_run, bytes_told}
 use Rattle.gemline_app.specs.Laws.{BytesAskRun, EquipmentAsks, Hinders, IsLinkedDue, RunAsks}
 use Rattle.gemline_app.specs.LinkTold.{LinkTold}
 use Rattle.gemline_app.specs.Linked.{outcome_of_ending}
@@ -83,7 +83,7 @@ module _ (source : SourceTold) (files : FilesTold) (disk : DiskTold) (link : Lin
     spent_out sound marked (inr (inr (none, (start, goes, asks)))) =
         absurd (no_start plan (file_in s.now.bytes) start goes marked)
 
-    refused_due : (outcome : Outcome) → StartRefuses (with_file disk) outcome
+    refused_due : (outcome : Outcome) → StartRefuses (bytes_told disk) outcome
         → BytesAskRun plan polls link lines s.now.bytes due → ComesDue outcome
     refused_due (NotSpool at) refuses asks = not_spool at (refuses.1 s told).0 asks
     refused_due NumbersSpent refuses asks = spent_out (refuses.1 s told).0 (refuses.1 s told).1 asks
@@ -111,18 +111,18 @@ module _ (source : SourceTold) (files : FilesTold) (disk : DiskTold) (link : Lin
 
     disk_rose :
         (how : Ending)
-        → Counts (counted_before (with_file disk) link out) (counted_after (with_file disk) link out) (Some how)
+        → Counts (counted_before (bytes_told disk) link out) (counted_after (bytes_told disk) link out) (Some how)
         → how ≡ ending.DiskFailed → Hinders source files disk link out DiskFailed
     disk_rose how counts is =
         (subst
         (λ (h : Ending).
-        Counts (counted_before (with_file disk) link out) (counted_after (with_file disk) link out) (Some h))
+        Counts (counted_before (bytes_told disk) link out) (counted_after (bytes_told disk) link out) (Some h))
         is counts).2.rose
 
     started_due :
         (outcome : Outcome) (how : Ending) → outcome ≡ outcome_of_ending how
         → (how ≡ ending.DiskFailed → Hinders source files disk link out DiskFailed)
-        → (over : RanOver plan (file_in s.now.bytes) lines polls (with_file disk) link out how)
+        → (over : RanOver plan (file_in s.now.bytes) lines polls (bytes_told disk) link out how)
         → (start : Step EquipmentView Happening)
         → starts plan (file_in s.now.bytes).slots (file_in s.now.bytes).list (file_in s.now.bytes).mark ≡ Goes start
         → RunAsks (equipment_run start lines polls) link due → ComesDue outcome
@@ -133,7 +133,7 @@ module _ (source : SourceTold) (files : FilesTold) (disk : DiskTold) (link : Lin
         (subst (λ (first : Step EquipmentView Happening). RunAsks (equipment_run first lines polls) link due)
         (one_start plan (file_in s.now.bytes) start over.start goes over.started) asks)
 
-    ran_due : (outcome : Outcome) → WasRunOn plan lines polls (with_file disk) link out outcome
+    ran_due : (outcome : Outcome) → WasRunOn plan lines polls (bytes_told disk) link out outcome
         → BytesAskRun plan polls link lines s.now.bytes due → ComesDue outcome
     ran_due outcome was (inl (place, is, is_due)) =
         absurd (no_break (spool_break s.now.bytes) place is (was.sound s told))
@@ -142,7 +142,7 @@ module _ (source : SourceTold) (files : FilesTold) (disk : DiskTold) (link : Lin
     ran_due outcome was (inr (inr (none, (start, goes, asks)))) =
         started_due outcome was.ended was.outcome_is (disk_rose was.ended was.counts) (was.ran s told) start goes asks
 
-    spool_due : (outcome : Outcome) → SpoolRuns plan lines polls (with_file disk) link out outcome
+    spool_due : (outcome : Outcome) → SpoolRuns plan lines polls (bytes_told disk) link out outcome
         → BytesAskRun plan polls link lines s.now.bytes due → ComesDue outcome
     spool_due outcome (inl (refuses, idle)) asks = refused_due outcome refuses asks
     spool_due outcome (inr was) asks = ran_due outcome was asks

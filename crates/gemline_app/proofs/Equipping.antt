@@ -37,7 +37,7 @@ use Rattle.end_run.specs.Script.{ScriptLine}
 use Rattle.end_run.specs.declared.ending.Ending.{Ending}
 use Rattle.end_run.specs.declared.ending.Ending.TheVariants as ending
 use Rattle.gemline_app.specs.declared.equipment.LinkedEquipment.{LinkedEquipment}
-use Rattle.gemline_app.specs.Equipment.{HoldsLeft, RunsFrom, StartRefuses, equipment_run, one_call}
+use Rattle.gemline_app.specs.Equipment.{HoldsLeft, RunsFrom, StartRefuses, bytes_told, equipment_run, one_call}
 use Rattle.gemline_app.specs.LinkTold.{LinkTold}
 use Rattle.gemline_app.specs.Linked.{after_run, before_run}
 use Rattle.gemline_app.specs.LinkedEquipment.{Fixed, HoldsOne, IsGoing, IsKnown, IsLeftSo, LeavesDevice, device_by, device_of, disk_in, linked_view, outcome_of_start, spent_by, unstarted_disk}
@@ -220,7 +220,7 @@ module _ {D : Type 0} (members : disk.Ghosts D) where
       (plan : EquipmentPlan) (old : D) (out : StepOut) (why : Starting D)
       → ((s : Story) → members.told old ≡ Some s → Begins members plan s out (Err why))
       → ((s : Story) → members.told old ≡ Some s → FindsFile s (Err why)) → StartHandsBack members old (Err why)
-      → StartRefuses (disk_told members old (unstarted_disk why)) (outcome_of_start why)
+      → StartRefuses (bytes_told (disk_told members old (unstarted_disk why))) (outcome_of_start why)
   start_refuses plan old out (starting.NotSpool raw place) begins finds back =
       (back.count, λ s told. ((begins s told).1.0, (begins s told).2))
   start_refuses plan old out (starting.NumbersSpent spent) begins finds back =
@@ -232,11 +232,11 @@ module _ {D : Type 0} (members : disk.Ghosts D) where
 
   pub refused_as :
       (old : D) (why : Starting D) (outcome : Outcome) (d : D) → outcome ≡ outcome_of_start why
-      → d ≡ unstarted_disk why → StartRefuses (disk_told members old (unstarted_disk why)) (outcome_of_start why)
-      → StartRefuses (disk_told members old d) outcome
+      → d ≡ unstarted_disk why → StartRefuses (bytes_told (disk_told members old (unstarted_disk why))) (outcome_of_start why)
+      → StartRefuses (bytes_told (disk_told members old d)) outcome
   refused_as old why outcome d is same refuses =
-      subst (λ (o : Outcome). StartRefuses (disk_told members old d) o) (sym is)
-      (subst (λ (x : D). StartRefuses (disk_told members old x) (outcome_of_start why)) (sym same) refuses)
+      subst (λ (o : Outcome). StartRefuses (bytes_told (disk_told members old d)) o) (sym is)
+      (subst (λ (x : D). StartRefuses (bytes_told (disk_told members old x)) (outcome_of_start why)) (sym same) refuses)
 
   start_same : (old : D) (why : Starting D) → StartHandsBack members old (Err why)
       → IsSameDisk members old (unstarted_disk why)

@@ -37,12 +37,12 @@ use Rattle.end_run.specs.declared.ending.Ending.TheVariants as ending
 use Rattle.end_pair.specs.declared.answers.RunEnd.{RunEnd}
 use Rattle.end_pair.specs.declared.answers.RunEnd.TheVariants as end
 use Rattle.spool_show.specs.Told.{DiskTold}
-use Rattle.spool_show.specs.Formatting.{FormatsFile, FormatsSpool}
+use Rattle.spool_show.specs.Formatting.{FormatsSpool}
 use Rattle.spool_show.specs.Showing.{ShowsFile, ShowsSpool}
 use Rattle.spool_show.specs.declared.spool_end.SpoolEnd.{SpoolEnd}
 use Rattle.spool_show.specs.declared.spool_end.SpoolEnd.TheVariants as spool
 use Rattle.gemline_app.specs.Files.{FileRefuses, plan_refusal}
-use Rattle.gemline_app.specs.Equipment.{EquipmentComes, FileRuns, StartRefuses, counted_after, counted_before, with_file}
+use Rattle.gemline_app.specs.Equipment.{EquipmentComes, FileRuns, StartRefuses, counted_after, counted_before, bytes_told}
 use Rattle.gemline_app.specs.Host.{HostComes, HostRuns, WasRun}
 use Rattle.gemline_app.specs.LinkTold.{IsUncalled, LinkTold}
 use Rattle.gemline_app.specs.Linked.{IsIdle, after_run, before_run, outcome_of_ending, script_refusal}
@@ -66,7 +66,7 @@ record CountsAll (source : SourceTold) (files : FilesTold) (disk : DiskTold) (li
     (outcome : Outcome) : Type 0 where
   read : IsCounted (is_read_fault outcome) source.health.faults source.health_after.faults
   file : IsCounted (is_file_fault outcome) files.health.faults files.health_after.faults
-  on_disk : IsCounted (is_disk_fault outcome) disk.faults disk.faults_after
+  on_disk : IsCounted (is_disk_fault outcome) disk.health.faults disk.health_after.faults
   on_link : IsCounted (is_link_fault outcome) link.health.faults link.health_after.faults
   write : IsCounted (is_write_fault outcome) out.health.faults out.health_after.faults
 
@@ -193,7 +193,7 @@ printed_counts digits out outcome (Err refusal, refuses, (is, left)) =
 -- the files, the disk and the link stand
 record OthersStand (files : FilesTold) (disk : DiskTold) (link : LinkTold) : Type 0 where
   file : files.health_after.faults ≡ files.health.faults
-  on_disk : disk.faults_after ≡ disk.faults
+  on_disk : disk.health_after.faults ≡ disk.health.faults
   on_link : link.health_after.faults ≡ link.health.faults
 
 module _ (source : SourceTold) (files : FilesTold) (disk : DiskTold) (link : LinkTold) (out : SinkTold) where
@@ -227,7 +227,7 @@ module _ (source : SourceTold) (files : FilesTold) (disk : DiskTold) (link : Lin
   written_only outcome read stands counts = record {
     read = subst (λ (b : Bool). IsCounted b source.health.faults source.health_after.faults) (sym counts.read) read;
     file = subst (λ (b : Bool). IsCounted b files.health.faults files.health_after.faults) (sym counts.file) stands.file;
-    on_disk = subst (λ (b : Bool). IsCounted b disk.faults disk.faults_after) (sym counts.on_disk) stands.on_disk;
+    on_disk = subst (λ (b : Bool). IsCounted b disk.health.faults disk.health_after.faults) (sym counts.on_disk) stands.on_disk;
     on_link = subst (λ (b : Bool). IsCounted b link.health.faults link.health_after.faults) (sym counts.on_link) stands.on_link;
     write = counts.write;
   }
@@ -370,18 +370,18 @@ record CountsDisk (disk : DiskTold) (out : SinkTold) (outcome : Outcome) : Type 
   read : is_read_fault outcome ≡ false
   file : is_file_fault outcome ≡ false
   on_link : is_link_fault outcome ≡ false
-  on_disk : IsCounted (is_disk_fault outcome) disk.faults disk.faults_after
+  on_disk : IsCounted (is_disk_fault outcome) disk.health.faults disk.health_after.faults
   write : IsCounted (is_write_fault outcome) out.health.faults out.health_after.faults
 
-by_making : (slots : ℕ) (disk : DiskTold) (out : SinkTold) (ended : SpoolEnd) → FormatsFile slots disk out ended
-    → CountsDisk disk out (outcome_of_spool ended)
-by_making slots disk out spool.Done was =
-    record { read = refl; file = refl; on_disk = was.count; on_link = refl; write = was.made.1.health.same }
-by_making slots disk out (spool.NotSpool place) was = absurd was.made.1
-by_making slots disk out spool.DiskFailed was =
-    record { read = refl; file = refl; on_disk = rose_of was.count; on_link = refl; write = was.made.health.same }
-by_making slots disk out spool.WriteFailed was =
-    record { read = refl; file = refl; on_disk = was.count; on_link = refl; write = was.made.1.fault.rose }
+by_making : (name : List ℕ) (slots : ℕ) (disk : DiskTold) (out : SinkTold) (ended : SpoolEnd)
+    → FormatsSpool name slots disk out ended → CountsDisk disk out (outcome_of_spool ended)
+by_making name slots disk out spool.Done was =
+    record { read = refl; file = refl; on_disk = was.cause.same; on_link = refl; write = was.made.1.health.same }
+by_making name slots disk out (spool.NotSpool place) was = absurd was.made.1
+by_making name slots disk out spool.DiskFailed was =
+    record { read = refl; file = refl; on_disk = rose_of was.cause.rose; on_link = refl; write = was.made.health.same }
+by_making name slots disk out spool.WriteFailed was =
+    record { read = refl; file = refl; on_disk = was.cause.same; on_link = refl; write = was.made.1.fault.rose }
 
 by_listing : (disk : DiskTold) (out : SinkTold) (ended : SpoolEnd) → ShowsFile disk out ended
     → CountsDisk disk out (outcome_of_spool ended)
@@ -502,7 +502,7 @@ module _ (source : SourceTold) (files : FilesTold) (disk : DiskTold) (link : Lin
   linked_only read file counts = record {
     read = subst (λ (b : Bool). IsCounted b source.health.faults source.health_after.faults) (sym counts.read) read;
     file = subst (λ (b : Bool). IsCounted b files.health.faults files.health_after.faults) (sym counts.file) file;
-    on_disk = subst (λ (b : Bool). IsCounted b disk.faults disk.faults_after) (sym counts.on_disk) unused.faults;
+    on_disk = subst (λ (b : Bool). IsCounted b disk.health.faults disk.health_after.faults) (sym counts.on_disk) unused.faults;
     on_link = counts.on_link;
     write = counts.write;
   }
@@ -514,7 +514,7 @@ module _ (source : SourceTold) (files : FilesTold) (disk : DiskTold) (link : Lin
     read = subst (λ (b : Bool). IsCounted b source.health.faults source.health_after.faults) (sym counts.read)
         (source_stands source unread);
     file = counts.file;
-    on_disk = subst (λ (b : Bool). IsCounted b disk.faults disk.faults_after) (sym counts.on_disk) unused.faults;
+    on_disk = subst (λ (b : Bool). IsCounted b disk.health.faults disk.health_after.faults) (sym counts.on_disk) unused.faults;
     on_link = subst (λ (b : Bool). IsCounted b link.health.faults link.health_after.faults) (sym counts.on_link)
         (link_stands link uncalled);
     write = counts.write;
@@ -581,7 +581,7 @@ module _ (source : SourceTold) (files : FilesTold) (disk : DiskTold) (link : Lin
     CountsSo outcome = CountsFaults (Some (Equipment plan address spool polls)) source files disk link out outcome
 
     -- a start that is refused
-    start_counts : (outcome : Outcome) → StartRefuses (with_file disk) outcome → IsIdle link out → CountsSo outcome
+    start_counts : (outcome : Outcome) → StartRefuses (bytes_told disk) outcome → IsIdle link out → CountsSo outcome
     start_counts (NotSpool at) refuses idle = record {
       read = read;
       file = file;
@@ -630,12 +630,12 @@ module _ (source : SourceTold) (files : FilesTold) (disk : DiskTold) (link : Lin
 
     -- no fault of link, output or disk
     none_counts : (outcome : Outcome) → IsPlain outcome
-        → CountsNone (counted_before (with_file disk) link out) (counted_after (with_file disk) link out)
+        → CountsNone (counted_before (bytes_told disk) link out) (counted_after (bytes_told disk) link out)
         → CountsSo outcome
     none_counts outcome plain (on_link, write, on_disk) = record {
       read = subst (λ (b : Bool). IsCounted b source.health.faults source.health_after.faults) (sym plain.read) read;
       file = subst (λ (b : Bool). IsCounted b files.health.faults files.health_after.faults) (sym plain.file) file;
-      on_disk = subst (λ (b : Bool). IsCounted b disk.faults disk.faults_after) (sym plain.on_disk)
+      on_disk = subst (λ (b : Bool). IsCounted b disk.health.faults disk.health_after.faults) (sym plain.on_disk)
           (ap (λ (d : Device (Unit {0})). d.faults) on_disk);
       on_link = subst (λ (b : Bool). IsCounted b link.health.faults link.health_after.faults) (sym plain.on_link)
           on_link;
@@ -651,7 +651,7 @@ module _ (source : SourceTold) (files : FilesTold) (disk : DiskTold) (link : Lin
 
     ending_counts :
         (how : RunEnding)
-        → Counts (counted_before (with_file disk) link out) (counted_after (with_file disk) link out) (Some how)
+        → Counts (counted_before (bytes_told disk) link out) (counted_after (bytes_told disk) link out) (Some how)
         → CountsSo (outcome_of_ending how)
     ending_counts ending.Stopped counts =
         none_counts Done (record { read = refl; file = refl; on_disk = refl; on_link = refl; write = refl }) counts
@@ -788,7 +788,7 @@ comes_counts (Some (Replay plan schedule)) source files disk link out outcome (u
     (record {
       read = subst (λ (b : Bool). IsCounted b source.health.faults source.health_after.faults) (sym counts.read) (source_stands source unread);
       file = counts.file;
-      on_disk = subst (λ (b : Bool). IsCounted b disk.faults disk.faults_after) (sym counts.on_disk) unused.faults;
+      on_disk = subst (λ (b : Bool). IsCounted b disk.health.faults disk.health_after.faults) (sym counts.on_disk) unused.faults;
       on_link = subst (λ (b : Bool). IsCounted b link.health.faults link.health_after.faults) (sym counts.on_link)
           (link_stands link uncalled);
       write = counts.write;
@@ -801,7 +801,7 @@ comes_counts (Some (Host plan address polls)) source files disk link out outcome
 comes_counts (Some (Format name slots)) source files disk link out outcome (unread, files_unread, uncalled, was) =
     all_told (Some (Format name slots)) source files disk link out outcome
     (spool_counts source files disk link out outcome (FormatsSpool name slots disk out) unread files_unread uncalled
-    (λ ended formats. by_making slots disk out ended formats.formatted) was)
+    (λ ended formats. by_making name slots disk out ended formats) was)
 comes_counts (Some (Spool name)) source files disk link out outcome (unread, files_unread, uncalled, was) =
     all_told (Some (Spool name)) source files disk link out outcome
     (spool_counts source files disk link out outcome (ShowsSpool name disk out) unread files_unread uncalled

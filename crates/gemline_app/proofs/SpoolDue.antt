@@ -3,7 +3,7 @@ use Rattle.std.proofs.Common.{◌≡◌, ℕ, List, refl, sym, ap, subst, ◌∙
 use Rattle.disk_base.specs.Faults.{Rose as RoseOnDisk}
 use Rattle.gl_base.specs.Faults.{Rose}
 use Rattle.gl_base.specs.Told.{FilesTold, SinkTold, SourceTold}
-use Rattle.spool_show.specs.Formatting.{FormatsFile, FormatsSpool}
+use Rattle.spool_show.specs.Formatting.{FormatsSpool}
 use Rattle.spool_show.specs.Showing.{ShowsFile, ShowsSpool}
 use Rattle.spool_show.specs.Told.{DiskTold}
 use Rattle.spool_show.specs.declared.spool_end.SpoolEnd.{SpoolEnd}
@@ -20,12 +20,12 @@ pub rose_of : {before now : ℕ} → RoseOnDisk before now → Rose before now
 rose_of rose = record { by_one = rose.by_one; later = rose.later }
 
 module _ (source : SourceTold) (files : FilesTold) (disk : DiskTold) (link : LinkTold) (out : SinkTold) where
-  made_due : (slots : ℕ) (ended : SpoolEnd) → FormatsFile slots disk out ended
+  made_due : (name : List ℕ) (slots : ℕ) (ended : SpoolEnd) → FormatsSpool name slots disk out ended
       → Comes source files disk link out (outcome_of_spool ended) Done
-  made_due slots spool.Done was = inl refl
-  made_due slots (spool.NotSpool place) was = absurd was.made.1
-  made_due slots spool.DiskFailed was = inr (rose_of was.count)
-  made_due slots spool.WriteFailed was = inr was.made.1.fault.rose
+  made_due name slots spool.Done was = inl refl
+  made_due name slots (spool.NotSpool place) was = absurd was.made.1
+  made_due name slots spool.DiskFailed was = inr (rose_of was.cause.rose)
+  made_due name slots spool.WriteFailed was = inr was.made.1.fault.rose
 
   pub formatted_due : (name : List ℕ) (slots : ℕ) (outcome due : Outcome)
       → EndedAs (FormatsSpool name slots disk out) outcome → due ≡ Done
@@ -33,7 +33,7 @@ module _ (source : SourceTold) (files : FilesTold) (disk : DiskTold) (link : Lin
   formatted_due name slots outcome due was is =
       subst (Comes source files disk link out outcome) (sym is)
       (subst (λ (o : Outcome). Comes source files disk link out o Done) (sym was.outcome_is)
-      (made_due slots was.ended was.ends.formatted))
+      (made_due name slots was.ended was.ends))
 
   shown_due : (ended : SpoolEnd) (due : Outcome) → ShowsFile disk out ended → IsSpoolDue disk due
       → Comes source files disk link out (outcome_of_spool ended) due

@@ -79,8 +79,23 @@ pub record RunsFrom (start : Step EquipmentView Happening) (lines : List ScriptL
       ended
   pub holds : HoldsLeft left stop after
 
+-- the bytes that a disk held of its file before a run and behind it, and how many faults it had counted
+pub record BytesTold : Type 0 where
+  pub before : Option Story
+  pub after : Option Story
+  pub faults : ℕ
+  pub faults_after : ℕ
+
+abbrev pub bytes_told : DiskTold → BytesTold
+bytes_told disk = record {
+  before = disk.before;
+  after = disk.after;
+  faults = disk.health.faults;
+  faults_after = disk.health_after.faults;
+}
+
 -- it was started by its plan over what a file holds, and ran from that start
-pub record RanOver (plan : EquipmentPlan) (file : SpoolFile) (lines : List ScriptLine) (polls : ℕ) (disk : DiskTold)
+pub record RanOver (plan : EquipmentPlan) (file : SpoolFile) (lines : List ScriptLine) (polls : ℕ) (disk : BytesTold)
     (link : LinkTold) (out : SinkTold) (ended : Ending) : Type 0 where
   pub start : Step EquipmentView Happening
   pub started : starts plan file.slots file.list file.mark ≡ Goes start
@@ -89,11 +104,11 @@ pub record RanOver (plan : EquipmentPlan) (file : SpoolFile) (lines : List Scrip
 -- ---- faults
 
 -- how many faults link, output and disk have counted before a run, and behind it
-abbrev pub counted_before : DiskTold → LinkTold → SinkTold → Counted (Unit {0})
+abbrev pub counted_before : BytesTold → LinkTold → SinkTold → Counted (Unit {0})
 counted_before disk link out =
     counted_by link.health.faults out.health.faults (record { faults = disk.faults; fixed = tt })
 
-abbrev pub counted_after : DiskTold → LinkTold → SinkTold → Counted (Unit {0})
+abbrev pub counted_after : BytesTold → LinkTold → SinkTold → Counted (Unit {0})
 counted_after disk link out =
     counted_by link.health_after.faults out.health_after.faults (record { faults = disk.faults_after; fixed = tt })
 
@@ -101,7 +116,7 @@ counted_after disk link out =
 
 -- the equipment has run; where its disk told its bytes, these stand for a spool, and the run is that over what they
 -- hold
-pub record WasRunOn (plan : EquipmentPlan) (lines : List ScriptLine) (polls : ℕ) (disk : DiskTold) (link : LinkTold)
+pub record WasRunOn (plan : EquipmentPlan) (lines : List ScriptLine) (polls : ℕ) (disk : BytesTold) (link : LinkTold)
     (out : SinkTold) (outcome : Outcome) : Type 0 where
   pub ended : Ending
   pub outcome_is : outcome ≡ outcome_of_ending ended
@@ -113,7 +128,7 @@ pub record WasRunOn (plan : EquipmentPlan) (lines : List ScriptLine) (polls : �
 -- why it didn't start, and what its disk holds then: the bytes stand for no spool, and are as they were; there are no
 -- system bytes any more, and the file stands; the disk failed, and the bytes are as they were, or the file stands with
 -- the old mark or the new one; memory ran out, and it stands so
-abbrev pub StartRefuses : DiskTold → Outcome → Type 0
+abbrev pub StartRefuses : BytesTold → Outcome → Type 0
 StartRefuses disk (NotSpool at) =
     (disk.faults_after ≡ disk.faults)
     × ((s : Story) → disk.before ≡ Some s → (spool_break s.now.bytes ≡ Some at)
@@ -136,28 +151,24 @@ StartRefuses disk _ = ⊥
 -- what a disk with its file came to. Where the equipment doesn't start, nothing was written, and no call of the link
 -- was made
 abbrev pub SpoolRuns :
-    EquipmentPlan → List ScriptLine → ℕ → DiskTold → LinkTold → SinkTold → Outcome → Type 0
+    EquipmentPlan → List ScriptLine → ℕ → BytesTold → LinkTold → SinkTold → Outcome → Type 0
 SpoolRuns plan lines polls disk link out outcome =
     (StartRefuses disk outcome × IsIdle link out) ⊎ WasRunOn plan lines polls disk link out outcome
 
 -- the disk didn't take the file
 pub record IsNotTaken (disk : DiskTold) (link : LinkTold) (out : SinkTold) (outcome : Outcome) : Type 0 where
   pub outcome_is : outcome ≡ DiskFailed
-  pub rose : Rose disk.faults disk.faults_after
+  pub rose : Rose disk.health.faults disk.health_after.faults
   pub told : disk.after ≡ disk.before
   pub file : disk.file_after ≡ disk.file
   pub idle : IsIdle link out
-
--- with the file that it has taken
-abbrev pub with_file : DiskTold → DiskTold
-with_file disk = record disk { file = disk.file_after }
 
 -- what came of the lines of a script, over the spool file of this name
 abbrev pub FileRuns :
     EquipmentPlan → List ℕ → List ScriptLine → ℕ → DiskTold → LinkTold → SinkTold → Outcome → Type 0
 FileRuns plan spool lines polls disk link out outcome =
     IsNotTaken disk link out outcome
-    ⊎ ((disk.file_after ≡ Some spool) × SpoolRuns plan lines polls (with_file disk) link out outcome)
+    ⊎ ((disk.file_after ≡ Some spool) × SpoolRuns plan lines polls (bytes_told disk) link out outcome)
 
 -- ---- from its plan on
 

@@ -222,7 +222,7 @@ abbrev pub Hinders : SourceTold → FilesTold → DiskTold → LinkTold → Sink
 Hinders source files disk link out NoMemory = Unit {0}
 Hinders source files disk link out ReadFailed = Rose source.health.faults source.health_after.faults
 Hinders source files disk link out (FileFailed which) = Rose files.health.faults files.health_after.faults
-Hinders source files disk link out DiskFailed = Rose disk.faults disk.faults_after
+Hinders source files disk link out DiskFailed = Rose disk.health.faults disk.health_after.faults
 Hinders source files disk link out LinkFailed = Rose link.health.faults link.health_after.faults
 Hinders source files disk link out WriteFailed = Rose out.health.faults out.health_after.faults
 Hinders source files disk link out _ = ⊥
@@ -263,7 +263,7 @@ pub record CountsFaults (asked : Option Asked) (source : SourceTold) (files : Fi
     (link : LinkTold) (out : SinkTold) (outcome : Outcome) : Type 0 where
   pub read : IsCounted (is_read_fault outcome) source.health.faults source.health_after.faults
   pub file : IsCounted (is_file_fault outcome) files.health.faults files.health_after.faults
-  pub on_disk : IsCounted (is_disk_fault outcome) disk.faults disk.faults_after
+  pub on_disk : IsCounted (is_disk_fault outcome) disk.health.faults disk.health_after.faults
   pub on_link : IsCounted (is_link_fault outcome) link.health.faults link.health_after.faults
   pub write :
       IsCounted (is_write_fault outcome) out.health.faults out.health_after.faults

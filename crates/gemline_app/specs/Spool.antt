@@ -9,7 +9,7 @@ use Rattle.gemline_app.specs.declared.outcome.Outcome.TheVariants.{Done, DiskFai
 -- no call was made on the disk
 pub record IsUnused (disk : DiskTold) : Type 0 where
   pub told : disk.after ≡ disk.before
-  pub faults : disk.faults_after ≡ disk.faults
+  pub faults : disk.health_after.faults ≡ disk.health.faults
   pub file : disk.file_after ≡ disk.file
 
 -- what the end of a word about a spool file is an outcome of

@@ -18,7 +18,7 @@ ghost use Rattle.end_run.specs.Scenes.{Stays};
 ghost use Rattle.end_run.specs.Script.{AreTold};
 ghost use Rattle.end_run.specs.Sides.{told_equipment};
 ghost use Rattle.gemline_app.specs.Equipment.{EquipmentComes, EquipmentReads, EquipmentRuns, FileRuns, RunsFrom, SpoolRuns};
-ghost use Rattle.gemline_app.specs.Equipment.{linked_machine};
+ghost use Rattle.gemline_app.specs.Equipment.{bytes_told, linked_machine};
 ghost use Rattle.gemline_app.specs.LinkTold.{link_told};
 ghost use Rattle.gemline_app.specs.LinkedEquipment.{HoldsOne, IsGoing, IsKnown, LeavesDevice, device_by, device_of, disk_in};
 ghost use Rattle.gemline_app.specs.LinkedEquipment.{linked_view, outcome_of_start, spent_by, unstarted_disk};
@@ -375,7 +375,7 @@ fn run_attached<D: Disk, L: Link, W: Sink>(
     requires script { AreTold told_equipment ToolCommandFits script.now.lines }
     requires bytes { TellsBytes (D.told disk.old) }
     ensures runs { SpoolRuns plan.now script.now.lines polls
-        (disk_told D.Disk disk.old disk.new)
+        (bytes_told (disk_told D.Disk disk.old disk.new))
         (link_told L.Link link.old link.new)
         (sink_told W.Sink out.old out.new)
         result }
@@ -409,7 +409,7 @@ fn run_over<D: Disk + Drop, L: Link, W: Sink>(
     requires script { AreTold told_equipment ToolCommandFits script.now.lines }
     requires bytes { TellsBytes (D.told raw.disk) }
     ensures runs { SpoolRuns plan.now script.now.lines polls
-        (disk_told D.Disk raw.disk result.1)
+        (bytes_told (disk_told D.Disk raw.disk result.1))
         (link_told L.Link link.old link.new)
         (sink_told W.Sink out.old out.new)
         result.0 }

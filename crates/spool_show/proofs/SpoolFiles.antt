@@ -2,7 +2,7 @@
 use Rattle.std.proofs.Common.{◌≡◌, refl, ◌∙◌, ap, subst, ℕ, List, [], Option, Some, None, Ok, Err, inl, inr, arith}
 use Rattle.std.specs.Option.{option_map}
 use Rattle.disk_base.specs.Disk.{Attaches}
-use Rattle.disk_base.specs.Faults.{Rose}
+use Rattle.disk_base.specs.Faults.{DiskHealth, Rose}
 use Rattle.disk_base.specs.Story.{Story, with_growth, with_sync}
 use Rattle.disk_base.specs.declared.disk.Disk as trait
 use Rattle.disk_base.specs.declared.disk.DiskAnswer.TheVariants as answer
@@ -22,12 +22,14 @@ use Rattle.spool_slots.specs.declared.states.Recovering.{Recovering}
 use Rattle.spool_slots.specs.declared.states.Recovering.TheVariants as recovering
 
 -- what a disk told, by its parts
-abbrev pub disk_parts : Option (List ℕ) → Option (List ℕ) → Option Story → Option Story → ℕ → ℕ → DiskTold
-disk_parts file file_after before after faults faults_after = record {
+abbrev disk_parts : Option (List ℕ) → Option (List ℕ) → Option Story → Option Story → ℕ → DiskHealth → DiskHealth →
+    DiskTold
+disk_parts file file_after before after size health health_after = record {
   before = before;
   after = after;
-  faults = faults;
-  faults_after = faults_after;
+  size = size;
+  health = health;
+  health_after = health_after;
   file = file;
   file_after = file_after;
 }
@@ -65,13 +67,13 @@ recovered_text before here slots first len mark out e is rests shows =
     (recovered_list before out e (subst (λ t. ShowsList t out e) is shows))
 
 -- the same of the disk before it took the file
-pub shows_before : {f g h : Option (List ℕ)} {before mid after : Option Story} {a b c : ℕ} (out : SinkTold)
-    (e : SpoolEnd) → mid ≡ before → b ≡ a
-    → ShowsFile (disk_parts h g mid after b c) out e → ShowsFile (disk_parts f g before after a c) out e
+pub shows_before : {f g h : Option (List ℕ)} {before mid after : Option Story} {m n : ℕ} {a b c : DiskHealth}
+    (out : SinkTold) (e : SpoolEnd) → mid ≡ before → b.faults ≡ a.faults
+    → ShowsFile (disk_parts h g mid after n b c) out e → ShowsFile (disk_parts f g before after m a c) out e
 shows_before {before} {mid} {after} {a} {b} {c} out e is same shows = record {
   written = subst (λ t. TellsSpool t out e) is shows.written;
   kept = subst (λ t. Keeps t after) is shows.kept;
-  count = subst (λ n. IsCounted n c e) same shows.count;
+  count = subst (λ k. IsCounted k c.faults e) same shows.count;
 }
 
 -- a disk was read behind a sync, and its count of faults stands or rose by the last read
@@ -88,8 +90,8 @@ failed_count {D} {members} old new most is =
 pub not_recovered : {D : Type 0} (members : trait.Ghosts D) {f g was : Option (List ℕ)} {a : SinkHealth} (old : D)
     (refusal : Recovering D) → Recovers members old (Err refusal)
     → ShowsFile
-    (disk_parts f g (members.told old) (members.told (refused_disk refusal)) (members.health old).faults
-    (members.health (refused_disk refusal)).faults)
+    (disk_parts f g (members.told old) (members.told (refused_disk refusal)) (members.size_is old)
+    (members.health old) (members.health (refused_disk refusal)))
     (told was was a a) (end_of_refusal refusal)
 not_recovered members old (recovering.NotSpool raw place) (read, breaks) =
     record { written = (wrote_nothing, breaks); kept = inr read.told; count = recovered_count read }
@@ -108,8 +110,8 @@ not_recovered members old (recovering.Failed spent) (inr read) = record {
 pub shows_recovered : {D : Type 0} {members : trait.Ghosts D} {f g : Option (List ℕ)} {out : SinkTold} (old : D)
     (v w : SpoolView D) (e : SpoolEnd) → Recovers members old (Ok v) → HasShown members v w e → ShowsList (members.told v.disk) out e
     → ShowsFile
-    (disk_parts f g (members.told old) (members.told w.disk) (members.health old).faults
-    (members.health w.disk).faults) out e
+    (disk_parts f g (members.told old) (members.told w.disk) (members.size_is old) (members.health old)
+    (members.health w.disk)) out e
 shows_recovered {D} {members} {out = out} old v w e (read, stands) shown shows = record {
   written = recovered_text (members.told old) (members.told v.disk) v.slots v.first v.len v.mark out e read.told
       (λ s told_is. (stands s told_is).0) shows;
@@ -118,8 +120,9 @@ shows_recovered {D} {members} {out = out} old v w e (read, stands) shown shows =
 }
 
 -- the file wasn't taken
-pub not_attached : {f g : Option (List ℕ)} {before after : Option Story} {a b : ℕ} {was : Option (List ℕ)} {h : SinkHealth}
-    → Attaches 0 before after → Rose a b → ShowsFile (disk_parts f g before after a b) (told was was h h) end.DiskFailed
+pub not_attached : {f g : Option (List ℕ)} {before after : Option Story} {m : ℕ} {a b : DiskHealth} {was : Option (List ℕ)}
+    {h : SinkHealth} → Attaches 0 before after → Rose a.faults b.faults
+    → ShowsFile (disk_parts f g before after m a b) (told was was h h) end.DiskFailed
 not_attached is rose = record {
   written = ([], wrote_nothing, λ s told_is. (file_text (file_in s.now.bytes), refl));
   kept = inl (attached is);
@@ -127,16 +130,18 @@ not_attached is rose = record {
 }
 
 -- the same of equal disks and ends
-pub shows_same : {f g : Option (List ℕ)} {before before' after after' : Option Story} {a a' b b' : ℕ}
-    {e e' : SpoolEnd} (out : SinkTold) → before ≡ before' → after ≡ after' → a ≡ a' → b ≡ b' → e ≡ e'
-    → ShowsFile (disk_parts f g before after a b) out e
-    → ShowsFile (disk_parts f g before' after' a' b') out e'
-shows_same {f} {g} {before} {before'} {after} {after'} {a} {a'} {b} {b'} {e} {e'} out one two three four five shows =
-    subst (ShowsFile (disk_parts f g before' after' a' b') out) five
-    (subst (λ n. ShowsFile (disk_parts f g before' after' a' n) out e) four
-    (subst (λ n. ShowsFile (disk_parts f g before' after' n b) out e) three
-    (subst (λ t. ShowsFile (disk_parts f g before' t a b) out e) two
-    (subst (λ t. ShowsFile (disk_parts f g t after a b) out e) one shows))))
+pub shows_same : {f g : Option (List ℕ)} {before before' after after' : Option Story} {m m' : ℕ} {a a' b b' : DiskHealth}
+    {e e' : SpoolEnd} (out : SinkTold) → before ≡ before' → after ≡ after' → m ≡ m' → a ≡ a' → b ≡ b' → e ≡ e'
+    → ShowsFile (disk_parts f g before after m a b) out e
+    → ShowsFile (disk_parts f g before' after' m' a' b') out e'
+shows_same {f} {g} {before} {before'} {after} {after'} {m} {m'} {a} {a'} {b} {b'} {e} {e'} out one two size three four five
+    shows =
+    subst (ShowsFile (disk_parts f g before' after' m' a' b') out) five
+    (subst (λ h. ShowsFile (disk_parts f g before' after' m' a' h) out e) four
+    (subst (λ h. ShowsFile (disk_parts f g before' after' m' h b) out e) three
+    (subst (λ n. ShowsFile (disk_parts f g before' after' n a b) out e) size
+    (subst (λ t. ShowsFile (disk_parts f g before' t m a b) out e) two
+    (subst (λ t. ShowsFile (disk_parts f g t after m a b) out e) one shows)))))
 
 -- a file was attached, and is so still
 pub has_file : (name : List ℕ) (before : Option (List ℕ)) {mid after : Option (List ℕ)} (e : SpoolEnd) → mid ≡ Some name → after ≡ mid

@@ -1,23 +1,20 @@
 -- What making a spool file comes to (this profile).
-use Rattle.std.specs.Prelude.{ℕ, List, [], Option}
+use Rattle.std.specs.Prelude.{◌⊎◌, ℕ, ◌+◌, ◌<◌, List, [], Option}
+use Rattle.disk_base.specs.Faults.{DiskHealth, HasCause}
 use Rattle.disk_base.specs.Story.{Story}
 use Rattle.disk_base.specs.declared.disk.DiskAnswer.{DiskAnswer}
 use Rattle.disk_base.specs.declared.disk.DiskAnswer.TheVariants as answer
 use Rattle.gl_base.specs.Sending.{WroteShort, WroteText}
 use Rattle.gl_base.specs.Told.{SinkTold}
-use Rattle.spool_show.specs.Showing.{HasFile, IsCounted}
+use Rattle.spool_show.specs.Showing.{HasFile}
 use Rattle.spool_show.specs.Text.{formatted_line}
 use Rattle.spool_show.specs.Told.{DiskTold}
 use Rattle.spool_show.specs.declared.spool_end.SpoolEnd.{SpoolEnd}
 use Rattle.spool_show.specs.declared.spool_end.SpoolEnd.TheVariants.{Done, DiskFailed, WriteFailed}
 use Rattle.spool_slots.specs.Format.{StandsEmpty}
+use Rattle.spool_slots.specs.Slot.{slot_place}
 use Rattle.spool_slots.specs.declared.states.Formatting.{Formatting}
 use Rattle.spool_slots.specs.declared.states.Formatting.TheVariants as formatting
-
--- how a file ends that was to be made
-abbrev pub end_of_answer : DiskAnswer → SpoolEnd
-end_of_answer answer.Done = Done
-end_of_answer answer.Failed = DiskFailed
 
 -- the device that a refusal holds
 abbrev pub unformatted_disk : {D : Type 0} → Formatting D → D
@@ -37,12 +34,23 @@ abbrev pub MakesSpool : ℕ → Option Story → SinkTold → SpoolEnd → Type 
 MakesSpool slots after out DiskFailed = WroteText out []
 MakesSpool slots after out end = StandsEmpty after slots answer.Done × WritesFormatted slots out end
 
--- what came of the file that a disk has
-pub record FormatsFile (slots : ℕ) (disk : DiskTold) (out : SinkTold) (end : SpoolEnd) : Type 0 where
-  pub made : MakesSpool slots disk.after out end
-  pub count : IsCounted disk.faults disk.faults_after end
+-- what the calls of a disk came to, by such an end
+abbrev pub answer_by : SpoolEnd → DiskAnswer
+answer_by DiskFailed = answer.Failed
+answer_by _ = answer.Done
+
+-- a disk lacks what making the file takes: the bytes of the file, or room for those that are written
+abbrev pub LacksRoom : ℕ → ℕ → DiskHealth → Type 0
+LacksRoom slots size health = (size < slot_place slots) ⊎ (health.room < slots + 4096)
+
+-- an attaching, a page, a byte a slot and a sync: no other call is made. The disk fails where one of these is to fail,
+-- where there is no room for them, or where it has fewer bytes than the file; with none of these it doesn't
+abbrev pub FailsByCause : ℕ → DiskTold → SpoolEnd → Type 0
+FailsByCause slots disk end = HasCause disk.health disk.health_after (slots + 3) (slots + 4096)
+    (LacksRoom slots disk.size disk.health) (answer_by end)
 
 -- what came of the file of this name
 pub record FormatsSpool (name : List ℕ) (slots : ℕ) (disk : DiskTold) (out : SinkTold) (end : SpoolEnd) : Type 0 where
   pub file : HasFile name disk.file disk.file_after end
-  pub formatted : FormatsFile slots disk out end
+  pub made : MakesSpool slots disk.after out end
+  pub cause : FailsByCause slots disk end

@@ -73,7 +73,7 @@ Keeps before after = (after ≡ before) ⊎ (after ≡ option_map with_sync befo
 pub record ShowsFile (disk : DiskTold) (out : SinkTold) (end : SpoolEnd) : Type 0 where
   pub written : TellsSpool disk.before out end
   pub kept : Keeps disk.before disk.after
-  pub count : IsCounted disk.faults disk.faults_after end
+  pub count : IsCounted disk.health.faults disk.health_after.faults end
 
 -- a disk has the file of this name; where it failed, maybe the one still that it had before
 abbrev pub HasFile : List ℕ → Option (List ℕ) → Option (List ℕ) → SpoolEnd → Type 0

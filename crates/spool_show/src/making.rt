@@ -1,10 +1,10 @@
 //! A new spool file is made, with its line.
 
-ghost use Rattle.std.specs.Prelude.{◌≡◌, ◌≤◌};
+ghost use Rattle.std.specs.Prelude.{◌≡◌, ◌+◌, ◌<◌, ◌≤◌};
+ghost use Rattle.disk_base.specs.Faults.{HasCause};
 ghost use Rattle.gl_base.specs.Told.{sink_told};
-ghost use Rattle.spool_show.specs.Formatting.{FormatsFile, FormatsSpool, WritesFormatted};
-ghost use Rattle.spool_show.specs.Formatting.{end_of_answer, unformatted_disk};
-ghost use Rattle.spool_show.specs.Showing.{IsCounted};
+ghost use Rattle.spool_show.specs.Formatting.{FormatsSpool, MakesSpool, WritesFormatted};
+ghost use Rattle.spool_show.specs.Formatting.{answer_by, unformatted_disk};
 ghost use Rattle.spool_show.specs.Told.{disk_told};
 ghost use Rattle.spool_slots.specs.Format.{StandsEmpty};
 ghost use Rattle.spool_slots.specs.Slot.{slot_place};
@@ -16,7 +16,7 @@ use gl_base::{Sink, SinkAnswer, copy_out};
 use spool_slots::{Formatting, Raw, slot_place};
 
 /// Makes the file of this name the spool file of an empty list in so many slots, with mark 0, and writes how many slots
-/// and bytes that takes. The disk takes the file, and gives it these bytes at least. It takes no memory.
+/// and bytes that takes. The disk takes the file, and is asked for these bytes and no more. It takes no memory.
 pub fn format_spool<D: Disk, W: Sink>(disk: &mut D, file: &str, slots: u32, out: &mut W) -> SpoolEnd
     requires some { 1 ≤ slots }
     requires most { slots ≤ 65535 }
@@ -34,8 +34,9 @@ fn format_attached<D: Disk, W: Sink>(disk: &mut D, slots: u32, out: &mut W) -> S
     requires some { 1 ≤ slots }
     requires most { slots ≤ 65535 }
     requires size { slot_place slots ≤ D.size_is disk.old }
-    ensures formatted { FormatsFile slots (disk_told D.Disk disk.old disk.new) (sink_told W.Sink out.old out.new)
-        result }
+    ensures made { MakesSpool slots (D.told disk.new) (sink_told W.Sink out.old out.new) result }
+    ensures cause { HasCause (D.health disk.old) (D.health disk.new) (slots + 2) (slots + 4096)
+        ((D.health disk.old).room < slots + 4096) (answer_by result) }
     ensures file { D.file_is disk.new ≡ D.file_is disk.old }
 {
     match make_file(disk, slots) {
@@ -50,7 +51,8 @@ fn make_file<D: Disk>(disk: &mut D, slots: u32) -> DiskAnswer
     requires most { slots ≤ 65535 }
     requires size { slot_place slots ≤ D.size_is disk.old }
     ensures stands { StandsEmpty (D.told disk.new) slots result }
-    ensures count { IsCounted (D.health disk.old).faults (D.health disk.new).faults (end_of_answer result) }
+    ensures cause { HasCause (D.health disk.old) (D.health disk.new) (slots + 2) (slots + 4096)
+        ((D.health disk.old).room < slots + 4096) result }
     ensures file { D.file_is disk.new ≡ D.file_is disk.old }
 {
     match Raw::new(disk).format(slots) {

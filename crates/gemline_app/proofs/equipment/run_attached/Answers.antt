@@ -6,5 +6,5 @@ use Rattle.gemline_app.proofs.equipment.run_attached.Goals as goal
 
 pub returns-clause-runs : goal.returns-clause-runs
 returns-clause-runs g c =
-    spool_same _ _ _ _ _ (search rules) (search rules) (search rules) (search rules) (search rules) (search rules) refl
+    spool_same _ _ _ _ _ (search rules) (search rules) (search rules) (search rules) refl
     c.run_over-outcome.ensures.runs

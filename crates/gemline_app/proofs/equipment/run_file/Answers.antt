@@ -1,6 +1,6 @@
 -- The file was attached and is run over, or it couldn't be attached.
 
-use Rattle.std.proofs.Common.{inl, inr, refl, sym, ◌∙◌}
+use Rattle.std.proofs.Common.{inl, inr, refl, ◌∙◌}
 use Rattle.spool_show.proofs.SpoolFiles.{attached}
 use Rattle.gemline_app.proofs.Filing.{spool_same}
 use Rattle.gemline_app.proofs.equipment.run_file.Goals as goal
@@ -9,8 +9,8 @@ pub returns-in-Done : goal.returns-in-Done
 returns-in-Done g c =
     inr (
       c.run_attached.ensures.file ∙ c.in-Done.ensures.file,
-      spool_same _ _ _ _ _ (sym c.run_attached.ensures.file) refl (attached c.in-Done.ensures.told) refl
-          c.in-Done.ensures.cause.same refl refl c.run_attached.ensures.runs,
+      spool_same _ _ _ _ _ (attached c.in-Done.ensures.told) refl c.in-Done.ensures.cause.same refl refl
+          c.run_attached.ensures.runs,
     )
 
 pub returns-in-Failed : goal.returns-in-Failed
