@@ -1,9 +1,11 @@
 -- What single calls of a run leave.
 use Rattle.std.specs.Prelude.{◌≡◌, ◌≢◌, ◌⊎◌, ◌<◌, ℕ, drop, List, [], Option, Some, None}
+use Rattle.gl_base.specs.Connections.{connected_as}
 use Rattle.gl_base.specs.Events.{moment_after}
 use Rattle.gl_base.specs.Link.{IsToldAnswer, LinkFault}
 use Rattle.gl_base.specs.Sending.{WroteShort, WroteText}
 use Rattle.gl_base.specs.Told.{SinkTold}
+use Rattle.gl_base.specs.declared.link.Link as trait
 use Rattle.gl_base.specs.declared.link.LinkIn.{LinkIn}
 use Rattle.gl_base.specs.declared.link.LinkIn.TheVariants as link
 use Rattle.gl_base.specs.declared.side.Side.{Side}
@@ -19,6 +21,13 @@ use Rattle.end_run.specs.Outcome.{Comes, IfOn}
 use Rattle.end_run.specs.Run.{turned}
 use Rattle.end_run.specs.Scenes.{Scene, StopAt}
 use Rattle.end_run.specs.Script.{ScriptLine, Telling, later_lines}
+
+-- ---- the connection
+
+-- a run has made no call of its link, or asked it once for a connection, as this side and with this address
+abbrev pub HasConnected : {L : Type 0} → Side → List ℕ → trait.Ghosts L → L → L → Type 0
+HasConnected side address members before after =
+    (after ≡ before) ⊎ (members.connected after ≡ connected_as side address (members.connected before))
 
 -- ---- lines that are written
 

@@ -55,6 +55,7 @@ pub(crate) fn poll_all<E: LinkedEnd, L: Link, W: Sink>(
         (counted L.Link W.Sink link.new out.new (E.device end.new))
         (Some result) }
     ensures sound { E.sound end.new }
+    ensures connected { L.connected link.new ≡ L.connected link.old }
 {
     let mut place = Place { given: 0, now: 0 };
     let mut left = polls;
@@ -93,6 +94,7 @@ fn turn<E: LinkedEnd, L: Link, W: Sink>(
         result }
     ensures sound { E.sound end.new }
     ensures given { place.new.given ≤ length lines.now }
+    ensures connected { L.connected link.new ≡ L.connected link.old }
 {
     let (_, left) = lines.split_at(place.given);
     let until = wait_until(end.deadline(), left);

@@ -7,7 +7,7 @@ ghost use Rattle.message_end.specs.Core.{Step};
 ghost use Rattle.message_end.specs.Ends.{printed};
 ghost use Rattle.trace_log.specs.Log.{Happening};
 ghost use Rattle.trace_log.specs.Text.{note_line};
-ghost use Rattle.end_run.specs.Calls.{PutsStart};
+ghost use Rattle.end_run.specs.Calls.{HasConnected, PutsStart};
 ghost use Rattle.end_run.specs.Counts.{Counts, counted};
 ghost use Rattle.end_run.specs.Outcome.{ComesOver};
 ghost use Rattle.end_run.specs.Run.{started_run};
@@ -61,6 +61,7 @@ pub fn run_started<E: LinkedEnd, L: Link, W: Sink>(
         (counted L.Link W.Sink link.new out.new (E.device end.new))
         (Some result) }
     ensures sound { E.sound end.new }
+    ensures connected { HasConnected side address.now L.Link link.old link.new }
 {
     notes_are_lines();
     match put_start(alloc, side, notes, out) {

@@ -47,6 +47,7 @@ pub(crate) fn step_plain<E: LinkedEnd, L: Link, W: Sink>(
         (counted L.Link W.Sink link.new out.new (E.device end.new))
         result }
     ensures sound { E.sound end.new }
+    ensures connected { L.connected link.new ≡ L.connected link.old }
 {
     let input = plain_input(byte, &[]);
     step_end(alloc, side, now, input, end, link, out)
@@ -86,6 +87,7 @@ pub(crate) fn step_end<E: LinkedEnd, L: Link, W: Sink>(
         (counted L.Link W.Sink link.new out.new (E.device end.new))
         result }
     ensures sound { E.sound end.new }
+    ensures connected { L.connected link.new ≡ L.connected link.old }
 {
     notes_are_lines();
     let mut step = StepOut {
@@ -135,6 +137,7 @@ fn hand_on<E: LinkedEnd, L: Link, W: Sink>(
         (counted L.Link W.Sink link.old out.old disk)
         (counted L.Link W.Sink link.new out.new disk)
         result }
+    ensures connected { L.connected link.new ≡ L.connected link.old }
 {
     let Ok(lines) = lines_of_step(alloc, now, side, step) else {
         return Some(Ending::NoMemory);
@@ -158,6 +161,7 @@ fn send_all<E: LinkedEnd, L: Link>(link: &mut L, characters: &[u8]) -> Option<En
         (counted_by (L.health link.old).faults out disk)
         (counted_by (L.health link.new).faults out disk)
         result }
+    ensures connected { L.connected link.new ≡ L.connected link.old }
 {
     if characters.is_empty() {
         return None;

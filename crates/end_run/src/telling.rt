@@ -45,6 +45,7 @@ pub(crate) fn answer<E: LinkedEnd, L: Link, W: Sink>(
     ensures sound { E.sound end.new }
     ensures now { place.new.now ≡ now }
     ensures given { place.new.given ≡ place.old.given + due_count now lines.now }
+    ensures connected { L.connected link.new ≡ L.connected link.old }
 {
     let count = due_count(now, lines);
     let (due, _) = lines.split_at(count);
@@ -96,6 +97,7 @@ fn tell_all<E: LinkedEnd, L: Link, W: Sink>(
         (counted L.Link W.Sink link.new out.new (E.device end.new))
         result }
     ensures sound { E.sound end.new }
+    ensures connected { L.connected link.new ≡ L.connected link.old }
 {
     'lines: for line in lines {
         match tell::<E, L, W>(alloc, side, now, &line.1, end, link, out) {
@@ -129,6 +131,7 @@ fn tell<E: LinkedEnd, L: Link, W: Sink>(
         (counted L.Link W.Sink link.new out.new (E.device end.new))
         result }
     ensures sound { E.sound end.new }
+    ensures connected { L.connected link.new ≡ L.connected link.old }
 {
     match E::told(step) {
         None => Some(Ending::Stopped),

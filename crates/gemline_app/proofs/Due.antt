@@ -199,9 +199,9 @@ comes_due (Some SpellHex) source files disk link out outcome due (files_unread, 
     (λ digits was asks. printed_due digits source files disk link out outcome due was asks) comes is_due
 comes_due (Some (Replay plan schedule)) source files disk link out outcome due (unread, unused, uncalled, comes) (bytes, told, is_due) =
     replay_due source files disk link out plan schedule bytes outcome due told comes is_due
-comes_due (Some (Equipment plan address spool polls)) source files disk link out outcome due comes is_due =
+comes_due (Some (Equipment plan address spool polls)) source files disk link out outcome due (comes, connects) is_due =
     equipment_due source files disk link out plan spool polls outcome due comes is_due
-comes_due (Some (Host plan address polls)) source files disk link out outcome due (unused, comes) is_due =
+comes_due (Some (Host plan address polls)) source files disk link out outcome due (unused, comes, connects) is_due =
     host_due source files disk link out plan polls outcome due comes is_due
 comes_due (Some (Format spool slots)) source files disk link out outcome due (unread, files_unread, uncalled, was) is_due =
     formatted_due source files disk link out spool slots outcome due was is_due

@@ -793,9 +793,9 @@ comes_counts (Some (Replay plan schedule)) source files disk link out outcome (u
           (link_stands link uncalled);
       write = counts.write;
     })
-comes_counts (Some (Equipment plan address spool polls)) source files disk link out outcome comes =
+comes_counts (Some (Equipment plan address spool polls)) source files disk link out outcome (comes, connects) =
     equipment_counts source files disk link out plan address spool polls outcome comes
-comes_counts (Some (Host plan address polls)) source files disk link out outcome (unused, comes) =
+comes_counts (Some (Host plan address polls)) source files disk link out outcome (unused, comes, connects) =
     all_told (Some (Host plan address polls)) source files disk link out outcome
     (host_counts source files disk link out plan polls outcome unused comes)
 comes_counts (Some (Format name slots)) source files disk link out outcome (unread, files_unread, uncalled, was) =

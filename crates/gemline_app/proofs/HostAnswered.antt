@@ -53,7 +53,7 @@ module _ (source : SourceTold) (files : FilesTold) (disk : DiskTold) (link : Lin
       → Answered source files disk link out outcome
   by_words plan address polls outcome given (inl memory) =
       inr (hindered source files disk link out outcome memory.refused)
-  by_words plan address polls outcome given (inr (unused, comes)) =
+  by_words plan address polls outcome given (inr (unused, comes, connects)) =
       linked_answered source files disk link out side.Host (IsIdle link out)
       (λ (plans : Plans) (lines : List ScriptLine). WasRun plans.host lines polls link out outcome) outcome
       (λ plans lines was. ran plans.host lines polls outcome was) plan given comes

@@ -1,4 +1,5 @@
 mod Carrying
+mod Connecting
 pub mod Due
 mod EquipmentAnswered
 mod EquipmentDue

@@ -6,6 +6,7 @@ use Rattle.gl_base.specs.Sending.{Sends, WroteShort, WroteText}
 use Rattle.gl_base.specs.Told.{FilesTold, SinkTold, SourceTold}
 use Rattle.gl_base.specs.declared.input.Input.TheVariants as input
 use Rattle.gl_base.specs.declared.copying.SinkAnswer.{SinkAnswer}
+use Rattle.gl_base.specs.declared.side.Side.TheVariants as side
 use Rattle.line_show.specs.Show.{HasStopCause, Shows}
 use Rattle.line_show.specs.declared.capture.Ending.{Ending}
 use Rattle.line_show.specs.declared.printer.Stop.{Stop}
@@ -22,7 +23,7 @@ use Rattle.gemline_app.specs.HexInput.{HexMeans, IsHexBreak}
 use Rattle.gemline_app.specs.Equipment.{EquipmentComes}
 use Rattle.gemline_app.specs.Host.{HostComes}
 use Rattle.gemline_app.specs.Inputs.{InputRefuses, IsUnread, WasRead}
-use Rattle.gemline_app.specs.LinkTold.{IsUncalled, LinkTold}
+use Rattle.gemline_app.specs.LinkTold.{ConnectsOnce, IsUncalled, LinkTold}
 use Rattle.gemline_app.specs.Make.{MakeComes}
 use Rattle.gemline_app.specs.Outcome.{line_of, name_of, outcome_of_show, status_of}
 use Rattle.gemline_app.specs.Spelling.{HexSpells, spelled_line, text_line, text_place}
@@ -122,9 +123,9 @@ ComesFrom (Some SpellHex) source files disk link out outcome =
 ComesFrom (Some (Replay plan schedule)) source files disk link out outcome =
     IsUnread source × IsUnused disk × IsUncalled link × ReplayComes plan schedule files out outcome
 ComesFrom (Some (Equipment plan address spool polls)) source files disk link out outcome =
-    EquipmentComes plan spool polls source files disk link out outcome
+    EquipmentComes plan spool polls source files disk link out outcome × ConnectsOnce side.Equipment address link
 ComesFrom (Some (Host plan address polls)) source files disk link out outcome =
-    IsUnused disk × HostComes plan polls source files link out outcome
+    IsUnused disk × HostComes plan polls source files link out outcome × ConnectsOnce side.Host address link
 ComesFrom (Some (Format spool slots)) source files disk link out outcome =
     IsUnread source × AreUnread files × IsUncalled link × EndedAs (FormatsSpool spool slots disk out) outcome
 ComesFrom (Some (Spool spool)) source files disk link out outcome =

@@ -3,6 +3,7 @@
 ghost use Rattle.std.specs.Prelude.{◌≡◌, ◌<◌, ◌^◌, None, Option, Some};
 ghost use Rattle.disk_base.specs.Disk.{TellsBytes};
 ghost use Rattle.disk_base.specs.SameDisk.{IsSameDisk};
+ghost use Rattle.gl_base.specs.declared.side.Side.TheVariants as side;
 ghost use Rattle.gl_base.specs.Told.{files_told, sink_told, source_told};
 ghost use Rattle.spool_show.specs.Told.{disk_told};
 ghost use Rattle.trace_log.specs.Commands.{ToolCommandFits};
@@ -19,7 +20,7 @@ ghost use Rattle.end_run.specs.Script.{AreTold};
 ghost use Rattle.end_run.specs.Sides.{told_equipment};
 ghost use Rattle.gemline_app.specs.Equipment.{EquipmentComes, EquipmentReads, EquipmentRuns, FileRuns, RunsFrom, SpoolRuns};
 ghost use Rattle.gemline_app.specs.Equipment.{bytes_told, linked_machine};
-ghost use Rattle.gemline_app.specs.LinkTold.{link_told};
+ghost use Rattle.gemline_app.specs.LinkTold.{ConnectsOnce, link_told};
 ghost use Rattle.gemline_app.specs.LinkedEquipment.{HoldsOne, IsGoing, IsKnown, LeavesDevice, device_by, device_of, disk_in};
 ghost use Rattle.gemline_app.specs.LinkedEquipment.{linked_view, outcome_of_start, spent_by, unstarted_disk};
 
@@ -248,13 +249,14 @@ pub(crate) fn equipment<F: Files, R: Source, D: Disk, L: Link, W: Sink>(
     link: &mut L,
     out: &mut W,
 ) -> Outcome
-    ensures { EquipmentComes plan.now spool.now polls
+    ensures came { EquipmentComes plan.now spool.now polls
         (source_told R.Source input.old input.new)
         (files_told F.Files files.old files.new)
         (disk_told D.Disk disk.old disk.new)
         (link_told L.Link link.old link.new)
         (sink_told W.Sink out.old out.new)
         result }
+    ensures connects { ConnectsOnce side.Equipment address.now (link_told L.Link link.old link.new) }
 {
     match plans_in(alloc, plan, files) {
         Ok(plans) => run_input(
@@ -285,12 +287,13 @@ fn run_input<R: Source, D: Disk, L: Link, W: Sink>(
     out: &mut W,
 ) -> Outcome
     requires { EquipmentPlanFits plan.now }
-    ensures { EquipmentReads plan.now spool.now polls
+    ensures came { EquipmentReads plan.now spool.now polls
         (source_told R.Source input.old input.new)
         (disk_told D.Disk disk.old disk.new)
         (link_told L.Link link.old link.new)
         (sink_told W.Sink out.old out.new)
         result }
+    ensures connects { ConnectsOnce side.Equipment address.now (link_told L.Link link.old link.new) }
 {
     match whole_input(alloc, input, SCRIPT_LIMIT) {
         Ok(text) => run_script(
@@ -321,11 +324,12 @@ fn run_script<D: Disk, L: Link, W: Sink>(
     out: &mut W,
 ) -> Outcome
     requires { EquipmentPlanFits plan.now }
-    ensures { EquipmentRuns plan.now spool.now text.now polls
+    ensures came { EquipmentRuns plan.now spool.now text.now polls
         (disk_told D.Disk disk.old disk.new)
         (link_told L.Link link.old link.new)
         (sink_told W.Sink out.old out.new)
         result }
+    ensures connects { ConnectsOnce side.Equipment address.now (link_told L.Link link.old link.new) }
 {
     match read_script(alloc, text, Side::Equipment) {
         Ok(script) => run_file(alloc, plan, &script, address, spool, polls, disk, link, out),
@@ -347,11 +351,12 @@ fn run_file<D: Disk, L: Link, W: Sink>(
 ) -> Outcome
     requires plan { EquipmentPlanFits plan.now }
     requires script { AreTold told_equipment ToolCommandFits script.now.lines }
-    ensures { FileRuns plan.now spool.now script.now.lines polls
+    ensures came { FileRuns plan.now spool.now script.now.lines polls
         (disk_told D.Disk disk.old disk.new)
         (link_told L.Link link.old link.new)
         (sink_told W.Sink out.old out.new)
         result }
+    ensures connects { ConnectsOnce side.Equipment address.now (link_told L.Link link.old link.new) }
 {
     match disk.attach(spool, 0) {
         DiskAnswer::Done => run_attached(alloc, plan, script, address, polls, disk, link, out),
@@ -380,6 +385,7 @@ fn run_attached<D: Disk, L: Link, W: Sink>(
         (sink_told W.Sink out.old out.new)
         result }
     ensures file { D.file_is disk.new ≡ D.file_is disk.old }
+    ensures connects { ConnectsOnce side.Equipment address.now (link_told L.Link link.old link.new) }
 {
     let (outcome, _disk) = run_over(
         alloc,
@@ -414,6 +420,7 @@ fn run_over<D: Disk + Drop, L: Link, W: Sink>(
         (sink_told W.Sink out.old out.new)
         result.0 }
     ensures same_disk { IsSameDisk D.Disk raw.disk result.1 }
+    ensures connects { ConnectsOnce side.Equipment address.now (link_told L.Link link.old link.new) }
 {
     let mut step = StepOut {
         line: ArrayVec::new(),
@@ -462,6 +469,7 @@ fn run_linked<D: Disk + Drop, L: Link, W: Sink>(
         (counted L.Link W.Sink link.old out.old (device_of D.Disk equipment.spool.spool.disk))
         (counted L.Link W.Sink link.new out.new (device_of D.Disk result.1))
         (Some result.0) }
+    ensures connects { ConnectsOnce side.Equipment address.now (link_told L.Link link.old link.new) }
 {
     let mut linked = LinkedEquipment {
         going: Some(equipment),

@@ -10,8 +10,9 @@ ghost use Rattle.end_run.specs.Scenes.{Always, NothingLeft, Stays};
 ghost use Rattle.end_run.specs.Script.{AreTold};
 ghost use Rattle.end_run.specs.Sides.{told_host};
 ghost use Rattle.gemline_app.specs.Host.{HostComes, HostReads, HostRuns, WasRun};
-ghost use Rattle.gemline_app.specs.LinkTold.{link_told};
+ghost use Rattle.gemline_app.specs.LinkTold.{ConnectsOnce, link_told};
 ghost use Rattle.gemline_app.specs.Linked.{outcome_of_ending, script_refusal};
+ghost use Rattle.gl_base.specs.declared.side.Side.TheVariants as side;
 ghost use Rattle.gl_base.specs.Told.{files_told, sink_told, source_told};
 
 use crate::inputs::{plans_in, whole_input};
@@ -121,12 +122,13 @@ pub(crate) fn host<F: Files, R: Source, L: Link, W: Sink>(
     link: &mut L,
     out: &mut W,
 ) -> Outcome
-    ensures { HostComes plan.now polls
+    ensures came { HostComes plan.now polls
         (source_told R.Source input.old input.new)
         (files_told F.Files files.old files.new)
         (link_told L.Link link.old link.new)
         (sink_told W.Sink out.old out.new)
         result }
+    ensures connects { ConnectsOnce side.Host address.now (link_told L.Link link.old link.new) }
 {
     match plans_in(alloc, plan, files) {
         Ok(plans) => run_input(alloc, &plans.host, address, polls, input, link, out),
@@ -145,11 +147,12 @@ fn run_input<R: Source, L: Link, W: Sink>(
     out: &mut W,
 ) -> Outcome
     requires { HostPlanFits plan.now }
-    ensures { HostReads plan.now polls
+    ensures came { HostReads plan.now polls
         (source_told R.Source input.old input.new)
         (link_told L.Link link.old link.new)
         (sink_told W.Sink out.old out.new)
         result }
+    ensures connects { ConnectsOnce side.Host address.now (link_told L.Link link.old link.new) }
 {
     match whole_input(alloc, input, SCRIPT_LIMIT) {
         Ok(text) => run_script(alloc, plan, text.as_slice(), address, polls, link, out),
@@ -168,10 +171,11 @@ fn run_script<L: Link, W: Sink>(
     out: &mut W,
 ) -> Outcome
     requires { HostPlanFits plan.now }
-    ensures { HostRuns plan.now text.now polls
+    ensures came { HostRuns plan.now text.now polls
         (link_told L.Link link.old link.new)
         (sink_told W.Sink out.old out.new)
         result }
+    ensures connects { ConnectsOnce side.Host address.now (link_told L.Link link.old link.new) }
 {
     match read_script(alloc, text, Side::Host) {
         Ok(script) => run_host(alloc, plan, &script, address, polls, link, out),
@@ -191,10 +195,11 @@ fn run_host<L: Link, W: Sink>(
 ) -> Outcome
     requires plan { HostPlanFits plan.now }
     requires script { AreTold told_host HostCommandFits script.now.lines }
-    ensures { WasRun plan.now script.now.lines polls
+    ensures came { WasRun plan.now script.now.lines polls
         (link_told L.Link link.old link.new)
         (sink_told W.Sink out.old out.new)
         result }
+    ensures connects { ConnectsOnce side.Host address.now (link_told L.Link link.old link.new) }
 {
     let mut step = StepOut {
         line: ArrayVec::new(),

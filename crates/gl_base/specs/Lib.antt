@@ -1,4 +1,5 @@
 pub mod Calls
+pub mod Connections
 pub mod Events
 pub mod Faults
 pub mod Files

@@ -5,6 +5,7 @@ use Rattle.std.specs.Prelude.{List, [], ◌∷◌, ◌++◌, length, drop}
 use Rattle.std.specs.List.{slice_get}
 use Rattle.gl_base.specs.Calls.{fails_next, is_safe, no_calls, with_call, with_fault}
 use Rattle.gl_base.specs.declared.calls.Calls.{Calls}
+use Rattle.gl_base.specs.Connections.{Connected, connected_as, not_connected}
 use Rattle.gl_base.specs.Events.{moment_after}
 use Rattle.gl_base.specs.Link.{LinkContents, LinkHealth, entries_of}
 use Rattle.gl_base.specs.declared.link.LinkIn.{LinkIn}
@@ -13,17 +14,27 @@ use Rattle.gl_base.specs.declared.link.LinkAnswer.{LinkAnswer}
 use Rattle.gl_base.specs.declared.link.LinkAnswer.TheVariants as link
 use Rattle.gl_base.specs.declared.link.LinkEntry.{LinkEntry}
 use Rattle.gl_base.specs.declared.link.LinkEntry.TheVariants.{Polled}
+use Rattle.gl_base.specs.declared.side.Side.{Side}
 
--- the events still to come, the list so far with its room, the moment of the last answer, and the calls so far
+-- the events still to come, the list so far with its room, the moment of the last answer, the calls so far, and the
+-- connections among them
 pub record LinkState : Type 0 where
   pub left : List LinkIn
   pub entries : List LinkEntry
   pub room : ℕ
   pub moment : ℕ
   pub calls : Calls
+  pub connected : Connected
 
 abbrev pub link_start : List LinkIn → ℕ → List ℕ → LinkState
-link_start events room fails = record { left = events; entries = []; room = room; moment = 0; calls = no_calls fails }
+link_start events room fails = record {
+  left = events;
+  entries = [];
+  room = room;
+  moment = 0;
+  calls = no_calls fails;
+  connected = not_connected;
+}
 
 abbrev pub link_contents : LinkState → LinkContents
 link_contents s = record { entries = s.entries; left = s.left }
@@ -47,10 +58,11 @@ abbrev pub answer_to_connect : LinkState → LinkAnswer
 answer_to_connect s = if fails_next s.calls then link.Failed else link.Done
 
 -- and the link after it, whose clock begins anew
-abbrev pub after_connect : LinkState → LinkState
-after_connect s =
-    if fails_next s.calls then record (after_failure s) { moment = 0 }
-    else record s { moment = 0; calls = with_call s.calls }
+abbrev pub after_connect : Side → List ℕ → LinkState → LinkState
+after_connect side address s =
+    if fails_next s.calls then
+    record (after_failure s) { moment = 0; connected = connected_as side address s.connected }
+    else record s { moment = 0; calls = with_call s.calls; connected = connected_as side address s.connected }
 
 -- what a poll answers, whatever moment it asks for
 abbrev pub answer_to_poll : LinkState → LinkIn

@@ -3,9 +3,11 @@
 #![tactic(auto)]
 
 mod calls;
+mod connections;
 mod copying;
 mod files;
 mod input;
+mod last_address;
 mod link;
 mod mem_files;
 mod mem_link;
@@ -19,9 +21,11 @@ mod sink;
 mod source;
 
 pub use calls::Calls;
+pub use connections::Connections;
 pub use copying::{SinkAnswer, copy_out};
 pub use files::{FileAnswer, Files, MemFile};
 pub use input::{Input, read_all};
+pub use last_address::LastAddress;
 pub use link::{Link, LinkAnswer, LinkEntry, LinkIn};
 pub use mem_files::MemFiles;
 pub use mem_link::MemLink;

@@ -1,6 +1,7 @@
 //! A connection to a peer, as the layers above know it.
 
 ghost use Rattle.std.specs.Prelude.{◌≡◌, ℕ, ◌<◌, ◌^◌, Option, length};
+ghost use Rattle.gl_base.specs.Connections.{Connected, connected_as};
 ghost use Rattle.gl_base.specs.Events.{moment_after};
 ghost use Rattle.gl_base.specs.Link.{HasLinkCause, HasPollCause, IsTimely, IsToldAnswer, LinkContents, LinkHealth};
 ghost use Rattle.gl_base.specs.Link.{Transmits, told_after_poll};
@@ -49,11 +50,15 @@ pub trait Link {
     /// other call and at 2^64 - 1.
     ghost health: { Self → LinkHealth };
 
-    /// Listens as the equipment, or calls as the host, until the peer is there. The clock begins anew, also where
-    /// this fails; the list and the answers to come stay. It needs no room.
+    /// For how many connections it was asked, and the last one's address, where it was to listen, or to call.
+    ghost connected: { Self → Connected };
+
+    /// Listens as the equipment, or calls as the host, until the peer is there. It was asked for one connection more,
+    /// and the clock begins anew, also where this fails; the list and the answers to come stay. It needs no room.
     fn connect(&mut self, side: Side, address: &str) -> LinkAnswer
         ensures same { told self.new ≡ told self.old }
         ensures moment { moment self.new ≡ 0 }
+        ensures connected { connected self.new ≡ connected_as side address.now (connected self.old) }
         ensures cause { HasLinkCause (health self.old) (health self.new) 0 result };
 
     /// Waits for a character, up to the moment `until` or a shorter time. A poll that fails takes no answer and adds
@@ -64,6 +69,7 @@ pub trait Link {
         ensures told { told self.new ≡ told_after_poll until result (told self.old) }
         ensures time { IsTimely until (moment self.old) result }
         ensures moment { moment self.new ≡ moment_after (moment self.old) result }
+        ensures connected { connected self.new ≡ connected self.old }
         ensures cause { HasPollCause (health self.old) (health self.new) result };
 
     /// Sends all characters, or where it fails a part from the front that isn't all of them. Each adds one entry.
@@ -72,5 +78,6 @@ pub trait Link {
         requires { 0 < length bytes.now }
         ensures told { Transmits (told self.old) bytes.now (told self.new) result }
         ensures moment { moment self.new ≡ moment self.old }
+        ensures connected { connected self.new ≡ connected self.old }
         ensures cause { HasLinkCause (health self.old) (health self.new) (length bytes.now) result };
 }

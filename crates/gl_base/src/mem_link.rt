@@ -2,6 +2,7 @@
 
 ghost use Rattle.std.specs.Prelude.{◌≡◌, ◌≤◌, ◌<◌, ◌+◌, ◌^◌, [], ◌++◌, drop, length, IfOk, Some};
 ghost use Rattle.std.specs.Prelude.{vec_capacity, vec_len};
+ghost use Rattle.gl_base.specs.Connections.{connected_as};
 ghost use Rattle.gl_base.specs.Events.{AreLinkEvents, moment_after};
 ghost use Rattle.gl_base.specs.Link.{HasLinkCause, HasPollCause, IsTimely, IsToldAnswer, Transmits};
 ghost use Rattle.gl_base.specs.Link.{entries_of, told_after_poll};
@@ -10,6 +11,7 @@ ghost use Rattle.gl_base.specs.MemLink.{answer_to_connect, answer_to_poll, answe
 ghost use Rattle.gl_base.specs.MemLink.{link_contents, link_health, link_start, next_event};
 
 use crate::calls::Calls;
+use crate::connections::Connections;
 use crate::link::{Link, LinkAnswer, LinkEntry, LinkIn};
 use crate::no_memory::NoMemory;
 use crate::row::Row;
@@ -28,6 +30,7 @@ pub struct MemLink {
     room: usize,
     moment: u64,
     calls: Calls,
+    connections: Connections,
 }
 
 impl Model for MemLink {
@@ -43,6 +46,7 @@ impl Model for MemLink {
       room = s.room;
       moment = s.moment;
       calls = s.calls;
+      connected = s.connections;
     } };
 
     ghost invariant = { λ s.
@@ -79,6 +83,7 @@ impl MemLink {
             room,
             moment: 0,
             calls: Calls::new(fails),
+            connections: Connections::none(),
         })
     }
 
@@ -97,15 +102,19 @@ impl Link for MemLink {
 
     ghost health = { link_health };
 
+    ghost connected = { λ s. s.connected };
+
     #[tactic(auto, using(crate::proofs::Events::after_connection))]
-    fn connect(&mut self, _side: Side, _address: &str) -> LinkAnswer
+    fn connect(&mut self, side: Side, address: &str) -> LinkAnswer
         ensures same { Some (link_contents self.new) ≡ Some (link_contents self.old) }
         ensures moment { self.new.moment ≡ 0 }
+        ensures connected { self.new.connected ≡ connected_as side address.now self.old.connected }
         ensures cause { HasLinkCause (link_health self.old) (link_health self.new) 0 result }
         ensures answer { result ≡ answer_to_connect self.old }
-        ensures state { self.new ≡ after_connect self.old }
+        ensures state { self.new ≡ after_connect side address.now self.old }
     {
         self.moment = 0;
+        self.connections.add(side, address);
         if self.calls.begin() {
             self.calls.fail();
             return LinkAnswer::Failed;
@@ -119,6 +128,7 @@ impl Link for MemLink {
         ensures told { Some (link_contents self.new) ≡ told_after_poll until result (Some (link_contents self.old)) }
         ensures time { IsTimely until self.old.moment result }
         ensures moment { self.new.moment ≡ moment_after self.old.moment result }
+        ensures connected { self.new.connected ≡ self.old.connected }
         ensures cause { HasPollCause (link_health self.old) (link_health self.new) result }
         ensures answer { result ≡ answer_to_poll self.old }
         ensures state { self.new ≡ after_poll until self.old }
@@ -139,6 +149,7 @@ impl Link for MemLink {
         requires { 0 < length bytes.now }
         ensures told { Transmits (Some (link_contents self.old)) bytes.now (Some (link_contents self.new)) result }
         ensures moment { self.new.moment ≡ self.old.moment }
+        ensures connected { self.new.connected ≡ self.old.connected }
         ensures cause { HasLinkCause (link_health self.old) (link_health self.new) (length bytes.now) result }
         ensures answer { result ≡ answer_to_send bytes.now self.old }
         ensures state { self.new ≡ after_send bytes.now self.old }

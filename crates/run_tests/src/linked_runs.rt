@@ -2,7 +2,7 @@
 
 use crate::host_runs::{Hosting, NO_SCRIPT, is_hosting_over};
 use crate::played_program::{End, is_due};
-use gl_base::{Link, LinkAnswer, LinkEntry, LinkIn, Side};
+use gl_base::{Connections, Link, LinkAnswer, LinkEntry, LinkIn, Side};
 use std::alloc::Global;
 
 // The last moment of all, up to which an end waits that has nothing to do.
@@ -44,6 +44,7 @@ struct TestLink {
     at: usize,
     moment: u64,
     connects: u32,
+    connections: Connections,
     fails: u32,
     list: Expected,
 }
@@ -57,7 +58,10 @@ impl Link for TestLink {
 
     ghost health = { λ _. record { faults = 18446744073709551615; reliable = false; room = 0 } };
 
+    ghost connected = { λ s. s.connections };
+
     fn connect(&mut self, side: Side, address: &str) -> LinkAnswer {
+        self.connections.add(side, address);
         self.moment = 0;
         self.connects = self.connects.saturating_add(1);
         if is_due(&mut self.fails) || side == Side::Equipment || address != "peer" {
@@ -128,6 +132,7 @@ fn goes(alloc: Global, case: &Case) -> bool {
         at: 0,
         moment: 0,
         connects: 0,
+        connections: Connections::none(),
         fails: case.hosting.3[3],
         list: Expected {
             all: case.list,
@@ -399,6 +404,7 @@ struct AllCharacters {
     next: u16,
     sent: bool,
     right: bool,
+    connections: Connections,
 }
 
 impl Link for AllCharacters {
@@ -410,7 +416,10 @@ impl Link for AllCharacters {
 
     ghost health = { λ _. record { faults = 18446744073709551615; reliable = false; room = 0 } };
 
-    fn connect(&mut self, _side: Side, _address: &str) -> LinkAnswer {
+    ghost connected = { λ s. s.connections };
+
+    fn connect(&mut self, side: Side, address: &str) -> LinkAnswer {
+        self.connections.add(side, address);
         LinkAnswer::Done
     }
 
@@ -437,6 +446,7 @@ fn waits_out(alloc: Global, words: &'static [&'static str], end: End) -> bool {
         next: 0,
         sent: false,
         right: true,
+        connections: Connections::none(),
     };
     let case: Hosting = (
         words,

@@ -6,8 +6,8 @@ ghost use Rattle.gl_base.specs.Files.{FileIsWithin};
 use disk_base::{Disk, DiskAnswer, MemDisk, settle};
 use gemline_app::gemline;
 use gl_base::{
-    FileAnswer, Files, Link, LinkAnswer, LinkIn, NoMemory, ReadAnswer, Row, Side, Sink, Source,
-    WriteAnswer,
+    Connections, FileAnswer, Files, Link, LinkAnswer, LinkIn, NoMemory, ReadAnswer, Row, Side,
+    Sink, Source, WriteAnswer,
 };
 use std::alloc::Global;
 
@@ -167,7 +167,15 @@ impl Disk for NoDisk {
 
 /// A link of which each call fails.
 #[derive(Drop)]
-pub(crate) struct NoLink;
+pub(crate) struct NoLink {
+    connections: Connections,
+}
+
+pub(crate) fn no_link() -> NoLink {
+    NoLink {
+        connections: Connections::none(),
+    }
+}
 
 impl Link for NoLink {
     ghost told = { λ _. None };
@@ -176,7 +184,10 @@ impl Link for NoLink {
 
     ghost health = { λ _. record { faults = 18446744073709551615; reliable = false; room = 0 } };
 
+    ghost connected = { λ s. s.connections };
+
     fn connect(&mut self, side: Side, address: &str) -> LinkAnswer {
+        self.connections.add(side, address);
         LinkAnswer::Failed
     }
 
@@ -256,7 +267,7 @@ pub(crate) fn ends_so(
         input,
         out,
         &mut NoDisk,
-        &mut NoLink,
+        &mut no_link(),
         end,
     )
 }
@@ -366,7 +377,7 @@ pub(crate) fn disk_ends_so(
         &mut input,
         &mut output(alloc, 2000, write),
         disk,
-        &mut NoLink,
+        &mut no_link(),
         end,
     )
 }

@@ -3,7 +3,7 @@
 ghost use Rattle.run_tests.specs.FirstExchange.{ShowsTheFirst};
 
 use crate::played_program::{
-    Bytes, End, NoDisk, NoLink, TestFiles, TestInput, TestOutput, ends_so, output, pieces_of,
+    Bytes, End, NoDisk, TestFiles, TestInput, TestOutput, ends_so, no_link, output, pieces_of,
     words_of,
 };
 use gemline_app::gemline;
@@ -237,7 +237,7 @@ fn status_of_show(
         out,
         &mut output(alloc, 0, 0),
         &mut NoDisk,
-        &mut NoLink,
+        &mut no_link(),
     )
 }
 

@@ -1,6 +1,7 @@
 //! The calls of a link by those of the system, over any system that has connections; its test has a real one.
 
 ghost use Rattle.std.specs.Prelude.{◌≡◌, ◌<◌, ◌^◌, IsSome, None, OnOk, length};
+ghost use Rattle.gl_base.specs.Connections.{connected_as, not_connected};
 ghost use Rattle.gl_base.specs.Events.{moment_after};
 ghost use Rattle.gl_base.specs.Faults.{Rose};
 ghost use Rattle.gl_base.specs.Link.{HasLinkCause, HasPollCause, IsTimely, IsToldAnswer, Transmits, told_after_poll};
@@ -9,7 +10,7 @@ ghost use Rattle.tcp_link.specs.Arrived.{IsDue};
 ghost use Rattle.tcp_link.specs.TcpLink.{Counts, CountsPoll, Polls, Sends, answer_of, tcp_health};
 
 use crate::connection::Connection;
-use gl_base::{Link, LinkAnswer, LinkIn, Side};
+use gl_base::{Connections, Link, LinkAnswer, LinkIn, Side};
 use std::io;
 use std::io::{ErrorKind, Read, Write};
 use std::net::{Net, OpenListener, OpenStream, TcpListener, TcpStream};
@@ -27,12 +28,14 @@ pub struct TcpLink<R: Net> {
     connection: Option<Connection<R::Stream>>,
     moment: u64,
     faults: u64,
+    connections: Connections,
 }
 
 impl<R: Net + Clock> TcpLink<R> {
     /// No connection yet.
     pub fn new(system: R) -> TcpLink<R>
-        ensures { result.faults ≡ 0 }
+        ensures faults { result.faults ≡ 0 }
+        ensures connections { result.connections ≡ not_connected }
     {
         TcpLink {
             system,
@@ -40,12 +43,14 @@ impl<R: Net + Clock> TcpLink<R> {
             connection: None,
             moment: 0,
             faults: 0,
+            connections: Connections::none(),
         }
     }
 
     /// Listens at an address, such as `127.0.0.1:5000`. `connect` does it for the equipment, and then accepts.
     pub fn listen(&mut self, address: &str) -> LinkAnswer
         ensures count { Counts self.old.faults self.new.faults result }
+        ensures connections { self.new.connections ≡ self.old.connections }
         ensures moment { self.new.moment ≡ self.old.moment }
         ensures ready { result ≡ LinkAnswer.Done → IsSome self.new.listener }
     {
@@ -61,6 +66,7 @@ impl<R: Net + Clock> TcpLink<R> {
     /// Waits for a peer that calls where it listens, and then listens no more. The clock begins anew.
     pub fn accept(&mut self) -> LinkAnswer
         ensures count { Counts self.old.faults self.new.faults result }
+        ensures connections { self.new.connections ≡ self.old.connections }
         ensures moment { self.new.moment ≡ 0 }
         ensures ready { result ≡ LinkAnswer.Done → IsSome self.new.connection }
     {
@@ -74,6 +80,7 @@ impl<R: Net + Clock> TcpLink<R> {
     // Goes on with this stream, in place of what there was.
     fn begin(&mut self, stream: io::Result<R::Stream>) -> LinkAnswer
         ensures count { Counts self.old.faults self.new.faults result }
+        ensures connections { self.new.connections ≡ self.old.connections }
         ensures moment { self.new.moment ≡ 0 }
         ensures ready { result ≡ LinkAnswer.Done → IsSome self.new.connection }
     {
@@ -96,6 +103,7 @@ impl<R: Net + Clock> TcpLink<R> {
     fn counts<T>(&mut self, answer: &io::Result<T>) -> LinkAnswer
         ensures answer { result ≡ answer_of answer.now }
         ensures count { Counts self.old.faults self.new.faults result }
+        ensures connections { self.new.connections ≡ self.old.connections }
         ensures moment { self.new.moment ≡ self.old.moment }
         ensures connection { self.new.connection ≡ self.old.connection }
     {
@@ -109,6 +117,7 @@ impl<R: Net + Clock> TcpLink<R> {
     fn fail(&mut self) -> LinkAnswer
         ensures failed { result ≡ LinkAnswer.Failed }
         ensures rose { Rose self.old.faults self.new.faults }
+        ensures connections { self.new.connections ≡ self.old.connections }
         ensures moment { self.new.moment ≡ self.old.moment }
         ensures connection { self.new.connection ≡ self.old.connection }
     {
@@ -124,7 +133,10 @@ impl<R: Net + Clock> Link for TcpLink<R> {
 
     ghost health = { λ s. tcp_health s.faults };
 
+    ghost connected = { λ s. s.connections };
+
     fn connect(&mut self, side: Side, address: &str) -> LinkAnswer {
+        self.connections.add(side, address);
         match side {
             Side::Equipment => match self.listen(address) {
                 LinkAnswer::Done => self.accept(),
@@ -147,6 +159,7 @@ impl<R: Net + Clock> Link for TcpLink<R> {
         ensures told { None ≡ told_after_poll until result None }
         ensures time { IsTimely until self.old.moment result }
         ensures moment { self.new.moment ≡ moment_after self.old.moment result }
+        ensures connected { self.new.connections ≡ self.old.connections }
         ensures cause { HasPollCause (tcp_health self.old.faults) (tcp_health self.new.faults) result }
         ensures due { IsDue until result }
         ensures order { Polls R.Stream.remaining self.old.connection self.new.connection result }
@@ -161,6 +174,7 @@ impl<R: Net + Clock> Link for TcpLink<R> {
         requires { 0 < length bytes.now }
         ensures told { Transmits None bytes.now None result }
         ensures moment { self.new.moment ≡ self.old.moment }
+        ensures connected { self.new.connections ≡ self.old.connections }
         ensures cause { HasLinkCause
             (tcp_health self.old.faults)
             (tcp_health self.new.faults)

@@ -1,7 +1,7 @@
 -- Turn by turn: one ends the run, or the polls are over. Past each turn the rest leads to the whole, and no fault was
 -- counted.
 
-use Rattle.std.proofs.Common.{◌≡◌, suc, ◌-◌, List, None, Some, refl, arith}
+use Rattle.std.proofs.Common.{◌≡◌, ◌∙◌, suc, ◌-◌, List, None, Some, refl, arith}
 use Rattle.gl_base.specs.declared.link.LinkIn.{LinkIn}
 use Rattle.end_run.specs.Calls.{left_of}
 use Rattle.end_run.specs.Run.{polled}
@@ -18,6 +18,7 @@ polls-init g c =
       (refl, refl, refl),
       c.requires.sound,
       omega arith,
+      refl,
     )
 
 pub returns-in-Some-clause-runs : goal.returns-in-Some-clause-runs
@@ -54,6 +55,7 @@ polls-preserved g c = (
       c.polls.invariant.1 c.in-None.ensures.counts,
   c.in-None.ensures.sound,
   c.in-None.ensures.given,
+  c.in-None.ensures.connected ∙ c.polls.invariant.4,
 )
 
 pub returns-clause-runs : goal.returns-clause-runs
@@ -77,3 +79,9 @@ returns-in-Some-clause-counts g c =
 
 pub returns-clause-counts : goal.returns-clause-counts
 returns-clause-counts g c = c.polls.invariant.1
+
+pub returns-in-Some-clause-connected : goal.returns-in-Some-clause-connected
+returns-in-Some-clause-connected g c = c.in-Some.ensures.connected ∙ c.polls.invariant.4
+
+pub returns-clause-connected : goal.returns-clause-connected
+returns-clause-connected g c = c.polls.invariant.4

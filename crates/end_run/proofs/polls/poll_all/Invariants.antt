@@ -1,6 +1,6 @@
 -- Some polls were made, and those that are left lead to the whole.
 
-use Rattle.std.proofs.Common.{◌≤◌, None, length}
+use Rattle.std.proofs.Common.{◌≡◌, ◌≤◌, None, length}
 use Rattle.end_run.specs.Calls.{left_of}
 use Rattle.end_run.specs.Counts.{CountsNone, counted}
 use Rattle.end_run.specs.Run.{polled}
@@ -19,6 +19,7 @@ invariant-polls g l =
     × CountsNone (counted g.L.Link g.W.Sink l.fn.link l.fn.out (e.device l.fn.end))
     (counted g.L.Link g.W.Sink l.link l.out (e.device l.end))
     × e.sound l.end × (l.place.given ≤ length l.lines)
+    × (g.L.Link.connected l.link ≡ g.L.Link.connected l.fn.link)
 
 abbrev pub decreases-polls : goal.decreases-polls
 decreases-polls g l = l.left

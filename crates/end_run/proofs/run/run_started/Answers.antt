@@ -1,6 +1,6 @@
 -- A run by where it ends: at the start's lines, at the connection, in the first step, or in the polls.
 
-use Rattle.std.proofs.Common.{List, None, Some, refl, subst, sym}
+use Rattle.std.proofs.Common.{◌∙◌, List, None, Some, inl, inr, refl, subst, sym}
 use Rattle.end_run.specs.Outcome.{ComesOver}
 use Rattle.end_run.specs.Run.{polled}
 use Rattle.end_run.specs.Scenes.{scene}
@@ -116,3 +116,17 @@ returns-clause-counts g c =
     (counted g.L.Link g.W.Sink c.step_plain.new.link c.step_plain.new.out
     (g.E.LinkedEnd.device c.step_plain.new.end)) end
     (Some c.poll_all.result) c.in-None-step_plain.ensures.counts c.poll_all.ensures.counts))
+
+pub returns-in-Some-clause-connected : goal.returns-in-Some-clause-connected
+returns-in-Some-clause-connected g c = inl refl
+
+pub returns-in_default-clause-connected : goal.returns-in_default-clause-connected
+returns-in_default-clause-connected g c = inr c.in_default.ensures.connected
+
+pub returns-in-Some-step_plain-clause-connected : goal.returns-in-Some-step_plain-clause-connected
+returns-in-Some-step_plain-clause-connected g c =
+    inr (c.in-Some-step_plain.ensures.connected ∙ c.in-Done.ensures.connected)
+
+pub returns-clause-connected : goal.returns-clause-connected
+returns-clause-connected g c =
+    inr (c.poll_all.ensures.connected ∙ c.in-None-step_plain.ensures.connected ∙ c.in-Done.ensures.connected)

@@ -1,6 +1,6 @@
 -- Line by line: one ends the run, or all are told.
 
-use Rattle.std.proofs.Common.{◌≤◌, ◌+◌, List, None, Some, refl, length, drop, ap, arith}
+use Rattle.std.proofs.Common.{◌≤◌, ◌+◌, ◌∙◌, List, None, Some, refl, length, drop, ap, arith}
 use Rattle.std.proofs.lemmas.List.{drop_all}
 use Rattle.end_run.specs.Script.{ScriptLine}
 use Rattle.end_run.specs.Steps.{all_told, tells}
@@ -11,7 +11,7 @@ use Rattle.end_run.proofs.Counting.{counts_behind}
 use Rattle.end_run.proofs.telling.tell_all.Goals as goal
 
 pub lines-init : goal.lines-init
-lines-init g c = (c.requires.sound, (refl, refl, refl), λ known. (leads_first _ _, known))
+lines-init g c = (c.requires.sound, (refl, refl, refl), λ known. (leads_first _ _, known), refl)
 
 pub returns-in-Some-clause-runs : goal.returns-in-Some-clause-runs
 returns-in-Some-clause-runs g c =
@@ -55,6 +55,7 @@ lines-preserved g c = (
             (e.means c.tell.new.end) next told.0 told.2,
         told.1,
       ),
+  c.in-None.ensures.connected ∙ c.lines.invariant.3,
 )
 
 pub returns-clause-runs : goal.returns-clause-runs
@@ -78,3 +79,9 @@ returns-in-Some-clause-counts g c =
 
 pub returns-clause-counts : goal.returns-clause-counts
 returns-clause-counts g c = c.lines.invariant.1
+
+pub returns-in-Some-clause-connected : goal.returns-in-Some-clause-connected
+returns-in-Some-clause-connected g c = c.in-Some.ensures.connected ∙ c.lines.invariant.3
+
+pub returns-clause-connected : goal.returns-clause-connected
+returns-clause-connected g c = c.lines.invariant.3

@@ -1,6 +1,6 @@
 -- The lines so far were given, and those that are left lead to the whole.
 
-use Rattle.std.proofs.Common.{None, drop}
+use Rattle.std.proofs.Common.{◌≡◌, None, drop}
 use Rattle.end_run.specs.Counts.{CountsNone, counted}
 use Rattle.end_run.specs.Scenes.{scene}
 use Rattle.end_run.specs.Steps.{all_told}
@@ -18,3 +18,4 @@ invariant-lines g l =
     (scene g.L.Link g.W.Sink l.link l.out (e.means l.end) (e.room l.end) None)
     (all_told e.machine l.side e.told l.now l.lines (e.means l.fn.end))
     (all_told e.machine l.side e.told l.now (drop l.line-index l.lines) (e.means l.end)) × e.known l.end)
+    × (g.L.Link.connected l.link ≡ g.L.Link.connected l.fn.link)

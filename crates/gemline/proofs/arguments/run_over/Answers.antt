@@ -47,7 +47,7 @@ returns-in-Err g c =
       input = record { left = refl; health = refl };
       unread = record { told = refl; health = refl };
       unused = record { told = refl; faults = refl; file = refl };
-      uncalled = record { told = refl; moment = refl; health = refl };
+      uncalled = record { told = refl; moment = refl; health = refl; connected = refl };
       written = record { received = refl; health = refl };
       line = c.refuse.ensures.line;
     })

@@ -6,6 +6,8 @@ use Rattle.gemline_app.specs.LinkTold.{link_told}
 use Rattle.gemline_app.specs.LinkedEquipment.{device_by, device_of}
 use Rattle.gl_base.specs.Told.{sink_told}
 use Rattle.gemline_app.proofs.Equipping.{runs_from}
+use Rattle.gl_base.specs.declared.side.Side.TheVariants as side
+use Rattle.gemline_app.proofs.Connecting.{once}
 use Rattle.gemline_app.proofs.equipment.run_linked.Goals as goal
 
 pub returns-clause-runs : goal.returns-clause-runs
@@ -25,3 +27,8 @@ returns-clause-counts g c =
     (counted g.L.Link g.W.Sink c.run_started-ended.new.link c.run_started-ended.new.out (device_by g.D.Disk o))
     (Some c.run_started-ended.result))
     c.into_disk.ensures c.run_started-ended.ensures.counts
+
+pub returns-clause-connects : goal.returns-clause-connects
+returns-clause-connects g c =
+    once g.L.Link side.Equipment c.args.address.now c.args.link.now c.run_started-ended.new.link
+    c.run_started-ended.ensures.connected

@@ -2,6 +2,8 @@
 
 use Rattle.std.proofs.Common.{inl, inr, refl, sym, ◌∙◌}
 use Rattle.gemline_app.proofs.Equipping.{refused_as, refused_same, run_counts, run_same, start_refuses}
+use Rattle.gl_base.specs.declared.side.Side.TheVariants as side
+use Rattle.gemline_app.proofs.Connecting.{uncalled}
 use Rattle.gemline_app.proofs.equipment.run_over.Goals as goal
 
 pub returns-in-Ok-clause-runs : goal.returns-in-Ok-clause-runs
@@ -37,7 +39,7 @@ returns-clause-runs g c =
           (start_refuses g.D.Disk c.args.plan.now c.args.raw.disk c.start.new.out c.in-Err.why
           (λ s told. c.in-Err.ensures.begins s told) (λ s told. c.in-Err.ensures.finds s told) c.in-Err.ensures.disk),
       record {
-        uncalled = record { told = refl; moment = refl; health = refl };
+        uncalled = record { told = refl; moment = refl; health = refl; connected = refl };
         written = record { received = refl; health = refl };
       },
     )
@@ -46,3 +48,6 @@ pub returns-clause-same_disk : goal.returns-clause-same_disk
 returns-clause-same_disk g c =
     refused_same g.D.Disk c.args.raw.disk c.in-Err.why c.not_started.result.1 c.not_started.ensures.disk
     c.in-Err.ensures.disk
+
+pub returns-clause-connects : goal.returns-clause-connects
+returns-clause-connects g c = uncalled g.L.Link side.Equipment c.args.address.now c.args.link.now

@@ -3,6 +3,8 @@
 use Rattle.std.proofs.Common.{refl}
 use Rattle.end_run.proofs.Sides.{are_told}
 use Rattle.gemline_app.proofs.Hosting.{refuses_script, runs_script}
+use Rattle.gl_base.specs.declared.side.Side.TheVariants as side
+use Rattle.gemline_app.proofs.Connecting.{uncalled}
 use Rattle.gemline_app.proofs.host.run_script.Goals as goal
 
 pub run_host-requires-clause-script : goal.run_host-requires-clause-script
@@ -10,8 +12,8 @@ run_host-requires-clause-script g c =
     let reads = c.in-Ok.ensures in
     are_told _ _ _ reads.found.tell reads.fits.lines
 
-pub returns-in-Ok : goal.returns-in-Ok
-returns-in-Ok g c =
+pub returns-in-Ok-clause-came : goal.returns-in-Ok-clause-came
+returns-in-Ok-clause-came g c =
     let reads = c.in-Ok.ensures in
     runs_script _ _ _ _ _ c.in-Ok.script
     (record {
@@ -20,8 +22,8 @@ returns-in-Ok g c =
       outside = reads.outside;
     }) reads.found c.run_host.ensures
 
-pub returns-in-Err : goal.returns-in-Err
-returns-in-Err g c =
+pub returns-in-Err-clause-came : goal.returns-in-Err-clause-came
+returns-in-Err-clause-came g c =
     let reads = c.in-Err.ensures in
     refuses_script _ _ _ _ _ c.in-Err.fault
     (record {
@@ -30,6 +32,9 @@ returns-in-Err g c =
       outside = reads.outside;
     })
     (record {
-      uncalled = record { told = refl; moment = refl; health = refl };
+      uncalled = record { told = refl; moment = refl; health = refl; connected = refl };
       written = record { received = refl; health = refl };
     }) c.script_refusal.ensures
+
+pub returns-in-Err-clause-connects : goal.returns-in-Err-clause-connects
+returns-in-Err-clause-connects g c = uncalled g.L.Link side.Host c.args.address.now c.args.link.now

@@ -14,6 +14,6 @@ returns-in-Err g c = record {
   run = refused _ _ _ _ _ _ _ _ _ c.in-Err.ensures.command
       (record { left = refl; health = refl }) (record { told = refl; health = refl })
       (record { told = refl; faults = refl; file = refl })
-      (record { told = refl; moment = refl; health = refl }) (record { received = refl; health = refl })
+      (record { told = refl; moment = refl; health = refl; connected = refl }) (record { received = refl; health = refl })
       c.refuse.ensures.status c.refuse.ensures.line;
 }
