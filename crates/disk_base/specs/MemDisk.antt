@@ -120,6 +120,6 @@ next_write at bytes s = write_call at bytes (next_answer s.plan)
 abbrev pub next_sync : DiskState → DiskCall
 next_sync s = sync_call (next_answer s.plan)
 
--- the disk after a crash, whose list has this room
-abbrev pub after_cut : CutChoice → ℕ → ℕ → DiskState → DiskState
-after_cut choice most room s = disk_with (image_of choice s.story) most room
+-- the disk after a crash, whose list has the same bounds
+abbrev pub after_cut : CutChoice → DiskState → DiskState
+after_cut choice s = disk_with (image_of choice s.story) s.most s.room

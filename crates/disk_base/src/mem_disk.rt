@@ -137,22 +137,16 @@ impl MemDisk {
         )
     }
 
-    /// The disk after a crash. Its list has room for `calls` calls and `room` written bytes. Its bytes are settled, no
-    /// call is in its list, none is to fail, and no fault was counted.
-    pub fn cut(
-        &self,
-        alloc: Global,
-        choice: CutChoice,
-        calls: u32,
-        room: u64,
-    ) -> Result<MemDisk, NoMemory>
-        ensures state { IfOk result (λ disk. disk ≡ after_cut choice calls room self.now) }
+    /// The disk after a crash. Its bytes are settled, no call is in its list, which has as much room as this disk's
+    /// had at first, none is to fail, and no fault was counted.
+    pub fn cut(&self, alloc: Global, choice: CutChoice) -> Result<MemDisk, NoMemory>
+        ensures state { IfOk result (λ disk. disk ≡ after_cut choice self.now) }
         ensures image { IfOk result (λ disk. IsImage self.now.story.now disk.story.now.bytes) }
     {
         let settled = self.settled(alloc)?;
         let marks = self.marks(alloc)?;
         let image = left_bytes(alloc, choice, &marks, &settled, &self.bytes)?;
-        MemDisk::over(alloc, image, calls as usize, room as usize)
+        MemDisk::over(alloc, image, self.most, self.room)
     }
 
     // The settled bytes.

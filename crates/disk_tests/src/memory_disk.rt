@@ -20,10 +20,12 @@ fn holds<D: Disk + Drop>(mut disk: D, wanted: [u8; 8]) -> bool {
     disk.size() == 8 && disk.read(0, &mut bytes) == DiskAnswer::Done && bytes == wanted
 }
 
-// Whether a crash leaves these bytes, on a disk with room for the one read.
+// Whether a crash leaves these bytes, on a disk with as much room as there was at first.
 fn leaves(alloc: Global, disk: &MemDisk, choice: CutChoice, wanted: [u8; 8]) -> bool {
-    match disk.cut(alloc, choice, 1, 0) {
-        Ok(cut) => holds(cut, wanted),
+    match disk.cut(alloc, choice) {
+        Ok(cut) => {
+            cut.has_room(5, 12) && !cut.has_room(6, 0) && !cut.has_room(0, 13) && holds(cut, wanted)
+        }
         Err(NoMemory) => false,
     }
 }

@@ -46,7 +46,7 @@ fn leaves(
     first: u64,
     mark: u64,
 ) -> bool {
-    let Ok(cut) = disk.cut(alloc, choice, 100, 16384) else {
+    let Ok(cut) = disk.cut(alloc, choice) else {
         return false;
     };
     match Raw::new(cut).recover() {

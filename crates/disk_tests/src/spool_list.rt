@@ -270,7 +270,7 @@ pub(crate) fn leaves(
     len: u32,
     first: u64,
 ) -> bool {
-    let Ok(cut) = disk.cut(alloc, choice, 100, 65536) else {
+    let Ok(cut) = disk.cut(alloc, choice) else {
         return false;
     };
     match Raw::new(cut).recover() {

@@ -220,11 +220,10 @@ planned-left plan slots node spool lost (Err end) whole armed = tt
 
 -- ---- what a disk is left with
 
--- of a lost disk, whatever is chosen, on a disk with whatever room
+-- of a lost disk, whatever is chosen
 pub cut-file :
-    (slots : ℕ) (lost : DiskState) → IsLost slots lost → (choice : CutChoice) (most room : ℕ)
-    → IsFileOf slots (after_cut choice most room lost)
-cut-file slots lost is choice most room = record {
+    (slots : ℕ) (lost : DiskState) → IsLost slots lost → (choice : CutChoice) → IsFileOf slots (after_cut choice lost)
+cut-file slots lost is choice = record {
   stands = is.stands choice;
   settled = refl;
   can = is.can choice;

@@ -332,7 +332,7 @@ impl EquipmentEnd {
             None }
         ensures lost { self.new.lost ≡ None }
     {
-        match disk.cut(alloc, choice, LISTED_CALLS, LISTED_BYTES) {
+        match disk.cut(alloc, choice) {
             Ok(disk) => self.take_up(alloc, disk, out),
             Err(_none) => Err(Stop::NoMemory),
         }

@@ -25,7 +25,7 @@ fn changed(disk: MemDisk, value: u64) -> MemDisk
 fn leaves(alloc: Global, disk: &MemDisk, choice: CutChoice, wanted: u64) -> bool
     requires { 19 ≤ disk_size disk.now }
 {
-    match disk.cut(alloc, choice, 5, 9) {
+    match disk.cut(alloc, choice) {
         Ok(cut) => {
             let mut cut = cut;
             read_cell(&mut cut, 2) == CellAnswer::Value(wanted)
@@ -61,7 +61,7 @@ fn next_change(alloc: Global, fail: u32, stop: u32, wanted: [u64; 6]) -> bool {
     let Ok(disk) = MemDisk::new(alloc, 20, 5, 9) else {
         return false;
     };
-    let Ok(mut disk) = changed(disk, 9).cut(alloc, CutChoice::Old, 5, 9) else {
+    let Ok(mut disk) = changed(disk, 9).cut(alloc, CutChoice::Old) else {
         return false;
     };
     disk.fail_at(fail);

@@ -413,7 +413,7 @@ fn is_found(disk: MemDisk, wanted: (u64, u32, u64)) -> bool {
 
 // Whether a crash leaves this.
 fn leaves(alloc: Global, disk: &MemDisk, choice: CutChoice, wanted: (u64, u32, u64)) -> bool {
-    match disk.cut(alloc, choice, 64, 4_096) {
+    match disk.cut(alloc, choice) {
         Ok(cut) => is_found(cut, wanted),
         Err(_) => false,
     }

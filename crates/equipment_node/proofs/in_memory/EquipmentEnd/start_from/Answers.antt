@@ -16,9 +16,9 @@ returns-in-Ok-clause-start c now lost =
     (view_of ghosts (node_of c.take_up.new.self.tool.value) c.take_up.new.self.spool) c.take_up.new.out
     c.take_up.result) c.in-Ok.ensures.state
     (c.take_up.ensures.start (subst (IsFileOf c.args.self.now.slots) (sym c.in-Ok.ensures.state)
-    (cut-file c.args.self.now.slots c.args.disk.now lost c.args.choice 65552 67125248)))
+    (cut-file c.args.self.now.slots c.args.disk.now lost c.args.choice)))
 
 pub returns-in-Ok-clause-sound : goal.returns-in-Ok-clause-sound
 returns-in-Ok-clause-sound c lost =
     c.take_up.ensures.sound (subst (IsFileOf c.args.self.now.slots) (sym c.in-Ok.ensures.state)
-    (cut-file c.args.self.now.slots c.args.disk.now lost c.args.choice 65552 67125248))
+    (cut-file c.args.self.now.slots c.args.disk.now lost c.args.choice))
