@@ -97,6 +97,7 @@ both_wider at bytes C E before after Done more is = is
 both_wider at bytes C E before after Failed more (inl is) = inl (logs_wider (write_call at bytes) C E _ _ more is)
 both_wider at bytes C E before after Failed more (inr is) = inr (logs_wider sync_call C E _ _ more is)
 
--- what both stretches keep: the disk, and its file
-pub same_then : {A B : Type 0} {a b c : A} {x y z : B} → (b ≡ a) × (y ≡ x) → (c ≡ b) × (z ≡ y) → (c ≡ a) × (z ≡ x)
-same_then one two = (two.0 ∙ one.0, two.1 ∙ one.1)
+-- what both stretches keep: the disk, its file, and whether it tells
+pub same_then : {A B C : Type 0} {a b c : A} {x y z : B} {k l m : C} → (b ≡ a) × (y ≡ x) × (l ≡ k) →
+    (c ≡ b) × (z ≡ y) × (m ≡ l) → (c ≡ a) × (z ≡ x) × (m ≡ k)
+same_then one two = (two.0 ∙ one.0, two.1 ∙ one.1, two.2 ∙ one.2)

@@ -1,5 +1,5 @@
 -- What the calls of a disk answer and change (this profile).
-use Rattle.std.specs.Prelude.{◌≡◌, ◌⊎◌, ℕ, ◌<◌, ◌≤◌, List, [], length, Option, Some, All}
+use Rattle.std.specs.Prelude.{◌≡◌, ◌⊎◌, ℕ, ◌<◌, ◌≤◌, List, [], length, Option, Some, is_some, All}
 use Rattle.std.specs.Option.{option_map}
 use Rattle.disk_base.specs.Story.{Story, bytes_at, with_write, with_sync, with_growth}
 use Rattle.disk_base.specs.declared.disk.DiskAnswer.{DiskAnswer}
@@ -11,6 +11,10 @@ pub record Attaches (grow : ℕ) (before after : Option Story) : Type 0 where
   pub more : List ℕ
   pub grown : after ≡ option_map (with_growth more) before
   pub enough : (s : Story) → before ≡ Some s → grow ≤ length s.now.bytes → more ≡ []
+
+-- a disk tells its bytes where it told them before, and nowhere else
+abbrev pub TellsAsBefore : Option Story → Option Story → Type 0
+TellsAsBefore before after = is_some after ≡ is_some before
 
 -- what is told to be there are bytes
 abbrev pub TellsBytes : Option Story → Type 0

@@ -2,7 +2,7 @@
 
 ghost use Rattle.std.specs.Prelude.{◌≡◌, ◌+◌, ◌<◌, ◌≤◌, ℕ, false, List, Option, Some, length};
 ghost use Rattle.disk_base.specs.Calls.{DiskCall, Logs, attach_call, read_call, sync_call, write_call};
-ghost use Rattle.disk_base.specs.Disk.{Attaches, HasSize, Reads, Syncs, TellsBytes, Writes, file_behind};
+ghost use Rattle.disk_base.specs.Disk.{Attaches, HasSize, Reads, Syncs, TellsAsBefore, TellsBytes, Writes, file_behind};
 ghost use Rattle.disk_base.specs.Faults.{DiskHealth, HasCause, IsCrowded};
 ghost use Rattle.disk_base.specs.Listed.{AsListed};
 ghost use Rattle.disk_base.specs.Story.{Story};
@@ -78,7 +78,8 @@ pub trait Disk {
         ensures listed { (health self.old).stopped ≡ false →
             AsListed (told self.old) (calls self.old) (told self.new) (calls self.new) }
         ensures cause { HasCause (health self.old) (health self.new) 1 0 ⊥ result }
-        ensures same_disk { (name self.new ≡ name self.old) × (file_is self.new ≡ file_is self.old) };
+        ensures same_disk { (name self.new ≡ name self.old) × (file_is self.new ≡ file_is self.old)
+            × TellsAsBefore (told self.old) (told self.new) };
 
     /// Puts bytes in place of those from a place on. A crash before the next good sync leaves anything in their range.
     /// Where this fails, the range may be changed, and all else is as it was.
@@ -92,7 +93,8 @@ pub trait Disk {
             AsListed (told self.old) (calls self.old) (told self.new) (calls self.new) }
         ensures cause { HasCause (health self.old) (health self.new) 1 (length bytes.now)
             ((health self.old).room < length bytes.now) result }
-        ensures same_disk { (name self.new ≡ name self.old) × (file_is self.new ≡ file_is self.old) };
+        ensures same_disk { (name self.new ≡ name self.old) × (file_is self.new ≡ file_is self.old)
+            × TellsAsBefore (told self.old) (told self.new) };
 
     /// Makes all written bytes last through a crash. Where it fails, none of them are any safer than before.
     fn sync(&mut self) -> DiskAnswer
@@ -102,7 +104,8 @@ pub trait Disk {
         ensures listed { (health self.old).stopped ≡ false →
             AsListed (told self.old) (calls self.old) (told self.new) (calls self.new) }
         ensures cause { HasCause (health self.old) (health self.new) 1 0 ⊥ result }
-        ensures same_disk { (name self.new ≡ name self.old) × (file_is self.new ≡ file_is self.old) };
+        ensures same_disk { (name self.new ≡ name self.old) × (file_is self.new ≡ file_is self.old)
+            × TellsAsBefore (told self.old) (told self.new) };
 
     /// The size is the number of the bytes, where they are told.
     ghost sized: { (disk : Self) (s : Story) → told disk ≡ Some s → length s.now.bytes ≡ size_is disk };

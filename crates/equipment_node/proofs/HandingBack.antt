@@ -52,7 +52,7 @@ module _ {D : Type 0} (members : disk.Ghosts D) where
   Same old new = IsSameDisk members old new
 
   same-still : (a : D) → Same a a
-  same-still a = (refl, refl)
+  same-still a = (refl, refl, refl)
 
   pub kept-still : (a : D) → IsKept members a a
   kept-still a = record { same_disk = same-still a; count = refl }

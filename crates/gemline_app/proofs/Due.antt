@@ -199,7 +199,7 @@ comes_due (Some SpellHex) source files disk link out outcome due (files_unread, 
     (λ digits was asks. printed_due digits source files disk link out outcome due was asks) comes is_due
 comes_due (Some (Replay plan schedule)) source files disk link out outcome due (unread, unused, uncalled, comes) (bytes, told, is_due) =
     replay_due source files disk link out plan schedule bytes outcome due told comes is_due
-comes_due (Some (Equipment plan address spool polls)) source files disk link out outcome due (comes, connects) is_due =
+comes_due (Some (Equipment plan address spool polls)) source files disk link out outcome due (comes, connects, tells) is_due =
     equipment_due source files disk link out plan spool polls outcome due comes is_due
 comes_due (Some (Host plan address polls)) source files disk link out outcome due (unused, comes, connects) is_due =
     host_due source files disk link out plan polls outcome due comes is_due

@@ -80,7 +80,7 @@ module _ (source : SourceTold) (files : FilesTold) (disk : DiskTold) (link : Lin
         → AnsweredSo outcome
     by_words plan address spool polls outcome given (inl memory) =
         inr (hindered source files disk link out outcome memory.refused)
-    by_words plan address spool polls outcome given (inr (comes, connects)) =
+    by_words plan address spool polls outcome given (inr (comes, connects, tells)) =
         linked_answered source files disk link out side.Equipment (IsAllIdle disk link out)
         (λ (plans : Plans) (lines : List ScriptLine). FileRuns plans.equipment spool lines polls disk link out outcome)
         outcome (λ plans lines was. ran plans.equipment spool lines polls outcome was) plan given comes

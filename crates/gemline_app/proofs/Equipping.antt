@@ -1,5 +1,6 @@
 -- The equipment as it is run over a link, and what came of it.
-use Rattle.std.proofs.Common.{◌≡◌, refl, sym, ap, subst, ◌∙◌, inl, ℕ, List, Option, Some, None, Result, Ok, Err, arith}
+use Rattle.std.proofs.Common.{◌≡◌, refl, sym, ap, subst, ◌∙◌, inl, Bool, ℕ, List, Option, Some, None, Result, Ok, Err, arith}
+use Rattle.std.specs.Prelude.{is_some}
 use Rattle.disk_base.specs.SameDisk.{IsSameDisk}
 use Rattle.disk_base.specs.Story.{Story}
 use Rattle.disk_base.specs.declared.disk.Disk as disk
@@ -58,20 +59,21 @@ some_same a b same = cc
 module _ {D : Type 0} (members : disk.Ghosts D) where
   -- ---- its disk
 
-  abbrev made : ℕ → ℕ → Option (List ℕ) → Device Fixed
-  made faults name file = record { faults = faults; fixed = Some (name, file) }
+  abbrev made : ℕ → ℕ → Option (List ℕ) → Bool → Device Fixed
+  made faults name file tells = record { faults = faults; fixed = Some (name, file, tells) }
 
   fixed_same : (old new : D) → IsSameDisk members old new
       → (device_of members new).fixed ≡ (device_of members old).fixed
   fixed_same old new same =
-      ap (λ (n : ℕ). (made 0 n (members.file_is new)).fixed) same.0
-      ∙ ap (λ (f : Option (List ℕ)). (made 0 (members.name old) f).fixed) same.1
+      ap (λ (n : ℕ). (made 0 n (members.file_is new) (is_some (members.told new))).fixed) same.0
+      ∙ ap (λ (f : Option (List ℕ)). (made 0 (members.name old) f (is_some (members.told new))).fixed) same.1
+      ∙ ap (λ (b : Bool). (made 0 (members.name old) (members.file_is old) b).fixed) same.2
 
   pub kept_device : (old new : D) → IsKept members old new → device_of members new ≡ device_of members old
   kept_device old new kept =
-      ap (λ (n : ℕ). made n (members.name new) (members.file_is new)) kept.count
-      ∙ ap (λ (n : ℕ). made (members.health old).faults n (members.file_is new)) kept.same_disk.0
-      ∙ ap (λ (f : Option (List ℕ)). made (members.health old).faults (members.name old) f) kept.same_disk.1
+      ap (λ (n : ℕ). made n (members.name new) (members.file_is new) (is_some (members.told new))) kept.count
+      ∙ ap (λ (f : Fixed). record { faults = (members.health old).faults; fixed = f })
+      (fixed_same old new kept.same_disk)
 
   failed_device : (old new : D) → HasFailed members old new
       → DeviceFails (device_of members old) (device_of members new)
@@ -270,11 +272,13 @@ module _ {D : Type 0} (members : disk.Ghosts D) where
       (Some result) → IsSameDisk members old new
   run_same old mid new link out link' out' result first counts =
       let fixed =
-      some_same (members.name new, members.file_is new) (members.name mid, members.file_is mid)
+      some_same (members.name new, members.file_is new, is_some (members.told new))
+      (members.name mid, members.file_is mid, is_some (members.told mid))
       (counts_fixed (counted_by link out (device_of members mid)) (counted_by link' out' (device_of members new)) result
       counts) in (
-        ap (λ (p : ℕ × Option (List ℕ)). p.0) fixed ∙ first.0,
-        ap (λ (p : ℕ × Option (List ℕ)). p.1) fixed ∙ first.1,
+        ap (λ (p : ℕ × Option (List ℕ) × Bool). p.0) fixed ∙ first.0,
+        ap (λ (p : ℕ × Option (List ℕ) × Bool). p.1) fixed ∙ first.1,
+        ap (λ (p : ℕ × Option (List ℕ) × Bool). p.2) fixed ∙ first.2,
       )
 
   -- of the faults alone

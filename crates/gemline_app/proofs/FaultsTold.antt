@@ -793,7 +793,7 @@ comes_counts (Some (Replay plan schedule)) source files disk link out outcome (u
           (link_stands link uncalled);
       write = counts.write;
     })
-comes_counts (Some (Equipment plan address spool polls)) source files disk link out outcome (comes, connects) =
+comes_counts (Some (Equipment plan address spool polls)) source files disk link out outcome (comes, connects, tells) =
     equipment_counts source files disk link out plan address spool polls outcome comes
 comes_counts (Some (Host plan address polls)) source files disk link out outcome (unused, comes, connects) =
     all_told (Some (Host plan address polls)) source files disk link out outcome

@@ -2,6 +2,7 @@
 use Rattle.std.specs.Prelude.{◌≡◌, ◌⊎◌, ℕ, List, Option, Some, None, Result, Ok, Err}
 use Rattle.command_words.specs.Asked.{Asked, Equipment, Format, Host, Make, Replay, Show, Spell, SpellHex, Spool}
 use Rattle.command_words.specs.Words.{asked_of}
+use Rattle.disk_base.specs.Disk.{TellsAsBefore}
 use Rattle.gl_base.specs.Sending.{Sends, WroteShort, WroteText}
 use Rattle.gl_base.specs.Told.{FilesTold, SinkTold, SourceTold}
 use Rattle.gl_base.specs.declared.input.Input.TheVariants as input
@@ -124,6 +125,7 @@ ComesFrom (Some (Replay plan schedule)) source files disk link out outcome =
     IsUnread source × IsUnused disk × IsUncalled link × ReplayComes plan schedule files out outcome
 ComesFrom (Some (Equipment plan address spool polls)) source files disk link out outcome =
     EquipmentComes plan spool polls source files disk link out outcome × ConnectsOnce side.Equipment address link
+    × TellsAsBefore disk.before disk.after
 ComesFrom (Some (Host plan address polls)) source files disk link out outcome =
     IsUnused disk × HostComes plan polls source files link out outcome × ConnectsOnce side.Host address link
 ComesFrom (Some (Format spool slots)) source files disk link out outcome =

@@ -1,5 +1,5 @@
 -- The equipment as it is run over a link: it goes on, or a step has stopped it and its device is left.
-use Rattle.std.specs.Prelude.{ℕ, List, [], Option, Some, None}
+use Rattle.std.specs.Prelude.{Bool, ℕ, List, [], Option, Some, None, is_some}
 use Rattle.disk_base.specs.declared.disk.Disk as disk
 use Rattle.message_flow.specs.declared.step.StepOut.{StepOut}
 use Rattle.spool_slots.specs.declared.states.Spent.{Spent}
@@ -59,13 +59,16 @@ disk_in None None = None
 disk_in None (Some spent) = Some spent.disk
 disk_in (Some h) spent = Some h.spool.spool.disk
 
--- which disk it is, and which file it has, no step changes
+-- which disk it is, which file it has, and whether it tells its bytes, no step changes
 abbrev pub Fixed : Type 0
-Fixed = Option (ℕ × Option (List ℕ))
+Fixed = Option (ℕ × Option (List ℕ) × Bool)
 
 abbrev pub device_of : {D : Type 0} → disk.Ghosts D → D → Device Fixed
 device_of members d =
-    record { faults = (members.health d).faults; fixed = Some (members.name d, members.file_is d) }
+    record {
+      faults = (members.health d).faults;
+      fixed = Some (members.name d, members.file_is d, is_some (members.told d));
+    }
 
 abbrev pub device_by : {D : Type 0} → disk.Ghosts D → Option D → Device Fixed
 device_by members None = record { faults = 0; fixed = None }

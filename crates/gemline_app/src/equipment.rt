@@ -1,7 +1,7 @@
 //! The equipment's end of a line over its spool file, run by a script.
 
 ghost use Rattle.std.specs.Prelude.{◌≡◌, ◌<◌, ◌^◌, None, Option, Some};
-ghost use Rattle.disk_base.specs.Disk.{TellsBytes};
+ghost use Rattle.disk_base.specs.Disk.{TellsAsBefore, TellsBytes};
 ghost use Rattle.disk_base.specs.SameDisk.{IsSameDisk};
 ghost use Rattle.gl_base.specs.declared.side.Side.TheVariants as side;
 ghost use Rattle.gl_base.specs.Told.{files_told, sink_told, source_told};
@@ -257,6 +257,7 @@ pub(crate) fn equipment<F: Files, R: Source, D: Disk, L: Link, W: Sink>(
         (sink_told W.Sink out.old out.new)
         result }
     ensures connects { ConnectsOnce side.Equipment address.now (link_told L.Link link.old link.new) }
+    ensures tells { TellsAsBefore (D.told disk.old) (D.told disk.new) }
 {
     match plans_in(alloc, plan, files) {
         Ok(plans) => run_input(
@@ -294,6 +295,7 @@ fn run_input<R: Source, D: Disk, L: Link, W: Sink>(
         (sink_told W.Sink out.old out.new)
         result }
     ensures connects { ConnectsOnce side.Equipment address.now (link_told L.Link link.old link.new) }
+    ensures tells { TellsAsBefore (D.told disk.old) (D.told disk.new) }
 {
     match whole_input(alloc, input, SCRIPT_LIMIT) {
         Ok(text) => run_script(
@@ -330,6 +332,7 @@ fn run_script<D: Disk, L: Link, W: Sink>(
         (sink_told W.Sink out.old out.new)
         result }
     ensures connects { ConnectsOnce side.Equipment address.now (link_told L.Link link.old link.new) }
+    ensures tells { TellsAsBefore (D.told disk.old) (D.told disk.new) }
 {
     match read_script(alloc, text, Side::Equipment) {
         Ok(script) => run_file(alloc, plan, &script, address, spool, polls, disk, link, out),
@@ -357,6 +360,7 @@ fn run_file<D: Disk, L: Link, W: Sink>(
         (sink_told W.Sink out.old out.new)
         result }
     ensures connects { ConnectsOnce side.Equipment address.now (link_told L.Link link.old link.new) }
+    ensures tells { TellsAsBefore (D.told disk.old) (D.told disk.new) }
 {
     match disk.attach(spool, 0) {
         DiskAnswer::Done => run_attached(alloc, plan, script, address, polls, disk, link, out),
@@ -386,6 +390,7 @@ fn run_attached<D: Disk, L: Link, W: Sink>(
         result }
     ensures file { D.file_is disk.new ≡ D.file_is disk.old }
     ensures connects { ConnectsOnce side.Equipment address.now (link_told L.Link link.old link.new) }
+    ensures tells { TellsAsBefore (D.told disk.old) (D.told disk.new) }
 {
     let (outcome, _disk) = run_over(
         alloc,

@@ -123,7 +123,7 @@ pub shown_first :
     {D : Type 0} {members : trait.Ghosts D} {was : Option (List ℕ)} {a : SinkHealth} (v : SpoolView D) (page : List ℕ)
     → AreShown members v v 0 (told was was a a) page page
 shown_first {D} {members} v page = record {
-  shown = record { same = refl; told = refl; same_disk = (refl, refl); count = refl };
+  shown = record { same = refl; told = refl; same_disk = (refl, refl, refl); count = refl };
   lines = ([], nothing_put page, no_line (members.told v.disk) 0);
 }
 

@@ -1,14 +1,16 @@
 -- From the spool in hand to the file that the disk was given.
-use Rattle.std.proofs.Common.{◌≡◌, refl, ◌∙◌, ap, subst, ℕ, List, [], Option, Some, None, Ok, Err, inl, inr, arith}
+use Rattle.std.proofs.Common.{◌≡◌, refl, ◌∙◌, ap, subst, ℕ, ◌+◌, ◌<◌, List, [], Option, Some, None, Ok, Err, inl, inr, arith}
 use Rattle.std.specs.Option.{option_map}
 use Rattle.disk_base.specs.Disk.{Attaches}
-use Rattle.disk_base.specs.Faults.{DiskHealth, Rose}
+use Rattle.disk_base.specs.Faults.{DiskHealth, HasCause, IsUsed, Rose}
 use Rattle.disk_base.specs.Story.{Story, with_growth, with_sync}
 use Rattle.disk_base.specs.declared.disk.Disk as trait
 use Rattle.disk_base.specs.declared.disk.DiskAnswer.TheVariants as answer
+use Rattle.disk_base.proofs.Stretches.{fault_behind, fault_wider, used_behind}
 use Rattle.gl_base.specs.Sink.{SinkHealth}
 use Rattle.gl_base.specs.Told.{SinkTold}
 use Rattle.gl_base.proofs.Appending.{told, wrote_nothing}
+use Rattle.spool_show.specs.Formatting.{LacksRoom, answer_by}
 use Rattle.spool_show.specs.Showing.{HasFile, HasShown, IsCounted, IsSound, Keeps, ShowsFile, ShowsList, TellsSpool}
 use Rattle.spool_show.specs.Showing.{end_of_refusal, refused_disk}
 use Rattle.spool_show.specs.Text.{file_text}
@@ -17,6 +19,7 @@ use Rattle.spool_show.specs.declared.spool_end.SpoolEnd.{SpoolEnd}
 use Rattle.spool_show.specs.declared.spool_end.SpoolEnd.TheVariants as end
 use Rattle.spool_slots.specs.Changes.{HasRecovered, Recovers, most_reads}
 use Rattle.spool_slots.specs.File.{file_in}
+use Rattle.spool_slots.specs.Slot.{slot_place}
 use Rattle.spool_slots.specs.Spool.{Rests, SpoolView}
 use Rattle.spool_slots.specs.declared.states.Recovering.{Recovering}
 use Rattle.spool_slots.specs.declared.states.Recovering.TheVariants as recovering
@@ -150,3 +153,28 @@ has_file name before end.Done is same = same ∙ is
 has_file name before (end.NotSpool place) is same = same ∙ is
 has_file name before end.WriteFailed is same = same ∙ is
 has_file name before end.DiskFailed is same = inr (same ∙ is)
+
+behind_done : (a b c : DiskHealth) (slots : ℕ) → IsUsed a b 1 0
+    → IsUsed b c (slots + 2) (slots + 4096) → IsUsed a c (slots + 3) (slots + 4096)
+behind_done a b c slots first more =
+    used_behind a b 1 0 first c (slots + 2) (slots + 4096) (slots + 3) (slots + 4096) (omega arith) (omega arith) more
+
+-- a disk that has taken its file was asked for what making it takes
+pub cause_behind : (a b c : DiskHealth) (slots size : ℕ) (e : SpoolEnd) {Lacking : Type 0}
+    → HasCause a b 1 0 Lacking answer.Done
+    → HasCause b c (slots + 2) (slots + 4096) (b.room < slots + 4096) (answer_by e)
+    → HasCause a c (slots + 3) (slots + 4096) (LacksRoom slots size a) (answer_by e)
+cause_behind a b c slots size end.Done first more = behind_done a b c slots first more
+cause_behind a b c slots size (end.NotSpool place) first more = behind_done a b c slots first more
+cause_behind a b c slots size end.WriteFailed first more = behind_done a b c slots first more
+cause_behind a b c slots size end.DiskFailed first more =
+    fault_behind a b 1 0 first c (slots + 2) (slots + 3) (b.room < slots + 4096) (LacksRoom slots size a) (omega arith)
+    (λ less. inr (omega (arith, less, first.room_left))) more
+
+-- and one that hasn't taken it has fewer bytes, where no call of it was to fail
+pub unattached : (a b : DiskHealth) (slots size : ℕ) {need : ℕ} → need ≡ slot_place slots
+    → HasCause a b 1 0 (size < need) answer.Failed
+    → HasCause a b (slots + 3) (slots + 4096) (LacksRoom slots size a) answer.Failed
+unattached a b slots size {need} is more =
+    fault_wider a b 1 (slots + 3) (size < need) (LacksRoom slots size a) (omega arith)
+    (λ less. inl (subst (λ n. size < n) is less)) more

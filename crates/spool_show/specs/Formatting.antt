@@ -1,5 +1,6 @@
 -- What making a spool file comes to (this profile).
 use Rattle.std.specs.Prelude.{◌⊎◌, ℕ, ◌+◌, ◌<◌, List, [], Option}
+use Rattle.disk_base.specs.Disk.{TellsAsBefore}
 use Rattle.disk_base.specs.Faults.{DiskHealth, HasCause}
 use Rattle.disk_base.specs.Story.{Story}
 use Rattle.disk_base.specs.declared.disk.DiskAnswer.{DiskAnswer}
@@ -53,4 +54,5 @@ FailsByCause slots disk end = HasCause disk.health disk.health_after (slots + 3)
 pub record FormatsSpool (name : List ℕ) (slots : ℕ) (disk : DiskTold) (out : SinkTold) (end : SpoolEnd) : Type 0 where
   pub file : HasFile name disk.file disk.file_after end
   pub made : MakesSpool slots disk.after out end
+  pub tells : TellsAsBefore disk.before disk.after
   pub cause : FailsByCause slots disk end

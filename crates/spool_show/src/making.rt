@@ -1,6 +1,7 @@
 //! A new spool file is made, with its line.
 
 ghost use Rattle.std.specs.Prelude.{◌≡◌, ◌+◌, ◌<◌, ◌≤◌};
+ghost use Rattle.disk_base.specs.Disk.{TellsAsBefore};
 ghost use Rattle.disk_base.specs.Faults.{HasCause};
 ghost use Rattle.gl_base.specs.Told.{sink_told};
 ghost use Rattle.spool_show.specs.Formatting.{FormatsSpool, MakesSpool, WritesFormatted};
@@ -38,6 +39,7 @@ fn format_attached<D: Disk, W: Sink>(disk: &mut D, slots: u32, out: &mut W) -> S
     ensures cause { HasCause (D.health disk.old) (D.health disk.new) (slots + 2) (slots + 4096)
         ((D.health disk.old).room < slots + 4096) (answer_by result) }
     ensures file { D.file_is disk.new ≡ D.file_is disk.old }
+    ensures tells { TellsAsBefore (D.told disk.old) (D.told disk.new) }
 {
     match make_file(disk, slots) {
         DiskAnswer::Done => write_formatted(slots, out),
@@ -54,6 +56,7 @@ fn make_file<D: Disk>(disk: &mut D, slots: u32) -> DiskAnswer
     ensures cause { HasCause (D.health disk.old) (D.health disk.new) (slots + 2) (slots + 4096)
         ((D.health disk.old).room < slots + 4096) result }
     ensures file { D.file_is disk.new ≡ D.file_is disk.old }
+    ensures tells { TellsAsBefore (D.told disk.old) (D.told disk.new) }
 {
     match Raw::new(disk).format(slots) {
         Ok(spool) => {

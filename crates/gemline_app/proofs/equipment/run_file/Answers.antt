@@ -5,6 +5,7 @@ use Rattle.spool_show.proofs.SpoolFiles.{attached}
 use Rattle.gemline_app.proofs.Filing.{spool_same}
 use Rattle.gl_base.specs.declared.side.Side.TheVariants as side
 use Rattle.gemline_app.proofs.Connecting.{uncalled}
+use Rattle.disk_base.proofs.Told.{attached_tells}
 use Rattle.gemline_app.proofs.equipment.run_file.Goals as goal
 
 pub returns-in-Done-clause-came : goal.returns-in-Done-clause-came
@@ -33,3 +34,9 @@ run_attached-requires-clause-bytes g c = c.in-Done.ensures.bytes
 
 pub returns-in-Failed-clause-connects : goal.returns-in-Failed-clause-connects
 returns-in-Failed-clause-connects g c = uncalled g.L.Link side.Equipment c.args.address.now c.args.link.now
+
+pub returns-in-Done-clause-tells : goal.returns-in-Done-clause-tells
+returns-in-Done-clause-tells g c = c.run_attached.ensures.tells ∙ attached_tells _ _ c.in-Done.ensures.told
+
+pub returns-in-Failed-clause-tells : goal.returns-in-Failed-clause-tells
+returns-in-Failed-clause-tells g c = attached_tells _ _ c.in-Failed.ensures.told

@@ -10,7 +10,7 @@ use Rattle.spool_slots.proofs.Fresh.{closes_more, none_closed}
 use Rattle.spool_slots.proofs.format.close_slots.Goals as goal
 
 pub loop-slot-init : goal.loop-slot-init
-loop-slot-init g c = (λ t told. (t, told, none_closed t), refl, (refl, refl), used_none _)
+loop-slot-init g c = (λ t told. (t, told, none_closed t), refl, (refl, refl, refl), used_none _)
 
 pub loop-slot-preserved : goal.loop-slot-preserved
 loop-slot-preserved g c = (

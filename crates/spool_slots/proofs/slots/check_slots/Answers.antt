@@ -18,7 +18,7 @@ returns-in-Broken-clause-end g c s is =
     )
 
 pub loop-slot-init : goal.loop-slot-init
-loop-slot-init g c = (λ s is. refl, refl, refl, (refl, refl), none_read _ _)
+loop-slot-init g c = (λ s is. refl, refl, refl, (refl, refl, refl), none_read _ _)
 
 pub loop-slot-preserved : goal.loop-slot-preserved
 loop-slot-preserved g c = (

@@ -22,7 +22,7 @@ returns-in-Broken-clause-scan g c s is =
 
 pub loop-slot-init : goal.loop-slot-init
 loop-slot-init g c =
-    (λ s is. (refl, record { count = refl; least = refl; behind = All-nil (IsBelow 0) }), refl, refl, (refl, refl), none_read _ _, omega arith, omega arith, omega arith)
+    (λ s is. (refl, record { count = refl; least = refl; behind = All-nil (IsBelow 0) }), refl, refl, (refl, refl, refl), none_read _ _, omega arith, omega arith, omega arith)
 
 pub loop-slot-preserved : goal.loop-slot-preserved
 loop-slot-preserved g c = (
