@@ -26,7 +26,7 @@ is_next n is = (grind (arith, nat_tests, is), grind (arith, nat_tests, is))
 
 planned_by : (faults calls room fail stop : ℕ) (stopped one two : Bool) → (fail == 1) ≡ one → (stop == 1) ≡ two →
     (if stopped || (one || two) then Failed else Done) ≡ Failed →
-    IsPlanned (record { faults = faults; calls = calls; room = room; fail_in = fail; stop_in = stop; stopped = stopped }) 1
+    IsPlanned (record { faults = faults; calls = calls; room = room; fail_in = fail; stop_in = stop; stopped = stopped; exact = true }) 1
 planned_by faults calls room fail stop true one two a b is = inr (inr (refl, omega arith))
 planned_by faults calls room fail stop false true two a b is = inl (is_next fail a)
 planned_by faults calls room fail stop false false true a b is = inr (inl (is_next stop b))
@@ -41,7 +41,7 @@ not_next n is among = grind (arith, nat_tests, is, among.0, among.1)
 
 unplanned_by : (faults calls room fail stop : ℕ) (stopped one two : Bool) → (fail == 1) ≡ one → (stop == 1) ≡ two →
     (if stopped || (one || two) then Failed else Done) ≡ Done →
-    IsPlanned (record { faults = faults; calls = calls; room = room; fail_in = fail; stop_in = stop; stopped = stopped }) 1 → ⊥
+    IsPlanned (record { faults = faults; calls = calls; room = room; fail_in = fail; stop_in = stop; stopped = stopped; exact = true }) 1 → ⊥
 unplanned_by faults calls room fail stop true one two a b is due = absurd (grind (arith, is))
 unplanned_by faults calls room fail stop false true two a b is due = absurd (grind (arith, is))
 unplanned_by faults calls room fail stop false false true a b is due = absurd (grind (arith, is))
@@ -92,6 +92,7 @@ module _ (s : DiskState) (call : DiskCall) (Lacking : Type 0) (below : s.faults 
     stop_left = refl;
     unplanned = unplanned s (done answered);
     going = going_on s.plan.fail_in s.plan.stop_in s.plan.stopped (done answered);
+    exact = refl;
   }
   go false Failed full answered = record {
     rose = subst (λ answer. Rose s.faults (faults_after answer s.faults)) (sym answered) (rose s.faults below);

@@ -3,7 +3,7 @@ use Rattle.std.proofs.Common.{◌≡◌, ◌⊎◌, inl, inr, ⊎_elim, ℕ, ◌
 use Rattle.std.proofs.lemmas.Bool.{cases_lt}
 use Rattle.disk_base.specs.Calls.{DiskCall, Logs, sync_call, write_call}
 use Rattle.disk_base.specs.Settle.{LogsBoth}
-use Rattle.disk_base.specs.Faults.{DiskFault, DiskHealth, IsAmong, IsCrowded, IsPlanned, IsUsed, one_more}
+use Rattle.disk_base.specs.Faults.{DiskFault, DiskHealth, GoesAsListed, IsAmong, IsCrowded, IsPlanned, IsUsed, one_more}
 use Rattle.disk_base.specs.declared.disk.DiskAnswer.{DiskAnswer}
 use Rattle.disk_base.specs.declared.disk.DiskAnswer.TheVariants.{Done, Failed}
 
@@ -19,6 +19,7 @@ used_none a = record {
   stop_left = omega arith;
   unplanned = ⊎_elim (λ is. omega (arith, is.0, is.1)) (⊎_elim (λ is. omega (arith, is.0, is.1)) (λ is. omega (arith, is.1)));
   going = refl;
+  exact = refl;
 }
 
 among_by : (before now n k all : ℕ) → (before < suc n) ⊎ (suc n ≤ before) → now ≡ before - n → (IsAmong before n → ⊥) → n + k ≡ all →
@@ -58,7 +59,12 @@ module _ (a b : DiskHealth) (n x : ℕ) (first : IsUsed a b n x) where
     stop_left = omega (arith, sum, first.stop_left, second.stop_left);
     unplanned = λ is. second.unplanned (planned_behind k all sum is);
     going = second.going ∙ first.going;
+    exact = second.exact ∙ first.exact;
   }
+
+  -- what is listed behind them comes to what it says, if what was listed first does
+  pub lists_on : GoesAsListed a → GoesAsListed b
+  lists_on goes = record { exact = first.exact ∙ goes.exact; on = first.going ∙ goes.on }
 
   pub fault_behind : (c : DiskHealth) (k all : ℕ) (L M : Type 0) → n + k ≤ all → (L → M) → DiskFault b c k L → DiskFault a c all M
   fault_behind c k all L M sum more second = record {

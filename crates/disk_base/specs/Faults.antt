@@ -1,5 +1,5 @@
 -- Counts of faults of a disk (this profile).
-use Rattle.std.specs.Prelude.{◌≡◌, ◌⊎◌, Bool, true, ℕ, ◌+◌, ◌-◌, ◌^◌, ◌<◌, ◌≤◌, min}
+use Rattle.std.specs.Prelude.{◌≡◌, ◌⊎◌, Bool, true, false, ℕ, ◌+◌, ◌-◌, ◌^◌, ◌<◌, ◌≤◌, min}
 use Rattle.disk_base.specs.declared.disk.DiskAnswer.{DiskAnswer}
 use Rattle.disk_base.specs.declared.disk.DiskAnswer.TheVariants.{Done, Failed}
 
@@ -14,7 +14,7 @@ pub record Rose (before now : ℕ) : Type 0 where
 
 -- how many faults were counted; for how many more calls and written bytes there is room for sure; how many calls are
 -- left up to one that is to fail alone, and up to one from which on all are to fail, themselves counted, 0 for none;
--- and whether the latter was made
+-- whether the latter was made; and whether a write that fails before changes what it was to write, and nothing else
 pub record DiskHealth : Type 0 where
   pub faults : ℕ
   pub calls : ℕ
@@ -22,6 +22,13 @@ pub record DiskHealth : Type 0 where
   pub fail_in : ℕ
   pub stop_in : ℕ
   pub stopped : Bool
+  pub exact : Bool
+
+-- each call that is listed comes to what its entry says, also a write that fails: the disk is such a one, and it goes
+-- on
+pub record GoesAsListed (health : DiskHealth) : Type 0 where
+  pub exact : health.exact ≡ true
+  pub on : health.stopped ≡ false
 
 -- this one is among so many calls
 abbrev pub IsAmong : ℕ → ℕ → Type 0
@@ -57,6 +64,7 @@ pub record IsUsed (before now : DiskHealth) (calls n : ℕ) : Type 0 where
   pub stop_left : now.stop_in ≡ before.stop_in - calls
   pub unplanned : IsPlanned before calls → ⊥
   pub going : now.stopped ≡ before.stopped
+  pub exact : now.exact ≡ before.exact
 
 -- a fault is counted where one of this many calls fails, which write n bytes, and nowhere else
 abbrev pub HasCause : DiskHealth → DiskHealth → ℕ → ℕ → Type 0 → DiskAnswer → Type 0

@@ -1,5 +1,5 @@
 -- A disk in memory (this profile).
-use Rattle.std.specs.Prelude.{ℕ, ◌+◌, ◌-◌, Bool, ◌||◌, nat_le, nat_lt, List, [], ◌∷◌, ◌++◌, length, if◌then◌else◌}
+use Rattle.std.specs.Prelude.{ℕ, ◌+◌, ◌-◌, Bool, true, ◌||◌, nat_le, nat_lt, List, [], ◌∷◌, ◌++◌, length, if◌then◌else◌}
 use Rattle.std.specs.Prelude.{Option, None}
 use Rattle.disk_base.specs.Calls.{DiskCall, attach_call, read_call, sync_call, write_call}
 use Rattle.disk_base.specs.Cut.{image_of}
@@ -51,6 +51,7 @@ disk_health s = record {
   fail_in = s.plan.fail_in;
   stop_in = s.plan.stop_in;
   stopped = s.plan.stopped;
+  exact = true;
 }
 
 -- the list has no room for one more call that writes n bytes

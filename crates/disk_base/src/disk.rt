@@ -3,7 +3,7 @@
 ghost use Rattle.std.specs.Prelude.{◌≡◌, ◌+◌, ◌<◌, ◌≤◌, ℕ, false, List, Option, Some, length};
 ghost use Rattle.disk_base.specs.Calls.{DiskCall, Logs, attach_call, read_call, sync_call, write_call};
 ghost use Rattle.disk_base.specs.Disk.{Attaches, HasSize, Reads, Syncs, TellsAsBefore, TellsBytes, Writes, file_behind};
-ghost use Rattle.disk_base.specs.Faults.{DiskHealth, HasCause, IsCrowded};
+ghost use Rattle.disk_base.specs.Faults.{DiskHealth, GoesAsListed, HasCause, IsCrowded};
 ghost use Rattle.disk_base.specs.Listed.{AsListed};
 ghost use Rattle.disk_base.specs.Story.{Story};
 
@@ -41,7 +41,8 @@ pub trait Disk {
     /// file, and which calls to come are to fail. The count rises by one where a call fails, and stands at every other
     /// call and at 2^64 - 1. Where there is room, a call fails only if it is to fail, and is listed all the same. A
     /// disk stops at a call that fails, and stays so: then the list may have calls that changed nothing. Until then
-    /// each read, write and sync that is listed has changed what its entry says, also one that failed.
+    /// each read, write and sync that is listed has changed what its entry says, also one that failed, on a disk that
+    /// tells that its calls do so; on any other a write that fails may have changed its range in any way.
     ghost health: { Self → DiskHealth };
 
     /// Which disk it is. No call changes it.
@@ -75,7 +76,7 @@ pub trait Disk {
         ensures size { size_is self.new ≡ size_is self.old }
         ensures calls { Logs (read_call at (length into.old)) (IsCrowded (health self.old) 1 0)
             (calls self.old) (calls self.new) result }
-        ensures listed { (health self.old).stopped ≡ false →
+        ensures listed { GoesAsListed (health self.old) →
             AsListed (told self.old) (calls self.old) (told self.new) (calls self.new) }
         ensures cause { HasCause (health self.old) (health self.new) 1 0 ⊥ result }
         ensures same_disk { (name self.new ≡ name self.old) × (file_is self.new ≡ file_is self.old)
@@ -89,7 +90,7 @@ pub trait Disk {
         ensures size { size_is self.new ≡ size_is self.old }
         ensures calls { Logs (write_call at bytes.now) (IsCrowded (health self.old) 1 (length bytes.now))
             (calls self.old) (calls self.new) result }
-        ensures listed { (health self.old).stopped ≡ false →
+        ensures listed { GoesAsListed (health self.old) →
             AsListed (told self.old) (calls self.old) (told self.new) (calls self.new) }
         ensures cause { HasCause (health self.old) (health self.new) 1 (length bytes.now)
             ((health self.old).room < length bytes.now) result }
@@ -101,7 +102,7 @@ pub trait Disk {
         ensures told { Syncs (told self.old) (told self.new) result }
         ensures size { size_is self.new ≡ size_is self.old }
         ensures calls { Logs sync_call (IsCrowded (health self.old) 1 0) (calls self.old) (calls self.new) result }
-        ensures listed { (health self.old).stopped ≡ false →
+        ensures listed { GoesAsListed (health self.old) →
             AsListed (told self.old) (calls self.old) (told self.new) (calls self.new) }
         ensures cause { HasCause (health self.old) (health self.new) 1 0 ⊥ result }
         ensures same_disk { (name self.new ≡ name self.old) × (file_is self.new ≡ file_is self.old)

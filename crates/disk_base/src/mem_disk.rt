@@ -5,7 +5,7 @@ ghost use Rattle.std.specs.Prelude.{Option, Some, [], length, replicate, refl, A
 ghost use Rattle.disk_base.specs.Calls.{Logs, attach_call, read_call, sync_call, write_call};
 ghost use Rattle.disk_base.specs.Cut.{image_of, marks_of, settled_bytes};
 ghost use Rattle.disk_base.specs.Disk.{Attaches, HasSize, Reads, Syncs, TellsBytes, Writes};
-ghost use Rattle.disk_base.specs.Faults.{HasCause, IsCrowded};
+ghost use Rattle.disk_base.specs.Faults.{GoesAsListed, HasCause, IsCrowded};
 ghost use Rattle.disk_base.specs.Images.{IsImage};
 ghost use Rattle.disk_base.specs.Listed.{AsListed};
 ghost use Rattle.disk_base.specs.MemDisk.{after_attaching, after_call, after_cut, answer_of, answer_planned, call_due};
@@ -307,7 +307,7 @@ impl Disk for MemDisk {
         ensures size { disk_size self.new ≡ disk_size self.old }
         ensures calls { Logs (read_call at (length into.old)) (IsCrowded (disk_health self.old) 1 0)
             (Some self.old.calls) (Some self.new.calls) result }
-        ensures listed { (disk_health self.old).stopped ≡ false →
+        ensures listed { GoesAsListed (disk_health self.old) →
             AsListed (Some self.old.story) (Some self.old.calls) (Some self.new.story) (Some self.new.calls) }
         ensures cause { HasCause (disk_health self.old) (disk_health self.new) 1 0 ⊥ result }
         ensures answer { result ≡ answer_of (next_read at (length into.old) self.old) self.old }
@@ -331,7 +331,7 @@ impl Disk for MemDisk {
         ensures size { disk_size self.new ≡ disk_size self.old }
         ensures calls { Logs (write_call at bytes.now) (IsCrowded (disk_health self.old) 1 (length bytes.now))
             (Some self.old.calls) (Some self.new.calls) result }
-        ensures listed { (disk_health self.old).stopped ≡ false →
+        ensures listed { GoesAsListed (disk_health self.old) →
             AsListed (Some self.old.story) (Some self.old.calls) (Some self.new.story) (Some self.new.calls) }
         ensures cause { HasCause (disk_health self.old) (disk_health self.new) 1 (length bytes.now)
             ((disk_health self.old).room < length bytes.now) result }
@@ -346,7 +346,7 @@ impl Disk for MemDisk {
         ensures size { disk_size self.new ≡ disk_size self.old }
         ensures calls { Logs sync_call (IsCrowded (disk_health self.old) 1 0)
             (Some self.old.calls) (Some self.new.calls) result }
-        ensures listed { (disk_health self.old).stopped ≡ false →
+        ensures listed { GoesAsListed (disk_health self.old) →
             AsListed (Some self.old.story) (Some self.old.calls) (Some self.new.story) (Some self.new.calls) }
         ensures cause { HasCause (disk_health self.old) (disk_health self.new) 1 0 ⊥ result }
         ensures answer { result ≡ answer_of (next_sync self.old) self.old }

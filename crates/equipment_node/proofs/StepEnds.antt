@@ -80,7 +80,8 @@ module _ (plan : EquipmentPlan) (slots : ℕ) (node : Node OwnView Kind) (g : Ge
     good = record { own = power.on.made.did.sound.own; list = power.on.made.did.sound.list }
 
     goes : IsGoingDisk (disk_health g.spool.disk)
-    goes = record { fails_not = power.fails_not; going = power.going }
+    goes =
+        record { fails_not = power.fails_not; going = record { exact = refl; on = power.going } }
 
     -- ---- it goes on
 
@@ -117,7 +118,7 @@ module _ (plan : EquipmentPlan) (slots : ℕ) (node : Node OwnView Kind) (g : Ge
         ok-power = record {
           on = step-on ghosts s input now mid out h has;
           fails_not = (passes.passed goes).on.fails_not;
-          going = (passes.passed goes).on.going;
+          going = (passes.passed goes).on.going.on;
           marked =
               subst (λ (m : ℕ). IsMarkedBy h.spool.disk.story.now.bytes m) (sym mark-is)
               (passes.marked goes g.spool.disk.story h.spool.disk.story refl refl power.marked);

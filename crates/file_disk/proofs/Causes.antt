@@ -23,6 +23,7 @@ counted before now n Lacking Done same = record {
   stop_left = refl;
   unplanned = unplanned before;
   going = refl;
+  exact = refl;
 }
 counted before now n Lacking Failed rose = record {
   rose = rose;

@@ -4,7 +4,7 @@ use Rattle.disk_base.specs.Faults.{DiskHealth, Rose}
 use Rattle.disk_base.specs.declared.disk.DiskAnswer.{DiskAnswer}
 use Rattle.disk_base.specs.declared.disk.DiskAnswer.TheVariants.{Done, Failed}
 
--- no call is sure
+-- no call is sure, and nothing is known of a write that failed
 abbrev pub file_health : ℕ → DiskHealth
 file_health faults = record {
   faults = faults;
@@ -13,6 +13,7 @@ file_health faults = record {
   fail_in = 0;
   stop_in = 0;
   stopped = false;
+  exact = false;
 }
 
 -- one fault was counted where a call failed, and none otherwise

@@ -1,11 +1,11 @@
 -- That each call makes of the list what it says.
-use Rattle.std.proofs.Common.{◌≡◌, ℕ, zero, suc, ◌+◌, ◌++◌, ◌∷◌, [], Bool, true, false, List, length, drop, fold, Option, Some, None, Ok, refl, sym, ap, ◌∙◌, inr, arith}
+use Rattle.std.proofs.Common.{◌≡◌, ℕ, zero, suc, ◌+◌, ◌++◌, ◌∷◌, [], List, length, drop, Option, Some, None, Ok, refl, sym, ap, ◌∙◌, arith}
 use Rattle.std.specs.Option.{option_map}
-use Rattle.disk_base.specs.Listed.{next_story}
 use Rattle.disk_base.specs.Settle.{Settles}
 use Rattle.disk_base.specs.Story.{Story, with_sync, with_write}
 use Rattle.disk_base.specs.declared.disk.Disk as disk
 use Rattle.disk_base.specs.declared.disk.DiskAnswer.TheVariants.{Done}
+use Rattle.disk_base.proofs.Told.{told_already}
 use Rattle.gem_spool.specs.Spool.{DropsSome, HasList, Purges, numbered, room_for}
 use Rattle.gem_spool.specs.declared.spool.Room.TheVariants.{Fits}
 use Rattle.gem_spool.proofs.Putting.{put_ends}
@@ -21,10 +21,6 @@ told_before : (before : Option Story) (f : Story → Story) (after : Option Stor
     after ≡ option_map f before → after ≡ Some t → (s : Story) × (before ≡ Some s)
 told_before None f after t is told = absurd (grind (arith, is, told))
 told_before (Some s) f after t is told = (s, refl)
-
-going : (b : Bool) → (b ≡ true → ⊥) → b ≡ false
-going true not_so = absurd (not_so refl)
-going false not_so = refl
 
 module _ {D : Type 0} (members : disk.Ghosts D) (v : SpoolView D) where
   settled_before : (w : SpoolView D) (at : ℕ) (bytes : List ℕ) →
@@ -48,11 +44,7 @@ module _ {D : Type 0} (members : disk.Ghosts D) (v : SpoolView D) where
   pub reserve_told : (after : D) → HasReserved members v after Done → (t : Story) → members.told after ≡ Some t →
       (s : Story) × (members.told v.disk ≡ Some s)
   reserve_told after done t told =
-      let on : (members.health v.disk).stopped ≡ false =
-      going (members.health v.disk).stopped (λ is. done.cause.unplanned (inr (inr (is, omega arith)))) in
-      let listed = done.listed on in
-      told_before (members.told v.disk) (λ story. fold next_story story listed.more) (members.told after) t listed.told
-      told
+      told_already (members.told v.disk) (members.told after) t done.same_disk.2 told
 
   pub reserve_list : (w : SpoolView D) (base : ℕ) → Reserves members v (Ok (w, base)) → (list : List Message) →
       HasList members v list → HasList members w list

@@ -9,7 +9,7 @@ use Rattle.disk_base.specs.declared.disk.Disk as disk
 use Rattle.disk_base.specs.declared.disk.DiskAnswer.{DiskAnswer}
 use Rattle.disk_base.specs.declared.disk.DiskAnswer.TheVariants.{Done, Failed}
 use Rattle.disk_base.proofs.Moments.{only_now, starts, through_both, through_more}
-use Rattle.disk_base.proofs.Stretches.{fault_behind, planned_before, used_behind, used_none}
+use Rattle.disk_base.proofs.Stretches.{fault_behind, lists_on, planned_before, used_behind, used_none}
 use Rattle.gem_spool.specs.Spool.{DropsSome, HasLostPurge, IsRest, Purges, without_some}
 use Rattle.spool_slots.specs.Changes.{Drops, Ends, HasDropped, HoldsThrough, IsSameOr, dropped_in, without_first}
 use Rattle.spool_slots.specs.File.{SpoolFile, StandsFor, file_in}
@@ -206,7 +206,7 @@ module _ {D : Type 0} (members : disk.Ghosts D) where
               (file_left (gate_counts choice (λ gate. not (gate == 90))) f
               (file_in one.0.now.bytes))) fewer
               (failed.1 (record {
-                going = used.going ∙ sure.going;
+                going = lists_on _ _ (2 * n) n used sure.going;
                 calls_fit = calls;
                 bytes_fit =
                     room;

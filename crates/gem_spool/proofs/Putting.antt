@@ -8,7 +8,7 @@ use Rattle.disk_base.specs.Through.{Through}
 use Rattle.disk_base.specs.declared.disk.Disk as disk
 use Rattle.disk_base.specs.declared.disk.DiskAnswer.TheVariants.{Done, Failed}
 use Rattle.disk_base.proofs.Moments.{now_is, through_both, through_more}
-use Rattle.disk_base.proofs.Stretches.{fault_behind, fault_wider, used_behind}
+use Rattle.disk_base.proofs.Stretches.{fault_behind, fault_wider, lists_on, used_behind}
 use Rattle.gem_spool.specs.Spool.{HasLostPut, HasPut, StagesAndSeals, numbered, put_in, room_for}
 use Rattle.gem_spool.specs.declared.spool.Room.TheVariants.{Fits}
 use Rattle.spool_slots.specs.Changes.{Ends, HoldsThrough, IsSame, IsSameOr, Seals, Stages, parts_of, sealed_in, with_message}
@@ -100,7 +100,7 @@ module _ {D : Type 0} (members : disk.Ghosts D) (v : SpoolView D) (stream functi
           let one = staged.0.images s told in
           let eqs = sealed_is s one.0 one.1 one.2 in
           let rest : IsSure (members.health u.disk) 2 1 = record {
-            going = used.going ∙ sure.going;
+            going = lists_on _ _ 2 _ used sure.going;
             calls_fit = omega (arith, sure.calls_fit, used.calls_left);
             bytes_fit = omega (arith, sure.bytes_fit, used.room_left, long);
           } in

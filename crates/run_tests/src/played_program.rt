@@ -134,6 +134,7 @@ impl Disk for NoDisk {
       fail_in = 0;
       stop_in = 0;
       stopped = false;
+      exact = false;
     } };
 
     ghost name = { λ _. 0 };

@@ -3,7 +3,7 @@ use Rattle.std.proofs.Common.{◌≡◌, ℕ, ◌+◌, ◌^◌, ◌≤◌, Bool,
 use Rattle.std.specs.Int.{w64, from_be_bytes}
 use Rattle.disk_base.specs.Calls.{DiskCall}
 use Rattle.disk_base.specs.Cut.{chosen_byte, image_of}
-use Rattle.disk_base.specs.Faults.{DiskHealth, IsCrowded, IsUsed}
+use Rattle.disk_base.specs.Faults.{DiskHealth, GoesAsListed, IsCrowded, IsUsed}
 use Rattle.disk_base.specs.Images.{is_in, is_loose}
 use Rattle.disk_base.specs.Listed.{AsListed}
 use Rattle.disk_base.specs.Settle.{LogsBoth}
@@ -14,7 +14,7 @@ use Rattle.disk_base.specs.declared.disk.DiskAnswer.TheVariants.{Done, Failed}
 use Rattle.disk_base.proofs.Marks.{beside, length-part, not_either}
 use Rattle.disk_base.specs.declared.disk.Disk as disk
 use Rattle.disk_base.proofs.Moments.{now_is, through_more}
-use Rattle.disk_base.proofs.Stretches.{both_wider}
+use Rattle.disk_base.proofs.Stretches.{both_wider, lists_on}
 use Rattle.gate_cell.specs.Cell.{cell_in, copy_of, copy_place, gate_byte, gate_of, names_second, spare_is_second, value_in}
 use Rattle.gate_cell.specs.Holds.{Holds}
 use Rattle.gate_cell.specs.Ready.{HasSpare, IsReady, Prepares}
@@ -157,10 +157,10 @@ pub lost_late : HasWrittenLaw → ChosenLaw → (s t : Story) (mark at : ℕ) (s
     (calls calls_after : Option (List DiskCall)) → IsSure h 5 9 → IsUsed h k 3 8 → mid ≡ Some t → Prepares s 12 mark mid Done → IsReady 12 mark mid →
     at ≡ 12 → HasSpare t at second → second ≡ spare_is_second (cell_in s.now.bytes 12) →
     ((all : List DiskCall) × (calls ≡ Some all)) → LogsBoth (at + 16) (gate_byte second ∷ []) (IsCrowded k 2 1) calls calls_after Failed →
-    (k.stopped ≡ false → AsListed mid calls after calls_after) → LeavesMark s mark after × LeavesGate s.now.bytes after
+    (GoesAsListed k → AsListed mid calls after calls_after) → LeavesMark s mark after × LeavesGate s.now.bytes after
 lost_late has_written one_byte_left s t mark at second h k mid after calls calls_after sure used told prepared ready there spare second_is all logs listed =
     let sure_now : IsSure k 2 1 = record {
-      going = used.going ∙ sure.going;
+      going = lists_on h k 3 8 used sure.going;
       calls_fit = omega (arith, sure.calls_fit, used.calls_left);
       bytes_fit = omega (arith, sure.bytes_fit, used.room_left);
     } in

@@ -6,7 +6,7 @@ use Rattle.std.specs.List.{slice_get}
 use Rattle.std.specs.Option.{option_map}
 use Rattle.disk_base.specs.Calls.{DiskCall, Logs, read_call, sync_call, with_call}
 use Rattle.disk_base.specs.Cut.{image_of}
-use Rattle.disk_base.specs.Faults.{DiskHealth, HasCause, IsCrowded, IsPlanned}
+use Rattle.disk_base.specs.Faults.{DiskHealth, GoesAsListed, HasCause, IsCrowded, IsPlanned}
 use Rattle.disk_base.specs.Listed.{AsListed}
 use Rattle.disk_base.specs.SameDisk.{IsSameDisk}
 use Rattle.disk_base.specs.Settle.{LogsBoth, Settles}
@@ -91,7 +91,7 @@ pub record HasSettled {D : Type 0} (members : disk.Ghosts D) (old new : D) (at :
   pub size : members.size_is new ≡ members.size_is old
   pub calls : LogsBoth at bytes (IsCrowded (members.health old) 2 (length bytes)) (members.calls old)
       (members.calls new) answer
-  pub listed : (members.health old).stopped ≡ false →
+  pub listed : GoesAsListed (members.health old) →
       AsListed (members.told old) (members.calls old) (members.told new) (members.calls new)
   pub cause : HasCause (members.health old) (members.health new) 2 (length bytes)
       ((members.health old).room < length bytes) answer
@@ -249,7 +249,7 @@ pub record HasReserved {D : Type 0} (members : disk.Ghosts D) (v : SpoolView D) 
   pub size : members.size_is after ≡ members.size_is v.disk
   pub calls : (s : Story) → members.told v.disk ≡ Some s → LogsMark s (v.mark + 4096)
       (IsCrowded (members.health v.disk) 5 9) (members.calls v.disk) (members.calls after) answer
-  pub listed : (members.health v.disk).stopped ≡ false →
+  pub listed : GoesAsListed (members.health v.disk) →
       AsListed (members.told v.disk) (members.calls v.disk) (members.told after) (members.calls after)
   pub cause : HasCause (members.health v.disk) (members.health after) 5 9 ((members.health v.disk).room < 9) answer
   pub same_disk : IsSameDisk members v.disk after

@@ -1,7 +1,7 @@
 -- What a power loss leaves of a work that it interrupts (this profile).
 use Rattle.std.specs.Prelude.{◌≡◌, ◌==◌, ℕ, ◌≤◌, Bool, true, false, not, if◌then◌else◌, List, Option, Some}
 use Rattle.disk_base.specs.Cut.{image_of}
-use Rattle.disk_base.specs.Faults.{DiskHealth, IsPlanned}
+use Rattle.disk_base.specs.Faults.{DiskHealth, GoesAsListed, IsPlanned}
 use Rattle.disk_base.specs.Story.{Story}
 use Rattle.disk_base.specs.Through.{GoesThrough}
 use Rattle.disk_base.specs.declared.cut.CutChoice.{CutChoice}
@@ -12,9 +12,9 @@ use Rattle.gate_cell.specs.Cell.{cell_in, gate_of, names_second, spare_is_second
 use Rattle.gate_cell.specs.Holds.{Holds}
 use Rattle.spool_slots.specs.File.{SpoolFile, StandsFor, file_in}
 
--- a disk goes on, with sure room for so many calls that write n bytes
+-- a disk goes on, each call comes to what its entry says, and there is sure room for so many calls that write n bytes
 pub record IsSure (health : DiskHealth) (calls n : ℕ) : Type 0 where
-  pub going : health.stopped ≡ false
+  pub going : GoesAsListed health
   pub calls_fit : calls ≤ health.calls
   pub bytes_fit : n ≤ health.room
 

@@ -1,7 +1,7 @@
 //! The mark is moved on: it stands in a cell of `gate_cell`, so that a crash leaves the old one or the new one.
 
 ghost use Rattle.std.specs.Prelude.{◌≡◌, ◌<◌, ◌≤◌, false, None, Some, IfErr, IfOk};
-ghost use Rattle.disk_base.specs.Faults.{HasCause, IsCrowded};
+ghost use Rattle.disk_base.specs.Faults.{GoesAsListed, HasCause, IsCrowded};
 ghost use Rattle.disk_base.specs.Listed.{AsListed};
 ghost use Rattle.disk_base.specs.SameDisk.{IsSameDisk};
 ghost use Rattle.disk_base.specs.Story.{Story};
@@ -32,7 +32,7 @@ pub fn write_mark<D: Disk>(disk: D, mark: u64) -> Result<D, D>
     ensures size { OnDisk (λ d. d) result (λ after answer. D.size_is after ≡ D.size_is disk) }
     ensures calls { (s : Story) → D.told disk ≡ Some s → OnDisk (λ d. d) result (λ after answer.
         LogsMark s mark (IsCrowded (D.health disk) 5 9) (D.calls disk) (D.calls after) answer) }
-    ensures listed { (D.health disk).stopped ≡ false → OnDisk (λ d. d) result (λ after answer.
+    ensures listed { GoesAsListed (D.health disk) → OnDisk (λ d. d) result (λ after answer.
         AsListed (D.told disk) (D.calls disk) (D.told after) (D.calls after)) }
     ensures cause { OnDisk (λ d. d) result (λ after answer.
         HasCause (D.health disk) (D.health after) 5 9 ((D.health disk).room < 9) answer) }

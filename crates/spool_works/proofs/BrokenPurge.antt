@@ -6,6 +6,7 @@ use Rattle.disk_base.specs.Story.{Story}
 use Rattle.disk_base.specs.declared.disk.Disk as disk
 use Rattle.disk_base.specs.declared.disk.DiskAnswer.TheVariants.{Done}
 use Rattle.disk_base.proofs.Moments.{now_is}
+use Rattle.disk_base.proofs.Stretches.{lists_on}
 use Rattle.gem_spool.proofs.Doing.{does_stands}
 use Rattle.gem_spool.specs.Spool.{DropsSome}
 use Rattle.gem_spool.specs.declared.count.Count.{Count}
@@ -60,7 +61,7 @@ used-passes h k calls n used goes = record {
   nearer = used.stop_left;
   on = record {
     fails_not = let left = used.fail_left in let none = goes.fails_not in omega (arith, left, none);
-    going = used.going ∙ goes.going;
+    going = lists_on h k calls n used goes.going;
   };
 }
 

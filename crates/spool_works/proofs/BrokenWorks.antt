@@ -138,7 +138,7 @@ module _ {D : Type 0} (members : disk.Ghosts D) (v : SpoolView D) (st : Standing
   planned-stop calls (inl fails) =
       absurd (let some = fails.0 in let none = goes.fails_not in omega (arith, some, none))
   planned-stop calls (inr (inl stops)) = stops
-  planned-stop calls (inr (inr stopped)) = absurd (both goes.going stopped.0)
+  planned-stop calls (inr (inr stopped)) = absurd (both goes.going.on stopped.0)
     where
       both : health.stopped ≡ false → health.stopped ≡ true → ⊥
       both one two = cc

@@ -1,7 +1,7 @@
 -- What a disk of a spool leaves where a planned call stops it (this profile).
 use Rattle.std.specs.Prelude.{◌≡◌, ◌≤◌, ◌-◌, ℕ, false, List, Option, Some}
 use Rattle.disk_base.specs.Cut.{image_of}
-use Rattle.disk_base.specs.Faults.{DiskHealth, IsAmong}
+use Rattle.disk_base.specs.Faults.{DiskHealth, GoesAsListed, IsAmong}
 use Rattle.disk_base.specs.Images.{IsImage}
 use Rattle.disk_base.specs.Story.{Story}
 use Rattle.disk_base.specs.declared.cut.CutChoice.{CutChoice}
@@ -11,10 +11,10 @@ use Rattle.message_end.specs.Ends.{call_of}
 use Rattle.spool_works.specs.Marked.{IsMarkedBy}
 use Rattle.spool_works.specs.SpoolLosses.{Left}
 
--- the disk goes on, and no call of it is to fail alone; one may be to stop it
+-- the disk goes on, each call comes to what its entry says, and none of them is to fail alone; one may be to stop it
 pub record IsGoingDisk (health : DiskHealth) : Type 0 where
   pub fails_not : health.fail_in ≡ 0
-  pub going : health.stopped ≡ false
+  pub going : GoesAsListed health
 
 -- so many calls were made, and the one that is to stop it isn't among them
 pub record HasPassed (before after : DiskHealth) (calls : ℕ) : Type 0 where

@@ -4,7 +4,7 @@ use Rattle.std.proofs.Common.{length, ℕ, ◌+◌, ◌≤◌, not, refl, sym, a
 use Rattle.disk_base.specs.Calls.{read_call, with_call}
 use Rattle.disk_base.specs.declared.disk.DiskAnswer.TheVariants.{Done, Failed}
 use Rattle.disk_base.proofs.Listings.{listed_behind}
-use Rattle.disk_base.proofs.Stretches.{crowded_behind}
+use Rattle.disk_base.proofs.Stretches.{crowded_behind, lists_on}
 use Rattle.gate_cell.proofs.Values.{logs_spare, place_is, prepared_is, prepares, settles_spare, told_before, untold}
 use Rattle.gate_cell.proofs.preparing.prepare.Goals as goal
 
@@ -25,7 +25,7 @@ returns-in-Failed-settle-clause-calls g c = λ s told.
 
 pub returns-in-Failed-settle-clause-listed : goal.returns-in-Failed-settle-clause-listed
 returns-in-Failed-settle-clause-listed g c =
-    λ going. listed_behind (c.read.ensures.listed going) (c.settle.ensures.listed (c.in-Done.ensures.cause.going ∙ going))
+    λ going. listed_behind (c.read.ensures.listed going) (c.settle.ensures.listed (lists_on _ _ 1 0 c.in-Done.ensures.cause going))
 
 pub returns-in-Done-settle-clause-told : goal.returns-in-Done-settle-clause-told
 returns-in-Done-settle-clause-told g c = λ s told.
@@ -40,7 +40,7 @@ returns-in-Done-settle-clause-calls g c = λ s told.
 
 pub returns-in-Done-settle-clause-listed : goal.returns-in-Done-settle-clause-listed
 returns-in-Done-settle-clause-listed g c =
-    λ going. listed_behind (c.read.ensures.listed going) (c.settle.ensures.listed (c.in-Done.ensures.cause.going ∙ going))
+    λ going. listed_behind (c.read.ensures.listed going) (c.settle.ensures.listed (lists_on _ _ 1 0 c.in-Done.ensures.cause going))
 
 pub invariant_of-result : goal.invariant_of-result
 invariant_of-result g c = record {

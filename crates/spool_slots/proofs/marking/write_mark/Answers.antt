@@ -4,7 +4,7 @@ use Rattle.std.proofs.Common.{ℕ, ◌<◌, inl, inr, ⊎_elim, subst, arith, �
 use Rattle.disk_base.specs.Faults.{DiskHealth, HasCause, IsPlanned}
 use Rattle.disk_base.specs.declared.disk.DiskAnswer.TheVariants.{Done, Failed}
 use Rattle.disk_base.proofs.Listings.{listed_behind}
-use Rattle.disk_base.proofs.Stretches.{crowded_behind, crowded_wider, fault_behind, fault_wider, used_behind}
+use Rattle.disk_base.proofs.Stretches.{crowded_behind, crowded_wider, fault_behind, fault_wider, lists_on, used_behind}
 use Rattle.gate_cell.specs.Ready.{Commits}
 use Rattle.spool_slots.specs.Losses.{IsSure}
 use Rattle.spool_slots.proofs.Gates.{commit_turns_gate, prepare_keeps_gate}
@@ -54,7 +54,7 @@ returns-in-Ok-commit-clause-calls g c = λ s told. record {
 
 pub returns-in-Ok-commit-clause-listed : goal.returns-in-Ok-commit-clause-listed
 returns-in-Ok-commit-clause-listed g c =
-    λ going. listed_behind (c.in-Ok.ensures.listed going) (c.in-Ok-commit.ensures.listed (c.in-Ok.ensures.cause.going ∙ going))
+    λ going. listed_behind (c.in-Ok.ensures.listed going) (c.in-Ok-commit.ensures.listed (lists_on _ _ 3 8 c.in-Ok.ensures.cause going))
 
 pub returns-in-Ok-commit-clause-cause : goal.returns-in-Ok-commit-clause-cause
 returns-in-Ok-commit-clause-cause g c = used_behind _ _ 3 8 c.in-Ok.ensures.cause _ 2 1 5 9 (omega arith) (omega arith) c.in-Ok-commit.ensures.cause
@@ -75,7 +75,7 @@ returns-in-Err-commit-clause-calls g c = λ s told. inr (record {
 
 pub returns-in-Err-commit-clause-listed : goal.returns-in-Err-commit-clause-listed
 returns-in-Err-commit-clause-listed g c =
-    λ going. listed_behind (c.in-Ok.ensures.listed going) (c.in-Err-commit.ensures.listed (c.in-Ok.ensures.cause.going ∙ going))
+    λ going. listed_behind (c.in-Ok.ensures.listed going) (c.in-Err-commit.ensures.listed (lists_on _ _ 3 8 c.in-Ok.ensures.cause going))
 
 pub returns-in-Err-commit-clause-cause : goal.returns-in-Err-commit-clause-cause
 returns-in-Err-commit-clause-cause g c =

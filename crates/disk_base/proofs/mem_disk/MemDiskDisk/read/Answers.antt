@@ -20,4 +20,4 @@ pub returns-clause-listed : goal.returns-clause-listed
 returns-clause-listed c =
     let s = c.args.self.now in
     λ going. subst (λ (t : DiskState). AsListed (Some s.story) (Some s.calls) (Some t.story) (Some t.calls)) (sym c.call-answer.ensures.state)
-    (as_listed s (next_read c.args.at (length c.args.into.now) s) going)
+    (as_listed s (next_read c.args.at (length c.args.into.now) s) going.on)
