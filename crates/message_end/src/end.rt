@@ -20,7 +20,7 @@ ghost use Rattle.trace_log.specs.Log.Happening.{Full};
 ghost use Rattle.trace_log.specs.Text.{note_of, printed_note};
 ghost use Rattle.transact.specs.Matching.{AwaitsReply};
 ghost use Rattle.transact.specs.Numbers.{numbers_from};
-ghost use Rattle.transact.specs.Transactions.{PrimaryFits, has_system, kind_of, match_of, primary_of};
+ghost use Rattle.transact.specs.Transactions.{IsTransactions, PrimaryFits, has_system, kind_of, match_of, primary_of};
 
 use crate::Unsent;
 use arrayvec::ArrayVec;
@@ -473,6 +473,15 @@ impl<K: Copy> MessageEnd<K> {
         ensures fits { PrimaryFits result }
     {
         self.parts.transactions.first()
+    }
+
+    /// The header of the primary at this place of the order in which the open transactions began, from 0, and its kind;
+    /// `None` exactly where no more are open.
+    pub fn open_at(&self, place: usize) -> Option<(Header, K)>
+        ensures primary { result ≡ option_map primary_of (slice_get self.now.transactions.begun place) }
+        ensures is_transactions { IsTransactions self.now.transactions }
+    {
+        self.parts.transactions.open_at(place)
     }
 
     /// Whether the message of the block with this header is a primary whose transaction is open.

@@ -5,6 +5,7 @@ pub mod Heeding
 pub mod Judging
 pub mod Longer
 pub mod Lost
+pub mod OwnRequests
 pub mod Parting
 pub mod Reading
 pub mod Storing

@@ -4,5 +4,6 @@ pub mod Ending
 pub mod Judged
 pub mod Late
 pub mod Node
+pub mod OwnRequests
 pub mod Starting
 pub mod Turns

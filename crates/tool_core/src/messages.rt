@@ -7,6 +7,7 @@ ghost use Rattle.message_end.specs.Parts.{AreCarried, after_turn, on_the_way};
 ghost use Rattle.message_end.specs.Core.Went.{Goes};
 ghost use Rattle.trace_log.specs.Text.{printed_note};
 ghost use Rattle.tool_core.specs.Node.{node_of, own_of};
+ghost use Rattle.tool_core.specs.OwnRequests.{place_behind};
 ghost use Rattle.tool_step.specs.Own.{turn_of};
 ghost use Rattle.tool_core.specs.Judged.{IsShort};
 ghost use Rattle.tool_step.specs.Sent.{answer_duties};
@@ -143,7 +144,7 @@ impl Tool {
         ensures does { TakesTurn (established_turn now message.now) self.old out.old self.new out.new result }
         ensures line { out.new.line ≡ out.old.line }
     {
-        self.end_own_request();
+        self.end_own_requests();
         match self.meet(alloc, CommsIn::HostRequest, now, out) {
             Ok(()) => self.accept(alloc, message, out),
             Err(stop) => Err(stop),
@@ -161,14 +162,16 @@ impl Tool {
         self.answer_by(alloc, answer, message, out)
     }
 
-    // The equipment's own S1F13 ends, where one is open.
-    fn end_own_request(&mut self)
+    // The equipment's own S1F13 ends, each that is open.
+    fn end_own_requests(&mut self)
         ensures { (out : StepOut) → after_turn printed_note (turn_of (own_of self.old.own) (own_request_duty ∷ []))
             (on_the_way (node_of self.old) out) ≡ Goes (on_the_way (node_of self.new) out) }
     {
-        match self.core.first() {
-            Some((header, kind)) => self.end_request(kind, header.system),
-            None => {}
+        let mut place = 0;
+        'requests: while let Some(primary) = self.core.open_at(place) {
+            self.end_request(primary.1, primary.0.system);
+            let next = place_behind(primary.1, place);
+            place = next;
         }
     }
 
@@ -312,4 +315,15 @@ fn is_online_request(message: &Message) -> bool
     ensures { result ≡ is_online_request message.now }
 {
     message.stream == 1 && message.function == 17
+}
+
+// The place of the next primary behind one of this kind: the same place where that has ended.
+fn place_behind(kind: Kind, place: usize) -> usize
+    requires { place < 64 }
+    ensures { result ≡ place_behind kind place }
+{
+    match kind {
+        Kind::Establish => place,
+        Kind::Attempt | Kind::Grant | Kind::Report | Kind::Unload | Kind::UnloadGrant => place + 1,
+    }
 }

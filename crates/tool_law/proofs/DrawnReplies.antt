@@ -1,7 +1,7 @@
 -- That turns on replies, messages, characters and commands of the tool draw few.
 use Rattle.std.proofs.Common.{refl, arith, ◌+◌, ◌==◌, ◌&&◌, ◌||◌, not, Bool, true, false, ℕ, List, [], ◌∷◌, ◌++◌, length, Option, Some, None, if◌then◌else◌}
 use Rattle.std.specs.Option.{option_map}
-use Rattle.std.specs.Prelude.{slice_get}
+use Rattle.std.specs.Prelude.{flat_map}
 use Rattle.block_codec.specs.declared.header.Header.{Header}
 use Rattle.gem_alarms.specs.Alarms.{step_of}
 use Rattle.gem_alarms.specs.declared.alarms.AlarmStep.{AlarmStep}
@@ -35,7 +35,8 @@ use Rattle.trace_log.specs.Names.{Spooled, message_name}
 use Rattle.transact.specs.declared.transactions.Match.{Match}
 use Rattle.transact.specs.declared.transactions.Match.TheVariants.{Reply as Replied, Abort as Aborted, Stranger}
 use Rattle.transact.specs.Numbers.{next_number}
-use Rattle.transact.specs.Transactions.{match_of, primary_of as primary_with_kind}
+use Rattle.transact.specs.declared.begun.Begun.{Begun}
+use Rattle.transact.specs.Transactions.{match_of, primary_of as primary_with_kind, system_of}
 use Rattle.message_end.specs.declared.end.Took.{Took}
 use Rattle.message_end.specs.declared.end.Took.TheVariants as took
 use Rattle.message_end.specs.Calls.{answered_by, dropped_now, due_now, failed_at, took_at}
@@ -53,7 +54,7 @@ use Rattle.spool_ledger.specs.Unloading.{after_next, confirmed, fresh, next_numb
 use Rattle.tool_step.specs.declared.kind.Kind.{Kind}
 use Rattle.tool_step.specs.declared.kind.Kind.TheVariants as kind
 use Rattle.tool_step.specs.Codes.{is_accepted_in, is_granted_in}
-use Rattle.tool_step.specs.Messages.{answer_turn, control_answer_duties, control_request_turn, dropped_turn, error_turn, established_duties, established_turn, first_request_commands, is_establish_request, is_online_request, known_turn, message_turn, offline_turn, own_request_commands, own_request_duty, primary_turn, read_turn, request_turn, stray_turn}
+use Rattle.tool_step.specs.Messages.{answer_turn, control_answer_duties, control_request_turn, dropped_turn, error_turn, established_duties, established_turn, is_establish_request, is_online_request, known_turn, message_turn, offline_turn, own_request_commands, own_request_duty, own_request_of, primary_turn, read_turn, request_turn, stray_turn}
 use Rattle.tool_step.specs.Own.{OwnView, ToolDuty, event_report, is_communicating, is_enabled_in, is_local, is_online, quiet_turn, turn_before, turn_of, waiting_report, with_control, with_ledger, with_tables, with_tried, without_grant}
 use Rattle.tool_law.specs.Putting.{alarm_puts, block_timer_puts, changed_puts, character_puts, command_puts, dropped_puts, enabled_puts, event_puts, flow_puts, given_up_puts, lacks_number, line_timer_puts, loss_puts, matched_puts, message_puts, puts_none, reply_puts, reply_timer_puts, timeout_puts, took_puts}
 use Rattle.tool_step.specs.Replies.{block_timer, denied_turn, given_up_by_t4, given_up_turn, granted_turn, loss_turn, matched_turn, reply_timer, reply_turn, secondary_turn, timeout_turn}
@@ -62,7 +63,7 @@ use Rattle.tool_step.specs.Spooling.{booked_turn, dataid_in, end_of_spooling, gr
 use Rattle.tool_step.specs.States as states
 use Rattle.tool_step.specs.Step.{beginning, begun, character, flow_turn, is_spent, line_timer, long_turn, offer, took_turn}
 use Rattle.tool_step.specs.Tool.{alarm_line, alarm_report_turn, alarm_turn, attempted_turn, command_turn, enabled_turn, known_event_turn, online_turn, set_turn, told_turn, with_event}
-use Rattle.tool_law.proofs.Drawing.{AreFree, AreFreeDuties, Needs, Spends, free-both, free-need, free-spend, halt-spend, needs-as, needs-behind, needs-both, needs-more, needs-none, needs-one, or-false, primary-spend, draw-spend}
+use Rattle.tool_law.proofs.Drawing.{AreFree, AreFreeDuties, Needs, Spends, free-both, free-need, free-spend, halt-spend, needs-as, needs-behind, needs-both, needs-more, needs-none, needs-one, or-false, primary-spend, draw-spend, both-free}
 use Rattle.tool_law.proofs.DrawnTurns.{one-needs, free-one, noted-free, booked-free, control-lines-free, control-free, error-spends, errors-need, comms-need, primary-need, going-need, event-need, abort-free, answers-free, NeedsFor, note-need, judged-need, report-need, left-need, leaving-need, failed-need}
 
 -- ---- a transaction ends without a reply
@@ -176,17 +177,19 @@ matched-need now Stranger message own e = needs-none 1
 
 -- ---- messages
 
-own-request-free : (first : Option (Header × Kind)) → AreFree (first_request_commands first)
-own-request-free None = tt
-own-request-free (Some primary) = go primary.1
-  where
-    go : (asked : Kind) → AreFree (own_request_commands asked primary.0.system)
-    go kind.Establish = (tt, (tt, tt))
-    go kind.Attempt = tt
-    go kind.Grant = tt
-    go kind.Report = tt
-    go kind.Unload = tt
-    go kind.UnloadGrant = tt
+own-request-free : (asked : Kind) (system : ℕ) → AreFree (own_request_commands asked system)
+own-request-free kind.Establish system = (tt, (tt, tt))
+own-request-free kind.Attempt system = tt
+own-request-free kind.Grant system = tt
+own-request-free kind.Report system = tt
+own-request-free kind.Unload system = tt
+own-request-free kind.UnloadGrant system = tt
+
+own-requests-free : (begun : List (Begun Kind)) → AreFree (flat_map own_request_of begun)
+own-requests-free [] = tt
+own-requests-free (one ∷ begun) =
+    both-free (own_request_of one) (flat_map own_request_of begun) (own-request-free one.kind (system_of one))
+    (own-requests-free begun)
 
 established-need : (now : ℕ) (message : Message) (own : OwnView)
     → Needs 1 false (established_turn now message own).duties
@@ -194,7 +197,7 @@ established-need now message own =
     let turn = states.comms_turn comms_in.HostRequest now own in
     let answers = established_duties message own in
     needs-behind 1 false own_request_duty (turn.duties ++ answers)
-    (λ e. own-request-free (option_map primary_with_kind (slice_get e.transactions.begun 0)))
+    (λ e. own-requests-free e.transactions.begun)
     (needs-as (1 + 0) 1 false false (turn.duties ++ answers) (omega arith) refl
     (needs-both 1 0 false false turn.duties answers (comms-need comms_in.HostRequest now own)
     (free-need answers (answers-free (sent.text_of own (established_of own.tables)) message))))

@@ -1,7 +1,7 @@
 -- Turns on errors, replies and requests keep what is kept sound.
 use Rattle.std.proofs.Common.{refl, arith, Bool, true, false, not, ℕ, ◌==◌, ◌&&◌, List, [], ◌∷◌, length, Option, Some, None, if◌then◌else◌}
 use Rattle.std.specs.Option.{option_map}
-use Rattle.std.specs.Prelude.{IfSome, slice_get}
+use Rattle.std.specs.Prelude.{IfSome, flat_map}
 use Rattle.block_codec.specs.declared.header.Header.{Header}
 use Rattle.gem_shapes.specs.Answers.{code_item}
 use Rattle.gem_shapes.specs.Primaries.{is_known, is_known_stream}
@@ -21,7 +21,8 @@ use Rattle.trace_log.specs.Names.{Spooled, message_name}
 use Rattle.transact.specs.declared.transactions.Match.{Match}
 use Rattle.transact.specs.declared.transactions.Match.TheVariants as match
 use Rattle.transact.specs.Numbers.{next_number}
-use Rattle.transact.specs.Transactions.{match_of, primary_of as primary_with_kind}
+use Rattle.transact.specs.declared.begun.Begun.{Begun}
+use Rattle.transact.specs.Transactions.{match_of, primary_of as primary_with_kind, system_of}
 use Rattle.message_end.specs.Calls.{answered_by}
 use Rattle.message_end.specs.Core.{EndView, IsText, is_crowded_out}
 use Rattle.message_end.specs.Core.Command.{Abort, Answer, Draw, DrawnPrimary, GiveUp, Note, Primary, Remove, Reply}
@@ -34,7 +35,7 @@ use Rattle.equipment_tables.specs.declared.plan.EquipmentPlan.{EquipmentPlan}
 use Rattle.equipment_tables.specs.Answers.{answer_of, established_of, lines_of, reply_to}
 use Rattle.tool_step.specs.Codes.{is_accepted_in, is_granted_in}
 use Rattle.tool_step.specs.Own.{OwnView, event_report, is_communicating, is_enabled_in as is_comms_enabled, is_local, is_online, turn_before, turn_of, waiting_report, with_control, with_ledger, with_tables, with_tried, without_grant, without_report}
-use Rattle.tool_step.specs.Messages.{answer_turn, control_answer_duties, control_request_turn, dropped_turn, error_turn, established_duties, established_turn, is_establish_request, first_request_commands, is_online_request, known_turn, message_turn, offline_turn, own_request_commands, primary_turn, read_turn, request_turn, stray_turn}
+use Rattle.tool_step.specs.Messages.{answer_turn, control_answer_duties, control_request_turn, dropped_turn, error_turn, established_duties, established_turn, is_establish_request, is_online_request, known_turn, message_turn, offline_turn, own_request_commands, own_request_of, primary_turn, read_turn, request_turn, stray_turn}
 use Rattle.equipment_tables.specs.Plan.{EquipmentPlanFits}
 use Rattle.tool_step.specs.Replies.{given_up_by_t4, given_up_turn, granted_turn, loss_turn, matched_turn, reply_turn, secondary_turn, timeout_turn}
 use Rattle.equipment_tables.specs.Requests.{request_of}
@@ -51,7 +52,7 @@ use Rattle.spool_ledger.specs.Storing.{all_out}
 use Rattle.spool_ledger.specs.Unloading.{after_next, confirmed, fresh, let_go, next_number as next_unloaded, taken_up, waiting_in, with_each, with_unload}
 use Rattle.tool_step.specs.Live.{ReportView}
 use Rattle.tool_law.proofs.TriedSteps.{IsMild}
-use Rattle.tool_law.proofs.MildCommands.{IsSpelled, none-quiet, one-note, sent-quiet, may-report, may-unload, may-ask-unload, can-event, IsOdd, may-tell, control-lines, abort-quiet, body-quiet, long-quiet, lines-plain, lines-quiet}
+use Rattle.tool_law.proofs.MildCommands.{IsSpelled, joined, none-quiet, one-note, sent-quiet, may-report, may-unload, may-ask-unload, can-event, IsOdd, may-tell, control-lines, abort-quiet, body-quiet, long-quiet, lines-plain, lines-quiet}
 use Rattle.tool_law.proofs.QuietTurns.{Sound, Quiet, AreQuiet, text-is, kept, ungranted, unreported, booked-sound, unloaded-sound, waiting-can, kept-or-ended, fixed-quiet, nothing-quiet, note-quiet, led-quiet, both-quiet, before-quiet, booked-quiet, comms-quiet, control-quiet, leaving-quiet}
 
 module _ (plan : EquipmentPlan) (TriedIs : Option ℕ → Type 0) (fits : EquipmentPlanFits plan) (slots : ℕ)
@@ -323,17 +324,19 @@ module _ (plan : EquipmentPlan) (TriedIs : Option ℕ → Type 0) (fits : Equipm
 
     -- ---- requests
 
-    own-request-quiet : (first : Option (Header × Kind)) → IsMild (first_request_commands first)
-    own-request-quiet None = none-quiet
-    own-request-quiet (Some primary) = go primary.1
-      where
-        go : (kind : Kind) → IsMild (own_request_commands kind primary.0.system)
-        go kind.Establish = record { calls = (tt, (tt, tt)); may = (tt, (tt, tt)) }
-        go kind.Attempt = none-quiet
-        go kind.Grant = none-quiet
-        go kind.Report = none-quiet
-        go kind.Unload = none-quiet
-        go kind.UnloadGrant = none-quiet
+    own-request-quiet : (kind : Kind) (system : ℕ) → IsMild (own_request_commands kind system)
+    own-request-quiet kind.Establish system = record { calls = (tt, (tt, tt)); may = (tt, (tt, tt)) }
+    own-request-quiet kind.Attempt system = none-quiet
+    own-request-quiet kind.Grant system = none-quiet
+    own-request-quiet kind.Report system = none-quiet
+    own-request-quiet kind.Unload system = none-quiet
+    own-request-quiet kind.UnloadGrant system = none-quiet
+
+    own-requests-quiet : (begun : List (Begun Kind)) → IsMild (flat_map own_request_of begun)
+    own-requests-quiet [] = none-quiet
+    own-requests-quiet (one ∷ begun) =
+        joined (own_request_of one) (flat_map own_request_of begun) (own-request-quiet one.kind (system_of one))
+        (own-requests-quiet begun)
 
     established-quiet :
         (now : ℕ) (message : Message) (own : OwnView) → (Sound plan TriedIs fits slots stood) own → (Quiet plan TriedIs fits slots stood) (established_turn now message own)
@@ -341,7 +344,7 @@ module _ (plan : EquipmentPlan) (TriedIs : Option ℕ → Type 0) (fits : Equipm
         let greeted = (comms-quiet plan TriedIs fits slots stood) comms_in.HostRequest now own sound in
         record {
           quiet = (
-            (λ e. own-request-quiet (option_map primary_with_kind (slice_get e.transactions.begun 0))),
+            (λ e. own-requests-quiet e.transactions.begun),
             (both-quiet plan TriedIs fits slots stood) (states.comms_turn comms_in.HostRequest now own).duties (established_duties message own)
                 greeted.quiet
                 (answers-quiet (sent.text_of own (established_of own.tables))

@@ -1,7 +1,5 @@
 -- That what the host asks for is answered by what holds then.
 use Rattle.std.proofs.Common.{◌≡◌, refl, sym, ap, subst, ◌∙◌, Bool, true, false, ℕ, ◌==◌, ◌≤◌, ◌+◌, ◌&&◌, nat_le, List, [], ◌∷◌, length, Option, Some, None, if◌then◌else◌}
-use Rattle.std.specs.Option.{option_map}
-use Rattle.std.specs.Prelude.{slice_get}
 use Rattle.gem_shapes.specs.Answers.{code_item}
 use Rattle.gem_shapes.specs.Requests.{shape_of}
 use Rattle.gem_shapes.specs.declared.primary.Primary.TheVariants as primary
@@ -19,7 +17,6 @@ use Rattle.trace_log.specs.declared.commands.ToolCommand.{ToolCommand}
 use Rattle.trace_log.specs.declared.names.Title.{Title}
 use Rattle.trace_log.specs.Log.{Happening, Past}
 use Rattle.trace_log.specs.Names.{message_name, title_of}
-use Rattle.transact.specs.Transactions.{primary_of as primary_with_kind}
 use Rattle.message_end.specs.Core.{carried, noted, queues, replies, reply_function, reply_of, reply_text, with_asked, with_end}
 use Rattle.message_end.specs.Core.Command.{Note, Reply}
 use Rattle.message_end.specs.Duties.{all_done}
@@ -42,7 +39,7 @@ use Rattle.tool_step.specs.Sent as sent
 use Rattle.tool_step.specs.States as states
 use Rattle.tool_reports.proofs.HeldReports.{Any, any-lasts, Ends, noted-so, plain-at, so_far}
 use Rattle.tool_reports.proofs.QuietReports.{Holds, IsSpelledSo, holds-as, spelled-so}
-use Rattle.tool_reports.proofs.PlainTurns.{IsPlain, count_waiting, answers-silent, abort-silent, all-out-quiet, before-plain, booked-plain, booked-stays, comms-plain, control-lines, itself, long-silent, own-request-silent}
+use Rattle.tool_reports.proofs.PlainTurns.{IsPlain, count_waiting, answers-silent, abort-silent, all-out-quiet, before-plain, booked-plain, booked-stays, comms-plain, control-lines, itself, long-silent, own-requests-silent}
 use Rattle.tool_reports.proofs.QuietNotes.{AreSettled, IsAsBefore, never-live, quiet-note, settled-more}
 use Rattle.tool_reports.proofs.SilentCommands.{AreSilentDuties, both-duties}
 use Rattle.message_end.proofs.Parts.{either-then}
@@ -177,8 +174,7 @@ module _
         record {
           silent = (
             (λ e asks.
-                own-request-silent (AsksOf message) (asks-none message) Fact lasts
-                (option_map primary_with_kind (slice_get e.transactions.begun 0))),
+                own-requests-silent (AsksOf message) (asks-none message) Fact lasts e.transactions.begun),
             both-duties (AsksOf message) (asks-none message) Fact lasts
                 (states.comms_turn comms_in.HostRequest now own).duties (established_duties message own)
                 greeted.silent (answers-of (sent.text_of own (established_of own.tables))),

@@ -24,6 +24,7 @@ use Rattle.trace_log.specs.Names.{Spooled, message_name, spooled_name}
 use Rattle.trace_log.specs.declared.names.Cause.TheVariants.{Confirmed, Purged}
 use Rattle.transact.specs.Numbers.{next_number}
 use Rattle.transact.specs.declared.begun.Begun.{Begun}
+use Rattle.transact.specs.Transactions.{system_of}
 use Rattle.message_end.specs.declared.unsent.Unsent.{Unsent}
 use Rattle.message_end.specs.Core.{Command, EndView, is_crowded_out}
 use Rattle.message_end.specs.Core.Command.{Abort, Halt, Note, Primary, Reply}
@@ -37,7 +38,7 @@ use Rattle.equipment_tables.specs.Answers.{identity_of}
 use Rattle.tool_step.specs.Grants.{GrantView}
 use Rattle.tool_step.specs.declared.kind.Kind.{Kind}
 use Rattle.tool_step.specs.declared.kind.Kind.TheVariants as kind
-use Rattle.tool_step.specs.Messages.{dropped_turn, error_turn, first_request_commands, offline_turn, own_request_commands, stray_turn}
+use Rattle.tool_step.specs.Messages.{dropped_turn, error_turn, offline_turn, own_request_commands, own_request_of, stray_turn}
 use Rattle.tool_step.specs.Live.{ReportView}
 use Rattle.tool_step.specs.Own.{OwnView, ToolCommands, ToolDuty, ToolTurn, is_communicating, is_granted_by, is_online, is_report_of, quiet_turn, turn_before, turn_of, with_comms, with_control, with_ledger, with_report, without_grant, without_report, with_tried}
 use Rattle.tool_step.specs.Replies.{denied_turn}
@@ -452,17 +453,19 @@ module _
       → IsPlain own (error_turn function header own)
   error-plain function odd header own = record { silent = errors-silent function odd header own; less = itself own }
 
-  pub own-request-silent : (first : Option (Header × Kind)) → Silent (first_request_commands first)
-  own-request-silent None = tt
-  own-request-silent (Some primary) = go primary.1
-    where
-      go : (kind : Kind) → Silent (own_request_commands kind primary.0.system)
-      go kind.Establish = (tt, (tt, tt))
-      go kind.Attempt = tt
-      go kind.Grant = tt
-      go kind.Report = tt
-      go kind.Unload = tt
-      go kind.UnloadGrant = tt
+  own-request-silent : (kind : Kind) (system : ℕ) → Silent (own_request_commands kind system)
+  own-request-silent kind.Establish system = (tt, (tt, tt))
+  own-request-silent kind.Attempt system = tt
+  own-request-silent kind.Grant system = tt
+  own-request-silent kind.Report system = tt
+  own-request-silent kind.Unload system = tt
+  own-request-silent kind.UnloadGrant system = tt
+
+  pub own-requests-silent : (begun : List (Begun Kind)) → Silent (flat_map own_request_of begun)
+  own-requests-silent [] = tt
+  own-requests-silent (one ∷ begun) =
+      both-silent Asks none Fact lasts (own_request_of one) (flat_map own_request_of begun)
+      (own-request-silent one.kind (system_of one)) (own-requests-silent begun)
 
   -- ---- replies
 

@@ -1,7 +1,6 @@
 -- The turns that leave the spool as it is: what they do is calm, the ledger stays, and the reports may be put.
 use Rattle.std.proofs.Common.{◌≡◌, refl, sym, subst, inl, inr, ◌⊎◌, arith, nat_le, Bool, true, false, ℕ, List, [], ◌∷◌, ◌++◌, length, map, Option, Some, None, if◌then◌else◌}
-use Rattle.std.specs.Prelude.{flat_map, slice_get}
-use Rattle.std.specs.Option.{option_map}
+use Rattle.std.specs.Prelude.{flat_map}
 use Rattle.block_codec.specs.declared.header.Header.{Header}
 use Rattle.gem_shapes.specs.Answers.{code_item}
 use Rattle.gem_shapes.specs.declared.request.TablesRequest.{TablesRequest}
@@ -24,7 +23,7 @@ use Rattle.trace_log.specs.Log.{Happening}
 use Rattle.trace_log.specs.Names.{Spooled, message_name}
 use Rattle.transact.specs.Numbers.{next_number}
 use Rattle.transact.specs.declared.begun.Begun.{Begun}
-use Rattle.transact.specs.Transactions.{primary_of as primary_with_kind}
+use Rattle.transact.specs.Transactions.{system_of}
 use Rattle.message_end.specs.declared.unsent.Unsent.{Unsent}
 use Rattle.message_end.specs.Core.{Command, EndView, is_crowded_out}
 use Rattle.message_end.specs.Core.Command.{Abort, Note, Offer, Primary, Reply}
@@ -40,7 +39,7 @@ use Rattle.spool_ledger.specs.Activity.{rsda_of}
 use Rattle.tool_step.specs.declared.kind.Kind.{Kind}
 use Rattle.tool_step.specs.declared.kind.Kind.TheVariants as kind
 use Rattle.tool_step.specs.Live.{ReportView}
-use Rattle.tool_step.specs.Messages.{answer_turn, control_answer_duties, control_request_turn, dropped_turn, error_turn, established_duties, established_turn, first_request_commands, offline_turn, own_request_commands, stray_turn}
+use Rattle.tool_step.specs.Messages.{answer_turn, control_answer_duties, control_request_turn, dropped_turn, error_turn, established_duties, established_turn, offline_turn, own_request_commands, own_request_of, stray_turn}
 use Rattle.tool_step.specs.Own.{OwnView, ToolCommands, ToolDuty, ToolTurn, is_communicating, is_local, is_report_of, quiet_turn, turn_before, turn_of, with_comms, with_control, with_report, with_tables, without_report}
 use Rattle.tool_step.specs.Replies.{denied_turn}
 use Rattle.tool_step.specs.Reports.{unreported_turn}
@@ -330,17 +329,19 @@ offline-calm message own = go message.wait
 pub error-turn-calm : (function : ℕ) (header : Header) (own : OwnView) → IsCalmTurn own (error_turn function header own)
 error-turn-calm function header own = record { duties = errors-calm function header own; like = likes own }
 
-own-request-calm : (first : Option (Header × Kind)) → AreCalm false (first_request_commands first)
-own-request-calm None = tt
-own-request-calm (Some primary) = go primary.1
-  where
-    go : (kind : Kind) → AreCalm false (own_request_commands kind primary.0.system)
-    go kind.Establish = (tt, (tt, tt))
-    go kind.Attempt = tt
-    go kind.Grant = tt
-    go kind.Report = tt
-    go kind.Unload = tt
-    go kind.UnloadGrant = tt
+own-request-calm : (kind : Kind) (system : ℕ) → AreCalm false (own_request_commands kind system)
+own-request-calm kind.Establish system = (tt, (tt, tt))
+own-request-calm kind.Attempt system = tt
+own-request-calm kind.Grant system = tt
+own-request-calm kind.Report system = tt
+own-request-calm kind.Unload system = tt
+own-request-calm kind.UnloadGrant system = tt
+
+own-requests-calm : (begun : List (Begun Kind)) → AreCalm false (flat_map own_request_of begun)
+own-requests-calm [] = tt
+own-requests-calm (one ∷ begun) =
+    both-calm (own_request_of one) (flat_map own_request_of begun) (own-request-calm one.kind (system_of one))
+    (own-requests-calm begun)
 
 pub established-calm : (now : ℕ) (message : Message) (own : OwnView)
     → IsCalmTurn own (established_turn now message own)
@@ -348,7 +349,7 @@ established-calm now message own =
     let comms = comms-calm comms_in.HostRequest now own in
     record {
       duties = (
-        (λ e. own-request-calm (option_map primary_with_kind (slice_get e.transactions.begun 0))),
+        (λ e. own-requests-calm e.transactions.begun),
         both-duties (states.comms_turn comms_in.HostRequest now own).duties (established_duties message own)
             comms.duties
             (answers-calm (sent.text_of own (established_of own.tables)) message),

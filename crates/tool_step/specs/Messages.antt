@@ -1,6 +1,5 @@
 -- How the equipment treats a whole message of the host.
-use Rattle.std.specs.Prelude.{ℕ, Bool, true, not, ◌==◌, ◌&&◌, List, [], ◌∷◌, ◌++◌, map, slice_get, Option, Some, None, if◌then◌else◌}
-use Rattle.std.specs.Option.{option_map}
+use Rattle.std.specs.Prelude.{ℕ, Bool, true, not, ◌==◌, ◌&&◌, List, [], ◌∷◌, ◌++◌, flat_map, map, Option, Some, None, if◌then◌else◌}
 use Rattle.block_codec.specs.declared.header.Header.{Header}
 use Rattle.gem_shapes.specs.declared.request.Request.{Request}
 use Rattle.gem_shapes.specs.declared.request.Request.TheVariants as request
@@ -17,7 +16,8 @@ use Rattle.message_flow.specs.declared.message.Message.{Message}
 use Rattle.message_flow.specs.Message.{is_primary}
 use Rattle.trace_log.specs.Log.{Happening, Past}
 use Rattle.trace_log.specs.Names.{message_name}
-use Rattle.transact.specs.Transactions.{primary_of}
+use Rattle.transact.specs.declared.begun.Begun.{Begun}
+use Rattle.transact.specs.Transactions.{system_of}
 use Rattle.message_end.specs.Core.{EndView}
 use Rattle.message_end.specs.Core.Command.{End, Note, Remove}
 use Rattle.message_end.specs.Parts.{fixed_turn, led_turn}
@@ -34,18 +34,17 @@ use Rattle.equipment_tables.specs.Tables.{tables_after}
 
 -- ---- S1F13
 
--- the equipment's own S1F13, sent and not answered yet, ends without a note. While it is open no other transaction is
--- (this profile)
+-- the equipment's own S1F13, sent and not answered yet, ends without a note (this profile)
 abbrev pub own_request_commands : Kind → ℕ → ToolCommands
 own_request_commands kind.Establish system = End system ∷ Remove true system ∷ []
 own_request_commands _ system = []
 
-abbrev pub first_request_commands : Option (Header × Kind) → ToolCommands
-first_request_commands None = []
-first_request_commands (Some primary) = own_request_commands primary.1 primary.0.system
+abbrev pub own_request_of : Begun Kind → ToolCommands
+own_request_of begun = own_request_commands begun.kind (system_of begun)
 
+-- each that is open, in the order in which they began (SEMI E30, communications state model)
 abbrev pub own_request_duty : ToolDuty
-own_request_duty e = first_request_commands (option_map primary_of (slice_get e.transactions.begun 0))
+own_request_duty e = flat_map own_request_of e.transactions.begun
 
 abbrev pub established_duties : Message → OwnView → List ToolDuty
 established_duties message own =

@@ -167,6 +167,17 @@ impl<K: Copy> Transactions<K> {
         self.begun.first().map(|begun| (begun.header, begun.kind))
     }
 
+    /// The header of the primary at this place of the order in which they began, from 0, and its kind. `None` exactly
+    /// where no more are open. There are few of them, and no two have the same system bytes.
+    pub fn open_at(&self, place: usize) -> Option<(Header, K)>
+        ensures primary { result ≡ option_map primary_of (slice_get self.now.begun place) }
+        ensures is_transactions { IsTransactions self.now }
+    {
+        self.begun
+            .get(place)
+            .map(|begun| (begun.header, begun.kind))
+    }
+
     /// Ends the transaction with these system bytes, and gives its kind. `None` exactly where no open one has them;
     /// then nothing changes.
     pub fn end(&mut self, system: u32) -> Option<K>
