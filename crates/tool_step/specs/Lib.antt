@@ -18,4 +18,5 @@ pub mod Step
 pub mod Taking
 pub mod Tool
 pub mod WorkedLosses
+pub mod WorkedRequests
 pub mod WorkedSpool

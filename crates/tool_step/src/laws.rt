@@ -4,6 +4,7 @@ ghost use Rattle.tool_step.specs.CallsCounted.{CallsAreCounted};
 ghost use Rattle.spool_works.specs.WorkedCalls.{CallsOfWorks};
 ghost use Rattle.tool_step.specs.Losses.{LossesAreCounted};
 ghost use Rattle.tool_step.specs.WorkedLosses.{LosesAtCalls};
+ghost use Rattle.tool_step.specs.WorkedRequests.{EndOwnRequests};
 ghost use Rattle.tool_step.specs.WorkedSpool.{FullSpools, LosesInOrder, PutsTheLast, SpoolingBegins, UnloadsInOrder};
 
 /// The disk's calls in a step are as many, and write as many bytes, as is counted of its works.
@@ -33,4 +34,9 @@ pub fn losses_are_counted()
 /// An example of what a loss of power leaves: the line fails, and a report is put.
 pub fn worked_losses()
     ensures { LosesAtCalls }
+{}
+
+/// Examples of the equipment's own S1F13, open before a report, behind one, and twice, as that of the host comes.
+pub fn worked_own_requests()
+    ensures { EndOwnRequests }
 {}
