@@ -26,6 +26,7 @@ use Rattle.message_end.specs.Ends.{AreBegunOf, AreOfStep, DoesMore, DoesStep, Ha
 use Rattle.message_end.specs.Ends.Input.{Char, Command, Time}
 use Rattle.message_end.specs.History.{noted_in, notes_of_own, written_in}
 use Rattle.message_end.specs.Log.{log_of, noted_of_own, with_note}
+use Rattle.message_end.specs.InStep.{EndsOnce, HasNoEnd}
 use Rattle.message_end.specs.LineCalls.{calls_in}
 use Rattle.message_end.specs.Moves.{AreTimely, IsOnWay, KeepLaws, LinePlans, Move, act_of_call, deeds_of, Run, line_of_moves, plan_at, run_at, seen_at}
 use Rattle.message_end.specs.Moves.Kind.{Did}
@@ -373,8 +374,8 @@ module _ {S C : Type 0} (did : ℕ → List Doing → S → Type 0) (takes : C �
     written : way.written_in line (deeds_by side (calls_in done)) ≡ step.written
 
   is-stepping :
-      (base now : ℕ) (line : Line) (doings : List Doing) (Such : List LineCall → Type 0) (step : Step S Happening)
-      (more : DoesMore (plan_at side plans) did base doings now Such step)
+      (base now : ℕ) (line : Line) (doings : List Doing) (Such : List LineCall → Type 0) {Ends : List Doing → Type 0}
+      (step : Step S Happening) (more : DoesMore (plan_at side plans) did base doings now Such Ends step)
       → (seen_from side line).here.state ≡ line_of (plan_at side plans) doings
       → AreOnWay side line (calls_in more.done) → HasNoSlip line (deeds_by side (calls_in more.done))
       → IsStepping line doings more.done step
@@ -444,7 +445,7 @@ module _ {S C : Type 0} (did : ℕ → List Doing → S → Type 0) (takes : C �
       → HasNoSlip (new_line plans.equipment.times plans.host.times) (deeds_of moves) → IsAt did side plans moves s
       → IsNext (seen_at side plans moves).there.under_way input → NoSlipIn side now (line_of_moves plans moves) input
       → (more : DoesMore (plan_at side plans) did (run_at side plans moves).base (run_at side plans moves).doings now
-      (AreBegunOf input now) step)
+      (AreBegunOf input now) HasNoEnd step)
       → AreMoves did side plans now moves step.next step.notes more.done
   spent-moves now moves s input step keep timely clean at next quiet more =
       are-moves now moves step.next more.done step.notes keep timely clean more.is more.drops are.are are.on are.quiet
@@ -479,7 +480,7 @@ module _ {S C : Type 0} (did : ℕ → List Doing → S → Type 0) (takes : C �
       → IsNext (seen_at side plans moves).there.under_way input → NoSlipIn side now (line_of_moves plans moves) input
       → StandsFor ways (line_of_moves plans moves)
       → DoesMore (plan_at side plans) did (run_at side plans moves).base (run_at side plans moves).doings now
-      (AreOfStep input now) step
+      (AreOfStep input now) EndsOnce step
       → HasMoved now moves input ways step
   goes-moves now moves s input ways step keep timely clean at next quiet stands more = record {
     done = all;

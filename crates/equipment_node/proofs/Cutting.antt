@@ -6,7 +6,7 @@ use Rattle.gem_spool.specs.declared.works.Work.{Work}
 use Rattle.message_flow.specs.declared.step.Note.{Note}
 use Rattle.message_end.specs.Ends.{IsFront, printed}
 use Rattle.trace_log.specs.Log.{Happening, is_before_change}
-use Rattle.trace_log.specs.Log.Happening.{EquipmentStarted, HostStarted, Power, Closed, Sent, Received, Wrote, Comms, Control, Spool, Set, Event, Alarm, Carried, Display, Refused, Storing, Stored, Leaving, Gone, Try, Duplicate, Unexpected, Foreign, TooLongBlock, Crowded, DroppedByT4, Failed, TimedOut, Stranger, Dropped, Denied, Discarded, TooLong, Full, Recorded}
+use Rattle.trace_log.specs.Log.Happening.{EquipmentStarted, HostStarted, Power, Closed, Sent, Received, Wrote, Comms, Control, Spool, Set, Event, Alarm, Carried, Display, Refused, Storing, Stored, Leaving, Gone, Try, Duplicate, Unexpected, Foreign, TooLongBlock, Crowded, DroppedByT4, Failed, TimedOut, Stranger, Dropped, Denied, Discarded, TooLong, Full, Recorded, StepEnded}
 use Rattle.trace_log.specs.Text.{note_of, printed_note}
 use Rattle.equipment_node.specs.Cut.{cut_at, noted_to}
 use Rattle.spool_works.specs.DiskWorks.{DiskWork, behind_change, fronts_of, up_to_change}
@@ -57,6 +57,7 @@ told (Discarded name) = inr (refl, refl)
 told (TooLong name) = inr (refl, refl)
 told (Full name) = inr (refl, refl)
 told (Recorded past) = inl (refl, refl)
+told StepEnded = inl (refl, refl)
 
 -- ---- up to one of them
 

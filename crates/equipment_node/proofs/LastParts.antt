@@ -22,7 +22,7 @@ use Rattle.trace_log.specs.Text.{printed_note}
 use Rattle.message_end.specs.Core.{EndView, Step, Went, and_then, step_in}
 use Rattle.message_end.specs.Core.Went.{Goes, Spent}
 use Rattle.message_end.specs.Laws.{read_as, went_as}
-use Rattle.message_end.specs.Parts.{Node, after_parts, after_turn, on_the_way}
+use Rattle.message_end.specs.Parts.{Node, after_parts, after_turn, closes, on_the_way}
 use Rattle.message_end.proofs.Leaving.{read-parts}
 use Rattle.spool_ledger.specs.Ledger.{LedgerView, carried_out}
 use Rattle.spool_ledger.specs.Unloading.{next_number}
@@ -98,7 +98,7 @@ module _ {D : Type 0} (members : disk.Ghosts D) where
       ≡ taking oldest (asked_node t.next.node).own t.next.node.core)
     where
       abbrev done : List ToolPart
-      done = taking oldest ∷ end_of_spooling ∷ offer now ∷ []
+      done = taking oldest ∷ end_of_spooling ∷ offer now ∷ closes ∷ []
 
       abbrev parts : List ToolPart
       parts = last_parts (oldest_of t.next) now
@@ -120,7 +120,7 @@ module _ {D : Type 0} (members : disk.Ghosts D) where
           ap (λ (node : Node OwnView Kind). after_parts printed_note done (on_the_way node out)) asked
           ∙ ap (λ (turn : ToolTurn).
           and_then (after_turn printed_note turn (on_the_way t.next.node out))
-          (after_parts printed_note (end_of_spooling ∷ offer now ∷ []))) (sym same)
+          (after_parts printed_note (end_of_spooling ∷ offer now ∷ closes ∷ []))) (sym same)
           ∙ ap (after_parts printed_note parts) start
           ∙ read-parts {S = OwnView} {K = Kind} {N = Note} printed_note parts (node_step t)
 

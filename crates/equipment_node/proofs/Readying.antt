@@ -12,7 +12,7 @@ use Rattle.spool_slots.specs.Spool.{SpoolView}
 use Rattle.trace_log.specs.Names.{Spooled}
 use Rattle.trace_log.specs.Text.{printed_note}
 use Rattle.message_end.specs.Core.{EndView, Went, step_in}
-use Rattle.message_end.specs.Parts.{Node, on_the_way}
+use Rattle.message_end.specs.Parts.{Node, closes, on_the_way}
 use Rattle.equipment_tables.specs.declared.plan.EquipmentPlan.{EquipmentPlan}
 use Rattle.equipment_tables.specs.Plan.{EquipmentPlanFits}
 use Rattle.equipment_tables.specs.Tables.{most_transmitted}
@@ -117,17 +117,17 @@ module _ (plan : EquipmentPlan) (fits : EquipmentPlanFits plan) (slots : ℕ) (s
 
   last-keep :
       (oldest : Option (ℕ × Spooled)) (now : ℕ) → IsSendable oldest
-      → AllKeepSound plan fits slots stood (taking oldest ∷ end_of_spooling ∷ offer now ∷ [])
+      → AllKeepSound plan fits slots stood (taking oldest ∷ end_of_spooling ∷ offer now ∷ closes ∷ [])
   last-keep oldest now can = (
     taking-keeps oldest can,
-    (ended-sound plan fits slots stood, ((λ own e sound. sound), tt)),
+    (ended-sound plan fits slots stood, ((λ own e sound. sound), ((λ own e sound. sound), tt))),
   )
 
 pub last-ready :
     {D : Type 0} (members : disk.Ghosts D) (g : GemSpool D) (oldest : Option (ℕ × Spooled)) (now : ℕ)
     (old new : Node OwnView Kind) (out after : StepOut) (result : Result (GemSpool D) (Ended D)) → IsReady g.spool old
     → IsSendable oldest
-    → DoesLast members g (taking oldest ∷ end_of_spooling ∷ offer now ∷ []) old out new after result
+    → DoesLast members g (taking oldest ∷ end_of_spooling ∷ offer now ∷ closes ∷ []) old out new after result
     → IfOk result (λ h. IsReady h.spool new)
 last-ready members g oldest now old new out after (Err end) ready can does = tt
 last-ready members g oldest now old new out after (Ok h) ready can does =
@@ -139,7 +139,7 @@ last-ready members g oldest now old new out after (Ok h) ready can does =
     subst
     (λ (w : Went (Node OwnView Kind) Note). IsSound plan slots stood (step_in w).next.own)
     does.1
-    (parts-sound plan fits slots stood printed_note (taking oldest ∷ end_of_spooling ∷ offer now ∷ [])
+    (parts-sound plan fits slots stood printed_note (taking oldest ∷ end_of_spooling ∷ offer now ∷ closes ∷ [])
     (on_the_way old out) (last-keep plan fits slots stood oldest now can) ready.sound.sound) in
     record {
       count =

@@ -138,5 +138,7 @@ pub last-rested :
     (oldest : Option Spooled) (now : ℕ) (step : Step (Node OwnView Kind) Happening)
     → HasRested step.next.own.ledger (step_in (after_parts Some (last_parts oldest now) step)).next.own.ledger
 last-rested oldest now step =
-    parts-rest (last_parts oldest now)
-    (unload-part-rests oldest, (ending-rests, ((λ own e. same-rests own.ledger), tt))) step
+    parts-rest (last_parts oldest now) (
+      unload-part-rests oldest,
+      (ending-rests, ((λ own e. same-rests own.ledger), ((λ own e. same-rests own.ledger), tt))),
+    ) step

@@ -13,6 +13,7 @@ ghost use Rattle.message_end.specs.declared.end.Stop.TheVariants.{DiskFailed, Nu
 ghost use Rattle.message_end.specs.Core.{Step, step_in};
 ghost use Rattle.message_end.specs.Core.Went.{Goes};
 ghost use Rattle.message_end.specs.Ends.{Input, IsEmpty, MayTake, input_of, printed};
+ghost use Rattle.message_end.specs.Parts.{closes};
 ghost use Rattle.spool_ledger.specs.Ledger.{carried_out, stood_count};
 ghost use Rattle.spool_ledger.specs.Unloading.{next_number as unload_number};
 ghost use Rattle.equipment_tables.specs.Tables.{most_transmitted};
@@ -449,7 +450,7 @@ fn end_with<D: Disk>(
     ensures ends { DoesLast
         D.Disk
         spool
-        (taking oldest ∷ end_of_spooling ∷ offer now ∷ [])
+        (taking oldest ∷ end_of_spooling ∷ offer now ∷ closes ∷ [])
         (node_of tool.old)
         out.old
         (node_of tool.new)

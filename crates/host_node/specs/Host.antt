@@ -27,7 +27,7 @@ use Rattle.message_end.specs.Duties.{Duty}
 use Rattle.message_end.specs.Endings.{ends_open, notes_failed}
 use Rattle.message_end.specs.Ends.{Input, Machine}
 use Rattle.message_end.specs.Ends.Input.{Char, Command as Told, Time}
-use Rattle.message_end.specs.Parts.{Design, Node, Part, Turn, fixed_turn, leads, led_turn, machine_of}
+use Rattle.message_end.specs.Parts.{Design, Node, Part, Turn, closes, fixed_turn, leads, led_turn, machine_of}
 use Rattle.message_end.specs.Plan.{EndPlan}
 use Rattle.host_node.specs.declared.comms.HostComms.{HostComms}
 use Rattle.host_node.specs.declared.comms.HostComms.TheVariants as comms
@@ -239,9 +239,9 @@ given (Told command) now = obeys command
 abbrev pub offers : ℕ → Part HostOwn Kind
 offers now own e = led_turn (Offer now) (fixed_turn own [])
 
--- what is due, the input, and the line
+-- what is due, the input, and the line; and the end of the step
 abbrev pub parts : Input HostCommand → ℕ → List (Part HostOwn Kind)
-parts input now = ticks now ∷ ends_late now ∷ given input now ∷ offers now ∷ []
+parts input now = ticks now ∷ ends_late now ∷ given input now ∷ offers now ∷ closes ∷ []
 
 -- ---- the host as an end
 

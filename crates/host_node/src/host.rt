@@ -8,7 +8,7 @@ ghost use Rattle.message_flow.specs.Assembly.{WholeFits};
 ghost use Rattle.trace_log.specs.Commands.{HostCommandFits, IsPrimaryName};
 ghost use Rattle.message_end.specs.Calls.{deadline_of_end};
 ghost use Rattle.message_end.specs.Ends.{EndsBy, IsEmpty, Leaves, MayTake, input_of, most_calls};
-ghost use Rattle.message_end.specs.Parts.{Takes, TakesAll, fixed_turn};
+ghost use Rattle.message_end.specs.Parts.{Takes, TakesAll, closes, fixed_turn};
 ghost use Rattle.host_node.specs.Host.{breaks, ends_late, enters, follows, given, heeds, heeds_primary, heeds_secondary, host_machine, is_acceptance, judges, obeys, offers, parts, sends, takes, ticks};
 
 use crate::comms::{HostComms, note_comms};
@@ -210,7 +210,8 @@ impl Host {
         self.tick(alloc, now, out)?;
         self.end_late(alloc, now, out)?;
         self.meet(alloc, input, now, out)?;
-        self.offer(now, out)
+        self.offer(now, out)?;
+        self.close(out)
     }
 
     // Lets the timer of the line act.
@@ -471,6 +472,14 @@ impl Host {
         ensures { Takes (offers now self.old.own self.old.core) self.old out.old self.new out.new result }
     {
         self.core.offer(now, out);
+        Ok(())
+    }
+
+    // The step comes to its end.
+    fn close(&mut self, out: &mut StepOut) -> Result<(), Stop>
+        ensures { Takes (closes self.old.own self.old.core) self.old out.old self.new out.new result }
+    {
+        self.core.end_step(out);
         Ok(())
     }
 }

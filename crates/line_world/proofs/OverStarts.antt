@@ -143,6 +143,9 @@ module _ (P : Happening → Type 0)
   by-kind (Happening.Recorded past) =
       other (Happening.Recorded past)
       (record { events = λ before. refl; tries = λ before. refl; tells = λ plan before. tt; quiet = tt })
+  by-kind Happening.StepEnded =
+      other Happening.StepEnded
+      (record { events = λ before. refl; tries = λ before. refl; tells = λ plan before. tt; quiet = tt })
 
 -- ---- events of all starts
 

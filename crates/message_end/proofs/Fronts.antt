@@ -14,11 +14,13 @@ use Rattle.message_end.specs.Drops.{AreDroppedAt}
 use Rattle.message_end.specs.Ends.{AreBegunOf, AreOfStep, DoesMore, DoesStep, GoesSoFar, Input, IsFront, IsMadeOf, KeepsLaw, Machine, MayTake}
 use Rattle.message_end.specs.Fronts.{StopsAreLawful}
 use Rattle.message_end.specs.History.{Folds, folds_of, noted_in, notes_of_own}
+use Rattle.message_end.specs.InStep.{AreOfOneStep, EndsOnce, HasNoEnd}
 use Rattle.message_end.specs.LineCalls.{calls_in}
 use Rattle.message_end.specs.Own.{Has, Own, drawn_in, whole_in}
 use Rattle.message_end.specs.Own.Own.{DrewNumber, DroppedMessage, GaveBlock, HeardBlock, ReceivedMessage, SentMessage, WroteFrame}
 use Rattle.message_end.specs.Plan.{EndPlan, receiver_of}
 use Rattle.message_end.proofs.Courses.{folds-call, folds_told}
+use Rattle.message_end.proofs.InSteps.{ends-of-one, of-one-step, one-older}
 
 -- ---- what is noted
 
@@ -265,7 +267,7 @@ module _
 
   pub front-done :
       (front : List Happening) (step : Step S Happening)
-      (more : DoesMore plan did base doings now (AreBegunOf input now) step)
+      (more : DoesMore plan did base doings now (AreBegunOf input now) AreOfOneStep step)
       → AreLawful plan base (more.done ++ doings) → whole_in (own_of plan doings) ≡ None → IsFront front step.notes
       → IsFirstOf more.done front
   front-done front step more lawful received is = record {
@@ -284,6 +286,7 @@ module _
           dropped-before now parts.later parts.older
           (subst (λ (ds : List Doing). AreDroppedAt now ds) parts.whole more.drops);
       received = received-by plan base parts.older doings received parts.last lawful_by;
+      one = one-older parts.later parts.older (subst AreOfOneStep parts.whole more.ends);
     };
     drawn = λ number has.
         subst (λ (ds : List Doing). Has (drawn_in (own_of plan ds)) number) (sym all_is)
@@ -310,8 +313,8 @@ module _
 
   -- a whole step is one that has begun
   begun-whole :
-      (step : Step S Happening) → DoesMore plan did base doings now (AreOfStep input now) step
-      → DoesMore plan did base doings now (AreBegunOf input now) step
+      (step : Step S Happening) → DoesMore plan did base doings now (AreOfStep input now) EndsOnce step
+      → DoesMore plan did base doings now (AreBegunOf input now) AreOfOneStep step
   begun-whole step more = record {
     done = more.done;
     is = more.is;
@@ -319,13 +322,27 @@ module _
     written = more.written;
     calls = record { later = []; whole = more.calls };
     drops = more.drops;
+    ends = ends-of-one more.done more.ends;
+  }
+
+  begun-part :
+      (step : Step S Happening) → DoesMore plan did base doings now (AreBegunOf input now) HasNoEnd step
+      → DoesMore plan did base doings now (AreBegunOf input now) AreOfOneStep step
+  begun-part step more = record {
+    done = more.done;
+    is = more.is;
+    notes = more.notes;
+    written = more.written;
+    calls = more.calls;
+    drops = more.drops;
+    ends = of-one-step more.done more.ends;
   }
 
   pub begun-step :
       (went : Went S Happening) → DoesStep plan did base doings input now went
-      → DoesMore plan did base doings now (AreBegunOf input now) (step_in went)
+      → DoesMore plan did base doings now (AreBegunOf input now) AreOfOneStep (step_in went)
   begun-step (Goes step) more = begun-whole step more
-  begun-step (Spent step) more = more
+  begun-step (Spent step) more = begun-part step more
 
 -- so it is wherever a step stops early
 pub stops-first :

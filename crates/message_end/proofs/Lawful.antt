@@ -11,6 +11,7 @@ use Rattle.message_end.specs.History.{IsHistoryOf, noted_in, written_in}
 use Rattle.message_end.specs.Laws.{CarriesOn, EndsAreLawful, new_end}
 use Rattle.message_end.specs.Own.{sent_in}
 use Rattle.message_end.specs.Plan.{EndPlan}
+use Rattle.message_end.proofs.InSteps.{history-ends}
 use Rattle.message_end.proofs.Open.{not-refused}
 use Rattle.message_end.proofs.Steps.{Laws, carries-on}
 
@@ -49,6 +50,7 @@ begins laws plan numbers fits left = record {
     };
     met = record { receiver = refl; stands = record { last = refl; partials = refl }; blocks = All-nil IsBlock };
   };
+  steps = record { replies = tt; asked = λ title none. absurd (cc) };
 }
 
 continues :
@@ -69,12 +71,15 @@ continues {K} laws plan base doings e commands fits is may =
       };
       received = is.received;
       core = is.core;
+      steps = is.steps;
+      unended = tt;
     })
 
 pub lawful : {K : Type 0} → Laws → EndsAreLawful K
 lawful laws = record {
   begins = begins laws;
   goes_on = continues laws;
+  ends = λ plan base doings e is. history-ends plan base doings e is;
   begins_new = λ plan base doings e header is none room.
       not-refused plan (sent_in (own_of plan doings)) e.transactions header is.core.transactions none room;
 }

@@ -4,6 +4,7 @@ pub mod Duties
 pub mod Ended
 pub mod Fronts
 pub mod Growing
+pub mod InSteps
 pub mod Keeps
 pub mod Lawful
 pub mod Leaving
@@ -14,6 +15,7 @@ pub mod Lists
 pub mod LogText
 pub mod Lower
 pub mod Members
+pub mod NotedSteps
 mod Open
 pub mod Parts
 pub mod Reading

@@ -12,20 +12,22 @@ use Rattle.message_flow.specs.Assembly.{flow_to, with_block}
 use Rattle.transact.specs.Transactions.{is_answered_by, with_deadline}
 use Rattle.trace_log.specs.Log.{Happening}
 use Rattle.transact.specs.Numbers.{IsNumbers, NumbersView, numbers_from}
-use Rattle.message_end.specs.Core.{Command, EndView, MayCarryAll, Step, Went, acknowledges, and_then, asked_by, at_first, calls, carried, carry, held_header, judges, offers, step_in, takes, takes_back, tells, with_asked, with_assembly, with_end, with_transactions}
+use Rattle.message_end.specs.Core.{Command, EndView, MayCarryAll, MayNote, Step, Went, acknowledges, and_then, asked_by, at_first, calls, carried, carry, held_header, judges, offers, step_in, takes, takes_back, tells, with_asked, with_assembly, with_end, with_transactions}
 use Rattle.message_end.specs.Core.Went.{Goes, Spent}
-use Rattle.message_end.specs.Doings.{Doing, IsPlain, own_of}
+use Rattle.message_end.specs.Doings.{Doing, own_of}
 use Rattle.message_end.specs.Doings.Doing.{Says}
 use Rattle.message_end.specs.Drops.{AllDropAt, Drops}
 use Rattle.message_end.specs.Duties.{Duty, all_done}
 use Rattle.message_end.specs.Ends.{AreBegunOf, AreDecidedAt, AreOfStep, DoesMore, DoesStep, HasRestarted, HasStarted, Input, IsOfWorld, KeepsLaw, MayTake, OnStart, taking_calls}
 use Rattle.message_end.specs.Ends.Input.{Char, Command as Told, Time}
 use Rattle.message_end.specs.History.{Folds, IsCore, IsHistoryOf, folds_of, noted_in, written_in}
+use Rattle.message_end.specs.InStep.{EndsOnce, HasNoEnd}
 use Rattle.message_end.specs.Laws.{new_end}
 use Rattle.message_end.specs.LineCalls.{calls_in}
-use Rattle.message_end.specs.Parts.{Design, Did, Node, Part, Turn, after_parts, after_turn, core_after, core_step, leads, led_turn, machine_of, next_of, started, went_with, with_own}
+use Rattle.message_end.specs.Parts.{Design, Did, Node, Part, Turn, after_parts, after_turn, closes, core_after, core_step, leads, led_turn, machine_of, next_of, started, went_with, with_own}
 use Rattle.message_end.specs.Plan.{EndPlan}
 use Rattle.message_end.proofs.Courses.{in-turn}
+use Rattle.message_end.proofs.InSteps.{history-ends, quiet-note, steps-said}
 use Rattle.message_end.proofs.Lawful as core
 use Rattle.message_end.proofs.Limits.{AddsNone, AllAddNone, carried-limit, carry-limit, limit_of}
 use Rattle.message_end.proofs.Steps.{AllCallNone, CallsNone, IsAt, Laws, OnWent, at-carried}
@@ -40,6 +42,7 @@ StaysOff (Command.Take byte now) = ⊥
 StaysOff (Command.Offer now) = ⊥
 StaysOff (Command.DropDue now) = ⊥
 StaysOff (Command.More count) = ⊥
+StaysOff Command.EndStep = ⊥
 StaysOff _ = Unit {0}
 
 abbrev pub AllStayOff : {K : Type 0} → List (Command K) → Type 0
@@ -126,7 +129,7 @@ module _ {S K : Type 0} (plan : EndPlan) (base : ℕ) (Sound : S → Type 0) whe
   IsInputPart (Told command) now part = IsQuietPart part
 
   -- a step: parts without the line, its timer, parts without it that may drop messages, the input, parts without the
-  -- line, and its turn
+  -- line, its turn, and the end
   pub record IsStepOf {C : Type 0} (input : Input C) (now : ℕ) (parts : List (Part S K)) : Type 0 where
     pub first : List (Part S K)
     pub tick : Part S K
@@ -134,7 +137,7 @@ module _ {S K : Type 0} (plan : EndPlan) (base : ℕ) (Sound : S → Type 0) whe
     pub given : Part S K
     pub later : List (Part S K)
     pub offer : Part S K
-    pub are : parts ≡ first ++ tick ∷ (due ++ given ∷ (later ++ offer ∷ []))
+    pub are : parts ≡ first ++ tick ∷ (due ++ given ∷ (later ++ offer ∷ (closes ∷ [])))
     pub first_is : AreQuietParts first
     pub tick_is : IsLedPart (Command.Tick now) tick
     pub due_is : AreDueParts now due
@@ -163,6 +166,7 @@ off-calls-none now (Command.End system) off = (tt, tt, tt)
 off-calls-none now (Command.Recall header) off = (tt, tt, tt)
 off-calls-none now (Command.Remove odd system) off = (tt, tt, tt)
 off-calls-none now Command.DropFront off = (tt, tt, tt)
+off-calls-none now Command.EndStep off = absurd off
 off-calls-none now Command.Halt off = (tt, tt, tt)
 
 all-off : {K : Type 0} (now : ℕ) (commands : List (Command K)) → AllStayOff commands
@@ -354,6 +358,14 @@ module _ {C : Type 0} (input : Input C) (now : ℕ) where
 
 -- ---- the parts of a step
 
+-- the step has come to its end
+abbrev pub step_ended : {S K : Type 0} → Step (Node S K) Happening → Step (Node S K) Happening
+step_ended step = record {
+  next = record step.next { core = with_asked None step.next.core };
+  notes = step.notes ++ Happening.StepEnded ∷ [];
+  written = step.written;
+}
+
 decided-both :
     (now : ℕ) (one two : List LineCall) → AreDecidedAt now one → AreDecidedAt now two → AreDecidedAt now (one ++ two)
 decided-both now [] two first second = second
@@ -390,6 +402,8 @@ module _
       course = is.at.course;
       received = is.at.received;
       core = is.at.core;
+      steps = is.at.steps;
+      unended = is.at.unended;
     };
     limit_is = is.limit_is;
   }
@@ -503,16 +517,22 @@ module _
         → ((made : List LineCall) → Called made → Other made) → NodeAt Called step → NodeAt Other step
     node-less step less is = record { core = at-less (core_step step) less is.core; sound = is.sound }
 
+    -- behind all else the step has come to its end
+    pub record Closed (step : Step (Node S K) Happening) : Type 0 where
+      pub before : Step (Node S K) Happening
+      pub stepped : Stepped before
+      pub is : step ≡ step_ended before
+
     at-offer :
         (offer : Part S K) (step : Step (Node S K) Happening) → IsLedPart plan base Sound (Command.Offer now) offer
-        → Stepped step → OnEither Stepped Begun (after_parts Some (offer ∷ []) step)
+        → Stepped step → OnEither Closed Begun (after_parts Some (offer ∷ (closes ∷ [])) step)
     at-offer offer step led is =
-        either-then Stepped Begun Stepped (after_turn Some turn step) (after_parts Some [])
+        either-then Stepped Begun Closed (after_turn Some turn step) (after_parts Some (closes ∷ []))
         (either-less Stepped Stepped Stepped Begun (after_turn Some turn step)
         (at-turn (AreOfStep input now) turn.own (all_done Some turn.duties (core_step step)) so.sound
         (at-led (Command.Offer now) turn (core_step step) next so is.core refl offered))
         (λ last at. at) (λ last at. node-less last (begun-stepped input now) at))
-        (λ last at. at)
+        (λ last at. record { before = last; stepped = at; is = refl })
       where
         turn : Turn S K
         turn = offer step.next.own step.next.core
@@ -537,13 +557,13 @@ module _
           limit_is = carry-limit (Command.Offer now) (core_step step) tt ∙ is.core.limit_is;
         }
 
-    -- the last half of a step: parts without the line, and its turn
+    -- the last half of a step: parts without the line, its turn, and the end
     pub at-later :
         (later : List (Part S K)) (offer : Part S K) (step : Step (Node S K) Happening)
         → AreQuietParts plan base Sound later → IsLedPart plan base Sound (Command.Offer now) offer → Stepped step
-        → OnEither Stepped Begun (after_parts Some (later ++ offer ∷ []) step)
+        → OnEither Closed Begun (after_parts Some (later ++ offer ∷ (closes ∷ [])) step)
     at-later later offer step quiet led is =
-        at-due-parts (AreOfStep input now) Stepped Begun later (offer ∷ []) step
+        at-due-parts (AreOfStep input now) Closed Begun later (offer ∷ (closes ∷ [])) step
         (parts-due plan base Sound now later quiet) is
         (λ last at. node-less last (begun-stepped input now) at) (λ last at. at-offer offer last led at)
 
@@ -606,20 +626,20 @@ module _
     at-given :
         (given : Part S K) (rest : List (Part S K)) (step : Step (Node S K) Happening)
         → IsInputPart plan base Sound input now given → NodeAt (IsTicked now) step
-        → ((last : Step (Node S K) Happening) → Stepped last → OnEither Stepped Begun (after_parts Some rest last))
-        → OnEither Stepped Begun (after_parts Some (given ∷ rest) step)
+        → ((last : Step (Node S K) Happening) → Stepped last → OnEither Closed Begun (after_parts Some rest last))
+        → OnEither Closed Begun (after_parts Some (given ∷ rest) step)
     at-given given rest step so is more =
-        either-then Stepped Begun Stepped (after_turn Some (given step.next.own step.next.core) step)
+        either-then Stepped Begun Closed (after_turn Some (given step.next.own step.next.core) step)
         (after_parts Some rest) (at-input given step input refl so is) more
 
     at-tick-part :
         (tick : Part S K) (rest : List (Part S K)) (step : Step (Node S K) Happening)
         → IsLedPart plan base Sound (Command.Tick now) tick → NodeAt IsNone step
         → ((last : Step (Node S K) Happening) → NodeAt (IsTicked now) last
-        → OnEither Stepped Begun (after_parts Some rest last))
-        → OnEither Stepped Begun (after_parts Some (tick ∷ rest) step)
+        → OnEither Closed Begun (after_parts Some rest last))
+        → OnEither Closed Begun (after_parts Some (tick ∷ rest) step)
     at-tick-part tick rest step led is more =
-        either-then (NodeAt (IsTicked now)) Begun Stepped (after_turn Some turn step) (after_parts Some rest)
+        either-then (NodeAt (IsTicked now)) Begun Closed (after_turn Some turn step) (after_parts Some rest)
         (either-less (NodeAt (IsTicked now)) (NodeAt (IsTicked now))
         (NodeAt (IsTicked now)) Begun (after_turn Some turn step)
         (at-turn (IsTicked now) turn.own (all_done Some turn.duties (core_step step)) so.sound
@@ -649,68 +669,69 @@ module _
         → AreQuietParts plan base Sound first → IsLedPart plan base Sound (Command.Tick now) tick
         → AreDueParts plan base Sound now due → IsInputPart plan base Sound input now given
         → NodeAt (λ (made : List LineCall). made ≡ []) step
-        → ((last : Step (Node S K) Happening) → Stepped last → OnEither Stepped Begun (after_parts Some rest last))
-        → OnEither Stepped Begun (after_parts Some (first ++ tick ∷ (due ++ given ∷ rest)) step)
+        → ((last : Step (Node S K) Happening) → Stepped last → OnEither Closed Begun (after_parts Some rest last))
+        → OnEither Closed Begun (after_parts Some (first ++ tick ∷ (due ++ given ∷ rest)) step)
     at-first first tick due given rest step first_is tick_is due_is given_is is more =
-        at-due-parts IsNone Stepped Begun first (tick ∷ (due ++ given ∷ rest)) step
+        at-due-parts IsNone Closed Begun first (tick ∷ (due ++ given ∷ rest)) step
         (parts-due plan base Sound now first first_is) is (λ last at. node-less last (begun-none input now) at)
         (λ last at.
         at-tick-part tick (due ++ given ∷ rest) last tick_is at
         (λ next ticked.
-        at-due-parts (IsTicked now) Stepped Begun due (given ∷ rest) next due_is ticked
+        at-due-parts (IsTicked now) Closed Begun due (given ∷ rest) next due_is ticked
         (λ end ended. node-less end (begun-ticked input now) ended)
         (λ end ended. at-given given rest end given_is ended more)))
 
     at-step :
         (parts : List (Part S K)) (step : Step (Node S K) Happening)
         → IsStepOf plan base Sound input now parts → NodeAt IsNone step
-        → OnEither Stepped Begun (after_parts Some parts step)
+        → OnEither Closed Begun (after_parts Some parts step)
     at-step parts step so is =
-        subst (λ (all : List (Part S K)). OnEither Stepped Begun (after_parts Some all step)) (sym so.are)
-        (at-first so.first so.tick so.due so.given (so.later ++ so.offer ∷ []) step so.first_is so.tick_is so.due_is
-        so.given_is is
+        subst (λ (all : List (Part S K)). OnEither Closed Begun (after_parts Some all step)) (sym so.are)
+        (at-first so.first so.tick so.due so.given (so.later ++ so.offer ∷ (closes ∷ [])) step so.first_is so.tick_is
+        so.due_is so.given_is is
         (λ last at. at-later so.later so.offer last so.later_is so.offer_is at))
 
 -- ---- the law of a node
 
--- what the world notes of an end is of no message
-world-plain : (what : Happening) → IsOfWorld what → IsPlain what
-world-plain (Happening.EquipmentStarted found base) is = absurd is
-world-plain Happening.HostStarted is = absurd is
-world-plain Happening.Power is = tt
-world-plain Happening.Closed is = absurd is
-world-plain (Happening.Sent message) is = absurd is
-world-plain (Happening.Received message) is = absurd is
-world-plain (Happening.Wrote characters) is = tt
-world-plain (Happening.Comms state) is = absurd is
-world-plain (Happening.Control state) is = absurd is
-world-plain (Happening.Spool active) is = absurd is
-world-plain (Happening.Set vid) is = absurd is
-world-plain (Happening.Event ceid dataid) is = absurd is
-world-plain (Happening.Alarm alid set) is = absurd is
-world-plain (Happening.Carried rcmd) is = absurd is
-world-plain (Happening.Display tid text) is = absurd is
-world-plain Happening.Refused is = absurd is
-world-plain (Happening.Storing number message) is = absurd is
-world-plain (Happening.Stored number) is = absurd is
-world-plain (Happening.Leaving number cause) is = absurd is
-world-plain (Happening.Gone number) is = absurd is
-world-plain (Happening.Try number system) is = absurd is
-world-plain (Happening.Duplicate header) is = absurd is
-world-plain (Happening.Unexpected header) is = absurd is
-world-plain (Happening.Foreign header) is = absurd is
-world-plain (Happening.TooLongBlock header) is = absurd is
-world-plain (Happening.Crowded header) is = absurd is
-world-plain (Happening.DroppedByT4 header) is = absurd is
-world-plain (Happening.Failed title) is = absurd is
-world-plain (Happening.TimedOut title) is = absurd is
-world-plain (Happening.Stranger title) is = absurd is
-world-plain (Happening.Dropped name) is = absurd is
-world-plain (Happening.Denied name) is = absurd is
-world-plain (Happening.Discarded name) is = absurd is
-world-plain (Happening.TooLong name) is = absurd is
-world-plain (Happening.Full name) is = absurd is
-world-plain (Happening.Recorded past) is = absurd is
+-- what the world notes of an end is of no message, and ends no step
+pub world-may-note : (what : Happening) → IsOfWorld what → MayNote what
+world-may-note (Happening.EquipmentStarted found base) is = absurd is
+world-may-note Happening.HostStarted is = absurd is
+world-may-note Happening.Power is = tt
+world-may-note Happening.Closed is = absurd is
+world-may-note (Happening.Sent message) is = absurd is
+world-may-note (Happening.Received message) is = absurd is
+world-may-note (Happening.Wrote characters) is = tt
+world-may-note (Happening.Comms state) is = absurd is
+world-may-note (Happening.Control state) is = absurd is
+world-may-note (Happening.Spool active) is = absurd is
+world-may-note (Happening.Set vid) is = absurd is
+world-may-note (Happening.Event ceid dataid) is = absurd is
+world-may-note (Happening.Alarm alid set) is = absurd is
+world-may-note (Happening.Carried rcmd) is = absurd is
+world-may-note (Happening.Display tid text) is = absurd is
+world-may-note Happening.Refused is = absurd is
+world-may-note (Happening.Storing number message) is = absurd is
+world-may-note (Happening.Stored number) is = absurd is
+world-may-note (Happening.Leaving number cause) is = absurd is
+world-may-note (Happening.Gone number) is = absurd is
+world-may-note (Happening.Try number system) is = absurd is
+world-may-note (Happening.Duplicate header) is = absurd is
+world-may-note (Happening.Unexpected header) is = absurd is
+world-may-note (Happening.Foreign header) is = absurd is
+world-may-note (Happening.TooLongBlock header) is = absurd is
+world-may-note (Happening.Crowded header) is = absurd is
+world-may-note (Happening.DroppedByT4 header) is = absurd is
+world-may-note (Happening.Failed title) is = absurd is
+world-may-note (Happening.TimedOut title) is = absurd is
+world-may-note (Happening.Stranger title) is = absurd is
+world-may-note (Happening.Dropped name) is = absurd is
+world-may-note (Happening.Denied name) is = absurd is
+world-may-note (Happening.Discarded name) is = absurd is
+world-may-note (Happening.TooLong name) is = absurd is
+world-may-note (Happening.Full name) is = absurd is
+world-may-note (Happening.Recorded past) is = absurd is
+world-may-note Happening.StepEnded is = absurd is
 
 -- a start, and what the world notes of an end
 pub begins-new :
@@ -724,10 +745,14 @@ pub history-says :
     {K : Type 0} (plan : EndPlan) (base : ℕ) (doings : List Doing) (e : EndView K) (what : Happening)
     → IsHistoryOf plan base doings e → IsOfWorld what → IsHistoryOf plan base (Says what ∷ doings) e
 history-says plan base doings e what is world = record {
-  lawful = ((in-turn (own_of plan doings) (Says what) is.received, world-plain what world), is.lawful);
+  lawful = (
+    (in-turn (own_of plan doings) (Says what) is.received, (quiet-note what (world-may-note what world)).plain),
+    is.lawful,
+  );
   line = is.line;
   received = is.received;
   core = is.core;
+  steps = steps-said plan doings e.asked what (world-may-note what world) is.steps;
 }
 
 -- a node at the start of a step, and what it has done by its end
@@ -752,6 +777,8 @@ module _
           written = sym (append-nil (written_in plan doings));
         };
         core = did.is.core;
+        steps = did.is.steps;
+        unended = tt;
       };
       limit_is = refl;
     };
@@ -761,7 +788,7 @@ module _
   pub does-more :
       (limit : ℕ) (Such : List LineCall → Type 0) (step : Step (Node S K) Happening)
       → NodeAt laws plan base fits Sound doings now limit Such step
-      → DoesMore plan (Did Sound plan) base doings now Such step
+      → DoesMore plan (Did Sound plan) base doings now Such HasNoEnd step
   does-more limit Such step at =
       let so = at.core.at in
       record {
@@ -773,13 +800,35 @@ module _
             received = so.received;
             line = so.course.line;
             core = so.core;
+            steps = so.steps;
           };
         };
         notes = so.course.notes;
         written = so.course.written;
         calls = so.called;
         drops = so.drops;
+        ends = so.unended;
       }
+
+  -- and with the end of the step
+  pub does-all :
+      (Such : List LineCall → Type 0) (step : Step (Node S K) Happening)
+      → DoesMore plan (Did Sound plan) base doings now Such HasNoEnd step
+      → DoesMore plan (Did Sound plan) base doings now Such EndsOnce (step_ended step)
+  does-all Such step more = record {
+    done = Says Happening.StepEnded ∷ more.done;
+    is = record {
+      sound = more.is.sound;
+      is = history-ends plan base (more.done ++ doings) step.next.core more.is.is;
+    };
+    notes =
+        ap (λ (ns : List Happening). ns ++ Happening.StepEnded ∷ []) more.notes
+        ∙ append_assoc (noted_in doings) step.notes (Happening.StepEnded ∷ []);
+    written = more.written;
+    calls = more.calls;
+    drops = more.drops;
+    ends = record { rest = more.done; is = refl; unended = more.ends };
+  }
 
 module _
     {S K C : Type 0} (laws : Laws) (plan : EndPlan) (fits : LinePlanFits plan.line) (Sound : S → Type 0)
@@ -796,11 +845,15 @@ module _
     where
       go :
           (went : Went (Node S K) Happening)
-          → OnEither (Stepped laws plan base fits Sound doings now s.core.numbers.end input)
+          → OnEither (Closed laws plan base fits Sound doings now s.core.numbers.end input)
           (Begun laws plan base fits Sound doings now s.core.numbers.end input) went
           → DoesStep plan (Did Sound plan) base doings input now went
       go (Goes step) at =
-          does-more laws plan base fits Sound doings now s.core.numbers.end (AreOfStep input now) step at
+          subst (λ (last : Step (Node S K) Happening).
+          DoesMore plan (Did Sound plan) base doings now (AreOfStep input now) EndsOnce last) (sym at.is)
+          (does-all laws plan base fits Sound doings now (AreOfStep input now) at.before
+          (does-more laws plan base fits Sound doings now s.core.numbers.end (AreOfStep input now) at.before
+          at.stepped))
       go (Spent step) at =
           does-more laws plan base fits Sound doings now s.core.numbers.end (AreBegunOf input now) step at
 
@@ -857,7 +910,12 @@ module _
     begins = λ first step is spent. begins step (ap (λ (s : Node S K). (machine_of design).act s Time 0)
         (first-is first is) ∙ spent);
     stops = λ base doings s input now did may front has. absurd has;
-    keeps = λ base doings s did. record { lawful = did.is.lawful; line_is = did.is.line; received = did.is.received };
+    keeps = λ base doings s did. record {
+      lawful = did.is.lawful;
+      line_is = did.is.line;
+      received = did.is.received;
+      replies = did.is.steps.replies;
+    };
     goes_on = λ base doings s input now did may. does-step base doings s input now (steps base input now may) did;
     says = λ base doings s what did world.
         record { sound = did.sound; is = history-says plan base doings s.core what did.is world };

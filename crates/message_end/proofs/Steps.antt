@@ -50,18 +50,20 @@ use Rattle.transact.specs.Numbers.{after_draw, next_number, with_more}
 use Rattle.transact.specs.Transactions as transactions
 use Rattle.transact.specs.Transactions.{TransactionsView, has_system, is_answered_by}
 use Rattle.message_end.specs.declared.unsent.Unsent.{Unsent}
-use Rattle.message_end.specs.Core.{EndView, Command, Step, Went, and_then, noted, with_end, with_line, with_outgoing, with_assembly, with_transactions, with_asked, with_numbers, calls, unsent_name, primary_of, is_crowded_out, last_header_of, queues, sends, draws, keeps_drawn, primary, drawn_primary, reply_function, reply_of, reply_text, replies, is_held_answered, is_waiting_answered, waiting_primary, without_answered, cancels, starts_t3, takes_back, asked_by, judges, hears, held_header, tells, takes, gives, offers, drops, without_begun, times_out, answers, waits, carry, carried, IsText, IsUnsent, MayCarry, MayCarryAll}
+use Rattle.message_end.specs.Core.{EndView, Command, Step, Went, and_then, noted, with_end, with_line, with_outgoing, with_assembly, with_transactions, with_asked, with_numbers, calls, unsent_name, primary_of, is_crowded_out, last_header_of, queues, sends, draws, keeps_drawn, primary, drawn_primary, reply_function, reply_of, reply_text, replies, is_held_answered, is_waiting_answered, waiting_primary, without_answered, cancels, starts_t3, takes_back, asked_by, judges, hears, held_header, tells, takes, gives, offers, drops, without_begun, times_out, answers, waits, carry, carried, IsText, IsUnsent, MayCarry, MayCarryAll, MayNote}
 use Rattle.message_end.specs.Core.Went.{Goes, Spent}
-use Rattle.message_end.specs.Doings.{Doing, IsInTurn, IsNoSend, IsPlain, line_of, moment_of, own_of, with_call, with_frame, with_hearing}
+use Rattle.message_end.specs.Doings.{Doing, IsInTurn, IsNoSend, line_of, moment_of, own_of, with_call, with_frame, with_hearing}
 use Rattle.message_end.specs.Doings.Doing.{Calls, Does, Gives, Says}
 use Rattle.message_end.specs.Drops.{AllDrop, AllDropAt, AreDropped, Drops, IsDropped}
-use Rattle.message_end.specs.History.{AreTransactionsOf, AskedIs, AreWaiting, Folds, HeldIs, IsAskedOf, IsCore, IsHeldOf, IsLine, IsMet, IsOutgoingOf, IsSpare, folds_of}
+use Rattle.message_end.specs.History.{AreInSteps, AreTransactionsOf, AskedIs, AreWaiting, Folds, HeldIs, IsAskedOf, IsCore, IsHeldOf, IsLine, IsMet, IsOutgoingOf, IsSpare, folds_of}
+use Rattle.message_end.specs.InStep.{HasNoEnd, asked_in_step}
 use Rattle.message_end.specs.Laws.{CarriesOn, GoesOn}
 use Rattle.message_end.specs.LineCalls.{AreCallsOf, AreCallsOfAll, AreCallsOfFront, calls_in}
 use Rattle.message_end.specs.Own.{Has, IsReplyTo, Own, asked_after, asked_in, drawn_in, entries_in, sent_in, whole_in, whole_of}
 use Rattle.message_end.specs.Own.Own.{DrewNumber, DroppedMessage, GaveBlock, HeardBlock, ReceivedMessage, SentMessage, WroteFrame}
 use Rattle.message_end.specs.Plan.{EndPlan, receiver_of}
 use Rattle.message_end.proofs.Courses.{IsCourse, course-called, course-cancelled, course-changed, course-did, course-gave, course-said, folds-call, folds-frame, folds_told, heard_more, in-turn, may-call, whole-call}
+use Rattle.message_end.proofs.InSteps.{quiet-note, steps-none, steps-said}
 use Rattle.message_end.proofs.Keeps.{IsDrawn, IsNext, held-answered, held-call, held-none, held-sent, numbers-drawn, numbers-more, numbers-replied, numbers-sent, spare-drawn, spare-more, spare-none, spare-sent, waiting-answered, waiting-cut, waiting-gave, waiting-less, waiting-sent}
 use Rattle.message_end.proofs.Lines.{IsArrival, arrival, line-call, tick-arrives}
 use Rattle.message_end.proofs.Open.{open-acknowledged, open-begins, open-less, open-sent, open-started, open-timed}
@@ -86,6 +88,8 @@ pub record IsAt
   pub course : IsCourse plan base doings done step
   pub received : whole_in (own_of plan (done ++ doings)) ≡ None
   pub core : IsCore plan base (folds_of (own_of plan (done ++ doings))) step.next
+  pub steps : AreInSteps plan (done ++ doings) step.next.asked
+  pub unended : HasNoEnd done
 
 -- also where the numbers are spent on the way
 abbrev pub OnWent : {S N : Type 0} → (Step S N → Type 0) → Went S N → Type 0
@@ -107,6 +111,8 @@ at-such Called made step so is = record {
   course = is.course;
   received = is.received;
   core = is.core;
+  steps = is.steps;
+  unended = is.unended;
 }
 
 pub at-exactly :
@@ -120,6 +126,8 @@ at-exactly step is = record {
   course = is.course;
   received = is.received;
   core = is.core;
+  steps = is.steps;
+  unended = is.unended;
 }
 
 -- it calls no line
@@ -156,6 +164,7 @@ by-call P none tick take offer (Command.End system) = none (Command.End system) 
 by-call P none tick take offer (Command.Recall header) = none (Command.Recall header) tt
 by-call P none tick take offer (Command.Remove odd system) = none (Command.Remove odd system) tt
 by-call P none tick take offer Command.DropFront = none Command.DropFront tt
+by-call P none tick take offer Command.EndStep = none Command.EndStep tt
 by-call P none tick take offer Command.Halt = none Command.Halt tt
 
 none-called : {K : Type 0} (one : Command K) → CallsNone one → AreCallsOf one []
@@ -177,6 +186,7 @@ none-called (Command.End system) none = refl
 none-called (Command.Recall header) none = refl
 none-called (Command.Remove odd system) none = refl
 none-called Command.DropFront none = refl
+none-called Command.EndStep none = refl
 none-called Command.Halt none = refl
 
 -- ---- when T4 drops
@@ -226,6 +236,7 @@ at-moment all (Command.End system) is = tt
 at-moment all (Command.Recall header) is = tt
 at-moment all (Command.Remove odd system) is = tt
 at-moment all Command.DropFront is = tt
+at-moment all Command.EndStep is = tt
 at-moment all Command.Halt is = tt
 
 pub all-at-moment :
@@ -253,11 +264,18 @@ pub goes-on :
     → IsAt plan base doings (IsTheMoment commands) Called step → GoesOn plan base doings commands Called step
 goes-on plan base doings commands Called step is = record {
   done = is.done;
-  is = record { lawful = is.course.lawful; received = is.received; line = is.course.line; core = is.core };
+  is = record {
+    lawful = is.course.lawful;
+    received = is.received;
+    line = is.course.line;
+    core = is.core;
+    steps = is.steps;
+  };
   notes = is.course.notes;
   written = is.course.written;
   calls = is.called;
   drops = λ now all. dropped-less (λ at the. the now all) is.done is.drops;
+  unended = is.unended;
 }
 
 -- a function that a reply may have
@@ -355,25 +373,29 @@ module _ {K : Type 0} (laws : Laws) (plan : EndPlan) (base : ℕ) (fits : LinePl
 
   -- ---- what changes no history
 
-  at-said : (step : Step (EndView K) Happening) (what : Happening) → IsPlain what → At step → At (noted Some what step)
-  at-said step what plain is = record {
+  at-said : (step : Step (EndView K) Happening) (what : Happening) → MayNote what → At step → At (noted Some what step)
+  at-said step what may is = record {
     done = Says what ∷ is.done;
-    course = course-said plan base doings is.done step what plain is.received is.course;
+    course = course-said plan base doings is.done step what (quiet-note what may).plain is.received is.course;
     received = is.received;
     core = is.core;
+    steps = steps-said plan (is.done ++ doings) step.next.asked what may is.steps;
+    unended = ((quiet-note what may).no_end, is.unended);
     called = is.called;
     drops = is.drops;
   }
 
   abbrev at-changed :
       (step : Step (EndView K) Happening) (e : EndView K) → e.line ≡ step.next.line → (is : At step)
-      → IsCore plan base (folds_of (own-of is)) e
+      → IsCore plan base (folds_of (own-of is)) e → AreInSteps plan (is.done ++ doings) e.asked
       → At (with_end e step)
-  at-changed step e same is core = record {
+  at-changed step e same is core steps = record {
     done = is.done;
     course = course-changed plan base doings is.done step e same is.course;
     received = is.received;
     core = core;
+    steps = steps;
+    unended = is.unended;
     called = is.called;
     drops = is.drops;
   }
@@ -392,7 +414,7 @@ module _ {K : Type 0} (laws : Laws) (plan : EndPlan) (base : ℕ) (fits : LinePl
     asked = is.core.asked;
     transactions = open_is;
     met = is.core.met;
-  })
+  }) is.steps
 
   -- fewer messages wait
   at-waits :
@@ -411,7 +433,7 @@ module _ {K : Type 0} (laws : Laws) (plan : EndPlan) (base : ℕ) (fits : LinePl
         asked = is.core.asked;
         transactions = is.core.transactions;
         met = is.core.met;
-      })
+      }) is.steps
 
   -- ---- numbers, and messages that go out
 
@@ -438,6 +460,8 @@ module _ {K : Type 0} (laws : Laws) (plan : EndPlan) (base : ℕ) (fits : LinePl
       received = is.received;
       called = is.called;
       drops = (tt, is.drops);
+      steps = record { replies = (tt, is.steps.replies); asked = is.steps.asked };
+      unended = is.unended;
       core = record {
         line = is.core.line;
         numbers = new.after;
@@ -502,6 +526,13 @@ module _ {K : Type 0} (laws : Laws) (plan : EndPlan) (base : ℕ) (fits : LinePl
     received = is.received;
     called = is.called;
     drops = (tt, is.drops);
+    steps = record {
+      replies = ((λ even. let e = sym asks.odd ∙ even in absurd (cc)), is.steps.replies);
+      asked =
+          subst (λ (b : Bool). AskedIs (asked_after b (asked_in_step (is.done ++ doings))) step.next.asked)
+          (sym asks.odd) is.steps.asked;
+    };
+    unended = is.unended;
     core = record {
       line = is.core.line;
       numbers = numbers-sent base (drawn_in own) (sent_in own) step.next.numbers message ready.below
@@ -578,7 +609,7 @@ module _ {K : Type 0} (laws : Laws) (plan : EndPlan) (base : ℕ) (fits : LinePl
             asked = core.asked;
             transactions = core.transactions;
             met = core.met;
-          })
+          }) drawn.at.steps
 
   at-drawn-primary :
       (unsent : Unsent K) (step : Step (EndView K) Happening) → IsUnsent unsent → At step
@@ -607,7 +638,7 @@ module _ {K : Type 0} (laws : Laws) (plan : EndPlan) (base : ℕ) (fits : LinePl
             asked = is.core.asked;
             transactions = is.core.transactions;
             met = is.core.met;
-          }) in
+          }) is.steps in
           at-sends unsent number (with_end (record step.next { drawn = None }) step) asks without (record {
             drawn_is = spare.drawn_is;
             below = below;
@@ -633,7 +664,7 @@ module _ {K : Type 0} (laws : Laws) (plan : EndPlan) (base : ℕ) (fits : LinePl
     asked = is.core.asked;
     transactions = is.core.transactions;
     met = is.core.met;
-  })
+  }) is.steps
 
   -- ---- replies
 
@@ -645,6 +676,15 @@ module _ {K : Type 0} (laws : Laws) (plan : EndPlan) (base : ℕ) (fits : LinePl
     where
       own : List Own
       own = own-of is
+
+      answers : (newest : Option Message) (title : Title) (asked : IsAskedOf newest title)
+          → IsReplyTo (other_side plan.side) asked.message
+          (header_of plan.side 0 (reply_of title (function title.name.function) body) 1)
+      answers newest title asked =
+          subst (λ (t : Title). IsReplyTo (other_side plan.side) asked.message
+          (header_of plan.side 0 (reply_of t (function t.name.function) body) 1)) (sym asked.title)
+          (replies-to plan.side asked.message (function asked.message.function) body
+          (may asked.message.function asked.primary asked.fits.function))
 
       choose : (full : Bool) (title : Title) → step.next.asked ≡ Some title
           → let message = reply_of title (function title.name.function) body in
@@ -663,7 +703,7 @@ module _ {K : Type 0} (laws : Laws) (plan : EndPlan) (base : ℕ) (fits : LinePl
             asked = λ title none. absurd (cc);
             transactions = is.core.transactions;
             met = is.core.met;
-          }))
+          }) (steps-none plan (is.done ++ doings) step.next.asked is.steps))
       choose false title e =
           let asked = is.core.asked title e in
           let message = reply_of title (function title.name.function) body in
@@ -672,10 +712,8 @@ module _ {K : Type 0} (laws : Laws) (plan : EndPlan) (base : ℕ) (fits : LinePl
           may asked.message.function asked.primary asked.fits.function in
           let reply_is : IsReply asked.message.function (function title.name.function) =
           subst (λ (t : Title). IsReply asked.message.function (function t.name.function)) (sym of_title) reply in
-          let answers_it : IsReplyTo (other_side plan.side) asked.message (header_of plan.side 0 message 1) =
-          subst (λ (t : Title). IsReplyTo (other_side plan.side) asked.message
-          (header_of plan.side 0 (reply_of t (function t.name.function) body) 1)) (sym of_title)
-          (replies-to plan.side asked.message (function asked.message.function) body reply) in
+          let answers_it = answers (asked_in own) title asked in
+          let here = is.steps.asked title e in
           let secondary : is_primary message ≡ false = reply_is.even in
           let fits_is : IsMessage message = record {
             fits = record {
@@ -706,6 +744,20 @@ module _ {K : Type 0} (laws : Laws) (plan : EndPlan) (base : ℕ) (fits : LinePl
             received = is.received;
             called = is.called;
             drops = (tt, is.drops);
+            steps = record {
+              replies = (
+                (λ even. record {
+                  asked = here.message;
+                  newest = here.is;
+                  primary = here.primary;
+                  wait = here.wait;
+                  reply = answers (asked_in_step (is.done ++ doings)) title here;
+                }),
+                is.steps.replies,
+              );
+              asked = λ title none. absurd (cc);
+            };
+            unended = is.unended;
             core = record {
               line = is.core.line;
               numbers = numbers-replied base (drawn_in own) (sent_in own) step.next.numbers message secondary
@@ -740,6 +792,8 @@ module _ {K : Type 0} (laws : Laws) (plan : EndPlan) (base : ℕ) (fits : LinePl
     received = is.received;
     called = is.called;
     drops = (at, is.drops);
+    steps = record { replies = (tt, is.steps.replies); asked = is.steps.asked };
+    unended = is.unended;
     core = record {
       line = is.core.line;
       numbers = is.core.numbers;
@@ -818,6 +872,7 @@ module _ {K : Type 0} (laws : Laws) (plan : EndPlan) (base : ℕ) (fits : LinePl
       at-waits step _ is (waiting-less _ _ _ step.next.outgoing.waiting (is_named primary system) is.core.waiting)
   at-carry Command.DropFront step none at may is =
       at-waits step _ is (waiting-cut _ _ _ step.next.outgoing.waiting 0 1 (omega arith) is.core.waiting)
+  at-carry Command.EndStep step none at may is = absurd may
   at-carry Command.Halt step none at may is = is
 
   pub at-carried :
@@ -874,6 +929,8 @@ module _ {K : Type 0} (laws : Laws) (plan : EndPlan) (base : ℕ) (fits : LinePl
     received = whole-call (receiver_of plan) call before own none_told ∙ is.received;
     called = ap (λ (calls : List LineCall). call ∷ calls) is.called;
     drops = is.drops;
+    steps = record { replies = (tt, is.steps.replies); asked = is.steps.asked };
+    unended = is.unended;
     core =
         let same : folds_of (with_call (receiver_of plan) call before own) ≡ folds_of own =
         folds-call (receiver_of plan) call before own ∙ quiet (line_step before call).event _ (folds_of own) none_told
@@ -964,6 +1021,8 @@ module _ {K : Type 0} (laws : Laws) (plan : EndPlan) (base : ℕ) (fits : LinePl
           received = is.received;
           called = ap (λ (calls : List LineCall). Send block now ∷ calls) is.called;
           drops = is.drops;
+          steps = record { replies = (tt, is.steps.replies); asked = is.steps.asked };
+          unended = is.unended;
           core = record {
             line = line-call laws.small laws.kept step.next.line (Send block now) is.core.line can
                 (All-nil (λ byte. byte < 256));
@@ -1031,6 +1090,8 @@ module _ {K : Type 0} (laws : Laws) (plan : EndPlan) (base : ℕ) (fits : LinePl
     core : IsCore plan base (folds_of (own_of plan (done ++ doings))) step.next
     called : calls_in done ≡ made
     drops : AreDropped Moment done
+    steps : AreInSteps plan (done ++ doings) step.next.asked
+    unended : HasNoEnd done
 
   -- no message is whole
   abbrev at-no-whole : (made : List LineCall) (step : Step (EndView K) Happening) → IsHeard made step None
@@ -1043,6 +1104,8 @@ module _ {K : Type 0} (laws : Laws) (plan : EndPlan) (base : ℕ) (fits : LinePl
         core = is.core;
         called = is.called;
         drops = is.drops;
+        steps = is.steps;
+        unended = is.unended;
       }
 
   record IsHeardBy
@@ -1149,6 +1212,8 @@ module _ {K : Type 0} (laws : Laws) (plan : EndPlan) (base : ℕ) (fits : LinePl
           done = Calls call ∷ is.done;
           called = ap (λ (calls : List LineCall). call ∷ calls) is.called;
           drops = is.drops;
+          steps = record { replies = (tt, is.steps.replies); asked = is.steps.asked };
+          unended = is.unended;
           whole_is = whole_is;
           course = course-changed plan base doings _ taken (back false) refl course;
           core = subst (λ (g : Folds). IsCore plan base g (back false)) (sym folds_are)
@@ -1163,6 +1228,8 @@ module _ {K : Type 0} (laws : Laws) (plan : EndPlan) (base : ℕ) (fits : LinePl
           done = Calls Cancel ∷ Calls call ∷ is.done;
           called = ap (λ (calls : List LineCall). Cancel ∷ call ∷ calls) is.called;
           drops = is.drops;
+          steps = record { replies = (tt, (tt, is.steps.replies)); asked = is.steps.asked };
+          unended = is.unended;
           whole_is = whole_is;
           course = course-cancelled plan base doings _ taken (cancels true (back true)) refl course can;
           core = subst (λ (g : Folds). IsCore plan base g (with_line (line_step taken.next.line Cancel).next
@@ -1197,6 +1264,11 @@ module _ {K : Type 0} (laws : Laws) (plan : EndPlan) (base : ℕ) (fits : LinePl
     received = refl;
     called = is.called;
     drops = (tt, is.drops);
+    steps = record {
+      replies = (tt, is.steps.replies);
+      asked = λ title e. asks (is_primary message) message.wait refl refl title e;
+    };
+    unended = is.unended;
     core = record {
       line = is.core.line;
       numbers = is.core.numbers;

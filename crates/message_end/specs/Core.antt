@@ -80,6 +80,8 @@ pub data Command (K : Type 0) : Type 0 where
   Recall : (header : Header) → Command K
   Remove : (primary : Bool) (system : ℕ) → Command K
   DropFront : Command K
+  -- the step has come to its end, and with it the asking of the newest primary (this profile)
+  EndStep : Command K
   -- do nothing more: a number is wanting that isn't drawn from those of the end (this profile)
   Halt : Command K
 
@@ -431,6 +433,7 @@ carry say (Remove primary system) step =
 carry say DropFront step =
     let out = step.next.outgoing in
     Goes (waits (with_waiting out (drop 1 out.waiting)) step)
+carry say EndStep step = Goes (noted say Happening.StepEnded (with_end (with_asked None step.next) step))
 carry say Halt step = Spent step
 
 -- one command after the other
@@ -453,12 +456,19 @@ pub record IsUnsent {K : Type 0} (unsent : Unsent K) : Type 0 where
   pub odd : (unsent.function % 2 == 1) ≡ true
   pub body : IsText unsent.body
 
+-- a note of what no law of messages speaks of; that a step ends is said by its own command alone, which comes last of
+-- all and has a law of its own
+abbrev pub MayNote : Happening → Type 0
+MayNote Happening.StepEnded = ⊥
+MayNote what = IsPlain what
+
 abbrev pub MayCarry : {K : Type 0} → Command K → Type 0
-MayCarry (Note what) = IsPlain what
+MayCarry (Note what) = MayNote what
 MayCarry (Primary unsent) = IsUnsent unsent
 MayCarry (DrawnPrimary unsent) = IsUnsent unsent
 MayCarry (Reply body) = IsText body
 MayCarry (Take byte now) = byte < 256
+MayCarry EndStep = ⊥
 MayCarry _ = Unit {0}
 
 abbrev pub MayCarryAll : {K : Type 0} → List (Command K) → Type 0

@@ -23,6 +23,7 @@ use Rattle.message_end.specs.Doings.{AreLawful, Doing, line_of, own_of}
 use Rattle.message_end.specs.Doings.Doing.{Says}
 use Rattle.message_end.specs.Drops.{AreDroppedAt}
 use Rattle.message_end.specs.History.{noted_in, written_in}
+use Rattle.message_end.specs.InStep.{AreOfOneStep, EndsOnce, HasNoEnd, ReplyInTheirSteps}
 use Rattle.message_end.specs.LineCalls.{calls_in}
 use Rattle.message_end.specs.Log.{start_of}
 use Rattle.message_end.specs.Own.{Has, drawn_in, whole_in}
@@ -239,23 +240,27 @@ pub record AreBegunOf {C : Type 0} (input : Input C) (now : ℕ) (calls : List L
   pub later : List LineCall
   pub whole : AreOfStep input now (later ++ calls)
 
--- an end that these doings have made what it is does some more at a moment, with calls of the line that are such
+-- an end that these doings have made what it is does some more at a moment, with calls of the line that are such, and
+-- with a step's end, or with none
 pub record DoesMore {S : Type 0}
     (plan : EndPlan) (did : ℕ → List Doing → S → Type 0) (base : ℕ) (doings : List Doing) (now : ℕ)
-    (Such : List LineCall → Type 0) (step : Step S Happening) : Type 0 where
+    (Such : List LineCall → Type 0) (Ends : List Doing → Type 0) (step : Step S Happening) : Type 0 where
   pub done : List Doing
   pub is : did base (done ++ doings) step.next
   pub notes : noted_in (done ++ doings) ≡ noted_in doings ++ step.notes
   pub written : written_in plan (done ++ doings) ≡ written_in plan doings ++ step.written
   pub calls : Such (calls_in done)
   pub drops : AreDroppedAt now done
+  pub ends : Ends done
 
--- all of a step, or what was done until the numbers were spent
+-- all of a step, with its end last; or what was done until the numbers were spent, and then no step has ended
 abbrev pub DoesStep :
     {S C : Type 0} → EndPlan → (ℕ → List Doing → S → Type 0) → ℕ → List Doing → Input C → ℕ
     → Went S Happening → Type 0
-DoesStep plan did base doings input now (Goes step) = DoesMore plan did base doings now (AreOfStep input now) step
-DoesStep plan did base doings input now (Spent step) = DoesMore plan did base doings now (AreBegunOf input now) step
+DoesStep plan did base doings input now (Goes step) =
+    DoesMore plan did base doings now (AreOfStep input now) EndsOnce step
+DoesStep plan did base doings input now (Spent step) =
+    DoesMore plan did base doings now (AreBegunOf input now) HasNoEnd step
 
 -- a start: the end has done nothing yet, may draw numbers from a base on, and notes the start alone
 pub record HasStarted {S : Type 0}
@@ -281,12 +286,13 @@ abbrev pub OnStart : {S : Type 0} → (Step S Happening → Type 0) → Went S H
 OnStart P (Goes step) = P step
 OnStart P (Spent step) = step.notes ≡ []
 
--- these doings keep the law of histories, and have made of the line what it is; no message that is whole is left to be
--- received
+-- these doings keep the law of histories, with each reply in the step of its primary, and have made of the line what it
+-- is; no message that is whole is left to be received
 pub record IsMadeOf (plan : EndPlan) (base : ℕ) (doings : List Doing) (line : LineState) : Type 0 where
   pub lawful : AreLawful plan base doings
   pub line_is : line ≡ line_of plan doings
   pub received : whole_in (own_of plan doings) ≡ None
+  pub replies : ReplyInTheirSteps plan doings
 
 -- what the world itself notes of an end
 abbrev pub IsOfWorld : Happening → Type 0
@@ -309,6 +315,8 @@ pub record GoesSoFar {S C : Type 0}
   pub drops : AreDroppedAt now done
   -- no message that is whole is left to be received: so the world may note the loss behind it
   pub received : whole_in (own_of plan (done ++ doings)) ≡ None
+  -- all of the step may have been done by then, but no more
+  pub one : AreOfOneStep done
 
 -- and what starts anew behind them draws no number again that was drawn by then
 pub record LosesAt {S C : Type 0}

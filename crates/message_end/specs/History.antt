@@ -23,6 +23,7 @@ use Rattle.transact.specs.Transactions.{TransactionsView}
 use Rattle.message_end.specs.Core.{EndView}
 use Rattle.message_end.specs.Doings.{AreLawful, Doing, line_of, own_of}
 use Rattle.message_end.specs.Doings.Doing.{Calls, Does, Gives, Says}
+use Rattle.message_end.specs.InStep.{ReplyInTheirSteps, asked_in_step}
 use Rattle.message_end.specs.Own.{Giving, Has, Heard, IsReplyTo, Own, asked_in, drawn_in, entries_in, given_in, given_of, heard_in, sent_at, sent_in, whole_in}
 use Rattle.message_end.specs.Own.Own.{DrewNumber, DroppedMessage, GaveBlock, HeardBlock, ReceivedMessage, SentMessage, WroteFrame}
 use Rattle.message_end.specs.Plan.{EndPlan, receiver_of}
@@ -206,9 +207,15 @@ pub record IsCore {K : Type 0} (plan : EndPlan) (base : ℕ) (folds : Folds) (e 
   pub transactions : AreTransactionsOf plan folds.sents e.transactions
   pub met : IsMet plan folds.entries e.assembly
 
+-- replies have gone in the steps of their primaries, and the primary that asks was received in this step
+pub record AreInSteps (plan : EndPlan) (doings : List Doing) (title : Option Title) : Type 0 where
+  pub replies : ReplyInTheirSteps plan doings
+  pub asked : AskedIs (asked_in_step doings) title
+
 -- these doings keep the law, no message is whole that isn't received, and the end is what they have made of it
 pub record IsHistoryOf {K : Type 0} (plan : EndPlan) (base : ℕ) (doings : List Doing) (e : EndView K) : Type 0 where
   pub lawful : AreLawful plan base doings
   pub received : whole_in (own_of plan doings) ≡ None
   pub line : e.line ≡ line_of plan doings
   pub core : IsCore plan base (folds_of (own_of plan doings)) e
+  pub steps : AreInSteps plan doings e.asked

@@ -1,5 +1,5 @@
 -- What holds of every end, whatever it is told to do.
-use Rattle.std.specs.Prelude.{◌≡◌, ◌≢◌, ◌<◌, ℕ, true, List, [], ◌++◌, length, Option, None, Some}
+use Rattle.std.specs.Prelude.{◌≡◌, ◌≢◌, ◌<◌, ℕ, true, List, [], ◌∷◌, ◌++◌, length, Option, None, Some}
 use Rattle.std.specs.List.{filter_map}
 use Rattle.block_codec.specs.declared.header.Header.{Header}
 use Rattle.line_end.specs.Plan.{LinePlanFits}
@@ -9,11 +9,13 @@ use Rattle.message_flow.specs.Message.{is_primary}
 use Rattle.trace_log.specs.Log.{Happening}
 use Rattle.transact.specs.Numbers.{NumbersView, IsNumbers}
 use Rattle.transact.specs.Transactions.{refusal_of}
-use Rattle.message_end.specs.Core.{Command, EndView, MayCarryAll, Step, Went, at_first, carried}
+use Rattle.message_end.specs.Core.{Command, EndView, MayCarryAll, Step, Went, at_first, carried, with_asked}
 use Rattle.message_end.specs.Core.Went.{Goes, Spent}
 use Rattle.message_end.specs.Doings.{Doing, own_of}
+use Rattle.message_end.specs.Doings.Doing.{Says}
 use Rattle.message_end.specs.Drops.{AllDropAt, AreDroppedAt}
 use Rattle.message_end.specs.History.{IsHistoryOf, noted_in, written_in}
+use Rattle.message_end.specs.InStep.{HasNoEnd}
 use Rattle.message_end.specs.LineCalls.{AreCallsOfAll, AreCallsOfFront, calls_in}
 use Rattle.message_end.specs.Own.{Has, sent_in}
 use Rattle.message_end.specs.Plan.{EndPlan, new_line_of, receiver_of}
@@ -31,7 +33,8 @@ new_end plan numbers = record {
 }
 
 -- some doings more keep the law and have made of the end what it is then. What was noted and written in the step is
--- theirs, and with them the line was called so; T4 dropped messages at a moment of these commands alone
+-- theirs, and with them the line was called so; T4 dropped messages at a moment of these commands alone; and no step
+-- ended
 pub record GoesOn
     {K : Type 0} (plan : EndPlan) (base : ℕ) (doings : List Doing) (commands : List (Command K))
     (AreCalls : List LineCall → Type 0) (step : Step (EndView K) Happening)
@@ -42,6 +45,7 @@ pub record GoesOn
   pub written : written_in plan (done ++ doings) ≡ written_in plan doings ++ step.written
   pub calls : AreCalls (calls_in done)
   pub drops : (now : ℕ) → AllDropAt now commands → AreDroppedAt now done
+  pub unended : HasNoEnd done
 
 -- also where the numbers are spent on the way: what was done until then
 abbrev pub CarriesOn : {K : Type 0} → EndPlan → ℕ → List Doing → List (Command K) → Went (EndView K) Happening → Type 0
@@ -62,6 +66,10 @@ pub record EndsAreLawful (K : Type 0) : Type 0 where
       (plan : EndPlan) (base : ℕ) (doings : List Doing) (e : EndView K) (commands : List (Command K))
       → LinePlanFits plan.line → IsHistoryOf plan base doings e → MayCarryAll commands
       → CarriesOn plan base doings commands (carried Some commands (at_first e))
+  -- behind them a step may end, and with it the asking of the newest primary
+  pub ends :
+      (plan : EndPlan) (base : ℕ) (doings : List Doing) (e : EndView K) → IsHistoryOf plan base doings e
+      → IsHistoryOf plan base (Says Happening.StepEnded ∷ doings) (with_asked None e)
   -- a primary whose system bytes no other has begins its transaction where there is room for one
   pub begins_new :
       (plan : EndPlan) (base : ℕ) (doings : List Doing) (e : EndView K) (header : Header)

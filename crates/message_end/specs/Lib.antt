@@ -8,6 +8,7 @@ pub mod Endings
 pub mod Ends
 pub mod Fronts
 pub mod History
+pub mod InStep
 pub mod Laws
 pub mod LineCalls
 pub mod Log
@@ -16,3 +17,4 @@ pub mod Own
 pub mod Parts
 pub mod Plan
 pub mod Worked
+pub mod WorkedSteps

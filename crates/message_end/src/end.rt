@@ -255,6 +255,13 @@ impl<K: Copy> MessageEnd<K> {
         self.answer_with(alloc, asked, 0, Row::new(alloc), out)
     }
 
+    /// The step has come to its end: the newest primary asks no more. That is noted, and has no line.
+    pub fn end_step(&mut self, out: &mut StepOut)
+        ensures carries { IsCarried Command.EndStep self.old out.old self.new out.new }
+    {
+        self.parts.asked = None;
+    }
+
     /// Lets the line's timer act. The answer is the header of a block that failed.
     pub fn tick(&mut self, now: u64, out: &mut StepOut) -> Option<Header>
         requires now { now < 2 ^ 62 }

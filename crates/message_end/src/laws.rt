@@ -3,6 +3,7 @@
 ghost use Rattle.message_end.specs.Fronts.{StopsAreLawful};
 ghost use Rattle.message_end.specs.Laws.{EndsAreLawful, NotesAreRead};
 ghost use Rattle.message_end.specs.Worked.{IsSilent};
+ghost use Rattle.message_end.specs.WorkedSteps.{StepsOfReplies};
 
 use crate::ends::End;
 use line_end::{states_are_kept, steps_are_small};
@@ -41,4 +42,9 @@ pub fn notes_are_read<K: Copy, N>()
 /// taken back.
 pub fn worked_run()
     ensures { IsSilent }
+{}
+
+/// Examples of replies: one goes in the step of its primary, one in the next step, and one twice.
+pub fn worked_steps()
+    ensures { StepsOfReplies }
 {}

@@ -10,6 +10,6 @@ mod written;
 
 pub use end::{MessageEnd, Stop, Took, least};
 pub use ends::End;
-pub use laws::{ends_are_lawful, notes_are_read, stops_are_lawful, worked_run};
+pub use laws::{ends_are_lawful, notes_are_read, stops_are_lawful, worked_run, worked_steps};
 pub use unsent::Unsent;
 pub use written::put_wrote;

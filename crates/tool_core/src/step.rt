@@ -9,7 +9,7 @@ ghost use Rattle.trace_log.specs.Commands.{ToolCommandFits};
 ghost use Rattle.trace_log.specs.Text.{printed_note};
 ghost use Rattle.message_end.specs.Core.Went.{Goes};
 ghost use Rattle.message_end.specs.Ends.{MayTake, input_of};
-ghost use Rattle.message_end.specs.Parts.{Takes, after_turn, on_the_way};
+ghost use Rattle.message_end.specs.Parts.{Takes, after_turn, closes, on_the_way};
 ghost use Rattle.tool_core.specs.Node.{node_of, own_of};
 ghost use Rattle.tool_step.specs.Spooling.{end_of_spooling};
 ghost use Rattle.tool_step.specs.Step.{beginning, character, delay_timer, due_parts, first_parts, flow_turn, input_part, is_spent, late_parts, line_timer, offer};
@@ -69,7 +69,7 @@ impl Tool {
     }
 
     /// What comes behind the works of the spool: the oldest message, which was read, goes to the host where it was to
-    /// be taken up; spooling may end; and the line gets its turn.
+    /// be taken up; spooling may end; the line gets its turn; and the step comes to its end.
     pub fn do_last(
         &mut self,
         alloc: Global,
@@ -79,7 +79,7 @@ impl Tool {
     ) -> Result<(), Stop>
         requires now { now < 2 ^ 62 }
         requires room { array_vec_len out.old.line ≤ 514 }
-        ensures does { ReachesParts (taking oldest ∷ end_of_spooling ∷ offer now ∷ [])
+        ensures does { ReachesParts (taking oldest ∷ end_of_spooling ∷ offer now ∷ closes ∷ [])
             self.old out.old self.new out.new result }
     {
         match self.unload(alloc, oldest, out) {
@@ -104,15 +104,17 @@ impl Tool {
         }
     }
 
-    // Spooling may end, and the line gets its turn.
+    // Spooling may end, the line gets its turn, and the step comes to its end.
     fn end_step(&mut self, alloc: Global, now: u64, out: &mut StepOut) -> Result<(), Stop>
         requires now { now < 2 ^ 62 }
         requires room { array_vec_len out.old.line ≤ 514 }
-        ensures does { ReachesParts (end_of_spooling ∷ offer now ∷ []) self.old out.old self.new out.new result }
+        ensures does { ReachesParts (end_of_spooling ∷ offer now ∷ closes ∷ [])
+            self.old out.old self.new out.new result }
     {
         match self.end_spooling(alloc, out) {
             Ok(()) => {
                 self.give_turn(now, out);
+                self.close(out);
                 Ok(())
             }
             Err(NoMemory) => Err(Stop::NoMemory),
@@ -274,5 +276,14 @@ impl Tool {
             (on_the_way (node_of self.old) out.old) ≡ Goes (on_the_way (node_of self.new) out.new) }
     {
         self.core.offer(now, out);
+    }
+
+    // The step comes to its end.
+    fn close(&mut self, out: &mut StepOut)
+        ensures { after_turn printed_note
+            (closes (own_of self.old.own) self.old.core)
+            (on_the_way (node_of self.old) out.old) ≡ Goes (on_the_way (node_of self.new) out.new) }
+    {
+        self.core.end_step(out);
     }
 }

@@ -42,7 +42,7 @@ use Rattle.message_end.specs.declared.end.Took.TheVariants as took
 use Rattle.message_end.specs.Calls.{answered_by, dropped_now, due_now, failed_at, took_at}
 use Rattle.message_end.specs.Core.{Command, EndView, is_crowded_out}
 use Rattle.message_end.specs.Core.Command.{Abort, Answer, Draw, DropDue, Expire, GiveUp, Halt, Note, Primary, Remove, Take, Tick}
-use Rattle.message_end.specs.Parts.{core_after, fixed_turn, leads, led_turn}
+use Rattle.message_end.specs.Parts.{closes, core_after, fixed_turn, leads, led_turn}
 use Rattle.equipment_tables.specs.declared.answers.Answer.{Answer as Text}
 use Rattle.equipment_tables.specs.declared.answers.Answer.TheVariants as answer
 use Rattle.equipment_tables.specs.Answers.{alarm_item_of, answer_of, established_of, event_item, lines_of}
@@ -546,3 +546,6 @@ ending-need own e =
 
 pub offer-need : (now : ℕ) (own : OwnView) (e : EndView Kind) → Needs 0 false (offer now own e).duties
 offer-need now own e = free-need (offer now own e).duties ((λ f. (tt, tt)), ((λ f. tt), tt))
+
+pub closing-need : (own : OwnView) (e : EndView Kind) → Needs 0 false (closes {K = Kind} own e).duties
+closing-need own e = free-need (closes {K = Kind} own e).duties ((λ f. (tt, tt)), tt)

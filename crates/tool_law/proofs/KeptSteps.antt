@@ -1,5 +1,5 @@
 -- The halves of a step keep the law, and what is kept sound.
-use Rattle.std.proofs.Common.{◌≡◌, ◌+◌, refl, sym, ap, subst, ◌∙◌, Bool, true, false, ℕ, List, [], ◌∷◌, ◌++◌, append-nil, replicate, Option, Some, None, if◌then◌else◌}
+use Rattle.std.proofs.Common.{◌≡◌, ◌+◌, refl, sym, ap, subst, ◌∙◌, Bool, true, false, ℕ, List, [], ◌∷◌, ◌++◌, append-nil, append_assoc, replicate, Option, Some, None, if◌then◌else◌}
 use Rattle.std.specs.Option.{option_map}
 use Rattle.std.specs.Prelude.{IfSome, slice_get}
 use Rattle.std.proofs.lemmas.List.Elements.{All-head}
@@ -14,11 +14,14 @@ use Rattle.message_end.specs.Core.{Step, Went, and_then, at_first}
 use Rattle.message_end.specs.Core.Went.{Goes, Spent}
 use Rattle.message_end.specs.Core.Command.{More, Take, Tick}
 use Rattle.message_end.specs.Doings.{Doing}
+use Rattle.message_end.specs.Doings.Doing.{Says}
 use Rattle.message_end.specs.Ends.{AreBegunOf, AreOfStep, DoesMore, DoesStep, Input, MayTake}
 use Rattle.message_end.specs.Ends.Input.{Char, Command as Told, Time}
-use Rattle.message_end.specs.Parts.{Node, after_parts, after_turn, core_after, core_step, with_own}
+use Rattle.message_end.specs.Parts.{Node, after_parts, after_turn, closes, core_after, core_step, with_own}
+use Rattle.message_end.specs.InStep.{EndsOnce, HasNoEnd}
+use Rattle.message_end.proofs.InSteps.{history-ends}
 use Rattle.message_end.proofs.Lower.{lower}
-use Rattle.message_end.proofs.Parts.{OnEither, begun-none, either-less, either-then}
+use Rattle.message_end.proofs.Parts.{OnEither, begun-none, either-less, either-then, step_ended}
 use Rattle.message_end.proofs.Steps.{IsAt, at-carried}
 use Rattle.message_end.specs.History.{noted_in, written_in}
 use Rattle.tool_step.specs.declared.kind.Kind.{Kind}
@@ -29,7 +32,7 @@ use Rattle.tool_step.specs.Replies.{block_timer, given_up_by_t4, reply_timer}
 use Rattle.tool_law.specs.Sound.{AllCanBeSent, CanBeSent, IsHeld, IsSound}
 use Rattle.tool_step.specs.Spooling.{end_of_spooling, taking_turn, unload_part, waiting_text}
 use Rattle.tool_law.proofs.SpoolSound.{carried-good, settled-good, taken-good}
-use Rattle.tool_step.specs.Equipment.{EquipmentView, act, ended_step, is_marked_out, needs_numbers, node_step, oldest_of, parts_done, reserved, settled_step, settled_went, went_with_file}
+use Rattle.tool_step.specs.Equipment.{EquipmentView, act, ended_step, file_step, is_marked_out, needs_numbers, node_step, oldest_of, parts_done, reserved, settled_step, settled_went, went_with_file}
 use Rattle.spool_works.specs.Found.{spooled_of}
 use Rattle.tool_law.specs.Laws.{DidOf}
 use Rattle.tool_step.specs.Step.{beginning, delay_timer, end_plan, failed_turn, first_parts, input_part, last_parts, late_parts, line_timer, offer, took_turn}
@@ -288,10 +291,16 @@ module _ (plan : EquipmentPlan) (base : ℕ) (fits : EquipmentPlanFits plan) (sl
               tried_is = refl;
             }
 
+    -- behind all else the step has come to its end
+    record HasClosed (step : ToolStep) : Type 0 where
+      before : ToolStep
+      stepped : HasStepped before
+      is : step ≡ step_ended before
+
     last-at : (oldest : Option Spooled) → IfSome oldest CanBeSent → (step : ToolStep) → HasStepped step
-        → OnEither HasStepped HasBegun (after_parts Some (last_parts oldest now) step)
+        → OnEither HasClosed HasBegun (after_parts Some (last_parts oldest now) step)
     last-at oldest can step so =
-        either-then HasStepped HasBegun HasStepped
+        either-then HasStepped HasBegun HasClosed
         (after_turn Some (unload_part oldest step.next.own step.next.core) step) (after_parts Some rest)
         (either-less HasStepped HasStepped HasStepped HasBegun
         (after_turn Some (unload_part oldest step.next.own step.next.core) step)
@@ -301,13 +310,13 @@ module _ (plan : EquipmentPlan) (base : ℕ) (fits : EquipmentPlanFits plan) (sl
         (λ last at. ended last at)
       where
         rest : List ToolPart
-        rest = end_of_spooling ∷ offer now ∷ []
+        rest = end_of_spooling ∷ offer now ∷ closes ∷ []
 
-        ended : (last : ToolStep) → HasStepped last → OnEither HasStepped HasBegun (after_parts Some rest last)
+        ended : (last : ToolStep) → HasStepped last → OnEither HasClosed HasBegun (after_parts Some rest last)
         ended last at =
             parts-then (end_plan plan) base fits.line doings now limit (HeldAt plan slots stood) at.tries
             (AreOfStep input now)
-            HasStepped HasBegun rest [] last (
+            HasClosed HasBegun (end_of_spooling ∷ offer now ∷ []) (closes ∷ []) last (
               mild-keeps (end_plan plan) base fits.line doings now limit (HeldAt plan slots stood) at.tries
                   (AreOfStep input now)
                   end_of_spooling (λ own e held. ended-quiet plan (TriedIs at.tries) fits slots stood own e held),
@@ -319,7 +328,11 @@ module _ (plan : EquipmentPlan) (base : ℕ) (fits : EquipmentPlanFits plan) (sl
             at.at
             (λ end is.
             some-less at.tries (AreOfStep input now) (AreBegunOf input now) end (begun-stepped input now) is)
-            (λ end is. some-at at.tries (AreOfStep input now) end is)
+            (λ end is. record {
+              before = end;
+              stepped = some-at at.tries (AreOfStep input now) end is;
+              is = refl;
+            })
 
     -- ---- the whole step
 
@@ -334,6 +347,12 @@ module _ (plan : EquipmentPlan) (base : ℕ) (fits : EquipmentPlanFits plan) (sl
 
     abbrev FileStepped : FileStep → Type 0
     FileStepped step = FileAt (AreOfStep input now) step
+
+    -- and with the end of the step
+    record FileClosed (step : FileStep) : Type 0 where
+      before : FileStep
+      stepped : FileStepped before
+      is : step ≡ file_step before.next (step_ended (node_step before))
 
     abbrev FileBegun : FileStep → Type 0
     FileBegun step = FileAt (AreBegunOf input now) step
@@ -350,19 +369,34 @@ module _ (plan : EquipmentPlan) (base : ℕ) (fits : EquipmentPlanFits plan) (sl
         go (Goes next) at = record { node = at; list = list; mark = mark }
         go (Spent next) at = record { node = at; list = list; mark = mark }
 
+    last-parts-at :
+        (parts : List ToolPart) (step : FileStep) → AllCanBeSent step.next.list → step.next.mark ≡ limit
+        → OnEither HasClosed HasBegun (after_parts Some parts (node_step step))
+        → OnEither FileClosed FileBegun (parts_done parts step)
+    last-parts-at parts step list mark = go (after_parts Some parts (node_step step))
+      where
+        go : (went : ToolWent) → OnEither HasClosed HasBegun went
+            → OnEither FileClosed FileBegun (went_with_file step.next went)
+        go (Goes next) at = record {
+          before = file_step step.next at.before;
+          stepped = record { node = at.stepped; list = list; mark = mark };
+          is = ap (λ (node : ToolStep). file_step step.next node) at.is;
+        }
+        go (Spent next) at = record { node = at; list = list; mark = mark }
+
     -- the oldest message can be sent
     oldest-can : (list : List Kept) → AllCanBeSent list → IfSome (option_map spooled_of (slice_get list 0)) CanBeSent
     oldest-can [] all = tt
     oldest-can (first ∷ list) all = All-head (λ (message : Kept). CanBeSent (spooled_of message)) first list all
 
-    ended-at : (step : FileStep) → FileStepped step → OnEither FileStepped FileBegun (ended_step now step)
+    ended-at : (step : FileStep) → FileStepped step → OnEither FileClosed FileBegun (ended_step now step)
     ended-at step at =
-        parts-at (last_parts (oldest_of step.next) now) step at.list at.mark
+        last-parts-at (last_parts (oldest_of step.next) now) step at.list at.mark
         (last-at (oldest_of step.next) (oldest-can step.next.list at.list) (node_step step) at.node)
 
     -- what the equipment has done by then
     file-does : (Such : List LineCall → Type 0) (step : FileStep) → FileAt Such step
-        → DoesMore (end_plan plan) (DidOf plan) base doings now Such step
+        → DoesMore (end_plan plan) (DidOf plan) base doings now Such HasNoEnd step
     file-does Such step at =
         let so = at.node.at.core in
         record {
@@ -384,11 +418,43 @@ module _ (plan : EquipmentPlan) (base : ℕ) (fits : EquipmentPlanFits plan) (sl
           written = ap (λ (ds : List Doing). written_in (end_plan plan) ds) (sym so.whole) ∙ so.written;
           calls = so.called;
           drops = so.drops;
+          ends = so.unended;
         }
 
-    file-steps : (went : Went EquipmentView Happening) → OnEither FileStepped FileBegun went
+    -- and with the end of the step
+    file-closes :
+        (Such : List LineCall → Type 0) (step : FileStep)
+        → DoesMore (end_plan plan) (DidOf plan) base doings now Such HasNoEnd step
+        → DoesMore (end_plan plan) (DidOf plan) base doings now Such EndsOnce
+        (file_step step.next (step_ended (node_step step)))
+    file-closes Such step more = record {
+      done = Says Happening.StepEnded ∷ more.done;
+      is = record {
+        sound = record { own = more.is.sound.own; list = more.is.sound.list; mark = more.is.sound.mark };
+        is = history-ends (end_plan plan) base (more.done ++ doings) step.next.node.core more.is.is;
+        tried = (tt, more.is.tried);
+        turn = record {
+          below = more.is.turn.below;
+          drawn = more.is.turn.drawn;
+          waits = more.is.turn.waits;
+        };
+        last = more.is.last;
+      };
+      notes =
+          ap (λ (ns : List Happening). ns ++ Happening.StepEnded ∷ []) more.notes
+          ∙ append_assoc (noted_in doings) step.notes (Happening.StepEnded ∷ []);
+      written = more.written;
+      calls = more.calls;
+      drops = more.drops;
+      ends = record { rest = more.done; is = refl; unended = more.ends };
+    }
+
+    file-steps : (went : Went EquipmentView Happening) → OnEither FileClosed FileBegun went
         → DoesStep (end_plan plan) (DidOf plan) base doings input now went
-    file-steps (Goes step) at = file-does (AreOfStep input now) step at
+    file-steps (Goes step) at =
+        subst (λ (last : FileStep).
+        DoesMore (end_plan plan) (DidOf plan) base doings now (AreOfStep input now) EndsOnce last) (sym at.is)
+        (file-closes (AreOfStep input now) at.before (file-does (AreOfStep input now) at.before at.stepped))
     file-steps (Spent step) at = file-does (AreBegunOf input now) step at
 
 -- ---- from the start of a step
@@ -464,6 +530,7 @@ module _ (plan : EquipmentPlan) (base : ℕ) (fits : EquipmentPlanFits plan) whe
       tries_are = refl;
       turn = did.turn;
       limit_is = refl;
+      unended = tt;
     };
     held = held-at doings s did;
   }
@@ -483,6 +550,7 @@ module _ (plan : EquipmentPlan) (base : ℕ) (fits : EquipmentPlanFits plan) whe
         received = more.received;
         line = more.course.line;
         core = more.core;
+        steps = more.steps;
       };
       notes = more.course.notes;
       written = more.course.written;
@@ -492,6 +560,7 @@ module _ (plan : EquipmentPlan) (base : ℕ) (fits : EquipmentPlanFits plan) whe
       tries_are = quiet.same;
       turn = record { below = did.turn.below; drawn = did.turn.drawn; waits = did.turn.waits };
       limit_is = refl;
+      unended = more.unended;
     };
     held = held-at doings s did;
   }
@@ -514,6 +583,8 @@ module _ (plan : EquipmentPlan) (base : ℕ) (fits : EquipmentPlanFits plan) whe
               written = sym (append-nil (written_in (end_plan plan) doings));
             };
             core = did.is.core;
+            steps = did.is.steps;
+            unended = tt;
           })
 
       quiet : GoesTried (end_plan plan) doings (more.done ++ doings)

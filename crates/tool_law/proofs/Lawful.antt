@@ -174,7 +174,7 @@ module _ (plan : EquipmentPlan) (fits : EquipmentPlanFits plan) (slots : ℕ) (s
         (unload-held plan IsAny fits slots stood (λ system. tt) oldest can own e (any-held own sound))),
     (
       (λ own e sound. any-sound _ (ended-quiet plan IsAny fits slots stood own e (any-held own sound)).sound),
-      ((λ own e sound. sound), tt),
+      ((λ own e sound. sound), ((λ own e sound. sound), tt)),
     ),
   )
 
@@ -522,7 +522,12 @@ lawful-so plan slots list mark fits can loses = record {
   starts = starts-at plan fits slots list mark 0 can (omega arith);
   begins = λ first step is. begins first step is;
   keeps = λ base doings s did.
-      record { lawful = did.is.lawful; line_is = did.is.line; received = did.is.received };
+      record {
+        lawful = did.is.lawful;
+        line_is = did.is.line;
+        received = did.is.received;
+        replies = did.is.steps.replies;
+      };
   goes_on = λ base doings s input now did may. goes-on plan base fits doings s input now did may;
   stops = λ base doings s input now did may front has. stops-are s input now front has;
   says = λ base doings s what did world. record {

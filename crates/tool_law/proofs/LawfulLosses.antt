@@ -256,7 +256,12 @@ module _ (plan : EquipmentPlan) (fits : EquipmentPlanFits plan) where
       let first =
       stops-first (end_plan plan) (DidOf plan) ToolCommandFits machine
       (λ base doings s did.
-      record { lawful = did.is.lawful; line_is = did.is.line; received = did.is.received })
+      record {
+        lawful = did.is.lawful;
+        line_is = did.is.line;
+        received = did.is.received;
+        replies = did.is.steps.replies;
+      })
       (λ base doings s input now did may. goes-on plan base fits doings s input now did may) base doings s input now did
       may loss.front (stops-are s input now loss.front ((losses-counted s input now).1 loss has)) in
       let at =

@@ -12,7 +12,7 @@ use Rattle.message_end.specs.Core.Command.{Take}
 use Rattle.message_end.specs.Core.Went.{Goes, Spent}
 use Rattle.message_end.specs.Duties.{all_done}
 use Rattle.message_end.specs.Ends.{Input}
-use Rattle.message_end.specs.Parts.{Node, after_parts, after_turn, core_after, core_step, went_with}
+use Rattle.message_end.specs.Parts.{Node, after_parts, after_turn, closes, core_after, core_step, went_with}
 use Rattle.tool_step.specs.declared.kind.Kind.{Kind}
 use Rattle.tool_step.specs.Equipment.{EquipmentView, act, ended_step, is_marked_out, needs_numbers, node_step, oldest_of, parts_done, reserved, settled_went, went_with_file}
 use Rattle.tool_step.specs.Own.{OwnView, ToolPart, ToolTurn}
@@ -22,7 +22,7 @@ use Rattle.tool_step.specs.Spooling.{end_of_spooling, unload_part}
 use Rattle.tool_step.specs.Replies.{block_timer, reply_timer}
 use Rattle.tool_step.specs.Step.{beginning, character, delay_timer, first_parts, input_part, is_spent, last_parts, late_parts, line_timer, offer}
 use Rattle.tool_law.proofs.Drawing.{Costs, Needs, costs-as, costs-none, costs-on, costs-then, needs-none, or-false, takes-stay}
-use Rattle.tool_law.proofs.DrawnReplies.{beginning-need, block-timer-need, character-need, delay-need, ending-need, is_long, line-timer-need, offer-need, reply-timer-need, told-need, unload-need}
+use Rattle.tool_law.proofs.DrawnReplies.{beginning-need, block-timer-need, character-need, closing-need, delay-need, ending-need, is_long, line-timer-need, offer-need, reply-timer-need, told-need, unload-need}
 
 abbrev NodeStep : Type 0
 NodeStep = Step (Node OwnView Kind) Happening
@@ -201,18 +201,23 @@ last-cost : (oldest : Option Spooled) (now : ℕ) (step : NodeStep)
 last-cost oldest now step =
     costs-then node_numbers 2 0 false false step.next.core.numbers
     (after_turn Some (unload_part oldest step.next.own step.next.core) step)
-    (after_parts Some (end_of_spooling ∷ offer now ∷ []))
+    (after_parts Some (end_of_spooling ∷ offer now ∷ closes ∷ []))
     (of-needs 2 false (unload_part oldest step.next.own step.next.core) step
     (unload-need oldest step.next.own step.next.core))
     (λ one.
     costs-then node_numbers 0 0 false false one.next.core.numbers
-    (after_turn Some (end_of_spooling one.next.own one.next.core) one) (after_parts Some (offer now ∷ []))
+    (after_turn Some (end_of_spooling one.next.own one.next.core) one)
+    (after_parts Some (offer now ∷ closes ∷ []))
     (of-needs 0 false (end_of_spooling one.next.own one.next.core) one (ending-need one.next.own one.next.core))
     (λ two.
     costs-then node_numbers 0 0 false false two.next.core.numbers
-    (after_turn Some (offer now two.next.own two.next.core) two) (after_parts Some [])
+    (after_turn Some (offer now two.next.own two.next.core) two) (after_parts Some (closes ∷ []))
     (of-needs 0 false (offer now two.next.own two.next.core) two (offer-need now two.next.own two.next.core))
-    (λ three. costs-none three.next.core.numbers)))
+    (λ three.
+    costs-then node_numbers 0 0 false false three.next.core.numbers
+    (after_turn Some (closes three.next.own three.next.core) three) (after_parts Some [])
+    (of-needs 0 false (closes three.next.own three.next.core) three (closing-need three.next.own three.next.core))
+    (λ four. costs-none four.next.core.numbers))))
 
 -- ---- the whole step
 

@@ -16,9 +16,11 @@ use Rattle.message_end.specs.Drops.{AreDroppedAt, Drops}
 use Rattle.message_end.specs.Duties.{all_done}
 use Rattle.message_end.specs.History.{AskedIs, IsHistoryOf, noted_in, written_in}
 use Rattle.message_end.specs.Ends.{AreDecidedAt}
+use Rattle.message_end.specs.InStep.{HasNoEnd}
 use Rattle.message_end.specs.LineCalls.{AreCallsOf, IsOffer, calls_in}
 use Rattle.message_end.specs.Own.{Has}
 use Rattle.message_end.specs.Plan.{EndPlan}
+use Rattle.message_end.proofs.InSteps.{none-both}
 use Rattle.message_end.proofs.Limits.{AddsNone, carry-limit, limit_of}
 use Rattle.message_end.proofs.Lower.{lower}
 use Rattle.message_end.proofs.Parts.{OnEither, commands-due, either-then}
@@ -65,6 +67,7 @@ module _ (plan : EndPlan) (base : ℕ) (fits : LinePlanFits plan.line) (doings :
     pub tries_are : tries_in all ≡ tries
     pub turn : AreInTurn tries step.next
     pub limit_is : limit_of step ≡ limit
+    pub unended : HasNoEnd done
 
   abbrev IsMadeBy : List Doing → List LineCall → CoreStep → Type 0
   IsMadeBy before made step = IsAt plan base before (λ at. at ≡ now) (Exactly made) step
@@ -85,6 +88,7 @@ module _ (plan : EndPlan) (base : ℕ) (fits : LinePlanFits plan.line) (doings :
     tries_are = at.tries_are;
     turn = at.turn;
     limit_is = at.limit_is;
+    unended = at.unended;
   }
 
   from-here :
@@ -102,6 +106,8 @@ module _ (plan : EndPlan) (base : ℕ) (fits : LinePlanFits plan.line) (doings :
     };
     received = at.is.received;
     core = at.is.core;
+    steps = at.is.steps;
+    unended = tt;
   }
 
   pub asks-at : (tries : List ℕ) (Called : List LineCall → Type 0) (step : CoreStep) → TriedAt tries Called step
@@ -119,7 +125,13 @@ module _ (plan : EndPlan) (base : ℕ) (fits : LinePlanFits plan.line) (doings :
     done = is.done ++ at.done;
     whole =
         ap (λ (ds : List Doing). is.done ++ ds) at.whole ∙ sym (append_assoc is.done at.done doings);
-    is = record { lawful = is.course.lawful; received = is.received; line = is.course.line; core = is.core };
+    is = record {
+      lawful = is.course.lawful;
+      received = is.received;
+      line = is.course.line;
+      core = is.core;
+      steps = is.steps;
+    };
     notes =
         is.course.notes ∙ ap (λ (ns : List Happening). ns ++ later.notes) at.notes
         ∙ append_assoc (noted_in doings) step.notes later.notes;
@@ -134,6 +146,7 @@ module _ (plan : EndPlan) (base : ℕ) (fits : LinePlanFits plan.line) (doings :
     tries_are = tried.same ∙ at.tries_are;
     turn = still-in-turn tries step.next later.next turned at.turn;
     limit_is = same ∙ at.limit_is;
+    unended = none-both is.done at.done is.unended at.unended;
   }
 
   -- ---- commands that give no block and note no try
@@ -288,6 +301,7 @@ module _ (plan : EndPlan) (base : ℕ) (fits : LinePlanFits plan.line) (doings :
     tries_are = ap (λ (ts : List ℕ). system ∷ ts) at.tries_are;
     turn = tried-in-turn tries step.next system drawn small none at.turn;
     limit_is = at.limit_is;
+    unended = (tt, at.unended);
   }
 
   -- ---- the line's turn

@@ -15,8 +15,8 @@ use Rattle.message_flow.specs.Message.{is_primary}
 use Rattle.message_flow.specs.Outgoing.{next_block_of, next_turn}
 use Rattle.trace_log.specs.Log.{Happening}
 use Rattle.trace_log.specs.Log.Happening.{Try}
-use Rattle.message_end.specs.Core.{EndView, gives, offers, with_end, with_outgoing}
-use Rattle.message_end.specs.Doings.{AreLawful, Doing, IsNoSend, IsPlain, line_of, own_of}
+use Rattle.message_end.specs.Core.{EndView, MayNote, gives, offers, with_end, with_outgoing}
+use Rattle.message_end.specs.Doings.{AreLawful, Doing, IsNoSend, line_of, own_of}
 use Rattle.message_end.specs.Doings.Doing.{Calls, Does, Gives, Says}
 use Rattle.message_end.specs.Ends.{IsOfWorld}
 use Rattle.message_end.specs.History.{IsHistoryOf, noted_in, notes_of_own}
@@ -25,6 +25,7 @@ use Rattle.message_end.specs.Own.{Has, Own, sent_at, sent_in}
 use Rattle.message_end.specs.Own.Own.{DrewNumber, DroppedMessage, GaveBlock, HeardBlock, ReceivedMessage, SentMessage, WroteFrame}
 use Rattle.message_end.specs.Plan.{EndPlan, block_of}
 use Rattle.message_end.proofs.Courses.{in-turn}
+use Rattle.message_end.proofs.InSteps.{steps-said}
 use Rattle.message_end.proofs.Fronts.{noted-behind}
 use Rattle.spool_law.specs.Shelf.{Change, change_of}
 use Rattle.spool_law.specs.Shelf.Change.{Finds, HasGone, HasStored, Leaves, Other, Receives, Sends, Stores, Tries}
@@ -101,9 +102,10 @@ IsFine Happening.HostStarted = ⊥
 IsFine (Happening.Sent message) = ⊥
 IsFine (Happening.Received message) = ⊥
 IsFine (Happening.Try number system) = ⊥
+IsFine Happening.StepEnded = ⊥
 IsFine _ = Unit {0}
 
-pub fine-both : (what : Happening) → IsFine what → IsPlain what × IsNoTry (change_of what)
+pub fine-both : (what : Happening) → IsFine what → MayNote what × IsNoTry (change_of what)
 fine-both (Happening.EquipmentStarted found base) fine = absurd fine
 fine-both Happening.HostStarted fine = absurd fine
 fine-both Happening.Power fine = (tt, tt)
@@ -140,6 +142,7 @@ fine-both (Happening.Discarded name) fine = (tt, tt)
 fine-both (Happening.TooLong name) fine = (tt, tt)
 fine-both (Happening.Full name) fine = (tt, tt)
 fine-both (Happening.Recorded past) fine = (tt, tt)
+fine-both Happening.StepEnded fine = absurd fine
 
 -- what the world notes of an end is of no try
 pub world-free : (what : Happening) → IsOfWorld what → IsNoTry (change_of what)
@@ -179,6 +182,7 @@ world-free (Happening.Discarded name) world = absurd world
 world-free (Happening.TooLong name) world = absurd world
 world-free (Happening.Full name) world = absurd world
 world-free (Happening.Recorded past) world = absurd world
+world-free Happening.StepEnded world = absurd world
 
 -- ---- doings of no try
 
@@ -254,6 +258,7 @@ said-history plan base doings e number system is = record {
   line = is.line;
   received = is.received;
   core = is.core;
+  steps = steps-said plan doings e.asked (Try number system) tt is.steps;
 }
 
 -- ---- a block that goes to the line

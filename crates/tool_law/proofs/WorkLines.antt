@@ -61,6 +61,7 @@ before-change (Happening.Discarded name) = refl
 before-change (Happening.TooLong name) = refl
 before-change (Happening.Full name) = refl
 before-change (Happening.Recorded past) = refl
+before-change Happening.StepEnded = refl
 
 -- what leaves the messages that stand as they are
 abbrev pub LeavesStanding : Change → Type 0

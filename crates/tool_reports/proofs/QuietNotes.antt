@@ -207,6 +207,8 @@ quiet-note (Happening.TooLong name) quiet notes =
 quiet-note (Happening.Full name) quiet notes =
     quietly (Happening.Full name) notes refl refl refl refl refl refl (λ plan. tt) (λ plan. refl)
 quiet-note (Happening.Recorded past) quiet notes = absurd quiet
+quiet-note Happening.StepEnded quiet notes =
+    quietly Happening.StepEnded notes refl refl refl refl refl refl (λ plan. tt) (λ plan. refl)
 
 -- ---- notes behind notes
 

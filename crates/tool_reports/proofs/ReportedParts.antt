@@ -17,14 +17,14 @@ use Rattle.trace_log.specs.Log.{Happening, Past, is_before_change}
 use Rattle.trace_log.specs.Names.{Spooled, title_of}
 use Rattle.message_end.specs.Calls.{dropped_now, due_now, failed_as, failed_at, took_by}
 use Rattle.message_end.specs.Core.{EndView, Step, Went, asked_by, calls, carried, held_header, judges, takes_back, tells, with_assembly, with_end}
-use Rattle.message_end.specs.Core.Command.{DropDue, Expire, Halt, Offer, Take, Tick}
+use Rattle.message_end.specs.Core.Command.{DropDue, EndStep, Expire, Halt, Offer, Take, Tick}
 use Rattle.message_end.specs.Core.Went.{Goes, Spent}
 use Rattle.message_end.specs.Course.{noted_behind}
 use Rattle.message_end.specs.Duties.{all_done}
 use Rattle.message_end.specs.Ends.{Input}
 use Rattle.message_end.specs.Own.{Has}
 use Rattle.message_end.specs.Ends.Input.{Char, Command as Told, Time}
-use Rattle.message_end.specs.Parts.{Node, after_parts, after_turn, core_after, core_step, fixed_turn, went_with}
+use Rattle.message_end.specs.Parts.{Node, after_parts, after_turn, closes, core_after, core_step, fixed_turn, went_with}
 use Rattle.equipment_tables.specs.declared.plan.EquipmentPlan.{EquipmentPlan}
 use Rattle.equipment_tables.specs.Laws.{TablesAreLookedBackFor}
 use Rattle.equipment_tables.specs.Plan.{EquipmentPlanFits}
@@ -112,6 +112,7 @@ change-due plan (Happening.Denied name) before is = refl
 change-due plan (Happening.Discarded name) before is = refl
 change-due plan (Happening.TooLong name) before is = refl
 change-due plan (Happening.Full name) before is = refl
+change-due plan Happening.StepEnded before is = refl
 change-due plan (Happening.Recorded (Past.Asked request)) before is = refl
 change-due plan (Happening.Recorded (Past.Commanded command)) before is = absurd (cc)
 
@@ -394,6 +395,10 @@ module _ (plan : EquipmentPlan) (fits : EquipmentPlanFits plan) (looked : Tables
         led-plain Free tt Any any-lasts own (Offer now) (fixed_turn own []) (tt, tt)
         (fixed-plain Free tt Any any-lasts own own [] (itself Free tt Any any-lasts own) tt)
 
+    pub closes-plain : (own : OwnView) (e : EndView Kind) → IsPlain Free tt Any any-lasts own (closes own e)
+    closes-plain own e =
+        fixed-plain Free tt Any any-lasts own own (EndStep ∷ []) (itself Free tt Any any-lasts own) (tt, tt)
+
   -- some parts, and others behind them
   parts-then :
       (said to : List ToolCommand) (before : List Happening) (parts rest : List ToolPart) → AllKeep said before parts
@@ -458,6 +463,9 @@ module _ (plan : EquipmentPlan) (fits : EquipmentPlanFits plan) (looked : Tables
               (λ own e.
               booked-plain Free tt Any any-lasts own (rested (is_communicating own) own.ledger)
               (rested-quiet (is_communicating own) own.ledger)),
-          (plain-part said before (offer now) (offer-plain said before now), tt),
+          (
+            plain-part said before (offer now) (offer-plain said before now),
+            (plain-part said before closes (closes-plain said before), tt),
+          ),
         ),
       ) step holds

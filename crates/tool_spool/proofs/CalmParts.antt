@@ -26,7 +26,7 @@ use Rattle.transact.specs.declared.begun.Begun.{Begun}
 use Rattle.transact.specs.Transactions.{system_of}
 use Rattle.message_end.specs.declared.unsent.Unsent.{Unsent}
 use Rattle.message_end.specs.Core.{Command, EndView, is_crowded_out}
-use Rattle.message_end.specs.Core.Command.{Abort, Note, Offer, Primary, Reply}
+use Rattle.message_end.specs.Core.Command.{Abort, EndStep, Note, Offer, Primary, Reply}
 use Rattle.message_end.specs.Endings.{ends_failed, ends_front, ends_one, ends_open, is_of_open, notes_failed}
 use Rattle.message_end.specs.Own.{Has}
 use Rattle.message_end.specs.Parts.{fixed_turn, led_turn}
@@ -442,3 +442,6 @@ online-calm own e =
 
 pub offer-calm : (now : ℕ) (own : OwnView) → IsCalmTurn own (led_turn (Offer now) (fixed_turn own []))
 offer-calm now own = record { duties = ((λ e. (tt, tt)), ((λ e. tt), tt)); like = likes own }
+
+pub closes-calm : (own : OwnView) → IsCalmTurn own (fixed_turn own (EndStep ∷ []))
+closes-calm own = record { duties = ((λ e. (tt, tt)), tt); like = likes own }

@@ -27,7 +27,7 @@ use Rattle.message_end.specs.Course.{noted_behind}
 use Rattle.message_end.specs.Duties.{all_done}
 use Rattle.message_end.specs.Ends.{Input}
 use Rattle.message_end.specs.Ends.Input.{Char, Command as Told, Time}
-use Rattle.message_end.specs.Parts.{Node, after_parts, after_turn, core_after, core_step, fixed_turn, went_with}
+use Rattle.message_end.specs.Parts.{Node, after_parts, after_turn, closes, core_after, core_step, fixed_turn, went_with}
 use Rattle.message_end.proofs.Parts.{after-take, OnEither, either-then, either-less}
 use Rattle.spool_ledger.specs.Activity.{rested}
 use Rattle.spool_ledger.specs.Ledger.{stood_count}
@@ -47,13 +47,13 @@ use Rattle.tool_step.specs.Sent as sent
 use Rattle.tool_step.specs.Spooling.{end_of_spooling, unload_part}
 use Rattle.tool_step.specs.States as states
 use Rattle.tool_step.specs.Step.{begun, beginning, character, delay_timer, failed_turn, first_parts, flow_turn, input_part, is_spent, last_parts, late_parts, line_timer, long_turn, offer, took_turn}
-use Rattle.tool_spool.proofs.CalmParts.{IsCalmTurn, comms-calm, error-turn-calm, errors-calm, fixed-calm, like-as, likes, offer-calm}
+use Rattle.tool_spool.proofs.CalmParts.{IsCalmTurn, closes-calm, comms-calm, error-turn-calm, errors-calm, fixed-calm, like-as, likes, offer-calm}
 use Rattle.tool_spool.proofs.CalmTurns.{IsCalmRun, carry-run}
 use Rattle.tool_reports.proofs.HeldReports.{Any, Free, any-lasts}
 use Rattle.tool_reports.proofs.LeavingReports.{unload-keeps as unload-reports}
 use Rattle.tool_reports.proofs.PlainTurns.{booked-plain, comms-plain, rested-quiet}
 use Rattle.tool_reports.proofs.QuietNotes.{AreSettled, one-behind}
-use Rattle.tool_reports.proofs.ReportedParts.{HoldsStep, NodeEnds, NodeStep, PartKeeps, begin-plain, input-keeps as input-reports, of-turn as of-reports, offer-plain, plain-part, t3-keeps, t4-keeps, tick-keeps}
+use Rattle.tool_reports.proofs.ReportedParts.{HoldsStep, NodeEnds, NodeStep, PartKeeps, begin-plain, closes-plain, input-keeps as input-reports, of-turn as of-reports, offer-plain, plain-part, t3-keeps, t4-keeps, tick-keeps}
 use Rattle.tool_spool.proofs.ShelvedTurns.{Ends, IsSpentAt, Shelves, run-keeps, spent-as}
 use Rattle.tool_law.proofs.Drawing.{Any as AnyStep, Never, goes-either}
 use Rattle.tool_law.proofs.CoreSteps.{CoreStep}
@@ -419,7 +419,7 @@ module _ (plan : EquipmentPlan) (fits : EquipmentPlanFits plan) (looked : Tables
     last-both said oldest odd of now step so =
         either-then (Settled said) BothRight (Settled said)
         (after_turn Some (unload_part oldest step.next.own step.next.core) step)
-        (after_parts Some (end_of_spooling ∷ offer now ∷ []))
+        (after_parts Some (end_of_spooling ∷ offer now ∷ closes ∷ []))
         (settled-part said (unload_part oldest) step
         (both-part said said (unload_part oldest) step
         (of-reports plan fits looked said before (unload_part oldest step.next.own step.next.core) step
@@ -435,7 +435,8 @@ module _ (plan : EquipmentPlan) (fits : EquipmentPlanFits plan) (looked : Tables
         (unload-works oldest step.next.own step.next.core ∙ so.1))
         (λ one so.
         either-then (Settled said) BothRight (Settled said)
-        (after_turn Some (end_of_spooling one.next.own one.next.core) one) (after_parts Some (offer now ∷ []))
+        (after_turn Some (end_of_spooling one.next.own one.next.core) one)
+        (after_parts Some (offer now ∷ closes ∷ []))
         (settled-part said end_of_spooling one
         (part-both said end_of_spooling
         (plain-part plan fits looked said before end_of_spooling
@@ -447,9 +448,16 @@ module _ (plan : EquipmentPlan) (fits : EquipmentPlanFits plan) (looked : Tables
         (rested-works one.next.own one.next.core ∙ so.1))
         (λ two so.
         either-then (Settled said) BothRight (Settled said)
-        (after_turn Some (offer now two.next.own two.next.core) two) (after_parts Some [])
+        (after_turn Some (offer now two.next.own two.next.core) two) (after_parts Some (closes ∷ []))
         (settled-part said (offer now) two
         (part-both said (offer now)
         (plain-part plan fits looked said before (offer now) (offer-plain plan fits looked said before now))
         (calm-part (offer now) (λ own e. offer-calm now own)) two so.0) so.1)
-        (λ last so. so)))
+        (λ three so.
+        either-then (Settled said) BothRight (Settled said)
+        (after_turn Some (closes three.next.own three.next.core) three) (after_parts Some [])
+        (settled-part said closes three
+        (part-both said closes
+        (plain-part plan fits looked said before closes (closes-plain plan fits looked said before))
+        (calm-part closes (λ own e. closes-calm own)) three so.0) so.1)
+        (λ last so. so))))

@@ -13,7 +13,7 @@ use Rattle.message_end.specs.Calls.{deadline_of_end, failed_at, least, took_at}
 use Rattle.message_end.specs.Core.{EndView}
 use Rattle.message_end.specs.Core.Command.{Halt, Offer, Take, Tick}
 use Rattle.message_end.specs.Ends.{Input}
-use Rattle.message_end.specs.Parts.{Node, fixed_turn, leads, led_turn}
+use Rattle.message_end.specs.Parts.{Node, closes, fixed_turn, leads, led_turn}
 use Rattle.message_end.specs.Plan.{EndPlan}
 use Rattle.equipment_tables.specs.declared.plan.EquipmentPlan.{EquipmentPlan}
 use Rattle.tool_step.specs.declared.kind.Kind.{Kind}
@@ -101,9 +101,10 @@ abbrev pub first_parts : Input ToolCommand → ℕ → List ToolPart
 first_parts input now = beginning now ∷ line_timer now
     ∷ ((late_parts now ++ delay_timer now ∷ []) ++ input_part input now ∷ [])
 
--- an unload goes on with the oldest message that the spool has by then, spooling ends, and it is the line's turn
+-- an unload goes on with the oldest message that the spool has by then, spooling ends, it is the line's turn, and the
+-- step comes to its end
 abbrev pub last_parts : Option Spooled → ℕ → List ToolPart
-last_parts oldest now = unload_part oldest ∷ end_of_spooling ∷ offer now ∷ []
+last_parts oldest now = unload_part oldest ∷ end_of_spooling ∷ offer now ∷ closes ∷ []
 
 -- ---- the equipment as an end
 

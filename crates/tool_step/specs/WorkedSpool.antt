@@ -171,7 +171,8 @@ establish_title = record { name = record { stream = 1; function = 13; wait = tru
 abbrev pub SpoolingBegins : Type 0
 SpoolingBegins =
     (after 10000 (Waits ∷ []) establishing).notes
-    ≡ Happening.Failed establish_title ∷ Happening.Comms comms.WaitDelay ∷ Happening.Spool true ∷ []
+    ≡ Happening.Failed establish_title ∷ Happening.Comms comms.WaitDelay ∷ Happening.Spool true ∷ Happening.StepEnded
+    ∷ []
 
 -- ---- a spool that is full
 
@@ -227,34 +228,48 @@ abbrev pub second_unload : Step EquipmentView Happening
 second_unload =
     after 0 (Waits ∷ (answered_by (accepted 2) ++ answered_by (accepted 3))) (transmits first_unload.next)
 
--- each goes out as it was put, with system bytes of its own, when the one before is confirmed and has left; what isn't
--- confirmed stays, and goes again; and when none is left spooling ends
+-- each goes out as it was put, with system bytes of its own, when the one before is confirmed and has left, in the step
+-- of its reply; what isn't confirmed stays, and goes again; and when none is left spooling ends
 pub record UnloadsInOrder : Type 0 where
   pub first :
       first_unload.notes
       ≡ Happening.Try 1 0
       ∷ Happening.Sent (sent 0 (report 1 5))
+      ∷ Happening.StepEnded
+      ∷ Happening.StepEnded
+      ∷ Happening.StepEnded
       ∷ Happening.Received (accepted 0)
       ∷ Happening.Leaving 1 Confirmed
       ∷ Happening.Gone 1
       ∷ Happening.Try 2 1
       ∷ Happening.Sent (sent 1 (report 2 5))
+      ∷ Happening.StepEnded
+      ∷ Happening.StepEnded
+      ∷ Happening.StepEnded
       ∷ Happening.Received (aborted 1)
+      ∷ Happening.StepEnded
       ∷ []
   pub left : first_unload.next.list ≡ kept 2 (report 2 5) ∷ kept 3 (report 3 5) ∷ []
   pub second :
       second_unload.notes
       ≡ Happening.Try 2 2
       ∷ Happening.Sent (sent 2 (report 2 5))
+      ∷ Happening.StepEnded
+      ∷ Happening.StepEnded
+      ∷ Happening.StepEnded
       ∷ Happening.Received (accepted 2)
       ∷ Happening.Leaving 2 Confirmed
       ∷ Happening.Gone 2
       ∷ Happening.Try 3 3
       ∷ Happening.Sent (sent 3 (report 3 5))
+      ∷ Happening.StepEnded
+      ∷ Happening.StepEnded
+      ∷ Happening.StepEnded
       ∷ Happening.Received (accepted 3)
       ∷ Happening.Leaving 3 Confirmed
       ∷ Happening.Gone 3
       ∷ Happening.Spool false
+      ∷ Happening.StepEnded
       ∷ []
   pub none : second_unload.next.list ≡ []
   pub inactive : rsda_of second_unload.next.node.own.ledger ≡ 2

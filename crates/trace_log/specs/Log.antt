@@ -28,7 +28,7 @@ pub data Past : Type 0 where
   Commanded : (command : ToolCommand) → Past
   Asked : (request : Message) → Past
 
--- what an end notes (this profile); each is one line of the trace, but `Recorded`, which prints none
+-- what an end notes (this profile); each is one line of the trace, but `Recorded` and `StepEnded`, which print none
 pub data Happening : Type 0 where
   -- a start; of the equipment's, the messages that its spool holds, each with its number, and the first number that it
   -- may draw
@@ -80,6 +80,8 @@ pub data Happening : Type 0 where
   TooLong : (name : Name) → Happening
   Full : (name : Name) → Happening
   Recorded : (past : Past) → Happening
+  -- the end has come to the end of a step
+  StepEnded : Happening
 
 -- a line that stands before a change of the spool's list
 abbrev pub is_before_change : Happening → Bool

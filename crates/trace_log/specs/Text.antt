@@ -12,7 +12,7 @@ use Rattle.message_flow.specs.declared.step.Note.{Note}
 use Rattle.short_text.specs.Shown.{shown_text}
 use Rattle.trace_log.specs.Log.{Entry, Happening, is_before_change}
 use Rattle.trace_log.specs.Log.Entry.{Noted, Slipped, Ended}
-use Rattle.trace_log.specs.Log.Happening.{EquipmentStarted, HostStarted, Power, Closed, Sent, Received, Wrote, Comms, Control, Spool, Set, Event, Alarm, Carried, Display, Refused, Storing, Stored, Leaving, Gone, Try, Duplicate, Unexpected, Foreign, TooLongBlock, Crowded, DroppedByT4, Failed, TimedOut, Stranger, Dropped, Denied, Discarded, TooLong, Full, Recorded}
+use Rattle.trace_log.specs.Log.Happening.{EquipmentStarted, HostStarted, Power, Closed, Sent, Received, Wrote, Comms, Control, Spool, Set, Event, Alarm, Carried, Display, Refused, Storing, Stored, Leaving, Gone, Try, Duplicate, Unexpected, Foreign, TooLongBlock, Crowded, DroppedByT4, Failed, TimedOut, Stranger, Dropped, Denied, Discarded, TooLong, Full, Recorded, StepEnded}
 use Rattle.trace_log.specs.Names.{Spooled, cause_text, comms_text, control_text, name_text, spooled_name, system_text, title_of, title_text}
 
 -- the moment and the end
@@ -74,6 +74,7 @@ happening_text (Discarded name) = codes "discarded " ++ name_text name
 happening_text (TooLong name) = codes "toolong " ++ name_text name
 happening_text (Full name) = codes "full " ++ name_text name
 happening_text (Recorded past) = []
+happening_text StepEnded = []
 
 -- a note that stands before no change of the spool's list
 abbrev pub plain : List ℕ → Note
@@ -92,9 +93,10 @@ abbrev pub IsStoringNote : ℕ → ℕ → ℕ → Note → Type 0
 IsStoringNote number stream function note =
     (body : List ℕ) → note ≡ note_of (Storing number (record { stream = stream; function = function; body = body }))
 
--- the note that is printed; what is recorded alone has none
+-- the note that is printed; what is recorded alone, and the end of a step, has none
 abbrev pub printed_note : Happening → Option Note
 printed_note (Recorded past) = None
+printed_note StepEnded = None
 printed_note what = Some (note_of what)
 
 -- the line of a note
