@@ -10,6 +10,7 @@ mod Lines
 mod Made
 mod OrderSoFar
 mod OverStarts
+mod Replies
 mod RoundEvents
 mod SoFar
 mod Spool

@@ -6,4 +6,5 @@ pub mod Making
 pub mod Reports
 pub mod Run
 pub mod Safe
+pub mod Steps
 pub mod Worked

@@ -2,6 +2,7 @@
 
 ghost use Rattle.line_world.specs.FewCalls.{FewCallsFindRoom};
 ghost use Rattle.line_world.specs.Safe.{HoldsAtEachEntry};
+ghost use Rattle.line_world.specs.Steps.{SafeLogsReplyInSteps};
 ghost use Rattle.line_world.specs.Worked.{WorkedRounds};
 
 use tool_step::losses_are_counted;
@@ -9,6 +10,11 @@ use tool_step::losses_are_counted;
 /// What is said of a safe log holds at each of its entries, by all entries up to that one.
 pub fn holds_at_each_entry()
     ensures { HoldsAtEachEntry }
+{}
+
+/// Each reply in a safe log goes in the step in which its end has received the primary, and once.
+pub fn replies_go_in_steps()
+    ensures { SafeLogsReplyInSteps }
 {}
 
 /// While the disk of the tool makes fewer than 32,768 calls behind a start, those of the step that is asked for among
