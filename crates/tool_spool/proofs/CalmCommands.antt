@@ -103,7 +103,7 @@ begun-same (Some one) header t other = go (refusal_of t header)
     go (Some refusal) = refl
     go None =
         last-open t.begun (new_begun header one)
-        ∙ ap (λ (asks : Option Bool). unloads_in t.begun ++ with_open asks header.system []) other
+        ∙ ap (λ (asks : Option Bool). unloads_in t.begun ++ with_open asks header []) other
         ∙ append-nil (unloads_in t.begun)
 
 -- ---- what is noted

@@ -12,6 +12,7 @@ use Rattle.spool_law.specs.Shelf.{Change, KeepsSpool, MayChange, Policy, change_
 use Rattle.spool_law.specs.Shelf.Change.{Finds}
 use Rattle.trace_log.specs.Log.{Happening}
 use Rattle.trace_log.specs.Names.{Spooled}
+use Rattle.tool_spool.specs.LeavesInStep.{LeaveInTheirSteps, MayChangeInStep}
 use Rattle.tool_spool.specs.MadeRoom.{MakesRoomForPuts, MayUse}
 use Rattle.tool_spool.specs.SpoolKept.{KeepsSpoolFrom, StartsWith}
 
@@ -24,12 +25,13 @@ pub record IsFirstStart (change : Change) (before : List Happening) : Type 0 whe
   pub alone : before ≡ []
 
 -- the first note is a start, and each later one agrees with all before it; a place that was made for a put is used by
--- it
+-- it; and messages leave in the step of their cause
 abbrev pub KeepsOn : Policy → List Happening → Type 0
 KeepsOn policy [] = ⊥
 KeepsOn policy (what ∷ before) =
     IsFirstStart (change_of what) before
-    ⊎ (MayChange policy before (change_of what) × MayUse before what × KeepsOn policy before)
+    ⊎ (MayChange policy before (change_of what) × MayUse before what × MayChangeInStep policy before (change_of what)
+    × KeepsOn policy before)
 
 abbrev pub IsSome : List Happening → Type 0
 IsSome [] = ⊥
@@ -48,7 +50,7 @@ without-newest : (policy : Policy) (what : Happening) (notes : List Happening) �
     → KeepsOn policy (what ∷ notes) → KeepsOn policy notes
 without-newest policy what [] some kept = absurd some
 without-newest policy what (newest ∷ before) some (inl first) = let alone = first.alone in absurd (cc)
-without-newest policy what (newest ∷ before) some (inr more) = more.2
+without-newest policy what (newest ∷ before) some (inr more) = more.3
 
 pub kept-before : (policy : Policy) (rest notes : List Happening) → IsSome notes
     → KeepsOn policy (noted_behind rest notes) → KeepsOn policy notes
@@ -129,7 +131,7 @@ kept-from policy held base [] begins kept = absurd begins
 kept-from policy held base (what ∷ []) begins kept = (starts-with held base what begins, tt)
 kept-from policy held base (what ∷ newest ∷ before) begins (inl first) = let alone = first.alone in absurd (cc)
 kept-from policy held base (what ∷ newest ∷ before) begins (inr more) =
-    (more.0, kept-from policy held base (newest ∷ before) begins more.2)
+    (more.0, kept-from policy held base (newest ∷ before) begins more.3)
 
 -- ---- what was made room for is put
 
@@ -137,7 +139,24 @@ pub room-used : (policy : Policy) (notes : List Happening) → KeepsOn policy no
 room-used policy [] kept = absurd kept
 room-used policy (what ∷ []) kept = (inl tt, tt)
 room-used policy (what ∷ newest ∷ before) (inl first) = let alone = first.alone in absurd (cc)
-room-used policy (what ∷ newest ∷ before) (inr more) = (more.1, room-used policy (newest ∷ before) more.2)
+room-used policy (what ∷ newest ∷ before) (inr more) = (more.1, room-used policy (newest ∷ before) more.3)
+
+-- ---- and messages leave in their steps
+
+start-in-step : (policy : Policy) (change : Change) (before : List Happening) → IsFirstStart change before
+    → MayChangeInStep policy before change
+start-in-step policy change before first =
+    subst (λ (c : Change). MayChangeInStep policy before c) (sym first.is) tt
+
+pub left-in-steps : (policy : Policy) (notes : List Happening) → KeepsOn policy notes → LeaveInTheirSteps policy notes
+left-in-steps policy [] kept = absurd kept
+left-in-steps policy (what ∷ before) (inl first) =
+    (start-in-step policy (change_of what) before first, none-left before first.alone)
+  where
+    none-left : (before : List Happening) → before ≡ [] → LeaveInTheirSteps policy before
+    none-left [] none = tt
+    none-left (newest ∷ before) none = absurd (cc)
+left-in-steps policy (what ∷ before) (inr more) = (more.2, left-in-steps policy before more.3)
 
 -- ---- over an empty file
 

@@ -13,6 +13,7 @@ use Rattle.spool_ledger.specs.Ledger.{Booked, IsLedger, LedgerView, owed, quiet,
 use Rattle.spool_ledger.specs.Storing.{all_out, stored, stored_by}
 use Rattle.spool_ledger.proofs.Following.{calls_come}
 use Rattle.spool_slots.specs.Slot.{Message as Put}
+use Rattle.trace_log.specs.InStep.{received_in_step}
 use Rattle.trace_log.specs.Log.{Happening}
 use Rattle.trace_log.specs.Log.Happening.{Gone, Leaving}
 use Rattle.trace_log.specs.Names.{Spooled}
@@ -119,11 +120,12 @@ module _ (plan : EquipmentPlan) (slots : ℕ) (list : List Put) (base : List Hap
 
       pub all-kept :
           (0 < v.len → IsPurge (policy_of plan slots) (received_since notes))
+          → (0 < v.len → IsPurge (policy_of plan slots) (received_in_step notes))
           → IsKeptBy v notes (all_out v).next (all_out v).lines
-      all-kept may = record {
+      all-kept may in_step = record {
         is = one-call Call.Purge v is tt;
         all = still.0;
-        shelved = all-shelved (policy_of plan slots) v list base notes is shelved may;
+        shelved = all-shelved (policy_of plan slots) v list base notes is shelved may in_step;
         told = still.1;
         tables = still.2;
         moves = still.3;

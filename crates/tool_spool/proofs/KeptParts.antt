@@ -59,9 +59,10 @@ use Rattle.tool_law.proofs.Drawing.{Any as AnyStep, Never, goes-either}
 use Rattle.tool_law.proofs.CoreSteps.{CoreStep}
 use Rattle.tool_spool.proofs.SpoolMessages.{message-keeps, told-keeps}
 use Rattle.tool_spool.proofs.SpoolTurns.{HoldsAt, IsRight, ShelvesAt, TurnEnds, calm-at, calm-turn, leaving-keeps, lost-keeps, so_far}
+use Rattle.tool_spool.proofs.UnloadOpen.{HasHeader}
 use Rattle.tool_spool.proofs.SpoolUnloads.{part-keeps}
 use Rattle.tool_spool.proofs.TakenTurns.{rest-keeps}
-use Rattle.tool_spool.proofs.LastWorks.{both-either, whole-system, error-stays, timeout-owes, works_of, unload-works, rested-works}
+use Rattle.tool_spool.proofs.LastWorks.{both-either, whole-header, error-stays, timeout-owes, works_of, unload-works, rested-works}
 
 module _ (plan : EquipmentPlan) (fits : EquipmentPlanFits plan) (looked : TablesAreLookedBackFor) (slots : ℕ) where
   module _ (list : List Put) (base before : List Happening) where
@@ -154,7 +155,7 @@ module _ (plan : EquipmentPlan) (fits : EquipmentPlanFits plan) (looked : Tables
     came-turns :
         (now : ℕ) (header : Header) (came : Flow) (own : OwnView) (e : EndView Kind) (old next : CoreStep)
         → next ≡ judges Some header came old → e ≡ next.next
-        → ((message : Message) (check : Checking) → came ≡ flow.Whole message check → message.system ≡ header.system)
+        → ((message : Message) (check : Checking) → came ≡ flow.Whole message check → HasHeader header message)
         → At own next
         → Turns (flow_turn now header came own e) next
     came-turns now header flow.Part own e old next is same system holds = holds.shelves
@@ -249,7 +250,7 @@ module _ (plan : EquipmentPlan) (fits : EquipmentPlanFits plan) (looked : Tables
         (calls (LineCall.Take byte now) step).next)) (calls (LineCall.Take byte now) step))
         (tells Some (held_header step.next.line.held) (event.Arrived block) now (calls (LineCall.Take byte now) step))
         refl
-        same (λ message check whole. whole-system step.next.assembly block message check whole) holds
+        same (λ message check whole. whole-header step.next.assembly block message check whole) holds
 
     char-part : (byte now : ℕ) → PartKeepsIt (character byte now)
     char-part byte now step holds =

@@ -34,12 +34,13 @@ use Rattle.tool_step.proofs.LossCalls.{AtEach, IsAtCall, at-call, losses-counted
 use Rattle.spool_works.proofs.LossCounts.{has-call}
 use Rattle.tool_step.specs.Losses.{losses}
 use Rattle.tool_law.proofs.Lawful.{IsGoodView, begun-stood, fronts-are}
-use Rattle.tool_spool.proofs.FromStarts.{KeepsOn, begins-course, kept-before, kept-empty, kept-from, room-used, some-behind, some-kept}
+use Rattle.tool_spool.proofs.FromStarts.{KeepsOn, begins-course, kept-before, kept-empty, kept-from, left-in-steps, room-used, some-behind, some-kept}
 use Rattle.tool_spool.proofs.PairedLines.{AreTold}
 use Rattle.tool_spool.proofs.UsedRoom.{fronts-used}
 use Rattle.tool_spool.proofs.Interrupted.{FoundAt, IsFoundAt, StandsWell, WhereGoes, reserve-found, where-as, works-found}
 use Rattle.tool_law.specs.Sound.{CanBeSent}
 use Rattle.tool_spool.specs.InPairs.{AreInPairs, TellsWorks, WorksAreInPairs, changes_in}
+use Rattle.tool_spool.specs.LeavesInStep.{LeaveInTheirSteps, MessagesLeaveInStep}
 use Rattle.tool_spool.specs.MadeRoom.{IsRoomUsed, LeavesNoRoom, OverwritesForPuts, UsesRoom}
 use Rattle.tool_spool.specs.SpoolKept.{KeepsSpoolFrom, MayHold, SpoolIsKept, SpoolIsKeptFrom, policy_of}
 use Rattle.tool_step.specs.Step.{begun}
@@ -307,11 +308,11 @@ module _ (plan : EquipmentPlan) (fits : EquipmentPlanFits plan) (looked : Tables
             (record (started_on s.node.own.plan s.node.own.ledger.slots st.list st.mark).next { mark = st.mark }))
             else Goes (started_on s.node.own.plan s.node.own.ledger.slots st.list st.mark))
             (Happening.Power ∷ noted_behind loss.front notes))
-        go true = inr (tt, inl used, kept)
+        go true = inr (tt, inl used, tt, kept)
         go false =
             started-so s.node.own.plan s.node.own.ledger.slots st.list st.mark
             (Happening.Power ∷ noted_behind loss.front notes) holds.plan_is so.shelves.all
-            (inr (is-found.found, inl tt, inr (tt, inl used, kept)))
+            (inr (is-found.found, inl tt, tt, inr (tt, inl used, tt, kept)))
             ((first-run plan fits looked slots) is-found.well.first st.list is-found.well.run) is-found.well.room
             ((first-bound plan fits looked slots) is-found.well.first (2 ^ 63 + 65535) st.list is-found.well.run below)
 
@@ -356,6 +357,7 @@ module _ (plan : EquipmentPlan) (fits : EquipmentPlanFits plan) (looked : Tables
             (inr (
               (finds-all plan fits looked slots) notes s.list (so.shelves.shelved.stands ∙ ap found_in same),
               inl so.shelves.shelved.closed,
+              tt,
               so.shelves.shelved.kept,
             ))
             ((first-run plan fits looked slots) v.first s.list run) room ((first-bound plan fits looked slots) v.first (2 ^ 63 + 65535) s.list run bound)
@@ -458,6 +460,13 @@ module _ (plan : EquipmentPlan) (fits : EquipmentPlanFits plan) (looked : Tables
           go (Reached s notes) so = so.shelves.shelved.closed
           go (Stopped notes) so = tt
 
+      pub steps-so : (meetings : List (Meeting ToolCommand))
+          → LeaveInTheirSteps (policy_of plan slots)
+          (notes_of (course_of (started_on plan slots list mark) machine meetings))
+      steps-so meetings =
+          left-in-steps (policy_of plan slots)
+          (notes_of (course_of (started_on plan slots list mark) machine meetings)) (kept-on meetings)
+
       pub kept-so : (meetings : List (Meeting ToolCommand))
           → KeepsSpoolFrom (policy_of plan slots) (found_in list)
           (notes_of (course_of (started_on plan slots list mark) machine meetings))
@@ -495,3 +504,8 @@ works-in-pairs looked plan slots list mark fits some most may meetings input now
 pub overwrites-for-puts : TablesAreLookedBackFor → OverwritesForPuts
 overwrites-for-puts looked plan slots list mark fits some most may meetings =
     room-so plan fits looked slots some most list mark may meetings
+
+-- whatever leaves
+pub messages-leave-in-step : TablesAreLookedBackFor → MessagesLeaveInStep
+messages-leave-in-step looked plan slots list mark fits some most may meetings =
+    steps-so plan fits looked slots some most list mark may meetings

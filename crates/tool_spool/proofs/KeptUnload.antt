@@ -24,6 +24,7 @@ use Rattle.equipment_tables.specs.declared.plan.EquipmentPlan.{EquipmentPlan}
 use Rattle.spool_works.specs.Found.{found_in, spooled_of}
 use Rattle.tool_step.specs.Equipment.{settled_list}
 use Rattle.tool_step.specs.Spooling.{unloaded}
+use Rattle.tool_spool.specs.LeavesInStep.{IsConfirmedInStep}
 use Rattle.tool_spool.specs.SpoolKept.{policy_of}
 use Rattle.tool_spool.proofs.KeptLedger.{IsKeptBy, one-call}
 use Rattle.tool_spool.proofs.PairedLines.{told-as}
@@ -47,6 +48,10 @@ carries-taken message system told primary other same = go (system == system) (gr
         subst (λ (m : Spooled). Carries m (primary_of (unloaded message) system)) (inj message other same)
         (record { stream = refl; function = refl; wait = refl; body = refl })
     go false e same = absurd (grind (arith, e))
+
+-- the reply has come that confirms this one, in this start and in this step
+abbrev pub MayConfirm : List Happening → ℕ → Type 0
+MayConfirm notes number = IsConfirmed (shelf_of notes) (received_since notes) × IsConfirmedInStep notes number
 
 module _ (plan : EquipmentPlan) (slots : ℕ) (list : List Put) (base : List Happening) where
   -- ---- changes that leave the list as it is
@@ -156,7 +161,7 @@ module _ (plan : EquipmentPlan) (slots : ℕ) (list : List Put) (base : List Hap
       -- ---- its reply has come
 
       pub confirmed-kept :
-          (is_oldest_tried v ≡ true → IsConfirmed (shelf_of notes) (received_since notes))
+          (is_oldest_tried v ≡ true → MayConfirm notes v.first)
           → IsKeptBy plan slots list base v notes (confirmed v).next (confirmed v).lines
       confirmed-kept may = go (is_oldest_tried v) refl (one-call plan slots list base Call.Confirm v is tt)
         where
@@ -182,7 +187,7 @@ module _ (plan : EquipmentPlan) (slots : ℕ) (list : List Put) (base : List Hap
                 (shelved-closed (policy_of plan slots) (oldest_out cause.Confirmed v).next list base
                 (noted_behind (oldest_out cause.Confirmed v).lines notes) tt
                 (out-shelved (policy_of plan slots) v list base notes cause.Confirmed is shelved
-                (some v.len (tries v.first v.unload) e) (λ e2. absurd (grind (arith, e2))) (may e)));
+                (some v.len (tries v.first v.unload) e) (λ e2. absurd (grind (arith, e2))) (may e).0 (may e).1));
             told = refl;
             tables = refl;
             moves = inr (omega arith);

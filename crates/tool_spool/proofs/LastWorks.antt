@@ -39,6 +39,7 @@ use Rattle.tool_step.specs.States as states
 use Rattle.tool_step.specs.Step.{begun}
 use Rattle.message_end.proofs.Parts.{OnEither}
 use Rattle.tool_law.proofs.CoreSteps.{CoreStep}
+use Rattle.tool_spool.proofs.UnloadOpen.{HasHeader}
 
 -- ---- steps in their course
 
@@ -50,10 +51,10 @@ both-either P Q R T (Spent step) one two = (one, two)
 
 -- ---- what a block is
 
-pub whole-system :
+pub whole-header :
     (a : AssemblyView) (block : BlockView) (message : Message) (check : Checking)
-    → flow_to a block ≡ flow.Whole message check → message.system ≡ block.header.system
-whole-system a block message check is =
+    → flow_to a block ≡ flow.Whole message check → HasHeader block.header message
+whole-header a block message check is =
     given (is_given a.last block.header) (is_foreign a.receiver block.header) is
   where
     inj : (x y : Message) (c d : Checking) → flow.Whole x c ≡ flow.Whole y d → x ≡ y
@@ -66,11 +67,16 @@ whole-system a block message check is =
         else if crowded then flow.Crowded
         else flow.Part)
         else flow.Unexpected)
-        ≡ flow.Whole message check → message.system ≡ block.header.system
+        ≡ flow.Whole message check → HasHeader block.header message
     behind false long last crowded body e = absurd (cc)
     behind true true last crowded body e = absurd (cc)
     behind true false true crowded body e =
-        ap (λ (m : Message). m.system) (sym (inj (message_of block.header body) message (check_of body) check e))
+        let same = sym (inj (message_of block.header body) message (check_of body) check e) in
+        record {
+          system = ap (λ (m : Message). m.system) same;
+          stream = ap (λ (m : Message). m.stream) same;
+          function = ap (λ (m : Message). m.function) same;
+        }
     behind true false false true body e = absurd (cc)
     behind true false false false body e = absurd (cc)
 
@@ -79,7 +85,7 @@ whole-system a block message check is =
         else if foreign then flow.Foreign (address_of block.header)
         else flow_behind a.receiver (header_so_far (find (assembly.has_key block.header) a.partials))
         (assembly.body_so_far (find (assembly.has_key block.header) a.partials)) (length a.partials) block)
-        ≡ flow.Whole message check → message.system ≡ block.header.system
+        ≡ flow.Whole message check → HasHeader block.header message
     given true foreign e = absurd (cc)
     given false true e = absurd (cc)
     given false false e =

@@ -27,6 +27,7 @@ use Rattle.spool_works.specs.WorkLosses.{MayLeaveAt}
 use Rattle.spool_works.specs.DiskWorks.{DiskWork}
 use Rattle.spool_works.proofs.FoundLosses.{found-behind, found-long}
 use Rattle.tool_spool.specs.InPairs.{IsOfOne}
+use Rattle.tool_spool.specs.LeavesInStep.{MayChangeInStep, MayLeaveInStep}
 use Rattle.tool_spool.specs.MadeRoom.{IsRoomUsed, IsUsedBy}
 use Rattle.tool_spool.proofs.FromStarts.{KeepsOn}
 use Rattle.tool_spool.proofs.PairedLines.{AreTold, told-more, told-none, told-work}
@@ -145,6 +146,18 @@ used-behind (Change.HasStored number) notes leaves = absurd leaves
 used-behind (Change.Leaves number why) notes leaves = absurd leaves
 used-behind (Change.HasGone number) notes leaves = absurd leaves
 
+quiet-in-step : (policy : Policy) (change : Change) (notes : List Happening) → LeavesStanding change
+    → MayChangeInStep policy notes change
+quiet-in-step policy (Change.Tries number system) notes leaves = tt
+quiet-in-step policy (Change.Sends message) notes leaves = tt
+quiet-in-step policy (Change.Receives message) notes leaves = tt
+quiet-in-step policy Change.Other notes leaves = tt
+quiet-in-step policy (Change.Finds found) notes leaves = absurd leaves
+quiet-in-step policy (Change.Stores number message) notes leaves = absurd leaves
+quiet-in-step policy (Change.HasStored number) notes leaves = absurd leaves
+quiet-in-step policy (Change.Leaves number why) notes leaves = absurd leaves
+quiet-in-step policy (Change.HasGone number) notes leaves = absurd leaves
+
 some-inj : {X : Type 0} (x y : X) → Some x ≡ Some y → x ≡ y
 some-inj x y same = cc
 
@@ -158,7 +171,7 @@ module _ (policy : Policy) where
   noted-shelved v list base notes what leaves may is =
       let all = same (change_of what) leaves in
       record {
-        kept = inr (may, inl is.closed, is.kept);
+        kept = inr (may, inl is.closed, quiet-in-step policy (change_of what) notes leaves, is.kept);
         rest = all.0;
         stands = all.1 ∙ is.stands;
         run = is.run;
@@ -220,6 +233,7 @@ module _ (policy : Policy) where
         kept = inr (
           record { message = message; is = refl },
           inl tt,
+          tt,
           inr (
             record {
               rest = shelved.rest;
@@ -230,6 +244,7 @@ module _ (policy : Policy) where
                   omega (arith, below, long);
             },
             inr tt,
+            tt,
             shelved.kept,
           ),
         );
@@ -281,13 +296,19 @@ module _ (policy : Policy) where
       less (x ∷ list2) n same = omega (arith, same)
 
       pub out-shelved :
-          why ≢ cause.Purged → MayLeaveFor policy notes why
+          why ≢ cause.Purged → MayLeaveFor policy notes why → MayLeaveInStep policy notes v.first why
           → IsShelvedFree policy (oldest_out why v).next list base (noted_behind (oldest_out why v).lines notes)
-      out-shelved one may = record {
+      out-shelved one may in_step = record {
         kept = inr (
           record { cause = why; is = refl; first = first-is },
           inl tt,
-          inr (record { rest = shelved.rest; first = first-is; cause = may }, inl shelved.closed, shelved.kept),
+          tt,
+          inr (
+            record { rest = shelved.rest; first = first-is; cause = may },
+            inl shelved.closed,
+            in_step,
+            shelved.kept,
+          ),
         );
         rest = record { none_stored = shelved.rest.none_stored; none_leaves = refl };
         stands =
@@ -339,8 +360,9 @@ module _ (policy : Policy) where
 
       pub all-shelved :
           (0 < v.len → MayLeaveFor policy notes cause.Purged)
+          → (0 < v.len → MayLeaveInStep policy notes v.first cause.Purged)
           → IsShelved policy (all_out v).next list base (noted_behind (all_out v).lines notes)
-      all-shelved may = go (v.len == 0) refl
+      all-shelved may in_step = go (v.len == 0) refl
         where
           go : (none : Bool) → (v.len == 0) ≡ none
               → IsShelved policy
@@ -359,6 +381,7 @@ module _ (policy : Policy) where
                 first = first-is v list base notes cause.Purged is shelved (some-left v.len e);
               },
               inl tt,
+              tt,
               inr (
                 record {
                   rest = shelved.rest;
@@ -366,6 +389,7 @@ module _ (policy : Policy) where
                   cause = may (some-left v.len e);
                 },
                 inl shelved.closed,
+                in_step (some-left v.len e),
                 shelved.kept,
               ),
             );
@@ -430,7 +454,7 @@ module _ (policy : Policy) where
               let some = full_has_some v (length message.body) is e in
               let out =
               out-shelved v list base notes cause.Overwritten is shelved some (λ e2. absurd (grind (arith, e2)))
-              (may refl (ap (λ (n : ℕ). n == v.slots) long ∙ full)) in
+              (may refl (ap (λ (n : ℕ). n == v.slots) long ∙ full)) tt in
               subst (λ (b : Booked). IsShelved policy b.next list base (noted_behind b.lines notes)) (some-inj _ _ same)
               (put-shelved (oldest_out cause.Overwritten v).next list base
               (noted_behind (oldest_out cause.Overwritten v).lines notes) message

@@ -19,6 +19,7 @@ use Rattle.spool_ledger.specs.Unloading.{tried_in}
 use Rattle.spool_ledger.specs.declared.ledger.Stand.{Stand}
 use Rattle.spool_ledger.specs.declared.unload.Unload.{Unload}
 use Rattle.spool_slots.specs.Slot.{Message as Put}
+use Rattle.trace_log.specs.InStep.{received_in_step}
 use Rattle.trace_log.specs.Log.{Happening}
 use Rattle.trace_log.specs.Names.{Spooled}
 use Rattle.equipment_tables.specs.declared.plan.EquipmentPlan.{EquipmentPlan}
@@ -352,12 +353,13 @@ module _ (plan : EquipmentPlan) (slots : ℕ) (list : List Put) (base before : L
   -- S6F23 of RSDC 1 was received last, and all leave
   pub purge-keeps :
       (own : OwnView) (step : CoreStep)
-      → IsPurge (policy_of plan slots) (received_since (told_to step)) → Shelves own step.next (told_to step)
+      → IsPurge (policy_of plan slots) (received_since (told_to step))
+      → IsPurge (policy_of plan slots) (received_in_step (told_to step)) → Shelves own step.next (told_to step)
       → Ends (booked_turn (all_out own.ledger) own).own
       (all_done Some (booked_turn (all_out own.ledger) own).duties step)
-  purge-keeps own step asked holds =
+  purge-keeps own step asked in_step holds =
       turn-keeps own (all_out own.ledger) step
       (all-kept plan slots list base own.ledger (told_to step) (tables_in plan (told_to step)) holds.is holds.all
       holds.shelved
-      refl (λ some. asked))
+      refl (λ some. asked) (λ some. in_step))
       (same-under own (all_out own.ledger).next step.next (told_to step) (all-out-unload own.ledger) holds) holds

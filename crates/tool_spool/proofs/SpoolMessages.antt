@@ -1,10 +1,11 @@
 -- What the messages of the host and the commands of the tool keep of the spool as it is noted.
-use Rattle.std.proofs.Common.{◌≡◌, refl, sym, ap, subst, ◌∙◌, inl, arith, ◌==◌, ◌&&◌, not, Bool, true, false, ℕ, List, [], ◌∷◌, Option, Some, None, if◌then◌else◌}
+use Rattle.std.proofs.Common.{◌≡◌, refl, sym, ap, subst, ◌∙◌, inl, arith, ◌+◌, ◌==◌, ◌&&◌, not, Bool, true, false, ℕ, List, [], ◌∷◌, Option, Some, None, if◌then◌else◌}
 use Rattle.std.proofs.lemmas.Bool.{eqb-true}
 use Rattle.std.proofs.lemmas.Bool.Decides.{nat_tests}
 use Rattle.std.specs.List.{find}
 use Rattle.std.specs.Option.{option_map}
-use Rattle.std.specs.Prelude.{is_some}
+use Rattle.std.specs.Prelude.{is_some, ◌||◌}
+use Rattle.std.specs.Bool.{beq}
 use Rattle.block_codec.specs.declared.header.Header.{Header}
 use Rattle.gem_alarms.specs.Alarms.{step_of}
 use Rattle.gem_alarms.specs.declared.alarms.AlarmStep.{AlarmStep}
@@ -22,24 +23,24 @@ use Rattle.message_flow.specs.declared.message.Message.{Message}
 use Rattle.message_flow.specs.Message.{is_primary}
 use Rattle.trace_log.specs.declared.commands.ToolCommand.{ToolCommand}
 use Rattle.trace_log.specs.declared.commands.ToolCommand.TheVariants as tool
+use Rattle.trace_log.specs.InStep.{received_in_step}
 use Rattle.trace_log.specs.Log.{Happening, Past}
 use Rattle.transact.specs.Matching.{matches}
 use Rattle.transact.specs.declared.begun.Begun.{Begun}
 use Rattle.transact.specs.declared.transactions.Match.TheVariants as match
-use Rattle.transact.specs.Transactions.{is_answered_by, match_of, system_of, without_first as without}
+use Rattle.transact.specs.Transactions.{is_answered_by, match_of, without_first as without}
 use Rattle.message_end.specs.Core.{EndView, answers, at_first, is_crowded_out, noted}
 use Rattle.message_end.specs.Core.Command.{Answer, Note}
 use Rattle.message_end.specs.Own.{Has}
 use Rattle.message_end.specs.Parts.{core_after}
 use Rattle.message_end.proofs.Members.{found-in}
-use Rattle.spool_law.specs.Shelf.{IsConfirmed, IsPurge, received_since, shelf_of}
+use Rattle.spool_law.specs.Shelf.{IsPurge, received_since, shelf_of}
 use Rattle.spool_ledger.specs.Activity.{rsda_of}
 use Rattle.spool_ledger.specs.Laws.{Call}
 use Rattle.spool_ledger.specs.Ledger.{LedgerView}
 use Rattle.spool_ledger.specs.Storing.{all_out}
 use Rattle.spool_ledger.specs.Unloading.{fresh, is_oldest_tried, tried_in, with_unload}
 use Rattle.spool_ledger.specs.declared.unload.Unload.{Unload}
-use Rattle.spool_ledger.proofs.Following.{and_first}
 use Rattle.spool_slots.specs.Slot.{Message as Put}
 use Rattle.equipment_tables.specs.declared.plan.EquipmentPlan.{EquipmentPlan}
 use Rattle.equipment_tables.specs.Answers.{alarm_item_of, event_item}
@@ -62,21 +63,48 @@ use Rattle.tool_step.specs.States as states
 use Rattle.tool_step.specs.Tool.{alarm_report_turn, alarm_turn, command_turn, enabled_turn, known_event_turn, online_turn, refused_turn, set_turn, told_turn, with_event}
 use Rattle.tool_spool.proofs.CalmParts.{abort-calm, answer-calm, comms-calm, control-calm, control-request-calm, dropped-calm, error-turn-calm, established-calm, event-calm, fixed-calm, going-calm, like-as, likes, offline-calm, online-calm, refused-calm, rsda-calm, stray-calm, unreported-like}
 use Rattle.tool_spool.proofs.KeptLedger.{one-call}
+use Rattle.tool_spool.proofs.KeptUnload.{MayConfirm}
 use Rattle.tool_reports.proofs.QuietNotes.{one-behind}
 use Rattle.tool_spool.proofs.ShelvedTurns.{calm-keeps, like-it, purge-keeps}
 use Rattle.tool_law.proofs.CoreSteps.{CoreStep}
 use Rattle.tool_spool.proofs.SpoolTurns.{HoldsAt, IsNoneLeft, ShelvesAt, TurnEnds, before-keeps, calm-at, calm-turn, ended-fewer, judged-keeps, leaving-keeps, loss-keeps, so_far}
 use Rattle.tool_spool.proofs.SpoolUnloads.{leave-given-keeps}
 use Rattle.tool_spool.proofs.TakenTurns.{confirm-keeps, full-so, unload-keeps}
-use Rattle.tool_spool.proofs.UnloadOpen.{IsOpen, asks_grant, found-open, last-tried, none-behind, unloads_in}
+use Rattle.tool_spool.proofs.UnloadOpen.{HasHeader, IsOpen, asks_grant, found-open, last-tried, none-behind, unloads_in}
 
 -- ---- what is answered
 
--- a reply has the system bytes of its primary
-answers-system : (primary secondary : Header) → matches primary secondary ≡ true → secondary.system ≡ primary.system
-answers-system primary secondary is =
-    eqb-true secondary.system primary.system
-    (and_first _ _ (and_first _ _ (and_first _ _ (and_first _ _ is))))
+-- a reply has the system bytes and the stream of its primary, and the function plus one, where it is no abort
+record IsAnswer (primary secondary : Header) : Type 0 where
+  system : secondary.system ≡ primary.system
+  stream : secondary.stream ≡ primary.stream
+  function : (secondary.function == 0) ≡ false → secondary.function ≡ primary.function + 1
+
+answers-so : (primary secondary : Header) → matches primary secondary ≡ true → IsAnswer primary secondary
+answers-so primary secondary is =
+    go (secondary.system == primary.system) (secondary.stream == primary.stream) (not secondary.wait)
+    (not (beq secondary.from_equipment primary.from_equipment)) refl refl is
+  where
+    next : (a b : Bool) → (secondary.function == primary.function + 1) ≡ a → (secondary.function == 0) ≡ b
+        → (a || b) ≡ true → b ≡ false → secondary.function ≡ primary.function + 1
+    next true b is_next is_none all none = eqb-true secondary.function (primary.function + 1) is_next
+    next false true is_next is_none all none = absurd (cc)
+    next false false is_next is_none all none = absurd (cc)
+
+    go : (a b c d : Bool) → (secondary.system == primary.system) ≡ a → (secondary.stream == primary.stream) ≡ b
+        → (a && b && c && d
+        && ((secondary.function == primary.function + 1) || (secondary.function == 0))) ≡ true
+        → IsAnswer primary secondary
+    go true true true true same_system same_stream all = record {
+      system = eqb-true secondary.system primary.system same_system;
+      stream = eqb-true secondary.stream primary.stream same_stream;
+      function = λ some.
+          next (secondary.function == primary.function + 1) (secondary.function == 0) refl refl all some;
+    }
+    go false b c d same_system same_stream all = absurd (cc)
+    go true false c d same_system same_stream all = absurd (cc)
+    go true true false d same_system same_stream all = absurd (cc)
+    go true true true false same_system same_stream all = absurd (cc)
 
 -- the core behind a reply
 after-answer : (header : Header) (e : EndView Kind) (step : CoreStep) → e ≡ step.next → (found : Option (Begun Kind))
@@ -111,7 +139,7 @@ module _ (plan : EquipmentPlan) (slots : ℕ) (list : List Put) (base before : L
       (now : ℕ) (replied : Kind) (system : ℕ) (body : List ℕ) (own : OwnView) (e : EndView Kind) (step : CoreStep)
       → IsNoneLeft plan slots list base before replied step → is_crowded_out true e ≡ is_crowded_out true step.next
       → (replied ≡ kind.Unload → is_oldest_tried own.ledger ≡ true
-      → IsConfirmed (shelf_of (notes_at step)) (received_since (notes_at step)))
+      → MayConfirm (notes_at step) own.ledger.first)
       → HoldsAt plan slots list base before own step
       → TurnEnds plan slots list base before (reply_turn now replied system body own e) step
   replied-keeps now kind.Establish system body own e step none room confirmed holds = go (is_accepted_in body)
@@ -167,9 +195,9 @@ module _ (plan : EquipmentPlan) (slots : ℕ) (list : List Put) (base before : L
   secondary-keeps :
       (now : ℕ) (header : Header) (message : Message) (own : OwnView) (e : EndView Kind) (earlier : List Happening)
       (step : CoreStep) → e ≡ step.next → notes_at step ≡ Happening.Received message ∷ earlier
-      → message.system ≡ header.system → is_primary message ≡ false → HoldsAt plan slots list base before own step
+      → HasHeader header message → is_primary message ≡ false → HoldsAt plan slots list base before own step
       → TurnEnds plan slots list base before (secondary_turn now header message own e) step
-  secondary-keeps now header message own e earlier step same newest system odd holds =
+  secondary-keeps now header message own e earlier step same newest has_header odd holds =
       subst
       (λ (found : Option (Begun Kind)).
       TurnEnds plan slots list base before
@@ -185,7 +213,7 @@ module _ (plan : EquipmentPlan) (slots : ℕ) (list : List Put) (base before : L
           (matched_turn now (match_of header found) message own (core_after (Answer header) e))
           (answers Some header found step)
       go None is at = at.shelves
-      go (Some begun) is at = matched (header.function == 0)
+      go (Some begun) is at = matched (header.function == 0) refl
         where
           next : CoreStep
           next = answers Some header (Some begun) step
@@ -201,44 +229,69 @@ module _ (plan : EquipmentPlan) (slots : ℕ) (list : List Put) (base before : L
           room =
               ap (λ (core : EndView Kind). is_crowded_out true core) (after-answer header e step same (Some begun) is)
 
-          confirmed : begun.kind ≡ kind.Unload → is_oldest_tried own.ledger ≡ true
-              → IsConfirmed (shelf_of (notes_at step)) (received_since (notes_at step))
-          confirmed unloads oldest = record {
-            tried = record { number = own.ledger.first; system = system_of begun };
-            is =
-                last-tried own.ledger (shelf_of (notes_at step)) step.next.drawn
-                (unloads_in step.next.transactions.begun)
-                (system_of begun) holds.shelves.under_way
-                (found-open (is_answered_by header) step.next.transactions.begun begun false is
-                (ap (λ (k : Kind). asks_grant k) unloads)) oldest;
-            reply = message;
-            has =
-                subst (λ (notes : List Happening). Has (received_since notes) message) (sym newest) (inl refl);
-            secondary = odd;
-            system =
-                system
-                ∙ answers-system begun.header header
-                (found-in (is_answered_by header) step.next.transactions.begun begun is).1;
-          }
+          answer : IsAnswer begun.header header
+          answer =
+              answers-so begun.header header
+              (found-in (is_answered_by header) step.next.transactions.begun begun is).1
 
-          matched : (aborts : Bool)
+          confirmed : (header.function == 0) ≡ false → begun.kind ≡ kind.Unload → is_oldest_tried own.ledger ≡ true
+              → MayConfirm (notes_at step) own.ledger.first
+          confirmed no_abort unloads oldest =
+              let last =
+              last-tried own.ledger (shelf_of (notes_at step)) step.next.drawn
+              (unloads_in step.next.transactions.begun) begun.header holds.shelves.under_way
+              (found-open (is_answered_by header) step.next.transactions.begun begun false is
+              (ap (λ (k : Kind). asks_grant k) unloads)) oldest
+              in (
+                record {
+                  tried = record { number = own.ledger.first; system = begun.header.system };
+                  is = last.tried;
+                  reply = message;
+                  has =
+                      subst (λ (notes : List Happening). Has (received_since notes) message) (sym newest)
+                      (inl refl);
+                  secondary = odd;
+                  system = has_header.system ∙ answer.system;
+                },
+                record {
+                  tried = record { number = own.ledger.first; system = begun.header.system };
+                  is = last.tried;
+                  number_is = refl;
+                  message = last.header_is.message;
+                  told = last.header_is.is;
+                  reply = message;
+                  has =
+                      subst (λ (notes : List Happening). Has (received_in_step notes) message) (sym newest)
+                      (inl refl);
+                  system = has_header.system ∙ answer.system;
+                  stream = has_header.stream ∙ answer.stream ∙ last.header_is.stream_is;
+                  function =
+                      has_header.function ∙ answer.function no_abort
+                      ∙ ap (λ (n : ℕ). n + 1) last.header_is.function_is;
+                },
+              )
+
+          matched : (aborts : Bool) → (header.function == 0) ≡ aborts
               → TurnEnds plan slots list base before
               (matched_turn now (if aborts then match.Abort begun.kind else match.Reply begun.kind) message own
               (core_after (Answer header) e)) next
-          matched true =
+          matched true none_is =
               loss-keeps plan slots list base before now begun.kind message.system own (core_after (Answer header) e)
               next
               none
               at
-          matched false =
+          matched false none_is =
               replied-keeps now begun.kind message.system message.body own (core_after (Answer header) e) next none room
-              confirmed at
+              (λ unloads oldest. confirmed none_is unloads oldest) at
 
   -- ---- a request
 
-  -- the newest message is this one, and it was received in this start
-  abbrev pub IsNewest : Message → CoreStep → Type 0
-  IsNewest message step = (earlier : List Message) × (received_since (notes_at step) ≡ message ∷ earlier)
+  -- the newest message is this one, and it was received in this start and in this step
+  pub record IsNewest (message : Message) (step : CoreStep) : Type 0 where
+    pub earlier : List Message
+    pub since : received_since (notes_at step) ≡ message ∷ earlier
+    pub others : List Message
+    pub in_step : received_in_step (notes_at step) ≡ message ∷ others
 
   answered : (asks : TablesRequest) (message : Message) (own : OwnView) (step : CoreStep)
       → ShelvesAt plan slots list base before own step
@@ -279,10 +332,14 @@ module _ (plan : EquipmentPlan) (slots : ℕ) (list : List Put) (base before : L
           (rsda-calm message own) holds
   asked-turn request.PurgeSpool message own step is newest holds = go (rsda_of own.ledger == 0)
     where
+      asks_it : is_purge (request_of message.stream message.function message.body) ≡ true
+      asks_it = subst (λ (asks : Option Request). is_purge asks ≡ true) (sym is) refl
+
       purges : IsPurge (policy_of plan slots) (received_since (notes_at step))
-      purges =
-          subst (IsPurge (policy_of plan slots)) (sym newest.1)
-          (subst (λ (asks : Option Request). is_purge asks ≡ true) (sym is) refl)
+      purges = subst (IsPurge (policy_of plan slots)) (sym newest.since) asks_it
+
+      purges_now : IsPurge (policy_of plan slots) (received_in_step (notes_at step))
+      purges_now = subst (IsPurge (policy_of plan slots)) (sym newest.in_step) asks_it
 
       go : (may : Bool)
           → TurnEnds plan slots list base before
@@ -290,7 +347,7 @@ module _ (plan : EquipmentPlan) (slots : ℕ) (list : List Put) (base before : L
           else turn_of own (rsda_duties message own)) step
       go true =
           before-keeps plan slots list base before (booked_turn (all_out own.ledger) own) (rsda_duties message own) step
-          (rsda-calm message own) (purge-keeps plan slots list base before own step purges holds)
+          (rsda-calm message own) (purge-keeps plan slots list base before own step purges purges_now holds)
       go false =
           calm-keeps plan slots list base before false own own (rsda_duties message own) step (likes own)
           (rsda-calm message own) holds
@@ -315,11 +372,17 @@ module _ (plan : EquipmentPlan) (slots : ℕ) (list : List Put) (base before : L
           calm-turn plan slots list base before own (error_turn 7 header own) step (error-turn-calm 7 header own)
           holds.shelves
       go (Some asks) is =
-          asked-turn asks message own next is (
-            newest.0,
-            ap received_since (one-behind step.notes (Happening.Recorded (Past.Asked message)) before)
-                ∙ newest.1,
-          )
+          asked-turn asks message own next is
+          (record {
+            earlier = newest.earlier;
+            since =
+                ap received_since (one-behind step.notes (Happening.Recorded (Past.Asked message)) before)
+                ∙ newest.since;
+            others = newest.others;
+            in_step =
+                ap received_in_step (one-behind step.notes (Happening.Recorded (Past.Asked message)) before)
+                ∙ newest.in_step;
+          })
           (full-so plan slots list base before own (Happening.Recorded (Past.Asked message)) step refl holds.shelves)
 
   known-keeps :
@@ -368,7 +431,7 @@ module _ (plan : EquipmentPlan) (slots : ℕ) (list : List Put) (base before : L
   pub message-keeps :
       (now : ℕ) (header : Header) (message : Message) (own : OwnView) (e : EndView Kind) (earlier : List Happening)
       (step : CoreStep) → e ≡ step.next → notes_at step ≡ Happening.Received message ∷ earlier
-      → message.system ≡ header.system → HoldsAt plan slots list base before own step
+      → HasHeader header message → HoldsAt plan slots list base before own step
       → TurnEnds plan slots list base before (message_turn now header message own e) step
   message-keeps now header message own e earlier step same newest system holds =
       go (not (is_comms_enabled own.comms.state)) (is_primary message) refl
@@ -381,7 +444,14 @@ module _ (plan : EquipmentPlan) (slots : ℕ) (list : List Put) (base before : L
           calm-turn plan slots list base before own (dropped_turn message own) step (dropped-calm message own)
           holds.shelves
       go false true is =
-          primary-keeps now header message own step (received_since earlier, ap received_since newest) holds
+          primary-keeps now header message own step
+          (record {
+            earlier = received_since earlier;
+            since = ap received_since newest;
+            others = received_in_step earlier;
+            in_step = ap received_in_step newest;
+          })
+          holds
       go false false is = secondary-keeps now header message own e earlier step same newest system is holds
 
   -- ---- commands of the tool

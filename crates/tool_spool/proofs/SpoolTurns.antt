@@ -59,7 +59,7 @@ use Rattle.tool_spool.proofs.ShelvedTurns.{ArePutWell, Ends, IsSpentAt, Shelves,
 use Rattle.message_end.proofs.Parts.{OnEither, either-then, either-less}
 use Rattle.tool_law.proofs.CoreSteps.{CoreStep}
 use Rattle.tool_spool.proofs.TakenTurns.{end-keeps}
-use Rattle.tool_spool.proofs.UnloadOpen.{IsLess, asks_grant, found-fewer, none-behind, unloads_in}
+use Rattle.tool_spool.proofs.UnloadOpen.{IsLess, Open, asks_grant, found-fewer, none-behind, unloads_in}
 
 -- ---- reports that are put
 
@@ -205,10 +205,10 @@ ends-all spools left (first ∷ begun) step is =
         ∙ ap (λ (b : Bool). cond b begun (first ∷ without-first (has_system (system_of first)) begun))
         (same-number (system_of first))
 
-less-none : (old new : List (Bool × ℕ)) → IsLess old new → old ≡ [] → new ≡ []
+less-none : (old new : Open) → IsLess old new → old ≡ [] → new ≡ []
 less-none old new (inl same) none = same ∙ none
 less-none old new (inr less) none =
-    let long = ap (λ (o : List (Bool × ℕ)). length o) none in absurd (omega (arith, less, long))
+    let long = ap (λ (o : Open). length o) none in absurd (omega (arith, less, long))
 
 pub ended-fewer : (test : Begun Kind → Bool) (t : TransactionsView Kind) (found : Begun Kind) (flag : Bool)
     → find test t.begun ≡ Some found → asks_grant found.kind ≡ Some flag

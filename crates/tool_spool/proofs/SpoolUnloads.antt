@@ -36,7 +36,7 @@ use Rattle.tool_spool.proofs.ShelvedTurns.{Ends, calm-keeps, like-it, spent-at}
 use Rattle.tool_law.proofs.CoreSteps.{CoreStep}
 use Rattle.tool_spool.proofs.SpoolTurns.{ShelvesAt, TurnEnds, so_far}
 use Rattle.tool_spool.proofs.KeptUnload.{taken-told}
-use Rattle.tool_spool.proofs.TakenTurns.{IsAsked, IsGone, asked-keeps, drawn-keeps, end-keeps, noted-so, try-keeps, unload-keeps}
+use Rattle.tool_spool.proofs.TakenTurns.{IsAsked, IsGone, asked-keeps, drawn-keeps, end-keeps, gone-goes, noted-so, try-keeps, unload-keeps}
 use Rattle.tool_spool.proofs.UnloadOpen.{IsOpen, IsUnderWay, MayGo, Open, unloads_in}
 
 -- ---- what is to be taken up
@@ -147,7 +147,7 @@ module _ (plan : EquipmentPlan) (slots : ℕ) (list : List Put) (base before : L
     pub none : unloads_in step.next.transactions.begun ≡ []
     pub drawn : step.next.drawn ≡ Some system
     pub told : told_with system (shelf_of (so_far plan slots list base before step)).told ≡ Some message
-    pub under : (waits : waiting_text message ≡ None) (d : Option ℕ) (opened : Open) → IsGone system opened
+    pub under : (waits : waiting_text message ≡ None) (d : Option ℕ) (opened : Open) → IsGone system message opened
         → IsOpen (tried_in own.ledger.unload) own.ledger.first (shelf_of (so_far plan slots list base before step)) d
         opened
     pub asked : (body : List ℕ) → waiting_text message ≡ Some body → (opened : Open) → IsAsked opened
@@ -244,7 +244,8 @@ module _ (plan : EquipmentPlan) (slots : ℕ) (list : List Put) (base before : L
           system = system;
           stands = inr (refl, refl);
           goes = subst
-              (λ (w : Option (List ℕ)). MayGo w system (shelf_of tried_notes).told d opened) (sym waits) gone;
+              (λ (w : Option (List ℕ)). MayGo w system (shelf_of tried_notes).told d opened) (sym waits)
+              (gone-goes system message (shelf_of tried_notes).told d opened told_is gone);
         }));
     asked = λ body waits opened asked.
         at-notes
@@ -462,11 +463,15 @@ module _ (plan : EquipmentPlan) (slots : ℕ) (list : List Put) (base before : L
               ap (λ (u : Option Unload). tried_in (option_map let_go u)) is
               ∙ ap (λ (t : Option UnderWay). option_map (λ (one : UnderWay). record one { waiting = None }) t) tried
 
-          open-so : (d : Option ℕ) (opened : Open) → IsGone under.system opened
+          open-so : (d : Option ℕ) (opened : Open) → IsGone under.system (event_report body) opened
               → IsOpen (tried_in gone.ledger.unload) own.ledger.first (shelf_of notes) d opened
           open-so d opened may =
               subst (λ (t : Option UnderWay). IsOpen t own.ledger.first (shelf_of notes) d opened) (sym tried-now)
-              (record { system = under.system; stands = under.stands; goes = may })
+              (record {
+                system = under.system;
+                stands = under.stands;
+                goes = gone-goes under.system (event_report body) (shelf_of notes).told d opened under.goes.1 may;
+              })
 
       by-tried :
           (unload : Unload) (tried : Option UnderWay) → own.ledger.unload ≡ Some unload → unload.tried ≡ tried

@@ -15,7 +15,7 @@ use Rattle.message_end.specs.Core.Went.{Goes, Spent}
 use Rattle.message_end.specs.Course.{noted_behind}
 use Rattle.message_end.specs.Duties.{all_done}
 use Rattle.message_end.specs.Own.{Has}
-use Rattle.spool_law.specs.Shelf.{Change, IsConfirmed, MayChange, MaySendTried, Shelf, Told, change_of, received_since, shelf_changed, shelf_of}
+use Rattle.spool_law.specs.Shelf.{Change, MayChange, MaySendTried, Shelf, Told, change_of, shelf_changed, shelf_of, told_with}
 use Rattle.spool_law.specs.Shelf.Change.{Other}
 use Rattle.spool_ledger.specs.Activity.{rested}
 use Rattle.spool_ledger.specs.Laws.{Call}
@@ -34,7 +34,7 @@ use Rattle.tool_step.specs.Spooling.{confirmed_turn, end_of_spooling, unload_req
 use Rattle.tool_spool.specs.SpoolKept.{policy_of}
 use Rattle.tool_spool.proofs.CalmCommands.{AreDrawn, none-told}
 use Rattle.tool_spool.proofs.KeptLedger.{one-call}
-use Rattle.tool_spool.proofs.KeptUnload.{OwesAs, confirmed-kept, confirmed-tried, moved-shelved, rested-kept, rested-unload, taken-shelved, taken-told}
+use Rattle.tool_spool.proofs.KeptUnload.{MayConfirm, OwesAs, confirmed-kept, confirmed-tried, moved-shelved, rested-kept, rested-unload, taken-shelved, taken-told}
 use Rattle.tool_reports.proofs.QuietNotes.{one-behind}
 use Rattle.tool_spool.proofs.Shelved.{noted-shelved}
 use Rattle.tool_law.proofs.WorkLines.{LeavesStanding}
@@ -42,29 +42,53 @@ use Rattle.tool_spool.proofs.ShelvedTurns.{Ends, Shelves, once, same-under, spen
 use Rattle.tool_law.proofs.CoreSteps.{CoreStep}
 use Rattle.tool_spool.proofs.UnloadOpen.{IsOpen, MayGo, Open, asks_grant, last-open, unloads_in, with_open}
 
--- what there may be of an unload of which a message went with these system bytes
-abbrev pub IsGone : ℕ → Open → Type 0
-IsGone system opened = (opened ≡ []) ⊎ (opened ≡ (false, system) ∷ [])
+-- this is the header of a block of a message of the spool, with these system bytes
+pub record IsOfSpooled (header : Header) (system : ℕ) (message : Spooled) : Type 0 where
+  pub system_is : header.system ≡ system
+  pub stream_is : header.stream ≡ message.stream
+  pub function_is : header.function ≡ message.function
+
+-- what there may be of an unload of which this message went with these system bytes
+abbrev pub IsGone : ℕ → Spooled → Open → Type 0
+IsGone system message opened =
+    (opened ≡ []) ⊎ ((header : Header) × (opened ≡ (false, header) ∷ []) × IsOfSpooled header system message)
+
+-- so it goes, where these system bytes are that message's
+pub gone-goes :
+    (system : ℕ) (message : Spooled) (told : List Told) (drawn : Option ℕ) (opened : Open)
+    → told_with system told ≡ Some message → IsGone system message opened → MayGo None system told drawn opened
+gone-goes system message told drawn opened is (inl none) = inl none
+gone-goes system message told drawn opened is (inr so) = inr (
+  so.0,
+  so.1,
+  record {
+    message = message;
+    is = is;
+    system_is = so.2.system_is;
+    stream_is = so.2.stream_is;
+    function_is = so.2.function_is;
+  },
+)
 
 -- or waits for a grant
 abbrev pub IsAsked : Open → Type 0
-IsAsked opened = (opened ≡ []) ⊎ ((other : ℕ) × (opened ≡ (true, other) ∷ []))
+IsAsked opened = (opened ≡ []) ⊎ ((other : Header) × (opened ≡ (true, other) ∷ []))
 
 -- a transaction begins, or it is refused
 begins-one : (one : Kind) (asks : Bool) (header : Header) (t : TransactionsView Kind) → asks_grant one ≡ Some asks
     → unloads_in t.begun ≡ []
     → (unloads_in (with_begun (Some one) header t).begun ≡ [])
-    ⊎ (unloads_in (with_begun (Some one) header t).begun ≡ (asks, header.system) ∷ [])
+    ⊎ (unloads_in (with_begun (Some one) header t).begun ≡ (asks, header) ∷ [])
 begins-one one asks header t is none = go (refusal_of t header)
   where
     go : (refusal : Option Beginning)
         → (unloads_in (begun_with refusal header one t) ≡ [])
-        ⊎ (unloads_in (begun_with refusal header one t) ≡ (asks, header.system) ∷ [])
+        ⊎ (unloads_in (begun_with refusal header one t) ≡ (asks, header) ∷ [])
     go (Some refusal) = inl none
     go None = inr (
         last-open t.begun (new_begun header one)
-        ∙ ap (λ (o : Open). o ++ with_open (asks_grant one) header.system []) none
-        ∙ ap (λ (o : Option Bool). with_open o header.system []) is
+        ∙ ap (λ (o : Open). o ++ with_open (asks_grant one) header []) none
+        ∙ ap (λ (o : Option Bool). with_open o header []) is
         )
 
 module _ (plan : EquipmentPlan) (slots : ℕ) (list : List Put) (base before : List Happening) where
@@ -188,7 +212,7 @@ module _ (plan : EquipmentPlan) (slots : ℕ) (list : List Put) (base before : L
       → is_crowded_out true step.next ≡ crowded → step.next.drawn ≡ Some system
       → MaySendTried (shelf_of (noted_behind step.notes before)).told (primary_of (unloaded message) system)
       → unloads_in step.next.transactions.begun ≡ []
-      → ((drawn : Option ℕ) (opened : Open) → IsGone system opened
+      → ((drawn : Option ℕ) (opened : Open) → IsGone system message opened
       → IsOpen (tried_in own.ledger.unload) own.ledger.first (shelf_of (noted_behind step.notes before)) drawn opened)
       → Shelves plan slots list base before own step.next (noted_behind step.notes before)
       → Ends plan slots list base before (if crowded then unloaded_own own else own)
@@ -232,11 +256,22 @@ module _ (plan : EquipmentPlan) (slots : ℕ) (list : List Put) (base before : L
             asks = holds.asks;
             under_way =
                 under None _
-                (begins-one kind.Unload false
+                (gone (begins-one kind.Unload false
                 (last_header_of step.next.outgoing (primary_of (unloaded message) system)) step.next.transactions refl
-                none);
+                none));
             reports = holds.reports;
           })
+        where
+          gone : {opened : Open}
+              → (opened ≡ [])
+              ⊎ (opened ≡ (false, last_header_of step.next.outgoing (primary_of (unloaded message) system)) ∷ [])
+              → IsGone system message opened
+          gone (inl same) = inl same
+          gone (inr same) = inr (
+            last_header_of step.next.outgoing (primary_of (unloaded message) system),
+            same,
+            record { system_is = refl; stream_is = refl; function_is = refl },
+          )
 
   -- or it waits for a grant; an S6F5 without room ends the unload too
   pub asked-keeps :
@@ -305,9 +340,9 @@ module _ (plan : EquipmentPlan) (slots : ℕ) (list : List Put) (base before : L
             reports = holds.reports;
           })
         where
-          asked : {opened : Open} {system : ℕ} → (opened ≡ []) ⊎ (opened ≡ (true, system) ∷ []) → IsAsked opened
+          asked : {opened : Open} {header : Header} → (opened ≡ []) ⊎ (opened ≡ (true, header) ∷ []) → IsAsked opened
           asked (inl same) = inl same
-          asked {opened} {system} (inr same) = inr (system, same)
+          asked {opened} {header} (inr same) = inr (header, same)
 
       go : (crowded : Bool)
           → Ends plan slots list base before (if crowded then unloaded_own own else own)
@@ -320,7 +355,7 @@ module _ (plan : EquipmentPlan) (slots : ℕ) (list : List Put) (base before : L
   pub confirm-keeps :
       (own : OwnView) (step : CoreStep)
       → (is_oldest_tried own.ledger ≡ true
-      → IsConfirmed (shelf_of (noted_behind step.notes before)) (received_since (noted_behind step.notes before)))
+      → MayConfirm (noted_behind step.notes before) own.ledger.first)
       → unloads_in step.next.transactions.begun ≡ []
       → Shelves plan slots list base before own step.next (noted_behind step.notes before)
       → Ends plan slots list base before (confirmed_turn own).own (all_done Some (confirmed_turn own).duties step)

@@ -3,14 +3,17 @@
 use Rattle.std.proofs.Common.{◌≡◌, refl, sym, ap, subst, ◌∙◌, inl, inr, ◌⊎◌, arith, ◌<◌, ◌≤◌, ◌==◌, ◌&&◌, nat_lt, Bool, true, false, ℕ, List, [], ◌∷◌, ◌++◌, length, Option, Some, None, cond}
 use Rattle.std.proofs.lemmas.Bool.Decides.{nat_tests}
 use Rattle.std.specs.List.{find, position_or_len}
+use Rattle.block_codec.specs.declared.header.Header.{Header}
+use Rattle.message_flow.specs.declared.message.Message.{Message}
 use Rattle.message_flow.proofs.Firsts.{removed, replace-first, replaced, without-first}
 use Rattle.transact.specs.declared.begun.Begun.{Begun}
-use Rattle.transact.specs.Transactions.{TransactionsView, system_of, with_deadline, with_found, without_first as without}
+use Rattle.transact.specs.Transactions.{TransactionsView, with_deadline, with_found, without_first as without}
 use Rattle.message_end.specs.Own.{Has}
 use Rattle.spool_law.specs.Shelf.{Shelf, Told, Tried, told_with}
 use Rattle.spool_ledger.specs.declared.unload.Tried.{Tried as UnderWay}
 use Rattle.spool_ledger.specs.Ledger.{LedgerView}
 use Rattle.spool_ledger.specs.Unloading.{is_numbered, is_oldest_tried, tried_in}
+use Rattle.trace_log.specs.Names.{Spooled}
 use Rattle.tool_step.specs.declared.kind.Kind.{Kind}
 use Rattle.tool_step.specs.declared.kind.Kind.TheVariants as kind
 use Rattle.tool_step.specs.Own.{event_report}
@@ -24,16 +27,16 @@ asks_grant kind.UnloadGrant = Some true
 asks_grant _ = None
 
 abbrev pub Open : Type 0
-Open = List (Bool × ℕ)
+Open = List (Bool × Header)
 
-abbrev pub with_open : Option Bool → ℕ → Open → Open
-with_open None system more = more
-with_open (Some asks) system more = (asks, system) ∷ more
+abbrev pub with_open : Option Bool → Header → Open → Open
+with_open None header more = more
+with_open (Some asks) header more = (asks, header) ∷ more
 
--- of each that is open whether it asks for a grant, and its system bytes
+-- of each that is open whether it asks for a grant, and its header
 abbrev pub unloads_in : List (Begun Kind) → Open
 unloads_in [] = []
-unloads_in (begun ∷ rest) = with_open (asks_grant begun.kind) (system_of begun) (unloads_in rest)
+unloads_in (begun ∷ rest) = with_open (asks_grant begun.kind) begun.header (unloads_in rest)
 
 -- as before, or fewer
 abbrev pub IsLess : Open → Open → Type 0
@@ -44,12 +47,21 @@ IsLess old new = (new ≡ old) ⊎ (length new < length old)
 abbrev pub tried_at : ℕ → ℕ → Option Tried
 tried_at number system = Some (record { number = number; system = system })
 
+-- this is the header of a block of the message that is to go out with these system bytes
+pub record IsHeaderOf (header : Header) (system : ℕ) (told : List Told) : Type 0 where
+  pub message : Spooled
+  pub is : told_with system told ≡ Some message
+  pub system_is : header.system ≡ system
+  pub stream_is : header.stream ≡ message.stream
+  pub function_is : header.function ≡ message.function
+
 -- it went, and is open or has ended; or it waits for a grant under the number that is drawn for it
 abbrev pub MayGo : Option (List ℕ) → ℕ → List Told → Option ℕ → Open → Type 0
-MayGo None system told drawn opened = (opened ≡ []) ⊎ (opened ≡ (false, system) ∷ [])
+MayGo None system told drawn opened =
+    (opened ≡ []) ⊎ ((header : Header) × (opened ≡ (false, header) ∷ []) × IsHeaderOf header system told)
 MayGo (Some body) system told drawn opened =
     (drawn ≡ Some system) × (told_with system told ≡ Some (event_report body))
-    × ((opened ≡ []) ⊎ ((other : ℕ) × (opened ≡ (true, other) ∷ [])))
+    × ((opened ≡ []) ⊎ ((other : Header) × (opened ≡ (true, other) ∷ [])))
 
 -- the last try is its own, while it stands first; or it has left
 pub record IsUnderWay
@@ -66,6 +78,12 @@ abbrev pub IsOpen : Option UnderWay → ℕ → Shelf → Option ℕ → Open �
 IsOpen None first shelf drawn opened = opened ≡ []
 IsOpen (Some under) first shelf drawn opened = IsUnderWay under first shelf drawn opened
 
+-- a message has this header
+pub record HasHeader (header : Header) (message : Message) : Type 0 where
+  pub system : message.system ≡ header.system
+  pub stream : message.stream ≡ header.stream
+  pub function : message.function ≡ header.function
+
 -- ---- fewer
 
 pub less-both : (one two three : Open) → IsLess one two → IsLess two three → IsLess one three
@@ -74,15 +92,15 @@ less-both one two three (inl a) (inr b) = let e = ap (λ (o : Open). length o) a
 less-both one two three (inr a) (inl b) = let e = ap (λ (o : Open). length o) b in inr (omega (arith, a, e))
 less-both one two three (inr a) (inr b) = inr (omega (arith, a, b))
 
-less-with : (asks : Option Bool) (system : ℕ) (old new : Open) → IsLess old new
-    → IsLess (with_open asks system old) (with_open asks system new)
-less-with None system old new less = less
-less-with (Some asks) system old new (inl same) = inl (ap (λ (o : Open). (asks, system) ∷ o) same)
-less-with (Some asks) system old new (inr less) = inr (omega (arith, less))
+less-with : (asks : Option Bool) (header : Header) (old new : Open) → IsLess old new
+    → IsLess (with_open asks header old) (with_open asks header new)
+less-with None header old new less = less
+less-with (Some asks) header old new (inl same) = inl (ap (λ (o : Open). (asks, header) ∷ o) same)
+less-with (Some asks) header old new (inr less) = inr (omega (arith, less))
 
-less-out : (asks : Option Bool) (system : ℕ) (more : Open) → IsLess (with_open asks system more) more
-less-out None system more = inl refl
-less-out (Some asks) system more = inr (omega arith)
+less-out : (asks : Option Bool) (header : Header) (more : Open) → IsLess (with_open asks header more) more
+less-out None header more = inl refl
+less-out (Some asks) header more = inr (omega arith)
 
 pub without-less :
     (test : Begun Kind → Bool) (begun : List (Begun Kind))
@@ -92,9 +110,9 @@ without-less test (first ∷ begun) = go (test first) (without-less test begun)
   where
     go : (is : Bool) → IsLess (unloads_in begun) (unloads_in (without-first test begun))
         → IsLess (unloads_in (first ∷ begun)) (unloads_in (cond is begun (first ∷ without-first test begun)))
-    go true rest = less-out (asks_grant first.kind) (system_of first) (unloads_in begun)
+    go true rest = less-out (asks_grant first.kind) first.header (unloads_in begun)
     go false rest =
-        less-with (asks_grant first.kind) (system_of first) (unloads_in begun)
+        less-with (asks_grant first.kind) first.header (unloads_in begun)
         (unloads_in (without-first test begun)) rest
 
 pub ends-less : (test : Begun Kind → Bool) (t : TransactionsView Kind)
@@ -106,8 +124,8 @@ ends-less test t =
 -- ---- a timer
 
 same-open : (one other : Begun Kind) (rest : Open) → one ≡ other
-    → with_open (asks_grant one.kind) (system_of one) rest ≡ with_open (asks_grant other.kind) (system_of other) rest
-same-open one other rest same = ap (λ (b : Begun Kind). with_open (asks_grant b.kind) (system_of b) rest) same
+    → with_open (asks_grant one.kind) one.header rest ≡ with_open (asks_grant other.kind) other.header rest
+same-open one other rest same = ap (λ (b : Begun Kind). with_open (asks_grant b.kind) b.header rest) same
 
 replaced-same :
     (test : Begun Kind → Bool) (deadline : Option ℕ) (begun : List (Begun Kind)) (found : Begun Kind)
@@ -127,7 +145,7 @@ replaced-same test deadline (first ∷ begun) found is =
         (first ∷ replace-first test (record found { deadline = deadline }) begun))
         ≡ unloads_in (first ∷ begun)
     go true is more = same-open found first (unloads_in begun) (sym (inj first found is))
-    go false is more = ap (λ (o : Open). with_open (asks_grant first.kind) (system_of first) o) (more is)
+    go false is more = ap (λ (o : Open). with_open (asks_grant first.kind) first.header o) (more is)
 
 pub timed-same :
     (test : Begun Kind → Bool) (deadline : Option ℕ) (t : TransactionsView Kind)
@@ -144,32 +162,32 @@ timed-same test deadline t = go (find test t.begun) refl
 
 -- ---- one more
 
-with-append : (asks : Option Bool) (system : ℕ) (one two : Open)
-    → with_open asks system (one ++ two) ≡ with_open asks system one ++ two
-with-append None system one two = refl
-with-append (Some asks) system one two = refl
+with-append : (asks : Option Bool) (header : Header) (one two : Open)
+    → with_open asks header (one ++ two) ≡ with_open asks header one ++ two
+with-append None header one two = refl
+with-append (Some asks) header one two = refl
 
 pub last-open :
     (begun : List (Begun Kind)) (last : Begun Kind)
     → unloads_in (begun ++ last ∷ [])
-    ≡ unloads_in begun ++ with_open (asks_grant last.kind) (system_of last) []
+    ≡ unloads_in begun ++ with_open (asks_grant last.kind) last.header []
 last-open [] last = refl
 last-open (first ∷ begun) last =
-    ap (λ (o : Open). with_open (asks_grant first.kind) (system_of first) o) (last-open begun last)
-    ∙ with-append (asks_grant first.kind) (system_of first) (unloads_in begun)
-    (with_open (asks_grant last.kind) (system_of last) [])
+    ap (λ (o : Open). with_open (asks_grant first.kind) first.header o) (last-open begun last)
+    ∙ with-append (asks_grant first.kind) first.header (unloads_in begun)
+    (with_open (asks_grant last.kind) last.header [])
 
 -- ---- one that ends
 
-less-more : (asks : Option Bool) (system : ℕ) (old new : Open) → length new < length old
-    → length (with_open asks system new) < length (with_open asks system old)
-less-more None system old new less = less
-less-more (Some asks) system old new less = omega (arith, less)
+less-more : (asks : Option Bool) (header : Header) (old new : Open) → length new < length old
+    → length (with_open asks header new) < length (with_open asks header old)
+less-more None header old new less = less
+less-more (Some asks) header old new less = omega (arith, less)
 
-fewer-out : (asks : Option Bool) (flag : Bool) (system : ℕ) (more : Open) → asks ≡ Some flag
-    → length more < length (with_open asks system more)
-fewer-out None flag system more is = absurd (cc)
-fewer-out (Some asks) flag system more is = omega arith
+fewer-out : (asks : Option Bool) (flag : Bool) (header : Header) (more : Open) → asks ≡ Some flag
+    → length more < length (with_open asks header more)
+fewer-out None flag header more is = absurd (cc)
+fewer-out (Some asks) flag header more is = omega arith
 
 -- with one of the spool there are fewer
 pub found-fewer :
@@ -187,16 +205,16 @@ found-fewer test (first ∷ begun) found flag is of =
         → (find test begun ≡ Some found → length (unloads_in (without-first test begun)) < length (unloads_in begun))
         → length (unloads_in (cond b begun (first ∷ without-first test begun))) < length (unloads_in (first ∷ begun))
     go true is more =
-        fewer-out (asks_grant first.kind) flag (system_of first) (unloads_in begun)
+        fewer-out (asks_grant first.kind) flag first.header (unloads_in begun)
         (ap (λ (b : Begun Kind). asks_grant b.kind) (inj first found is) ∙ of)
     go false is more =
-        less-more (asks_grant first.kind) (system_of first) (unloads_in begun)
+        less-more (asks_grant first.kind) first.header (unloads_in begun)
         (unloads_in (without-first test begun)) (more is)
 
 pub found-open :
     (test : Begun Kind → Bool) (begun : List (Begun Kind)) (found : Begun Kind) (flag : Bool)
     → find test begun ≡ Some found → asks_grant found.kind ≡ Some flag
-    → Has (unloads_in begun) (flag, system_of found)
+    → Has (unloads_in begun) (flag, found.header)
 found-open test [] found flag is of = absurd (cc)
 found-open test (first ∷ begun) found flag is of =
     go (test first) is (λ later. found-open test begun found flag later of)
@@ -204,29 +222,29 @@ found-open test (first ∷ begun) found flag is of =
     inj : (x y : Begun Kind) → Some x ≡ Some y → x ≡ y
     inj x y e = cc
 
-    more-has : (asks : Option Bool) (system : ℕ) (opened : Open) (one : Bool × ℕ) → Has opened one
-        → Has (with_open asks system opened) one
-    more-has None system opened one has = has
-    more-has (Some asks) system opened one has = inr has
+    more-has : (asks : Option Bool) (header : Header) (opened : Open) (one : Bool × Header) → Has opened one
+        → Has (with_open asks header opened) one
+    more-has None header opened one has = has
+    more-has (Some asks) header opened one has = inr has
 
-    is-first : (asks : Option Bool) (system : ℕ) (opened : Open) → asks ≡ Some flag
-        → Has (with_open asks system opened) (flag, system)
-    is-first None system opened is = absurd (cc)
-    is-first (Some asks) system opened is =
-        inl (ap (λ (a : Bool). (a, system)) (sym (same asks flag is)))
+    is-first : (asks : Option Bool) (header : Header) (opened : Open) → asks ≡ Some flag
+        → Has (with_open asks header opened) (flag, header)
+    is-first None header opened is = absurd (cc)
+    is-first (Some asks) header opened is =
+        inl (ap (λ (a : Bool). (a, header)) (sym (same asks flag is)))
       where
         same : (x y : Bool) → Some x ≡ Some y → x ≡ y
         same x y e = cc
 
     go : (b : Bool) → cond b (Some first) (find test begun) ≡ Some found
-        → (find test begun ≡ Some found → Has (unloads_in begun) (flag, system_of found))
-        → Has (unloads_in (first ∷ begun)) (flag, system_of found)
+        → (find test begun ≡ Some found → Has (unloads_in begun) (flag, found.header))
+        → Has (unloads_in (first ∷ begun)) (flag, found.header)
     go true is more =
-        subst (λ (b : Begun Kind). Has (with_open (asks_grant b.kind) (system_of b) (unloads_in begun))
-        (flag, system_of found))
-        (sym (inj first found is)) (is-first (asks_grant found.kind) (system_of found) (unloads_in begun) of)
+        subst (λ (b : Begun Kind). Has (with_open (asks_grant b.kind) b.header (unloads_in begun))
+        (flag, found.header))
+        (sym (inj first found is)) (is-first (asks_grant found.kind) found.header (unloads_in begun) of)
     go false is more =
-        more-has (asks_grant first.kind) (system_of first) (unloads_in begun) (flag, system_of found) (more is)
+        more-has (asks_grant first.kind) first.header (unloads_in begun) (flag, found.header) (more is)
 
 -- ---- what is under way, as other things change
 
@@ -243,7 +261,7 @@ at-most-one (Some under) first shelf drawn opened is = go under.waiting is.goes
   where
     go : (waiting : Option (List ℕ)) → MayGo waiting is.system shelf.told drawn opened → length opened ≤ 1
     go None (inl same) = let e = ap (λ (o : Open). length o) same in omega (arith, e)
-    go None (inr same) = let e = ap (λ (o : Open). length o) same in omega (arith, e)
+    go None (inr same) = let e = ap (λ (o : Open). length o) same.1 in omega (arith, e)
     go (Some body) (drawn_is, told_is, inl same) = let e = ap (λ (o : Open). length o) same in omega (arith, e)
     go (Some body) (drawn_is, told_is, inr same) = let e = ap (λ (o : Open). length o) same.1 in omega (arith, e)
 
@@ -308,43 +326,61 @@ open-moved (Some under) before first old new drawn opened told moves is = record
 
 -- ---- its reply
 
+-- the last try was of this one, which stands first still, and with the header's system bytes goes out its message
+pub record IsLastTried (v : LedgerView) (shelf : Shelf) (header : Header) : Type 0 where
+  pub tried : shelf.tried ≡ Some (record { number = v.first; system = header.system })
+  pub header_is : IsHeaderOf header header.system shelf.told
+
 -- a message of the spool that is open is the last that was tried, where it stands first still
 pub last-tried :
-    (v : LedgerView) (shelf : Shelf) (drawn : Option ℕ) (opened : Open) (system : ℕ)
-    → IsOpen (tried_in v.unload) v.first shelf drawn opened → Has opened (false, system) → is_oldest_tried v ≡ true
-    → shelf.tried ≡ Some (record { number = v.first; system = system })
-last-tried v shelf drawn opened system is has oldest = go (tried_in v.unload) is oldest
+    (v : LedgerView) (shelf : Shelf) (drawn : Option ℕ) (opened : Open) (header : Header)
+    → IsOpen (tried_in v.unload) v.first shelf drawn opened → Has opened (false, header) → is_oldest_tried v ≡ true
+    → IsLastTried v shelf header
+last-tried v shelf drawn opened header is has oldest = go (tried_in v.unload) is oldest
   where
     numbered : (len : ℕ) (same : Bool) → (nat_lt 0 len && same) ≡ true → same ≡ true
     numbered len true e = refl
     numbered len false e = grind (arith, nat_tests, e)
 
-    named : (sys : ℕ) → Has {X = Bool × ℕ} ((false, sys) ∷ []) (false, system) → sys ≡ system
-    named sys (inl same) = sym (ap (λ (p : Bool × ℕ). p.1) same)
-    named sys (inr none) = absurd none
+    IsIt : ℕ → Type 0
+    IsIt system = (system ≡ header.system) × IsHeaderOf header system shelf.told
 
-    sent : (waiting : Option (List ℕ)) (sys : ℕ) → MayGo waiting sys shelf.told drawn opened → sys ≡ system
-    sent None sys (inl none) = absurd (subst (λ (o : Open). Has o (false, system)) none has)
-    sent None sys (inr same) = named sys (subst (λ (o : Open). Has o (false, system)) same has)
-    sent (Some body) sys (drawn_is, told_is, inl none) = absurd (subst (λ (o : Open). Has o (false, system)) none has)
-    sent (Some body) sys (drawn_is, told_is, inr same) =
-        other same.0 (subst (λ (o : Open). Has o (false, system)) same.1 has)
-      where
-        other : (n : ℕ) → Has {X = Bool × ℕ} ((true, n) ∷ []) (false, system) → sys ≡ system
-        other n (inl e) = let wrong = ap (λ (p : Bool × ℕ). p.0) e in absurd (cc)
-        other n (inr none) = absurd none
+    named : (system : ℕ) (other : Header) → IsHeaderOf other system shelf.told
+        → Has {X = Bool × Header} ((false, other) ∷ []) (false, header) → IsIt system
+    named system other of (inl same) =
+        let e : header ≡ other = ap (λ (p : Bool × Header). p.1) same in (
+          sym of.system_is ∙ ap (λ (h : Header). h.system) (sym e),
+          subst (λ (h : Header). IsHeaderOf h system shelf.told) (sym e) of,
+        )
+    named system other of (inr none) = absurd none
+
+    no-grant : (other : Header) → Has {X = Bool × Header} ((true, other) ∷ []) (false, header) → ⊥
+    no-grant other (inl e) = let wrong = ap (λ (p : Bool × Header). p.0) e in cc
+    no-grant other (inr none) = none
+
+    sent : (waiting : Option (List ℕ)) (system : ℕ) → MayGo waiting system shelf.told drawn opened → IsIt system
+    sent None system (inl none) = absurd (subst (λ (o : Open). Has o (false, header)) none has)
+    sent None system (inr same) =
+        named system same.0 same.2 (subst (λ (o : Open). Has o (false, header)) same.1 has)
+    sent (Some body) system (drawn_is, told_is, inl none) =
+        absurd (subst (λ (o : Open). Has o (false, header)) none has)
+    sent (Some body) system (drawn_is, told_is, inr same) =
+        absurd (no-grant same.0 (subst (λ (o : Open). Has o (false, header)) same.1 has))
 
     stands : (under : UnderWay) (is : IsUnderWay under v.first shelf drawn opened) → (under.number == v.first) ≡ true
         → (under.number < v.first)
         ⊎ ((under.number ≡ v.first) × (shelf.tried ≡ Some (record { number = v.first; system = is.system })))
-        → shelf.tried ≡ Some (record { number = v.first; system = system })
+        → IsLastTried v shelf header
     stands under is same (inl below) = absurd (grind (arith, nat_tests, same, below))
     stands under is same (inr at) =
-        at.1
-        ∙ ap (λ (n : ℕ). tried_at v.first n) (sent under.waiting is.system is.goes)
+        let it = sent under.waiting is.system is.goes in
+        record {
+          tried = at.1 ∙ ap (λ (n : ℕ). tried_at v.first n) it.0;
+          header_is = subst (λ (n : ℕ). IsHeaderOf header n shelf.told) it.0 it.1;
+        }
 
     go : (under : Option UnderWay) → IsOpen under v.first shelf drawn opened
         → (nat_lt 0 v.len && is_numbered v.first under) ≡ true
-        → shelf.tried ≡ Some (record { number = v.first; system = system })
+        → IsLastTried v shelf header
     go None is oldest = absurd (let e = numbered v.len false oldest in cc)
     go (Some under) is oldest = stands under is (numbered v.len (under.number == v.first) oldest) is.stands

@@ -1,7 +1,9 @@
 pub mod InPairs
+pub mod LeavesInStep
 pub mod MadeRoom
 pub mod SpoolKept
 pub mod TriedRuns
 pub mod WorkedHeld
 pub mod WorkedPairs
 pub mod WorkedRoom
+pub mod WorkedSteps

@@ -1,12 +1,14 @@
 //! What holds of the spool of the equipment.
 
 ghost use Rattle.tool_spool.specs.InPairs.{WorksAreInPairs};
+ghost use Rattle.tool_spool.specs.LeavesInStep.{MessagesLeaveInStep};
 ghost use Rattle.tool_spool.specs.MadeRoom.{OverwritesForPuts};
 ghost use Rattle.tool_spool.specs.SpoolKept.{SpoolIsKept, SpoolIsKeptFrom};
 ghost use Rattle.tool_spool.specs.TriedRuns.{RunsTryInTurn};
 ghost use Rattle.tool_spool.specs.WorkedHeld.{KeepsWhatIsHeld};
 ghost use Rattle.tool_spool.specs.WorkedPairs.{TellsEachWork};
 ghost use Rattle.tool_spool.specs.WorkedRoom.{RoomIsMadeForPuts};
+ghost use Rattle.tool_spool.specs.WorkedSteps.{StepsOfCauses};
 
 use equipment_tables::tables_are_looked_back_for;
 use tool_law::equipment_keeps_the_law;
@@ -64,4 +66,18 @@ pub fn overwrites_for_puts()
 /// the step ends, the law doesn't hold.
 pub fn worked_room()
     ensures { RoomIsMadeForPuts }
+{}
+
+/// A message leaves the spool as confirmed in the step that has received its reply, and as purged in the step that has
+/// received the request.
+pub fn messages_leave_in_step()
+    ensures { MessagesLeaveInStep }
+{
+    tables_are_looked_back_for();
+}
+
+/// Examples of messages that leave in the step of their cause, as the law of steps asks for it: a reply confirms, and a
+/// request empties the spool. An abort confirms nothing, and neither does what came in an earlier step.
+pub fn worked_steps()
+    ensures { StepsOfCauses }
 {}

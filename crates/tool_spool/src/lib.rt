@@ -4,6 +4,6 @@
 mod laws;
 
 pub use laws::{
-    overwrites_for_puts, runs_try_in_turn, spool_is_kept, worked_held, worked_pairs, worked_room,
-    works_are_in_pairs,
+    messages_leave_in_step, overwrites_for_puts, runs_try_in_turn, spool_is_kept, worked_held,
+    worked_pairs, worked_room, worked_steps, works_are_in_pairs,
 };
