@@ -4,8 +4,8 @@ use crate::entries::{Definition, Linking, RuleEntry};
 use crate::part::{Params, Text};
 use gl_base::Row;
 
-/// What a message of the host asks the equipment for. The tables answer most of it; what changes the states, or sends or
-/// purges the spool, stands for itself.
+/// What a message of the host asks the equipment for. The tables answer most of it; what changes the states, or sends
+/// or purges the spool, stands for itself.
 #[derive(Drop)]
 pub enum Request<'a> {
     /// What the tables answer.
