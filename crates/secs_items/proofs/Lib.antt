@@ -21,7 +21,7 @@ mod Shortest
 pub mod SpellLaws
 pub mod SpelledLengths
 mod Stops
-mod Verdicts
+pub mod Verdicts
 mod ViewSteps
 mod Viewing
 mod Written

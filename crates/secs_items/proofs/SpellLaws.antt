@@ -5,13 +5,13 @@ use Rattle.secs_items.specs.declared.encode_fault.EncodeFault.{EncodeFault}
 use Rattle.secs_items.specs.declared.item.Item.{Item}
 use Rattle.secs_items.specs.declared.item_fault.ItemFault.{ItemFault}
 use Rattle.secs_items.specs.declared.item_fault.ItemFault.TheVariants as fault
-use Rattle.std.specs.Prelude.{IfErr, IfOk, OnOk}
+use Rattle.std.specs.Prelude.{IfErr, IfOk, IsOkAnd, OnOk}
 use Rattle.std.specs.List.{AllByRecursion}
 use Rattle.secs_items.specs.Elements.{IsByte}
 use Rattle.secs_items.specs.Encoding.{Encodes, encode_fault, fault_within}
 use Rattle.secs_items.specs.Ranges.{InRange}
-use Rattle.secs_items.specs.Reading.{ReadsOnly, first_fault, item_at}
-use Rattle.secs_items.specs.Spelling.{Spells, SpellsWithin, shortest_spelling}
+use Rattle.secs_items.specs.Reading.{Gives, ReadsOnly, first_fault, item_at}
+use Rattle.secs_items.specs.Spelling.{Spells, SpellsFront, SpellsWithin, shortest_spelling}
 use Rattle.secs_items.specs.Views.{ChecksOnly, Viewed}
 use Rattle.secs_items.proofs.Faults.{read_fault, read_none, read_trailing}
 use Rattle.secs_items.proofs.ItemLaws.{item_again, item_takes}
@@ -52,6 +52,40 @@ one_value first second bytes s t =
 
 pub spells_none : (item : Item) (bytes : List ℕ) → Spells item bytes → first_fault bytes ≡ None
 spells_none item bytes s = read_none bytes item [] (spells_read (length bytes) item bytes s) refl
+
+-- ---- what reading finds at the front
+
+-- the item and the rest of what was found are those that reading gives
+module _ {X : Type 0} (item_of : X → Item) (rest_of : X → List ℕ) (bytes : List ℕ) where
+  abbrev Read : Result X ItemFault → Type 0
+  Read result = Gives (λ x. (item_of x, rest_of x)) result (item_at (length bytes) 64 bytes)
+
+  pub front_found : (result : Result X ItemFault) → IsBytes bytes → Read result
+      → IfOk result (λ x. SpellsFront (item_of x) bytes (rest_of x))
+  unfolding Spells
+  front_found (Ok x) fits read =
+      let t = item_takes (length bytes) 64 bytes (item_of x, rest_of x) fits read in
+      record { front = t.front; spelled = t.spelled; parts = t.parts }
+  front_found (Err e) fits read = tt
+
+  there : (item : Item) (rest : List ℕ) → SpellsFront item bytes rest → item_at (length bytes) 64 bytes ≡ Ok (item, rest)
+  there item rest s = ap (item_at (length bytes) 64) s.parts ∙ spells_front (length bytes) item s.front rest s.spelled
+
+  ok_err : (read : Result (Item × List ℕ) ItemFault) (x : Item × List ℕ) (e : ItemFault) → read ≡ Ok x → read ≡ Err e → ⊥
+  ok_err read x e ok err = cc
+
+  pub front_only : (result : Result X ItemFault) → Read result → IfErr result (λ e. e ≢ fault.NoMemory)
+      → (item : Item) (rest : List ℕ) → SpellsFront item bytes rest
+      → IsOkAnd result (λ x. (item_of x ≡ item) × (rest_of x ≡ rest))
+  front_only (Ok x) read named item rest s =
+      let same = same_read (item_of x) item (rest_of x) rest (sym read ∙ there item rest s) in (same.1, same.0)
+  front_only (Err e) read named item rest s =
+      absurd (ok_err (item_at (length bytes) 64 bytes) (item, rest) e (there item rest s) (read named))
+
+  pub front_fault : (result : Result X ItemFault) → Read result → IfErr result (λ e. e ≢ fault.NoMemory)
+      → IfErr result (λ e. first_fault bytes ≡ Some e)
+  front_fault (Ok x) read named = tt
+  front_fault (Err e) read named = read_fault bytes e (read named)
 
 pub shortest_is_spelled : (item : Item) → InRange item → encode_fault item ≡ None → Spells item (shortest_spelling item)
 unfolding Spells encode_fault

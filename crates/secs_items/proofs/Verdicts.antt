@@ -17,7 +17,7 @@ clash : (o : Option ItemFault) (f : ItemFault) → o ≡ Some f → o ≡ None �
 clash o f some none = cc
 
 -- no bytes at all spell nothing
-nothing_short : first_fault [] ≡ Some (fault.Short 0)
+pub nothing_short : first_fault [] ≡ Some (fault.Short 0)
 unfolding first_fault
 nothing_short = ap (fault_after 0) (after_no_head 0 64 [] (fault.Short 0) (no_byte 0 64))
 

@@ -64,6 +64,12 @@ SpellsWithin (suc depth) item = IsSpelled (SpellsEach (SpellsWithin depth)) (out
 unfoldable pub Spells : Item → List ℕ → Type 0
 Spells = SpellsWithin max_depth
 
+-- the bytes begin with a spelling of the item, and these follow it
+pub record SpellsFront (item : Item) (bytes rest : List ℕ) : Type 0 where
+  pub front : List ℕ
+  pub spelled : Spells item front
+  pub parts : bytes ≡ front ++ rest
+
 -- the fewest bytes that hold a length, for lengths that 3 bytes hold
 abbrev pub shortest_lengths : ℕ → List ℕ
 shortest_lengths n =

@@ -1,6 +1,6 @@
 //! Items in their bytes, with no memory taken.
 
-ghost use Rattle.std.specs.Prelude.{◌≡◌, ◌≢◌, ◌-◌, ◌<◌, ◌≤◌, false, true, [], length, IfErr, IfOk, IfSome, None, OnOk, Some};
+ghost use Rattle.std.specs.Prelude.{◌≡◌, ◌≢◌, ◌-◌, ◌<◌, ◌≤◌, false, true, ℕ, List, [], length, IfErr, IfOk, IfSome, IsOkAnd, None, OnOk, Some};
 ghost use Rattle.std.specs.Option.{option_map};
 ghost use Rattle.secs_items.specs.declared.item.Item.{Item, out-Item};
 ghost use Rattle.secs_items.specs.declared.item_fault.ItemFault.TheVariants as fault;
@@ -10,7 +10,7 @@ ghost use Rattle.secs_items.specs.Heads.{head_view};
 ghost use Rattle.secs_items.specs.Kinds.{is_list};
 ghost use Rattle.secs_items.specs.Layers.{count_of, items_of, kind_of};
 ghost use Rattle.secs_items.specs.Reading.{Gives, after_behind, after_each, after_item, first_fault, item_at};
-ghost use Rattle.secs_items.specs.Spelling.{Spells};
+ghost use Rattle.secs_items.specs.Spelling.{Spells, SpellsFront};
 ghost use Rattle.secs_items.specs.Views.{ChecksOnly, ShowsChild, ShowsFront, child_in, number_of};
 
 use crate::body_check::BodyCheck;
@@ -70,6 +70,23 @@ pub fn check(bytes: &[u8]) -> Result<ItemView<'_>, ItemFault>
     ensures memory { IfErr result (λ e. e ≢ fault.NoMemory) }
 {
     check_all(bytes)
+}
+
+/// The view of the item at the front of the bytes, and the bytes after it. Those aren't looked at.
+pub fn front(bytes: &[u8]) -> Result<(ItemView<'_>, &[u8]), ItemFault>
+    // What is found is spelled there.
+    ensures found { IfOk result (λ x. SpellsFront x.0.item bytes.now x.1.now) }
+    // The view shows all of the bytes before the rest.
+    ensures shown { IfOk result (λ x. ShowsFront bytes.now x.0 x.1.now) }
+    // What is spelled there is found.
+    ensures only { (item : Item) (rest : List ℕ) → SpellsFront item bytes.now rest
+        → IsOkAnd result (λ x. (x.0.item ≡ item) × (x.1.now ≡ rest)) }
+    // A refusal names the first fault.
+    ensures fault { IfErr result (λ e. first_fault bytes.now ≡ Some e) }
+    // It never says that memory ran out.
+    ensures memory { IfErr result (λ e. e ≢ fault.NoMemory) }
+{
+    view_of(bytes, MAX_DEPTH, bytes.len())
 }
 
 /// The view of the one item that stands in all of the bytes.

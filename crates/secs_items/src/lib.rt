@@ -23,7 +23,7 @@ pub use body_check::BodyCheck;
 pub use encode_fault::EncodeFault;
 pub use item::{Item, MAX_DEPTH};
 pub use item_fault::ItemFault;
-pub use item_view::{ItemView, check, view};
+pub use item_view::{ItemView, check, front, view};
 pub use kind::Kind;
 pub use laws::{
     no_fault_exactly_in_a_spelling, no_spelling_begins_another, where_each_fault_stands,
