@@ -1,12 +1,12 @@
 -- What stands behind an item's head is its content.
-use Rattle.std.proofs.Common.{◌≡◌, ℕ, zero, suc, ◌+◌, ◌*◌, List, [], ◌∷◌, ◌++◌, length, drop, refl, sym, ap, subst, ◌∙◌, arith}
-use Rattle.std.proofs.lemmas.List.{append-nil, drop_at}
+use Rattle.std.proofs.Common.{◌≡◌, ℕ, zero, suc, ◌+◌, ◌*◌, List, [], ◌∷◌, ◌++◌, length, drop, refl, sym, ap, subst, ◌∙◌, append_assoc, arith}
+use Rattle.std.proofs.lemmas.List.{append-nil, append_cancel_right, drop_at}
 use Rattle.secs_items.specs.declared.item.Item.{Item, out-Item}
 use Rattle.secs_items.specs.declared.item.Item.TheOpen.{Item-F}
 use Rattle.secs_items.specs.declared.kind.Kind.{Kind}
 use Rattle.secs_items.specs.Kinds.{code_of}
 use Rattle.secs_items.specs.Layers.{kind_of, length_of}
-use Rattle.secs_items.specs.Spelling.{HasContent, IsHead, IsSpelled, Spells, SpellsEach, SpellsWithin}
+use Rattle.secs_items.specs.Spelling.{HasContent, IsHead, IsSpelled, Spells, SpellsEach, SpellsFront, SpellsWithin}
 use Rattle.secs_items.specs.Views.{ShowsFront, Viewed}
 use Rattle.gem_shapes.specs.Parts.{IsFilled}
 
@@ -58,13 +58,19 @@ same_behind k n head other rest others a b e =
     let long : length a.lengths ≡ length b.lengths = omega (arith, first) in
     sym (drop_at a.lengths rest (length b.lengths) long) ∙ ap (drop (length b.lengths)) behind ∙ drop_at b.lengths others (length b.lengths) refl
 
--- what is spelled and shown is filled
-pub filled : (bytes : List ℕ) (v : Viewed) → Spells v.item bytes → ShowsFront bytes v [] → IsFilled v
+-- what is spelled and shown at the front of bytes is filled
+pub front_filled : (bytes rest : List ℕ) (v : Viewed) → SpellsFront v.item bytes rest → ShowsFront bytes v rest → IsFilled v
 unfolding Spells
-filled bytes v s shown =
+front_filled bytes rest v s shown =
     let x = out-Item v.item in
-    let t : IsSpelled (SpellsEach (SpellsWithin 63)) x bytes = s in
-    let same : t.content ≡ v.content ++ [] =
-    same_behind (kind_of x) (length_of x) t.head shown.head t.content (v.content ++ []) t.begins shown.is_head (sym t.placed ∙ shown.parts) in
-    let holds = subst (HasContent (SpellsEach (SpellsWithin 63)) x) (same ∙ append-nil v.content) t.holds in
+    let t : IsSpelled (SpellsEach (SpellsWithin 63)) x s.front = s.spelled in
+    let parts : t.head ++ (t.content ++ rest) ≡ shown.head ++ (v.content ++ rest) =
+    sym (append_assoc t.head t.content rest) ∙ ap (λ (front : List ℕ). front ++ rest) (sym t.placed) ∙ sym s.parts ∙ shown.parts in
+    let behind : t.content ++ rest ≡ v.content ++ rest =
+    same_behind (kind_of x) (length_of x) t.head shown.head (t.content ++ rest) (v.content ++ rest) t.begins shown.is_head parts in
+    let holds = subst (HasContent (SpellsEach (SpellsWithin 63)) x) (append_cancel_right t.content v.content rest behind) t.holds in
     content_map (SpellsEach (SpellsWithin 63)) (SpellsEach (SpellsWithin 64)) (each_map (SpellsWithin 63) (SpellsWithin 64) (deeper 63)) x v.content holds
+
+-- so is what all of the bytes spell
+pub filled : (bytes : List ℕ) (v : Viewed) → Spells v.item bytes → ShowsFront bytes v [] → IsFilled v
+filled bytes v s shown = front_filled bytes [] v (record { front = bytes; spelled = s; parts = sym (append-nil bytes) }) shown

@@ -3,7 +3,7 @@ use Rattle.std.proofs.Common.{◌≡◌, ℕ, ◌+◌, ◌<◌, ◌≤◌, List,
 use Rattle.std.specs.Option.{option_and_then, option_map}
 use Rattle.std.proofs.lemmas.List.{append-nil}
 use Rattle.secs_items.specs.declared.item.Item.{Item}
-use Rattle.secs_items.specs.Spelling.{Spells, SpellsEach}
+use Rattle.secs_items.specs.Spelling.{Spells, SpellsEach, SpellsFront}
 use Rattle.gem_shapes.specs.Elements.{all_of, below, two_of}
 use Rattle.gem_shapes.specs.Parts.{AreSpelled, Begins}
 
@@ -13,6 +13,11 @@ use Rattle.gem_shapes.specs.Parts.{AreSpelled, Begins}
 abbrev pub IsFront : List ℕ → Item → List ℕ → Type 0
 IsFront bytes found rest =
     (item : Item) (items : List Item) → SpellsEach Spells (item ∷ items) bytes → (found ≡ item) × SpellsEach Spells items rest
+
+-- the first of some items stands at the front of their bytes
+pub first_front : (item : Item) (items : List Item) (bytes : List ℕ) → (each : SpellsEach Spells (item ∷ items) bytes)
+    → SpellsFront item bytes each.1
+first_front item items bytes each = record { front = each.0; spelled = each.3; parts = each.2 }
 
 pub begins : (o : Option (List Item)) (count : ℕ) (bytes : List ℕ) → AreSpelled o (Some (count, bytes)) → 0 < count → Begins bytes
 begins None count bytes s some = absurd s

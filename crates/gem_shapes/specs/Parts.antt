@@ -1,8 +1,6 @@
 -- Items in their bytes, one after another.
-use Rattle.std.specs.Prelude.{◌≡◌, ℕ, List, ◌∷◌, ◌++◌, length, Option, Some, None}
+use Rattle.std.specs.Prelude.{◌≡◌, ℕ, List, ◌∷◌, length, Option, Some, None}
 use Rattle.secs_items.specs.declared.item.Item.{Item, out-Item}
-use Rattle.secs_items.specs.declared.item_fault.ItemFault.{ItemFault}
-use Rattle.secs_items.specs.declared.item_fault.ItemFault.TheVariants as fault
 use Rattle.secs_items.specs.Spelling.{HasContent, Spells, SpellsEach}
 use Rattle.secs_items.specs.Views.{Viewed}
 
@@ -21,13 +19,3 @@ abbrev pub AreSpelled : Option (List Item) → Option (ℕ × List ℕ) → Type
 AreSpelled (Some items) (Some found) = (found.0 ≡ length items) × SpellsEach Spells items found.1
 AreSpelled None None = Unit {0}
 AreSpelled _ _ = ⊥
-
--- where the item has ended, if further bytes are what is wrong
-abbrev pub end_of : ItemFault → Option ℕ
-end_of (fault.Trailing at) = Some at
-end_of _ = None
-
--- where an item is spelled at the front, it has so many bytes
-abbrev pub IsFrontLength : List ℕ → ℕ → Type 0
-IsFrontLength bytes n =
-    (item : Item) (front rest : List ℕ) → Spells item front → bytes ≡ front ++ rest → n ≡ length front

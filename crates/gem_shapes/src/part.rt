@@ -1,16 +1,16 @@
 //! Items in their bytes, one after another.
 
-ghost use Rattle.std.specs.Prelude.{◌≡◌, ◌≤◌, ◌∷◌, List, length, IfOk, IfSome, IsSomeAnd};
+ghost use Rattle.std.specs.Prelude.{◌≡◌, ◌∷◌, List, IfOk, IfSome, IsSomeAnd};
 ghost use Rattle.std.specs.Option.{is_some, option_map};
 ghost use Rattle.secs_items.specs.declared.item.Item.{Item, out-Item};
 ghost use Rattle.secs_items.specs.Checking.{check_of};
 ghost use Rattle.secs_items.specs.Spelling.{Spells, SpellsEach};
 ghost use Rattle.secs_items.specs.Views.{number_of};
 ghost use Rattle.gem_shapes.specs.Elements.{byte_of, flag_of, is_empty_list, list_of, numbers_of, one_flag_of, one_of, text_of, two};
-ghost use Rattle.gem_shapes.specs.Parts.{AreSpelled, Begins, IsFrontLength, end_of};
+ghost use Rattle.gem_shapes.specs.Parts.{AreSpelled, Begins};
 
 use gl_base::NoMemory;
-use secs_items::{BodyCheck, Item, ItemFault, ItemView, Kind, Verdict, check, view};
+use secs_items::{BodyCheck, Item, ItemView, Kind, Verdict, front, view};
 use std::alloc::Global;
 use std::marker::Model;
 
@@ -89,18 +89,8 @@ impl<'a> Model for Part<'a> {
     ghost invariant = { λ part. IsFilled part.view };
 }
 
-/// The part that all of the bytes are; `None` exactly where they spell no item.
-pub(crate) fn part_of(bytes: &[u8]) -> Option<Part<'_>>
-    ensures found { IfSome result (λ part. Spells part.item bytes.now) }
-    ensures only { (item : Item) → Spells item bytes.now → IsSomeAnd result (λ part. part.item ≡ item) }
-{
-    match check(bytes) {
-        Ok(view) => Some(Part { view }),
-        Err(_) => None,
-    }
-}
-
-/// The same of bytes that were checked as they came: none behind the head is looked at.
+/// The part that all of the bytes are; `None` exactly where they spell no item. They were checked as they came, so none
+/// behind the head is looked at.
 pub(crate) fn checked_part<'a>(bytes: &'a [u8], check: &BodyCheck) -> Option<Part<'a>>
     requires { check.now ≡ check_of bytes.now }
     ensures found { IfSome result (λ part. Spells part.item bytes.now) }
@@ -114,38 +104,16 @@ pub(crate) fn checked_part<'a>(bytes: &'a [u8], check: &BodyCheck) -> Option<Par
     }
 }
 
-/// How many bytes the item at the front has.
-fn front_len(bytes: &[u8]) -> usize
-    ensures within { result ≤ length bytes.now }
-    ensures ends { IsFrontLength bytes.now result }
-{
-    match check(bytes) {
-        Ok(_) => bytes.len(),
-        Err(fault) => end_of(fault).unwrap_or(bytes.len()).min(bytes.len()),
-    }
-}
-
-/// Where the item has ended, if further bytes are what is wrong.
-fn end_of(fault: ItemFault) -> Option<usize>
-    ensures { result ≡ end_of fault }
-{
-    match fault {
-        ItemFault::Trailing { at } => Some(at),
-        _ => None,
-    }
-}
-
 /// The part at the front of some that stand one after another, and the bytes after it.
 pub(crate) fn front_of(bytes: &[u8]) -> (Part<'_>, &[u8])
     requires { Begins bytes.now }
     ensures { (item : Item) (items : List Item) → SpellsEach Spells (item ∷ items) bytes.now
         → (result.0.item ≡ item) × SpellsEach Spells items result.1.now }
 {
-    let (front, rest) = bytes.split_at(front_len(bytes));
-    let Some(part) = part_of(front) else {
+    let Ok((view, rest)) = front(bytes) else {
         unreachable!()
     };
-    (part, rest)
+    (Part { view }, rest)
 }
 
 /// The two items of L,2.

@@ -12,7 +12,7 @@ use Rattle.secs_items.specs.Reading.{first_fault, item_at}
 use Rattle.secs_items.specs.Spelling.{Spells}
 use Rattle.secs_items.proofs.Faults.{read_none}
 use Rattle.secs_items.proofs.SpellLaws.{spells_read}
-use Rattle.gem_shapes.proofs.Wholes.{nothing_short}
+use Rattle.secs_items.proofs.Verdicts.{nothing_short}
 use Rattle.equipment_tables.specs.Requests.{item_in, whole_item}
 
 -- what is spelled is the item

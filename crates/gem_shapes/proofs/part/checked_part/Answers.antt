@@ -2,8 +2,8 @@
 
 use Rattle.std.proofs.Common.{sym, ◌∙◌}
 use Rattle.secs_items.proofs.SpellLaws.{one_value}
+use Rattle.secs_items.proofs.Verdicts.{spelled_whole}
 use Rattle.gem_shapes.proofs.Contents.{filled}
-use Rattle.gem_shapes.proofs.Wholes.{spelled_whole}
 use Rattle.gem_shapes.proofs.part.checked_part.Goals as goal
 
 pub view-requires-clause-whole : goal.view-requires-clause-whole
