@@ -6,8 +6,10 @@ use Rattle.trace_log.specs.Log.{Happening}
 use Rattle.message_end.specs.Core.{EndView, MayNote, with_asked}
 use Rattle.message_end.specs.Doings.{Doing, IsPlain, own_of}
 use Rattle.message_end.specs.Doings.Doing.{Calls, Does, Gives, Says}
-use Rattle.message_end.specs.History.{AreInSteps, AskedIs, IsHistoryOf}
-use Rattle.message_end.specs.InStep.{AreOfOneStep, EndsOnce, HasNoEnd, IsNoEnd, asked_behind, asked_in_step}
+use Rattle.message_end.specs.History.{AreInSteps, AskedIs, IsHistoryOf, noted_in, notes_of_own}
+use Rattle.message_end.specs.InStep.{AreOfOneStep, EndsOnce, HasNoEnd, IsNoEnd, NoneEnds, asked_behind, asked_in_step}
+use Rattle.message_end.specs.Own.{Own}
+use Rattle.message_end.specs.Own.Own.{DrewNumber, DroppedMessage, GaveBlock, HeardBlock, ReceivedMessage, SentMessage, WroteFrame}
 use Rattle.message_end.specs.Plan.{EndPlan}
 use Rattle.message_end.proofs.Courses.{in-turn}
 
@@ -126,3 +128,32 @@ none-both (Does own ∷ later) older first second = none-both later older first 
 none-both (Gives place number block now ∷ later) older first second = none-both later older first second
 none-both (Calls call ∷ later) older first second = none-both later older first second
 none-both (Says what ∷ later) older first second = (first.0, none-both later older first.1 second)
+
+-- ---- the same of notes
+
+none-behind : (first second : List Happening) → NoneEnds first → NoneEnds second → NoneEnds (first ++ second)
+none-behind [] second one two = two
+none-behind (what ∷ first) second one two = (one.0, none-behind first second one.1 two)
+
+pub none-front : (front rest : List Happening) → NoneEnds (front ++ rest) → NoneEnds front
+none-front [] rest none = tt
+none-front (what ∷ front) rest none = (none.0, none-front front rest none.1)
+
+own-none : (own : Own) → NoneEnds (notes_of_own own)
+own-none (SentMessage message) = (tt, tt)
+own-none (ReceivedMessage message) = (tt, tt)
+own-none (DrewNumber number) = tt
+own-none (GaveBlock place number) = tt
+own-none (WroteFrame place number) = tt
+own-none (HeardBlock block now flow) = tt
+own-none (DroppedMessage header now) = tt
+
+-- what is noted of doings without one
+pub none-noted : (done : List Doing) → HasNoEnd done → NoneEnds (noted_in done)
+none-noted [] none = tt
+none-noted (Does own ∷ before) none =
+    none-behind (noted_in before) (notes_of_own own) (none-noted before none) (own-none own)
+none-noted (Gives place number block now ∷ before) none = none-noted before none
+none-noted (Calls call ∷ before) none = none-noted before none
+none-noted (Says what ∷ before) none =
+    none-behind (noted_in before) (what ∷ []) (none-noted before none.1) (none.0, tt)

@@ -910,6 +910,7 @@ module _
     begins = λ first step is spent. begins step (ap (λ (s : Node S K). (machine_of design).act s Time 0)
         (first-is first is) ∙ spent);
     stops = λ base doings s input now did may front has. absurd has;
+    unended = λ base doings s input now did may front has. absurd has;
     keeps = λ base doings s did. record {
       lawful = did.is.lawful;
       line_is = did.is.line;

@@ -23,7 +23,7 @@ use Rattle.message_end.specs.Doings.{AreLawful, Doing, line_of, own_of}
 use Rattle.message_end.specs.Doings.Doing.{Says}
 use Rattle.message_end.specs.Drops.{AreDroppedAt}
 use Rattle.message_end.specs.History.{noted_in, written_in}
-use Rattle.message_end.specs.InStep.{AreOfOneStep, EndsOnce, HasNoEnd, ReplyInTheirSteps}
+use Rattle.message_end.specs.InStep.{AreOfOneStep, EndsOnce, HasNoEnd, NoneEnds, ReplyInTheirSteps}
 use Rattle.message_end.specs.LineCalls.{calls_in}
 use Rattle.message_end.specs.Log.{start_of}
 use Rattle.message_end.specs.Own.{Has, drawn_in, whole_in}
@@ -318,11 +318,12 @@ pub record GoesSoFar {S C : Type 0}
   -- all of the step may have been done by then, but no more
   pub one : AreOfOneStep done
 
--- and what starts anew behind them draws no number again that was drawn by then
+-- and the step hasn't come to its end, and what starts anew behind them draws no number again that was drawn by then
 pub record LosesAt {S C : Type 0}
     (plan : EndPlan) (did : ℕ → List Doing → S → Type 0) (base : ℕ) (doings : List Doing) (input : Input C) (now : ℕ)
     (front : List Happening) (anew : Went S Happening) : Type 0 where
   pub so_far : GoesSoFar plan did base doings input now front
+  pub unended : NoneEnds front
   pub starts : OnStart (HasRestarted plan did base (so_far.done ++ doings)) anew
 
 -- the law of an end, where `did base doings s` says that these doings since a start, which may draw numbers from the
@@ -344,6 +345,10 @@ pub record KeepsLaw {S C : Type 0}
       (base : ℕ) (doings : List Doing) (s : S) (input : Input C) (now : ℕ) → did base doings s → MayTake takes input
       → (front : List Happening) → Has (machine.stops s input now) front
       → IsFront front (step_in (machine.act s input now)).notes
+  -- and it hasn't come to its end
+  pub unended :
+      (base : ℕ) (doings : List Doing) (s : S) (input : Input C) (now : ℕ) → did base doings s → MayTake takes input
+      → (front : List Happening) → Has (machine.stops s input now) front → NoneEnds front
   -- the world notes some of what becomes of it
   pub says :
       (base : ℕ) (doings : List Doing) (s : S) (what : Happening) → did base doings s → IsOfWorld what

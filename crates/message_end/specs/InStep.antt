@@ -97,6 +97,11 @@ HasNoEnd (Gives place number block now ∷ before) = HasNoEnd before
 HasNoEnd (Calls call ∷ before) = HasNoEnd before
 HasNoEnd (Says what ∷ before) = IsNoEnd what × HasNoEnd before
 
+-- nor among these notes
+abbrev pub NoneEnds : List Happening → Type 0
+NoneEnds [] = Unit {0}
+NoneEnds (what ∷ rest) = IsNoEnd what × NoneEnds rest
+
 -- of one step, or the first ones of it: at most the last of these is its end
 abbrev pub AreOfOneStep : List Doing → Type 0
 AreOfOneStep [] = Unit {0}

@@ -10,7 +10,7 @@ use Rattle.trace_log.specs.Names.{Spooled}
 use Rattle.trace_log.specs.declared.commands.ToolCommand.{ToolCommand}
 use Rattle.message_end.specs.Calls.{dropped_now, failed_at, took_at}
 use Rattle.line_end.specs.Step.{LineCall}
-use Rattle.message_end.specs.Core.{Step, Went, and_then, at_first}
+use Rattle.message_end.specs.Core.{Step, Went, and_then, at_first, step_in}
 use Rattle.message_end.specs.Core.Went.{Goes, Spent}
 use Rattle.message_end.specs.Core.Command.{More, Take, Tick}
 use Rattle.message_end.specs.Doings.{Doing}
@@ -18,8 +18,8 @@ use Rattle.message_end.specs.Doings.Doing.{Says}
 use Rattle.message_end.specs.Ends.{AreBegunOf, AreOfStep, DoesMore, DoesStep, Input, MayTake}
 use Rattle.message_end.specs.Ends.Input.{Char, Command as Told, Time}
 use Rattle.message_end.specs.Parts.{Node, after_parts, after_turn, closes, core_after, core_step, with_own}
-use Rattle.message_end.specs.InStep.{EndsOnce, HasNoEnd}
-use Rattle.message_end.proofs.InSteps.{history-ends}
+use Rattle.message_end.specs.InStep.{EndsOnce, HasNoEnd, NoneEnds}
+use Rattle.message_end.proofs.InSteps.{history-ends, none-noted}
 use Rattle.message_end.proofs.Lower.{lower}
 use Rattle.message_end.proofs.Parts.{OnEither, begun-none, either-less, either-then, step_ended}
 use Rattle.message_end.proofs.Steps.{IsAt, at-carried}
@@ -32,7 +32,7 @@ use Rattle.tool_step.specs.Replies.{block_timer, given_up_by_t4, reply_timer}
 use Rattle.tool_law.specs.Sound.{AllCanBeSent, CanBeSent, IsHeld, IsSound}
 use Rattle.tool_step.specs.Spooling.{end_of_spooling, taking_turn, unload_part, waiting_text}
 use Rattle.tool_law.proofs.SpoolSound.{carried-good, settled-good, taken-good}
-use Rattle.tool_step.specs.Equipment.{EquipmentView, act, ended_step, file_step, is_marked_out, needs_numbers, node_step, oldest_of, parts_done, reserved, settled_step, settled_went, went_with_file}
+use Rattle.tool_step.specs.Equipment.{EquipmentView, act, begun_step, ended_step, file_step, is_marked_out, needs_numbers, node_step, oldest_of, parts_done, reserved, settled_step, settled_went, went_with_file}
 use Rattle.spool_works.specs.Found.{spooled_of}
 use Rattle.tool_law.specs.Laws.{DidOf}
 use Rattle.tool_step.specs.Step.{beginning, delay_timer, end_plan, failed_turn, first_parts, input_part, last_parts, late_parts, line_timer, offer, took_turn}
@@ -593,10 +593,16 @@ module _ (plan : EquipmentPlan) (base : ℕ) (fits : EquipmentPlanFits plan) whe
           (subst AreNoTries (sym (done-notes more.done doings [] more.course.notes)) tt)
           (subst GiveNone (sym more.called) tt) did.tried
 
-  pub goes-on :
+  -- a step up to its works, which may use system bytes up to some limit
+  begun-at :
       (doings : List Doing) (s : EquipmentView) (input : Input ToolCommand) (now : ℕ) → DidOf plan base doings s
-      → MayTake ToolCommandFits input → DoesStep (end_plan plan) (DidOf plan) base doings input now (act s input now)
-  goes-on doings s input now did may = go (needs_numbers s) (is_marked_out s.mark) refl
+      → MayTake ToolCommandFits input
+      → (limit : ℕ)
+      × OnEither
+      (FileStepped plan base fits s.node.own.ledger.slots s.node.own.ledger.stood doings now limit input)
+      (FileBegun plan base fits s.node.own.ledger.slots s.node.own.ledger.stood doings now limit input)
+      (begun_step s input now)
+  begun-at doings s input now did may = go (needs_numbers s) (is_marked_out s.mark) refl
     where
       slots : ℕ
       slots = s.node.own.ledger.slots
@@ -611,29 +617,69 @@ module _ (plan : EquipmentPlan) (base : ℕ) (fits : EquipmentPlanFits plan) whe
       more room = marks-on s.node.core.numbers.end s.mark did.sound.mark room
 
       go : (needs spent : Bool) → is_marked_out s.mark ≡ spent
-          → DoesStep (end_plan plan) (DidOf plan) base doings input now
-          (and_then (settled_went (and_then
+          → (limit : ℕ)
+          × OnEither (FileStepped plan base fits slots stood doings now limit input)
+          (FileBegun plan base fits slots stood doings now limit input)
+          (and_then
           (if needs then if spent then Spent (at_first s) else Goes (at_first (reserved s)) else Goes (at_first s))
-          (parts_done (first_parts input now)))) (ended_step now))
-      go true true is =
-          act-does slots stood doings now limit input (Spent (at_first s))
-          (record {
-            node =
-                some-less plan base fits slots stood doings now limit input (tries_in doings) AreNone
-                (AreBegunOf input now) (at_first s.node) (begun-none input now) (begins-at doings now input s did);
-            list = did.sound.list;
-            mark = sym did.sound.mark;
-          })
+          (parts_done (first_parts input now)))
+      go true true is = (
+        limit,
+        record {
+          node =
+              some-less plan base fits slots stood doings now limit input (tries_in doings) AreNone
+              (AreBegunOf input now) (at_first s.node) (begun-none input now) (begins-at doings now input s did);
+          list = did.sound.list;
+          mark = sym did.sound.mark;
+        },
+      )
       go true false is =
-          let end = (reserved s).node.core.numbers.end in
-          act-does slots stood doings now end input (parts_done (first_parts input now) (at_first (reserved s)))
-          (parts-at plan base fits slots stood doings now end input (first_parts input now) (at_first (reserved s))
-          did.sound.list (more is)
-          (first-at plan base fits slots stood doings now end input (tries_in doings) (at_first (reserved s).node) may
-          (more-at doings now input s did)))
-      go false spent is =
-          act-does slots stood doings now limit input (parts_done (first_parts input now) (at_first s))
-          (parts-at plan base fits slots stood doings now limit input (first_parts input now) (at_first s)
-          did.sound.list (sym did.sound.mark)
-          (first-at plan base fits slots stood doings now limit input (tries_in doings) (at_first s.node) may
-          (begins-at doings now input s did)))
+          let end = (reserved s).node.core.numbers.end in (
+            end,
+            parts-at plan base fits slots stood doings now end input (first_parts input now) (at_first (reserved s))
+                did.sound.list (more is)
+                (first-at plan base fits slots stood doings now end input (tries_in doings)
+                (at_first (reserved s).node) may (more-at doings now input s did)),
+          )
+      go false spent is = (
+        limit,
+        parts-at plan base fits slots stood doings now limit input (first_parts input now) (at_first s)
+            did.sound.list (sym did.sound.mark)
+            (first-at plan base fits slots stood doings now limit input (tries_in doings) (at_first s.node) may
+            (begins-at doings now input s did)),
+      )
+
+  pub goes-on :
+      (doings : List Doing) (s : EquipmentView) (input : Input ToolCommand) (now : ℕ) → DidOf plan base doings s
+      → MayTake ToolCommandFits input → DoesStep (end_plan plan) (DidOf plan) base doings input now (act s input now)
+  goes-on doings s input now did may =
+      let begun = begun-at doings s input now did may in
+      act-does s.node.own.ledger.slots s.node.own.ledger.stood doings now begun.0 input (begun_step s input now) begun.1
+
+  -- the step hasn't come to its end with what is noted up to its works
+  pub begun-unended :
+      (doings : List Doing) (s : EquipmentView) (input : Input ToolCommand) (now : ℕ) → DidOf plan base doings s
+      → MayTake ToolCommandFits input → NoneEnds (step_in (begun_step s input now)).notes
+  begun-unended doings s input now did may =
+      let begun = begun-at doings s input now did may in go begun.0 (begun_step s input now) begun.1
+    where
+      slots : ℕ
+      slots = s.node.own.ledger.slots
+
+      stood : Stand
+      stood = s.node.own.ledger.stood
+
+      none :
+          (Called : List LineCall → Type 0) (limit : ℕ) (step : Step EquipmentView Happening)
+          → FileAt plan base fits slots stood doings now limit input Called step → NoneEnds step.notes
+      none Called limit step at =
+          let so = at.node.at.core in
+          subst NoneEnds (done-notes so.done doings step.notes (ap noted_in (sym so.whole) ∙ so.notes))
+          (none-noted so.done so.unended)
+
+      go : (limit : ℕ) (went : Went EquipmentView Happening)
+          → OnEither (FileStepped plan base fits slots stood doings now limit input)
+          (FileBegun plan base fits slots stood doings now limit input) went
+          → NoneEnds (step_in went).notes
+      go limit (Goes step) at = none (AreOfStep input now) limit step at
+      go limit (Spent step) at = none (AreBegunOf input now) limit step at

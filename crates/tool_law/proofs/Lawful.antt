@@ -22,7 +22,9 @@ use Rattle.message_end.specs.Doings.{Doing, own_of}
 use Rattle.message_end.specs.Duties.{all_done}
 use Rattle.message_end.specs.Ends.{HasRestarted, HasStarted, Input, IsFront, KeepsLaw, Loss, LosesAt, MayTake, OnStart}
 use Rattle.message_end.specs.Ends.Input.{Char, Command as Told, Time}
+use Rattle.message_end.specs.InStep.{NoneEnds}
 use Rattle.message_end.specs.Parts.{Node, after_parts, after_turn, core_after, core_step, fixed_turn, went_with, with_own}
+use Rattle.message_end.proofs.InSteps.{none-front}
 use Rattle.message_end.proofs.Lower.{lower}
 use Rattle.message_end.proofs.Parts.{begins-new, history-says}
 use Rattle.message_end.proofs.Growing.{front-both, front-more, front-same, parts-grow}
@@ -61,7 +63,7 @@ use Rattle.tool_law.proofs.MildCommands.{sound-self}
 use Rattle.tool_law.proofs.QuietTurns.{comms-quiet}
 use Rattle.tool_law.proofs.QuietMessages.{by-t4-quiet, taking-held, unload-held, ended-quiet}
 use Rattle.tool_law.proofs.QuietCommands.{failed-is-quiet, took-quiet, told-quiet, beginning-quiet, t3-quiet}
-use Rattle.tool_law.proofs.KeptSteps.{goes-on}
+use Rattle.tool_law.proofs.KeptSteps.{begun-unended, goes-on}
 
 -- ---- what is kept stays sound, whatever comes
 
@@ -345,6 +347,16 @@ stops-are s input now front has =
     (fronts-are (works_of s input now) [] (step_in (begun_step s input now)).notes front has)
     (act-grows (begun_step s input now) now)
 
+-- so it hasn't come to its end
+pub stops-unended :
+    (plan : EquipmentPlan) (base : ℕ) (fits : EquipmentPlanFits plan) (doings : List Doing) (s : EquipmentView)
+    (input : Input ToolCommand) (now : ℕ) → DidOf plan base doings s → MayTake ToolCommandFits input
+    → (front : List Happening) → Has (stops s input now) front → NoneEnds front
+stops-unended plan base fits doings s input now did may front has =
+    let notes = (step_in (begun_step s input now)).notes in
+    let first = fronts-are (works_of s input now) [] notes front has in
+    none-front front first.rest (subst NoneEnds first.whole (begun-unended plan base fits doings s input now did may))
+
 -- ---- starts
 
 module _ (plan : EquipmentPlan) (fits : EquipmentPlanFits plan) where
@@ -530,6 +542,8 @@ lawful-so plan slots list mark fits can loses = record {
       };
   goes_on = λ base doings s input now did may. goes-on plan base fits doings s input now did may;
   stops = λ base doings s input now did may front has. stops-are s input now front has;
+  unended = λ base doings s input now did may front has.
+      stops-unended plan base fits doings s input now did may front has;
   says = λ base doings s what did world. record {
     sound = did.sound;
     is = history-says (end_plan plan) base doings s.node.core what did.is world;

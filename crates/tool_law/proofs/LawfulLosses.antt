@@ -28,7 +28,7 @@ use Rattle.tool_step.specs.Disk.{read_works, standing_in, takes_up, works_behind
 use Rattle.spool_works.specs.DiskWorks.DiskWork.{Change, ReadOldest, Reserve}
 use Rattle.tool_step.specs.End.{machine}
 use Rattle.tool_step.specs.Equipment.{EquipmentView, act, begun_step, ended_step, is_marked_out, needs_numbers, node_step, oldest_of, parts_done, reserved, restarts, settled, settled_step, settled_went, starts, went_with_file}
-use Rattle.tool_law.proofs.Lawful.{IsGoodView, Loses, begun-good, lawful-so, starts-at, stops-are}
+use Rattle.tool_law.proofs.Lawful.{IsGoodView, Loses, begun-good, lawful-so, starts-at, stops-are, stops-unended}
 use Rattle.tool_law.proofs.KeptSteps.{goes-on}
 use Rattle.tool_law.specs.Laws.{DidOf}
 use Rattle.tool_step.proofs.LossCalls.{AtEach, at-call, losses-counted}
@@ -270,6 +270,9 @@ module _ (plan : EquipmentPlan) (fits : EquipmentPlanFits plan) where
       (all-well s input now (record { own = did.sound.own; list = did.sound.list })) has in
       record {
         so_far = first.2.so_far;
+        unended =
+            stops-unended plan base fits doings s input now did may loss.front
+            ((losses-counted s input now).1 loss has);
         starts =
             subst
             (λ (one : Loss EquipmentView).
