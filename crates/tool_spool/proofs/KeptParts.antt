@@ -386,39 +386,41 @@ module _ (plan : EquipmentPlan) (fits : EquipmentPlanFits plan) (looked : Tables
 
     -- ---- the last parts, with no works left
 
+    abbrev OwesNone : NodeStep → Type 0
+    OwesNone step = step.next.own.ledger.works ≡ []
+
     abbrev pub Settled : List ToolCommand → NodeStep → Type 0
-    Settled said step = Both said step × (step.next.own.ledger.works ≡ [])
+    Settled said step = Both said step × OwesNone step
+
+    -- also where the numbers are spent
+    abbrev pub SettledRight : NodeStep → Type 0
+    SettledRight step = BothRight step × OwesNone step
 
     works-behind : (turn : ToolTurn) (step : NodeStep) → works_of turn ≡ []
-        → OnEither (λ (s : NodeStep). s.next.own.ledger.works ≡ []) (λ (s : NodeStep). Unit {0})
-        (after_turn Some turn step)
+        → OnEither OwesNone OwesNone (after_turn Some turn step)
     works-behind turn step none = go (all_done Some turn.duties (core_step step))
       where
-        go : (went : Went (EndView Kind) Happening)
-            → OnEither (λ (s : NodeStep). s.next.own.ledger.works ≡ []) (λ (s : NodeStep). Unit {0})
-            (went_with turn.own went)
+        go : (went : Went (EndView Kind) Happening) → OnEither OwesNone OwesNone (went_with turn.own went)
         go (Goes next) = none
-        go (Spent next) = tt
+        go (Spent next) = none
 
     settled-part :
         (said : List ToolCommand) (part : ToolPart) (step : NodeStep)
         → BothEnd said (after_turn Some (part step.next.own step.next.core) step)
         → works_of (part step.next.own step.next.core) ≡ []
-        → OnEither (Settled said) BothRight (after_turn Some (part step.next.own step.next.core) step)
+        → OnEither (Settled said) SettledRight (after_turn Some (part step.next.own step.next.core) step)
     settled-part said part step ends none =
-        either-less (Settled said) (λ (s : NodeStep). BothRight s × Unit {0}) (Settled said) BothRight
-        (after_turn Some (part step.next.own step.next.core) step)
-        (both-either (Both said) (λ (s : NodeStep). s.next.own.ledger.works ≡ []) BothRight (λ (s : NodeStep). Unit {0})
+        both-either (Both said) OwesNone BothRight OwesNone
         (after_turn Some (part step.next.own step.next.core) step) ends
-        (works-behind (part step.next.own step.next.core) step none)) (λ s so. so) (λ s so. so.0)
+        (works-behind (part step.next.own step.next.core) step none)
 
     pub last-both :
         (said : List ToolCommand) (oldest : Option Spooled)
         → IfSome oldest (λ message. (message.function % 2 == 1) ≡ true)
         → oldest ≡ option_map spooled_of (slice_get list 0) → (now : ℕ) (step : NodeStep) → Settled said step
-        → OnEither (Settled said) BothRight (after_parts Some (last_parts oldest now) step)
+        → OnEither (Settled said) SettledRight (after_parts Some (last_parts oldest now) step)
     last-both said oldest odd of now step so =
-        either-then (Settled said) BothRight (Settled said)
+        either-then (Settled said) SettledRight (Settled said)
         (after_turn Some (unload_part oldest step.next.own step.next.core) step)
         (after_parts Some (end_of_spooling ∷ offer now ∷ closes ∷ []))
         (settled-part said (unload_part oldest) step
@@ -435,7 +437,7 @@ module _ (plan : EquipmentPlan) (fits : EquipmentPlanFits plan) (looked : Tables
         holds.shelves) so.0)
         (unload-works oldest step.next.own step.next.core ∙ so.1))
         (λ one so.
-        either-then (Settled said) BothRight (Settled said)
+        either-then (Settled said) SettledRight (Settled said)
         (after_turn Some (end_of_spooling one.next.own one.next.core) one)
         (after_parts Some (offer now ∷ closes ∷ []))
         (settled-part said end_of_spooling one
@@ -448,14 +450,14 @@ module _ (plan : EquipmentPlan) (fits : EquipmentPlanFits plan) (looked : Tables
         so.0)
         (rested-works one.next.own one.next.core ∙ so.1))
         (λ two so.
-        either-then (Settled said) BothRight (Settled said)
+        either-then (Settled said) SettledRight (Settled said)
         (after_turn Some (offer now two.next.own two.next.core) two) (after_parts Some (closes ∷ []))
         (settled-part said (offer now) two
         (part-both said (offer now)
         (plain-part plan fits looked said before (offer now) (offer-plain plan fits looked said before now))
         (calm-part (offer now) (λ own e. offer-calm now own)) two so.0) so.1)
         (λ three so.
-        either-then (Settled said) BothRight (Settled said)
+        either-then (Settled said) SettledRight (Settled said)
         (after_turn Some (closes three.next.own three.next.core) three) (after_parts Some [])
         (settled-part said closes three
         (part-both said closes

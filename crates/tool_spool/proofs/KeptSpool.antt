@@ -39,7 +39,7 @@ use Rattle.tool_spool.proofs.PairedLines.{AreTold}
 use Rattle.tool_spool.proofs.UsedRoom.{fronts-used}
 use Rattle.tool_spool.proofs.Interrupted.{FoundAt, IsFoundAt, StandsWell, WhereGoes, reserve-found, where-as, works-found}
 use Rattle.tool_law.specs.Sound.{CanBeSent}
-use Rattle.tool_spool.specs.InPairs.{AreInPairs, TellsWorks, WorksAreInPairs, changes_in}
+use Rattle.tool_spool.specs.InPairs.{AreInPairs, ArePairsOfStep, TellsWorks, WorksAreInPairs, changes_in}
 use Rattle.tool_spool.specs.LeavesInStep.{LeaveInTheirSteps, MessagesLeaveInStep}
 use Rattle.tool_spool.specs.MadeRoom.{IsRoomUsed, LeavesNoRoom, OverwritesForPuts, UsesRoom}
 use Rattle.tool_spool.specs.SpoolKept.{KeepsSpoolFrom, MayHold, SpoolIsKept, SpoolIsKeptFrom, policy_of}
@@ -51,7 +51,7 @@ use Rattle.message_end.proofs.Growing.{behind-both}
 use Rattle.tool_law.proofs.WorkLines.{Walks, same-lines}
 use Rattle.message_end.proofs.Parts.{OnEither}
 use Rattle.tool_spool.proofs.TakenTurns.{full-so}
-use Rattle.tool_spool.proofs.KeptStarts.{rebased, begun-both, IsBegunSo, begun-so, IsDone, IsKeptFile, step-both, first-run, first-bound, finds-all, started-shelves}
+use Rattle.tool_spool.proofs.KeptStarts.{rebased, begun-both, IsBegunSo, begun-so, IsDone, IsKeptFile, step-both, step-lines, first-run, first-bound, finds-all, started-shelves}
 
 module _ (plan : EquipmentPlan) (fits : EquipmentPlanFits plan) (looked : TablesAreLookedBackFor) (slots : ℕ) where
   -- ---- over all starts
@@ -413,6 +413,20 @@ module _ (plan : EquipmentPlan) (fits : EquipmentPlanFits plan) (looked : Tables
         next-is =
             ap (λ (at : Stand). at.first + at.len) stays.1 ∙ ap (λ (c : Count). c.next) stood-is
 
+    -- and so do the lines of all of it
+    pairs-of-step :
+        (said : List ToolCommand) (before : List Happening) (input : Input ToolCommand) (now : ℕ) (s : EquipmentView)
+        → Holds plan said s.node.own s.node.core.drawn before → IsGoodView plan fits s → IsSpoolSo s before
+        → ArePairsOfStep s input now
+    pairs-of-step said before input now s holds good so =
+        let by_then = told-so said before input now s holds good so in
+        record {
+          by_then = by_then;
+          in_all =
+              subst (AreInPairs (standing_in s).next s.list (owed_in (begun_step s input now)))
+              (sym ((step-lines plan fits looked slots) said before input now s holds so.shelves good)) by_then;
+        }
+
     module _ (list : List Put) (mark : ℕ) (may : MayHold slots list) where
       course-kept : (meetings : List (Meeting ToolCommand))
           → IsCourseKept (course_of (started_on plan slots list mark) machine meetings)
@@ -435,7 +449,7 @@ module _ (plan : EquipmentPlan) (fits : EquipmentPlanFits plan) (looked : Tables
 
           go : (course : Course EquipmentView) → IsReported plan fits looked said course → IsCourseKept course
               → TellsWorks course input now
-          go (Reached s notes) reported so = told-so said notes input now s reported.holds reported.good so
+          go (Reached s notes) reported so = pairs-of-step said notes input now s reported.holds reported.good so
           go (Stopped notes) reported so = tt
 
       kept-on : (meetings : List (Meeting ToolCommand))

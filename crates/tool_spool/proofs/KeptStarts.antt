@@ -1,5 +1,5 @@
 -- That a whole step, and a start, keep the spool.
-use Rattle.std.proofs.Common.{◌≡◌, refl, sym, subst, ◌∙◌, arith, ◌<◌, ◌≤◌, ◌+◌, ◌^◌, Bool, true, false, ℕ, List, [], ◌∷◌, length, append-nil, Some, if◌then◌else◌}
+use Rattle.std.proofs.Common.{◌≡◌, refl, sym, ap, subst, ◌∙◌, arith, ◌<◌, ◌≤◌, ◌+◌, ◌^◌, Bool, true, false, ℕ, List, [], ◌∷◌, ◌++◌, length, append-nil, Some, if◌then◌else◌}
 use Rattle.trace_log.specs.declared.commands.ToolCommand.{ToolCommand}
 use Rattle.trace_log.specs.Log.{Happening}
 use Rattle.transact.specs.Numbers.{numbers_from}
@@ -9,12 +9,13 @@ use Rattle.message_end.specs.Course.{noted_behind}
 use Rattle.message_end.specs.Ends.{Input}
 use Rattle.message_end.specs.Laws.{new_end}
 use Rattle.message_end.specs.Parts.{Node, after_parts}
-use Rattle.spool_law.specs.Shelf.{IsFoundOf, shelf_of}
+use Rattle.spool_law.specs.Shelf.{Change, IsFoundOf, shelf_of}
 use Rattle.spool_ledger.specs.Laws.{Call}
-use Rattle.spool_ledger.specs.Ledger.{carried_out, new_ledger}
+use Rattle.spool_ledger.specs.Ledger.{LedgerView, carried_out, new_ledger, stood_count}
 use Rattle.spool_slots.specs.Run.{IsRunFrom}
 use Rattle.spool_slots.specs.Slot.{Message as Put}
 use Rattle.gem_spool.specs.Works.{AreDue}
+use Rattle.gem_spool.specs.declared.works.Work.{Work}
 use Rattle.equipment_tables.specs.declared.plan.EquipmentPlan.{EquipmentPlan}
 use Rattle.equipment_tables.specs.Laws.{TablesAreLookedBackFor}
 use Rattle.equipment_tables.specs.Plan.{EquipmentPlanFits}
@@ -25,6 +26,7 @@ use Rattle.tool_reports.specs.Histories.{with_command}
 use Rattle.tool_law.proofs.Lawful.{IsGoodView, begun-good, oldest-good, settled-view-good}
 use Rattle.tool_spool.proofs.Interrupted.{WhereGoes}
 use Rattle.tool_step.specs.Own.{OwnView}
+use Rattle.tool_spool.specs.InPairs.{AreInPairs, changes_in}
 use Rattle.tool_spool.specs.SpoolKept.{policy_of}
 use Rattle.tool_step.specs.Step.{begun, end_plan, first_parts, last_parts}
 use Rattle.tool_reports.proofs.HeldReports.{Any, Free, any-lasts}
@@ -32,15 +34,16 @@ use Rattle.tool_reports.proofs.QuietReports.{Holds, holds-less}
 use Rattle.tool_spool.specs.MadeRoom.{IsRoomUsed}
 use Rattle.tool_spool.proofs.FromStarts.{KeepsOn}
 use Rattle.tool_spool.proofs.KeptLedger.{one-call}
-use Rattle.tool_spool.proofs.PairedLines.{AreTold, told-none}
+use Rattle.tool_spool.proofs.PairedLines.{AreTold, changes-both, told-none}
 use Rattle.tool_reports.proofs.PlainTurns.{booked-stays}
 use Rattle.tool_reports.proofs.QuietNotes.{AreSettled}
 use Rattle.tool_reports.proofs.Reporting.{odd-of}
 use Rattle.tool_spool.proofs.Shelved.{settled-shelved}
 use Rattle.tool_spool.proofs.ShelvedTurns.{IsSpentAt, Shelves, count_at, spent-at}
-use Rattle.tool_law.proofs.WorkLines.{AreLines, lines-none}
+use Rattle.message_end.proofs.Growing.{behind-both}
+use Rattle.tool_law.proofs.WorkLines.{AreLines, lines-none, same-lines}
 use Rattle.message_end.proofs.Parts.{OnEither, either-less}
-use Rattle.tool_spool.proofs.KeptParts.{BothRight, BothEnd, first-both, Settled, last-both}
+use Rattle.tool_spool.proofs.KeptParts.{BothEnd, BothRight, Settled, SettledRight, first-both, last-both}
 
 module _ (plan : EquipmentPlan) (fits : EquipmentPlanFits plan) (looked : TablesAreLookedBackFor) (slots : ℕ) where
   -- ---- the whole step
@@ -62,6 +65,10 @@ module _ (plan : EquipmentPlan) (fits : EquipmentPlanFits plan) (looked : Tables
       AreSettled plan (noted_behind step.notes before)
       × IsSpentAt plan slots step.next.list base before step.next.node.own.ledger (noted_behind step.notes before)
 
+  -- the same, where nothing is owed
+  abbrev IsRightRest : (base before : List Happening) → FileStep → Type 0
+  IsRightRest base before step = IsRightFile base before step × (step.next.node.own.ledger.works ≡ [])
+
   with-file :
       (said : List ToolCommand) (base before : List Happening) (s : EquipmentView)
       (went : Went (Node OwnView Kind) Happening)
@@ -73,8 +80,9 @@ module _ (plan : EquipmentPlan) (fits : EquipmentPlanFits plan) (looked : Tables
   with-settled :
       (said : List ToolCommand) (base before : List Happening) (s : EquipmentView)
       (went : Went (Node OwnView Kind) Happening)
-      → OnEither ((Settled plan fits looked slots) s.list base before said) ((BothRight plan fits looked slots) s.list base before) went
-      → OnEither (IsSettled said base before) (IsRightFile base before) (went_with_file s went)
+      → OnEither ((Settled plan fits looked slots) s.list base before said)
+      ((SettledRight plan fits looked slots) s.list base before) went
+      → OnEither (IsSettled said base before) (IsRightRest base before) (went_with_file s went)
   with-settled said base before s (Goes step) at = at
   with-settled said base before s (Spent step) at = at
 
@@ -223,6 +231,21 @@ module _ (plan : EquipmentPlan) (fits : EquipmentPlanFits plan) (looked : Tables
   abbrev pub IsKeptFile : List Happening → FileStep → Type 0
   IsKeptFile before step = KeepsOn (policy_of plan slots) (noted_behind step.notes before)
 
+  -- the last parts, behind the works of a step so far
+  last-settled :
+      (said : List ToolCommand) (before : List Happening) (now : ℕ) (step : FileStep) → IsBoth said before before step
+      → IsGoodView plan fits step.next
+      → OnEither (IsSettled said (noted_behind step.notes before) before)
+      (IsRightRest (noted_behind step.notes before) before) (ended_step now (settled_step step))
+  last-settled said before now step both good =
+      let base = noted_behind step.notes before in
+      with-settled said base before (settled step.next)
+      (after_parts Some (last_parts (oldest_of (settled step.next)) now) (node_step (settled_step step)))
+      ((last-both plan fits looked slots) (settled step.next).list base before said (oldest_of (settled step.next))
+      (odd-of plan fits looked (oldest_of (settled step.next))
+      (oldest-good plan fits (settled step.next).list (settled-view-good plan fits step.next good).list)) refl now
+      (node_step (settled_step step)) (settled-both said before before step both))
+
   pub step-both :
       (said : List ToolCommand) (before : List Happening) (input : Input ToolCommand) (now : ℕ) (s : EquipmentView)
       → Holds plan said s.node.own s.node.core.drawn before
@@ -242,15 +265,56 @@ module _ (plan : EquipmentPlan) (fits : EquipmentPlanFits plan) (looked : Tables
       ends (Spent step) at so = at.1.kept
       ends (Goes step) at so =
           let base = noted_behind step.notes before in
-          either-less (IsSettled to base before) (IsRightFile base before) (IsDone to before) (IsKeptFile before)
-          (ended_step now (settled_step step))
-          (with-settled to base before (settled step.next)
-          (after_parts Some (last_parts (oldest_of (settled step.next)) now) (node_step (settled_step step)))
-          ((last-both plan fits looked slots) (settled step.next).list base before to (oldest_of (settled step.next))
-          (odd-of plan fits looked (oldest_of (settled step.next))
-          (oldest-good plan fits (settled step.next).list (settled-view-good plan fits step.next so).list)) refl now
-          (node_step (settled_step step)) (settled-both to before before step at)))
-          (λ last so. record { base = base; both = so.0; none = so.1 }) (λ last so. so.1.kept)
+          either-less (IsSettled to base before) (IsRightRest base before) (IsDone to before) (IsKeptFile before)
+          (ended_step now (settled_step step)) (last-settled to before now step at so)
+          (λ last so. record { base = base; both = so.0; none = so.1 }) (λ last so. so.0.1.kept)
+
+  -- what is noted behind the works, where nothing is owed, names no change of the list
+  rest-lines :
+      (begun : List Happening) (v : LedgerView) (list : List Put) (before notes : List Happening) → v.works ≡ []
+      → AreTold v list (noted_behind begun before) (noted_behind notes before) → changes_in notes ≡ changes_in begun
+  rest-lines begun v list before notes none told =
+      ap changes_in
+      (same-lines notes (begun ++ told.lines) before
+      (told.noted ∙ sym (behind-both begun told.lines before)))
+      ∙ changes-both begun told.lines
+      ∙ ap (λ (changes : List Change). changes_in begun ++ changes)
+      (subst (λ (works : List Work). AreInPairs (stood_count v).next list works (changes_in told.lines)) none
+      told.pairs)
+      ∙ append-nil (changes_in begun)
+
+  -- the lines of a whole step are those that it has noted up to its works
+  pub step-lines :
+      (said : List ToolCommand) (before : List Happening) (input : Input ToolCommand) (now : ℕ) (s : EquipmentView)
+      → Holds plan said s.node.own s.node.core.drawn before
+      → Shelves plan slots s.list before before s.node.own s.node.core before → IsGoodView plan fits s
+      → changes_in (step_in (act s input now)).notes ≡ changes_in (step_in (begun_step s input now)).notes
+  step-lines said before input now s holds shelves good =
+      ends (begun_step s input now) (begun-both said before input now s holds shelves)
+      (begun-good plan fits s input now good)
+    where
+      to : List ToolCommand
+      to = with_command input said
+
+      ends : (went : Went EquipmentView Happening)
+          → OnEither (IsBoth to before before) (IsRightFile before before) went
+          → IsGoodView plan fits (step_in went).next
+          → changes_in (step_in (and_then (settled_went went) (ended_step now))).notes
+          ≡ changes_in (step_in went).notes
+      ends (Spent step) at so = refl
+      ends (Goes step) at so = behind (ended_step now (settled_step step)) (last-settled to before now step at so)
+        where
+          base : List Happening
+          base = noted_behind step.notes before
+
+          behind : (last : Went EquipmentView Happening)
+              → OnEither (IsSettled to base before) (IsRightRest base before) last
+              → changes_in (step_in last).notes ≡ changes_in step.notes
+          behind (Goes last) so =
+              rest-lines step.notes last.next.node.own.ledger last.next.list before last.notes so.1
+              so.0.1.shelved.told
+          behind (Spent last) so =
+              rest-lines step.notes last.next.node.own.ledger last.next.list before last.notes so.1 so.0.1.told
 
   -- ---- starts
 

@@ -1,5 +1,6 @@
 -- That each change of the spool's list stands between the two lines that tell of it: in a step there are as many pairs
--- of lines as works of the list, the n-th of the number and the message of the n-th work.
+-- of lines as works of the list, the n-th of the number and the message of the n-th work; behind the works no such line
+-- is noted any more.
 use Rattle.std.specs.Prelude.{◌≡◌, ◌<◌, ◌^◌, ℕ, List, [], ◌∷◌}
 use Rattle.gem_spool.specs.Works.{list_after, next_after}
 use Rattle.gem_spool.specs.declared.works.Work.{Work}
@@ -20,7 +21,7 @@ use Rattle.equipment_tables.specs.declared.plan.EquipmentPlan.{EquipmentPlan}
 use Rattle.equipment_tables.specs.Plan.{EquipmentPlanFits}
 use Rattle.tool_step.specs.Disk.{owed_in, standing_in}
 use Rattle.tool_step.specs.End.{machine}
-use Rattle.tool_step.specs.Equipment.{EquipmentView, begun_step, started_on}
+use Rattle.tool_step.specs.Equipment.{EquipmentView, act, begun_step, started_on}
 use Rattle.tool_spool.specs.SpoolKept.{MayHold}
 
 -- the lines before and behind a change, in their order; what else is noted is left out
@@ -72,11 +73,18 @@ AreInPairs next list (one ∷ works) (before ∷ behind ∷ rest) =
     TellsOf next list one before behind
     × AreInPairs (next_after next one) (list_after next list one) works rest
 
--- so are all that a step owes to its disk, with all that it has noted by then, also where the numbers are spent
+-- so are all works that a step owes to its disk, with what it has noted by then and with all that it notes, also where
+-- the numbers are spent
+pub record ArePairsOfStep (s : EquipmentView) (input : Input ToolCommand) (now : ℕ) : Type 0 where
+  pub by_then :
+      AreInPairs (standing_in s).next s.list (owed_in (begun_step s input now))
+      (changes_in (step_in (begun_step s input now)).notes)
+  pub in_all :
+      AreInPairs (standing_in s).next s.list (owed_in (begun_step s input now))
+      (changes_in (step_in (act s input now)).notes)
+
 abbrev pub TellsWorks : Course EquipmentView → Input ToolCommand → ℕ → Type 0
-TellsWorks (Reached s notes) input now =
-    AreInPairs (standing_in s).next s.list (owed_in (begun_step s input now))
-    (changes_in (step_in (begun_step s input now)).notes)
+TellsWorks (Reached s notes) input now = ArePairsOfStep s input now
 TellsWorks (Stopped notes) input now = Unit {0}
 
 -- whatever it has met over all its starts, over whatever its file held, and whatever it is given next (this profile)
