@@ -1,9 +1,9 @@
 -- That the oldest message of the spool is overwritten for a put alone. The newest note comes first.
-use Rattle.std.specs.Prelude.{◌⊎◌, ◌<◌, ◌^◌, ℕ, List, [], ◌∷◌}
+use Rattle.std.specs.Prelude.{◌⊎◌, ◌<◌, ◌^◌, ℕ, List, [], ◌∷◌, Option, None, Some}
 use Rattle.message_end.specs.Course.{Course, Meeting, course_of, notes_of}
 use Rattle.message_end.specs.Course.Course.{Reached, Stopped}
-use Rattle.spool_law.specs.Shelf.{Change, change_of}
-use Rattle.spool_law.specs.Shelf.Change.{HasGone, Leaves}
+use Rattle.spool_law.specs.Shelf.{Change, change_of, shelf_of}
+use Rattle.spool_law.specs.Shelf.Change.{HasGone}
 use Rattle.spool_slots.specs.Slot.{Message}
 use Rattle.trace_log.specs.declared.commands.ToolCommand.{ToolCommand}
 use Rattle.trace_log.specs.declared.names.Cause.{Cause}
@@ -15,22 +15,18 @@ use Rattle.tool_step.specs.End.{machine}
 use Rattle.tool_step.specs.Equipment.{EquipmentView, started_on}
 use Rattle.tool_spool.specs.SpoolKept.{MayHold}
 
--- a message that leaves so makes no room for another
+-- a message that leaves for such a cause, or for none, makes no room for another
 abbrev pub MakesNone : Cause → Type 0
 MakesNone cause.Confirmed = Unit {0}
 MakesNone cause.Purged = Unit {0}
 MakesNone cause.Overwritten = ⊥
 
-abbrev pub LeavingMakesNone : Change → Type 0
-LeavingMakesNone (Leaves number why) = MakesNone why
-LeavingMakesNone _ = Unit {0}
-
-abbrev pub NewestMakesNone : List Happening → Type 0
-NewestMakesNone [] = Unit {0}
-NewestMakesNone (what ∷ before) = LeavingMakesNone (change_of what)
+abbrev pub LeftMakesNone : Option Cause → Type 0
+LeftMakesNone None = Unit {0}
+LeftMakesNone (Some why) = MakesNone why
 
 abbrev pub IsUsedBy : Change → List Happening → Type 0
-IsUsedBy (HasGone number) before = NewestMakesNone before
+IsUsedBy (HasGone number) before = LeftMakesNone (shelf_of before).leaving
 IsUsedBy _ before = Unit {0}
 
 -- what was noted last isn't that a message is gone which was overwritten: no place is left that was made for another

@@ -17,8 +17,15 @@ put_over oldest report = Happening.Stored 8 ∷ Happening.Storing 8 report ∷ o
 abbrev pub discarded_over : Spooled → Spooled → List Happening
 discarded_over oldest report = Happening.Discarded (spooled_name report) ∷ overwritten oldest
 
+-- so it is where something else is noted between
+abbrev pub discarded_apart : Spooled → Spooled → List Happening
+discarded_apart oldest report =
+    Happening.Discarded (spooled_name report) ∷ Happening.Gone 7 ∷ Happening.Event 1 0
+    ∷ Happening.Leaving 7 cause.Overwritten ∷ Happening.EquipmentStarted ((7, oldest) ∷ []) 0 ∷ []
+
 pub record RoomIsMadeForPuts : Type 0 where
   pub put : (oldest report : Spooled) → MakesRoomForPuts (put_over oldest report)
   pub used : (oldest report : Spooled) → IsRoomUsed (put_over oldest report)
   pub discarded : (oldest report : Spooled) → MakesRoomForPuts (discarded_over oldest report) → ⊥
+  pub apart : (oldest report : Spooled) → MakesRoomForPuts (discarded_apart oldest report) → ⊥
   pub left : (oldest : Spooled) → IsRoomUsed (overwritten oldest) → ⊥

@@ -11,5 +11,6 @@ returns c = record {
   put = λ oldest report. (inl tt, (inr tt, (inl tt, (inl tt, (inl tt, tt)))));
   used = λ oldest report. tt;
   discarded = λ oldest report made. none-of made.0;
+  apart = λ oldest report made. none-of made.0;
   left = λ oldest used. absurd used;
 }
