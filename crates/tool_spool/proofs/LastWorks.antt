@@ -76,6 +76,7 @@ whole-header a block message check is =
           system = ap (λ (m : Message). m.system) same;
           stream = ap (λ (m : Message). m.stream) same;
           function = ap (λ (m : Message). m.function) same;
+          wait = ap (λ (m : Message). m.wait) same;
         }
     behind true false false true body e = absurd (cc)
     behind true false false false body e = absurd (cc)

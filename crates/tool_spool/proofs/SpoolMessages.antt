@@ -74,8 +74,9 @@ use Rattle.tool_spool.proofs.UnloadOpen.{HasHeader, IsOpen, asks_grant, found-op
 
 -- ---- what is answered
 
--- a reply has the system bytes and the stream of its primary, and the function plus one, where it is no abort
+-- a reply has the system bytes and the stream of its primary, no W bit, and the function plus one, where it is no abort
 record IsAnswer (primary secondary : Header) : Type 0 where
+  wait : secondary.wait ≡ false
   system : secondary.system ≡ primary.system
   stream : secondary.stream ≡ primary.stream
   function : (secondary.function == 0) ≡ false → secondary.function ≡ primary.function + 1
@@ -83,8 +84,12 @@ record IsAnswer (primary secondary : Header) : Type 0 where
 answers-so : (primary secondary : Header) → matches primary secondary ≡ true → IsAnswer primary secondary
 answers-so primary secondary is =
     go (secondary.system == primary.system) (secondary.stream == primary.stream) (not secondary.wait)
-    (not (beq secondary.from_equipment primary.from_equipment)) refl refl is
+    (not (beq secondary.from_equipment primary.from_equipment)) refl refl refl is
   where
+    calm : (wait : Bool) → not wait ≡ true → wait ≡ false
+    calm true is = absurd (cc)
+    calm false is = refl
+
     next : (a b : Bool) → (secondary.function == primary.function + 1) ≡ a → (secondary.function == 0) ≡ b
         → (a || b) ≡ true → b ≡ false → secondary.function ≡ primary.function + 1
     next true b is_next is_none all none = eqb-true secondary.function (primary.function + 1) is_next
@@ -92,19 +97,21 @@ answers-so primary secondary is =
     next false false is_next is_none all none = absurd (cc)
 
     go : (a b c d : Bool) → (secondary.system == primary.system) ≡ a → (secondary.stream == primary.stream) ≡ b
+        → not secondary.wait ≡ c
         → (a && b && c && d
         && ((secondary.function == primary.function + 1) || (secondary.function == 0))) ≡ true
         → IsAnswer primary secondary
-    go true true true true same_system same_stream all = record {
+    go true true true true same_system same_stream waits_not all = record {
+      wait = calm secondary.wait waits_not;
       system = eqb-true secondary.system primary.system same_system;
       stream = eqb-true secondary.stream primary.stream same_stream;
       function = λ some.
           next (secondary.function == primary.function + 1) (secondary.function == 0) refl refl all some;
     }
-    go false b c d same_system same_stream all = absurd (cc)
-    go true false c d same_system same_stream all = absurd (cc)
-    go true true false d same_system same_stream all = absurd (cc)
-    go true true true false same_system same_stream all = absurd (cc)
+    go false b c d same_system same_stream waits_not all = absurd (cc)
+    go true false c d same_system same_stream waits_not all = absurd (cc)
+    go true true false d same_system same_stream waits_not all = absurd (cc)
+    go true true true false same_system same_stream waits_not all = absurd (cc)
 
 -- the core behind a reply
 after-answer : (header : Header) (e : EndView Kind) (step : CoreStep) → e ≡ step.next → (found : Option (Begun Kind))
@@ -263,6 +270,7 @@ module _ (plan : EquipmentPlan) (slots : ℕ) (list : List Put) (base before : L
                   has =
                       subst (λ (notes : List Happening). Has (received_in_step notes) message) (sym newest)
                       (inl refl);
+                  wait = has_header.wait ∙ answer.wait;
                   system = has_header.system ∙ answer.system;
                   stream = has_header.stream ∙ answer.stream ∙ last.header_is.stream_is;
                   function =

@@ -83,6 +83,7 @@ pub record HasHeader (header : Header) (message : Message) : Type 0 where
   pub system : message.system ≡ header.system
   pub stream : message.stream ≡ header.stream
   pub function : message.function ≡ header.function
+  pub wait : message.wait ≡ header.wait
 
 -- ---- fewer
 

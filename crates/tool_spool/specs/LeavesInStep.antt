@@ -1,11 +1,11 @@
 -- That a message leaves the spool in the step that has brought its cause. The newest note comes first.
-use Rattle.std.specs.Prelude.{◌≡◌, ◌+◌, ◌<◌, ◌^◌, ℕ, List, [], ◌∷◌, Some}
+use Rattle.std.specs.Prelude.{◌≡◌, ◌+◌, ◌<◌, ◌^◌, ℕ, false, List, [], ◌∷◌, Some}
 use Rattle.message_flow.specs.declared.message.Message.{Message}
 use Rattle.message_end.specs.Course.{Meeting, course_of, notes_of}
 use Rattle.message_end.specs.Own.{Has}
 use Rattle.spool_law.specs.Shelf.{Change, IsPurge, Policy, Tried, change_of, shelf_of, told_with}
 use Rattle.spool_law.specs.Shelf.Change.{Leaves}
-use Rattle.spool_slots.specs.Slot.{Message as Put}
+use Rattle.spool_slots.specs.Slot.{Message as Kept}
 use Rattle.trace_log.specs.InStep.{received_in_step}
 use Rattle.trace_log.specs.declared.commands.ToolCommand.{ToolCommand}
 use Rattle.trace_log.specs.declared.names.Cause.{Cause}
@@ -19,7 +19,8 @@ use Rattle.tool_step.specs.Equipment.{started_on}
 use Rattle.tool_spool.specs.SpoolKept.{MayHold, policy_of}
 
 -- in this step the reply to the last try was received, which was a try of the message of this number: with its system
--- bytes, and the function of that message plus one, which no abort has (SEMI E5, transaction; SEMI E30, spooling)
+-- bytes, no W bit, and the function of that message plus one, which no abort has (SEMI E5, transaction; SEMI E30,
+-- spooling)
 pub record IsConfirmedInStep (notes : List Happening) (number : ℕ) : Type 0 where
   pub tried : Tried
   pub is : (shelf_of notes).tried ≡ Some tried
@@ -28,6 +29,7 @@ pub record IsConfirmedInStep (notes : List Happening) (number : ℕ) : Type 0 wh
   pub told : told_with tried.system (shelf_of notes).told ≡ Some message
   pub reply : Message
   pub has : Has (received_in_step notes) reply
+  pub wait : reply.wait ≡ false
   pub system : reply.system ≡ tried.system
   pub stream : reply.stream ≡ message.stream
   pub function : reply.function ≡ message.function + 1
@@ -52,6 +54,6 @@ LeaveInTheirSteps policy (what ∷ before) =
 -- so does the equipment, whatever it meets over all its starts, over whatever its file held (this profile)
 abbrev pub MessagesLeaveInStep : Type 0
 MessagesLeaveInStep =
-    (plan : EquipmentPlan) (slots : ℕ) (list : List Put) (mark : ℕ) → EquipmentPlanFits plan → 0 < slots
+    (plan : EquipmentPlan) (slots : ℕ) (list : List Kept) (mark : ℕ) → EquipmentPlanFits plan → 0 < slots
     → slots < 2 ^ 16 → MayHold slots list → (meetings : List (Meeting ToolCommand))
     → LeaveInTheirSteps (policy_of plan slots) (notes_of (course_of (started_on plan slots list mark) machine meetings))

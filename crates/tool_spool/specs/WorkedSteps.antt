@@ -40,6 +40,10 @@ pub record StepsOfCauses : Type 0 where
   -- an abort, function 0, confirms nothing; and a reply confirms nothing in a later step
   pub aborted :
       (policy : Policy) (body : List ℕ) → LeaveInTheirSteps policy (leaves (received body (secondary 0))) → ⊥
+  -- nor does a secondary with the W bit, which is no reply
+  pub asking :
+      (policy : Policy) (body : List ℕ)
+      → LeaveInTheirSteps policy (leaves (received body (record (secondary 12) { wait = true }))) → ⊥
   -- nor does the reply to the last try confirm another message
   pub other :
       (policy : Policy) (body : List ℕ)

@@ -41,7 +41,8 @@ pub fn worked_held()
 
 /// In each step there are as many pairs of lines of changes as works of the spool's list, and the n-th pair names the
 /// number and the message of the n-th work: a put stands between its `storing` and its `stored`, the removal of the
-/// oldest, and that of all, between a `leaving` and a `gone` of the message that stood first.
+/// oldest, and that of all, between a `leaving` and a `gone` of the message that stood first. Behind the works no such
+/// line is noted any more.
 pub fn works_are_in_pairs()
     ensures { WorksAreInPairs }
 {
@@ -77,7 +78,8 @@ pub fn messages_leave_in_step()
 }
 
 /// Examples of messages that leave in the step of their cause, as the law of steps asks for it: a reply confirms, and a
-/// request empties the spool. An abort confirms nothing, and neither does what came in an earlier step.
+/// request empties the spool. An abort confirms nothing, and neither does a secondary with the W bit, or what came in an
+/// earlier step.
 pub fn worked_steps()
     ensures { StepsOfCauses }
 {}

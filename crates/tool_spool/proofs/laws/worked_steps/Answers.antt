@@ -1,4 +1,4 @@
-use Rattle.std.proofs.Common.{◌≡◌, ◌∙◌, ◌+◌, ap, refl, sym, inl, inr, arith, ℕ, List, [], ◌∷◌, Some, None}
+use Rattle.std.proofs.Common.{◌≡◌, ◌∙◌, ◌+◌, ap, refl, sym, inl, inr, arith, ℕ, true, List, [], ◌∷◌, Some, None}
 use Rattle.message_flow.specs.declared.message.Message.{Message}
 use Rattle.message_end.specs.Own.{Has}
 use Rattle.spool_law.specs.Shelf.{Tried, told_with}
@@ -30,6 +30,14 @@ no-abort body is =
     let twelve : is.reply.function ≡ 12 = is.function ∙ ap (λ (n : ℕ). n + 1) (sym message) in
     absurd (omega (arith, function, twelve))
 
+-- a reply has no W bit
+no-asking : (body : List ℕ) → IsConfirmedInStep (received body (record (secondary 12) { wait = true })) 0 → ⊥
+no-asking body is =
+    let asks : is.reply.wait ≡ true =
+    ap (λ (m : Message). m.wait) (the-one (record (secondary 12) { wait = true }) is.reply is.has) in
+    let calm = is.wait in
+    absurd (cc)
+
 the-tried : (one other : Tried) → Some one ≡ Some other → one ≡ other
 the-tried one other same = cc
 
@@ -52,6 +60,7 @@ returns c = record {
       told = refl;
       reply = secondary 12;
       has = inl refl;
+      wait = refl;
       system = refl;
       stream = refl;
       function = refl;
@@ -59,6 +68,7 @@ returns c = record {
     (tt, (tt, (tt, (tt, tt)))),
   );
   aborted = λ policy body left. no-abort body left.0;
+  asking = λ policy body left. no-asking body left.0;
   other = λ policy body left. no-other body left.0;
   late = λ policy body left. absurd left.0.has;
   emptied = λ policy body request purges. (purges, (tt, (tt, (tt, (tt, tt)))));
