@@ -7,7 +7,9 @@ use Rattle.tool_step.specs.End as equipment
 use Rattle.tool_law.specs.Laws.{DidOf}
 use Rattle.tool_reports.specs.Laws.{ReportsAreOfTheirEvents}
 use Rattle.tool_reports.specs.Reported.{Reported}
-use Rattle.tool_spool.specs.SpoolKept.{SpoolIsKept, policy_of}
+use Rattle.tool_spool.specs.LeavesInStep.{LeaveInTheirSteps, MessagesLeaveInStep}
+use Rattle.tool_spool.specs.MadeRoom.{MakesRoomForPuts, OverwritesForPuts}
+use Rattle.tool_spool.specs.SpoolKept.{MayHold, SpoolIsKept, policy_of}
 use Rattle.equipment_tables.specs.Plan.{PlansFit}
 use Rattle.equipment_tables.specs.declared.plan.Plans.{Plans}
 use Rattle.gl_base.specs.declared.side.Side.TheVariants.{Equipment}
@@ -29,6 +31,8 @@ pub record LawsHold : Type 0 where
   pub take : SpoolIsTakenInOrder
   pub reports : ReportsAreOfTheirEvents
   pub kept : SpoolIsKept
+  pub left : MessagesLeaveInStep
+  pub used : OverwritesForPuts
 
 module _ (plans : Plans) (schedule : Schedule) (fit : PlansFit plans) (laws : LawsHold)
     (moved : IsOfMoves (DidOf plans.equipment) (HostDid plans.host) (plans_of plans) (log_of plans schedule))
@@ -44,12 +48,30 @@ module _ (plans : Plans) (schedule : Schedule) (fit : PlansFit plans) (laws : La
         subst (λ (notes : List Happening). Reported plans.equipment notes) (sym courses.equipment_noted)
         (laws.reports plans.equipment plans.slots [] 0 fit.equipment (none-sent [] refl) courses.equipment_met).reported
 
+    some : 0 < plans.slots
+    some = omega (arith, fit.slots_at_least)
+
+    most : plans.slots < 65536
+    most = omega (arith, fit.slots_at_most)
+
+    -- the disk of a run is new
+    none : MayHold plans.slots []
+    none = record { run = tt; room = omega arith; bound = omega arith; sent = none-sent [] refl }
+
     kept : KeepsSpool (policy_of plans.equipment plans.slots) notes
     kept =
-        let some : 0 < plans.slots = omega (arith, fit.slots_at_least) in
-        let most : plans.slots < 65536 = omega (arith, fit.slots_at_most) in
         subst (KeepsSpool (policy_of plans.equipment plans.slots)) (sym courses.equipment_noted)
         (laws.kept plans.equipment plans.slots fit.equipment some most courses.equipment_met)
+
+    left : LeaveInTheirSteps (policy_of plans.equipment plans.slots) notes
+    left =
+        subst (LeaveInTheirSteps (policy_of plans.equipment plans.slots)) (sym courses.equipment_noted)
+        (laws.left plans.equipment plans.slots [] 0 fit.equipment some most none courses.equipment_met)
+
+    used : MakesRoomForPuts notes
+    used =
+        subst MakesRoomForPuts (sym courses.equipment_noted)
+        (laws.used plans.equipment plans.slots [] 0 fit.equipment some most none courses.equipment_met).puts
 
     pub safe : IsSafe plans (log_of plans schedule)
     safe = record {
@@ -62,4 +84,5 @@ module _ (plans : Plans) (schedule : Schedule) (fit : PlansFit plans) (laws : La
                 over-starts plans.equipment (policy_of plans.equipment plans.slots) notes reports kept;
           };
       spooled = holds-spool plans fit laws.take (log_of plans schedule) kept moved;
+      left = record { caused = left; overwritten = used };
     }

@@ -2,12 +2,14 @@
 use Rattle.std.proofs.Common.{List, [], ◌∷◌, ◌++◌}
 use Rattle.end_pair.specs.Noted.{noted_by}
 use Rattle.tool_reports.specs.Reported.{Reported}
-use Rattle.equipment_tables.specs.declared.plan.EquipmentPlan.{EquipmentPlan}
+use Rattle.tool_spool.specs.LeavesInStep.{LeaveInTheirSteps}
+use Rattle.tool_spool.specs.MadeRoom.{MakesRoomForPuts}
+use Rattle.tool_spool.specs.SpoolKept.{policy_of}
 use Rattle.gl_base.specs.declared.side.Side.TheVariants.{Equipment, Host}
 use Rattle.spool_delivery.specs.Laws.{IsSpoolTaken}
 use Rattle.spool_law.specs.Shelf.{Policy}
 use Rattle.trace_log.specs.Delivered.{Delivered}
-use Rattle.trace_log.specs.Log.{Entry}
+use Rattle.trace_log.specs.Log.{Entry, Happening}
 use Rattle.trace_log.specs.Log.Entry.{Ended, Noted, Slipped}
 use Rattle.line_world.specs.Reports.{TellOfEvents}
 use Rattle.line_world.specs.Safe.{HoldsAtEachEntry}
@@ -23,21 +25,15 @@ spooled-so-far policy [] log all = all
 spooled-so-far policy (entry ∷ later) log all =
     spooled-so-far policy later log (record { kept = all.kept.1; taken = all.taken.1 })
 
-reported-so-far : (plan : EquipmentPlan) (later log : List Entry) → Reported plan (noted_by Equipment (later ++ log))
-    → Reported plan (noted_by Equipment log)
-reported-so-far plan [] log all = all
-reported-so-far plan (Noted moment Equipment what ∷ later) log all = reported-so-far plan later log all.2
-reported-so-far plan (Noted moment Host what ∷ later) log all = reported-so-far plan later log all
-reported-so-far plan (Slipped moment side frame characters ∷ later) log all = reported-so-far plan later log all
-reported-so-far plan (Ended moment ∷ later) log all = reported-so-far plan later log all
-
-told-so-far : (plan : EquipmentPlan) (later log : List Entry) → TellOfEvents plan (noted_by Equipment (later ++ log))
-    → TellOfEvents plan (noted_by Equipment log)
-told-so-far plan [] log all = all
-told-so-far plan (Noted moment Equipment what ∷ later) log all = told-so-far plan later log all.1
-told-so-far plan (Noted moment Host what ∷ later) log all = told-so-far plan later log all
-told-so-far plan (Slipped moment side frame characters ∷ later) log all = told-so-far plan later log all
-told-so-far plan (Ended moment ∷ later) log all = told-so-far plan later log all
+-- what holds of all notes of the equipment, and so of those so far
+notes-so-far : (P : List Happening → Type 0) → ((what : Happening) (before : List Happening) → P (what ∷ before) → P before)
+    → (later log : List Entry) → P (noted_by Equipment (later ++ log)) → P (noted_by Equipment log)
+notes-so-far P less [] log all = all
+notes-so-far P less (Noted moment Equipment what ∷ later) log all =
+    notes-so-far P less later log (less what (noted_by Equipment (later ++ log)) all)
+notes-so-far P less (Noted moment Host what ∷ later) log all = notes-so-far P less later log all
+notes-so-far P less (Slipped moment side frame characters ∷ later) log all = notes-so-far P less later log all
+notes-so-far P less (Ended moment ∷ later) log all = notes-so-far P less later log all
 
 pub holds-at-each : HoldsAtEachEntry
 holds-at-each plans later log safe = record {
@@ -45,8 +41,18 @@ holds-at-each plans later log safe = record {
   in_order = order-so-far plans later log (order-at plans (later ++ log) safe.in_order);
   reported =
       record {
-        in_their_start = reported-so-far plans.equipment later log safe.reported.in_their_start;
-        over_all_starts = told-so-far plans.equipment later log safe.reported.over_all_starts;
+        in_their_start =
+            notes-so-far (Reported plans.equipment) (λ what before all. all.2) later log safe.reported.in_their_start;
+        over_all_starts =
+            notes-so-far (TellOfEvents plans.equipment) (λ what before all. all.1) later log
+            safe.reported.over_all_starts;
       };
   spooled = spooled-so-far _ later log safe.spooled;
+  left =
+      record {
+        caused =
+            notes-so-far (LeaveInTheirSteps (policy_of plans.equipment plans.slots)) (λ what before all. all.1) later
+            log safe.left.caused;
+        overwritten = notes-so-far MakesRoomForPuts (λ what before all. all.1) later log safe.left.overwritten;
+      };
 }

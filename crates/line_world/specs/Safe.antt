@@ -5,6 +5,8 @@ use Rattle.end_pair.specs.Laws.{AreNoNotes, IsOfMoves}
 use Rattle.end_pair.specs.Noted.{noted_by}
 use Rattle.tool_law.specs.Laws.{DidOf}
 use Rattle.tool_reports.specs.Reported.{Reported}
+use Rattle.tool_spool.specs.LeavesInStep.{LeaveInTheirSteps}
+use Rattle.tool_spool.specs.MadeRoom.{MakesRoomForPuts}
 use Rattle.tool_spool.specs.SpoolKept.{policy_of}
 use Rattle.equipment_tables.specs.declared.plan.Plans.{Plans}
 use Rattle.gl_base.specs.declared.side.Side.TheVariants as side
@@ -47,14 +49,21 @@ pub record HoldsReports (plans : Plans) (log : List Entry) : Type 0 where
 abbrev pub HoldsSpool : Plans → List Entry → Type 0
 HoldsSpool plans log = IsSpoolTaken (policy_of plans.equipment plans.slots) log
 
+-- each message leaves the spool in the step that has brought the cause of that; and right behind one that is gone as
+-- overwritten another is put
+pub record LeavesInSteps (plans : Plans) (log : List Entry) : Type 0 where
+  pub caused : LeaveInTheirSteps (policy_of plans.equipment plans.slots) (noted_by side.Equipment log)
+  pub overwritten : MakesRoomForPuts (noted_by side.Equipment log)
+
 -- at each entry of the log, over all starts of the equipment: each message received was sent by the other end, whole,
--- once in a start of its receiver, and in order; reports hold the values of their events; and the spool is kept, and
--- taken in order
+-- once in a start of its receiver, and in order; reports hold the values of their events; and the spool is kept, taken
+-- in order, and left in the steps of the causes
 pub record IsSafe (plans : Plans) (log : List Entry) : Type 0 where
   pub delivered : Delivered log
   pub in_order : ComesInOrder plans log
   pub reported : HoldsReports plans log
   pub spooled : HoldsSpool plans log
+  pub left : LeavesInSteps plans log
 
 -- of the entries so far, the newest of which may stand in the middle of a step: they are those of moves on one line,
 -- each of which its end may make, and in these messages are received in order; at most what no end has noted stands
@@ -74,6 +83,7 @@ pub record HoldsSoFar (plans : Plans) (log : List Entry) : Type 0 where
   pub in_order : HasComeInOrder plans log
   pub reported : HoldsReports plans log
   pub spooled : HoldsSpool plans log
+  pub left : LeavesInSteps plans log
 
 -- it holds at each entry of a safe log, by all entries up to that one
 abbrev pub HoldsAtEachEntry : Type 0

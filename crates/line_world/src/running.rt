@@ -19,14 +19,14 @@ use message_end::End;
 use spool_delivery::spool_is_taken_in_order;
 use std::alloc::Global;
 use tool_reports::reports_are_of_their_events;
-use tool_spool::spool_is_kept;
+use tool_spool::{messages_leave_in_step, overwrites_for_puts, spool_is_kept};
 
 /// Carries out a schedule on the line between a tool and its host, losses of the tool's power included, and writes the
 /// trace of what both note. The log of that trace is safe, up to the first slip: each message delivered was sent by the
 /// other end, whole, and once in a start of its receiver, and messages are delivered in order; each report that the
 /// tool sends, at once or out of its spool, in that start or a later one, holds what its variables held as its event
-/// happened, or as it was asked for; what the tool spools is there at each of its starts until it leaves with a cause,
-/// and is taken by the host in order. Hands the world back exactly where it answers `Whole`.
+/// happened, or as it was asked for; what the tool spools is there at each of its starts until it leaves, in the step
+/// that has brought the cause, and is taken by the host in order. Hands the world back exactly where it answers `Whole`.
 ///
 /// The disk of the tool's spool is in memory, and new. A run has no turn left exactly where all 4,000,000 steps are
 /// made and one is left, or where a step comes to a call of that disk that would be its 65,537th since it was made or
@@ -54,6 +54,8 @@ pub fn run<W: Sink>(
     spool_is_taken_in_order();
     reports_are_of_their_events();
     spool_is_kept();
+    messages_leave_in_step();
+    overwrites_for_puts();
     entries_are_of_courses::<EquipmentEnd, Host>();
     runs_are_moves::<EquipmentEnd, Host>();
     let Ok(spool) = empty_spool(alloc, plans.slots) else {

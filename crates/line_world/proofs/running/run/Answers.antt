@@ -28,6 +28,8 @@ returns-in_default g c =
       take = c.spool_is_taken_in_order.ensures;
       reports = c.reports_are_of_their_events.ensures;
       kept = c.spool_is_kept.ensures.notes;
+      left = c.messages_leave_in_step.ensures;
+      used = c.overwrites_for_puts.ensures;
     }
     in
     let moved =
@@ -68,6 +70,8 @@ returns g c =
       take = c.spool_is_taken_in_order.ensures;
       reports = c.reports_are_of_their_events.ensures;
       kept = c.spool_is_kept.ensures.notes;
+      left = c.messages_leave_in_step.ensures;
+      used = c.overwrites_for_puts.ensures;
     }
     in
     let moved =
