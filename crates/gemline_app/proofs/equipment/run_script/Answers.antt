@@ -20,7 +20,7 @@ returns-in-Ok-clause-came g c =
       only = reads.only;
       line = reads.line;
       outside = reads.outside;
-    }) reads.found c.run_file.ensures
+    }) reads.found c.run_file.ensures.came
 
 pub returns-in-Err-clause-came : goal.returns-in-Err-clause-came
 returns-in-Err-clause-came g c =
