@@ -1,5 +1,5 @@
 -- A link is asked for one connection at most.
-use Rattle.std.proofs.Common.{◌≡◌, ℕ, List, inl, inr, refl, ap}
+use Rattle.std.proofs.Common.{ℕ, List, inl, inr, refl, ap}
 use Rattle.gl_base.specs.declared.link.Link as trait
 use Rattle.gl_base.specs.declared.side.Side.{Side}
 use Rattle.end_run.specs.Calls.{HasConnected}
