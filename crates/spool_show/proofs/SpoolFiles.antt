@@ -160,8 +160,7 @@ behind_done a b c slots first more =
     used_behind a b 1 0 first c (slots + 2) (slots + 4096) (slots + 3) (slots + 4096) (omega arith) (omega arith) more
 
 -- a disk that has taken its file was asked for what making it takes
-pub cause_behind : (a b c : DiskHealth) (slots size : ℕ) (e : SpoolEnd) {Lacking : Type 0}
-    → HasCause a b 1 0 Lacking answer.Done
+pub cause_behind : (a b c : DiskHealth) (slots size : ℕ) (e : SpoolEnd) → IsUsed a b 1 0
     → HasCause b c (slots + 2) (slots + 4096) (b.room < slots + 4096) (answer_by e)
     → HasCause a c (slots + 3) (slots + 4096) (LacksRoom slots size a) (answer_by e)
 cause_behind a b c slots size end.Done first more = behind_done a b c slots first more
