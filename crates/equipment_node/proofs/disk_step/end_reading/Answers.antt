@@ -5,6 +5,7 @@ use Rattle.gem_spool.specs.declared.kept.Unread.{Unread}
 use Rattle.spool_slots.specs.Spool.{first_slot}
 use Rattle.tool_step.specs.Disk.{standing_in}
 use Rattle.spool_works.specs.HandedBack.{HasFailed}
+use Rattle.message_end.specs.Parts.{closes}
 use Rattle.tool_core.specs.Node.{node_of}
 use Rattle.tool_step.specs.Spooling.{end_of_spooling}
 use Rattle.tool_step.specs.Step.{offer}
@@ -60,7 +61,7 @@ returns-in-Err-NoMemory-clause-ends g c t asked some at =
 pub returns-in-Ok-clause-asks : goal.returns-in-Ok-clause-asks
 returns-in-Ok-clause-asks g c =
     looked-asked g.D.Disk c.args.spool.spool c.oldest_message.new.self (first_slot c.args.spool.spool)
-    (taking (Some (c.args.number, c.report_of-report.result)) ∷ end_of_spooling ∷ offer c.args.now ∷ [])
+    (taking (Some (c.args.number, c.report_of-report.result)) ∷ end_of_spooling ∷ offer c.args.now ∷ closes ∷ [])
     (node_of c.args.tool.now) (node_of c.end_with.new.tool) c.args.out.now c.end_with.new.out c.end_with.result
     c.in-Ok.ensures.reads.0 c.end_with.ensures.ends
 
@@ -71,7 +72,7 @@ returns-in-Err-Empty-clause-asks g c =
     (λ (why : Unread). ReadsOldest g.D.Disk c.args.spool.spool c.oldest_message.new.self.spool (Err why))
     c.in-Err-Empty.field-0-is c.in-Err-Empty.ensures.reads in
     unlooked-asked g.D.Disk c.args.spool.spool c.oldest_message.new.self
-    (taking None ∷ end_of_spooling ∷ offer c.args.now ∷ []) (node_of c.args.tool.now)
+    (taking None ∷ end_of_spooling ∷ offer c.args.now ∷ closes ∷ []) (node_of c.args.tool.now)
     (node_of c.end_with-in-Err-Empty.new.tool) c.args.out.now c.end_with-in-Err-Empty.new.out
     c.end_with-in-Err-Empty.result reads.0 c.end_with-in-Err-Empty.ensures.ends
 
@@ -86,7 +87,7 @@ returns-in-Err-Failed-clause-asks g c =
 pub returns-in-Ok-clause-calls : goal.returns-in-Ok-clause-calls
 returns-in-Ok-clause-calls g c st count some bytes =
     looked-called g.D.Disk bytes st c.args.spool.spool count c.oldest_message.new.self
-    (taking (Some (c.args.number, c.report_of-report.result)) ∷ end_of_spooling ∷ offer c.args.now ∷ [])
+    (taking (Some (c.args.number, c.report_of-report.result)) ∷ end_of_spooling ∷ offer c.args.now ∷ closes ∷ [])
     (node_of c.args.tool.now) (node_of c.end_with.new.tool) c.args.out.now c.end_with.new.out c.end_with.result
     c.in-Ok.ensures.reads.0 c.end_with.ensures.ends
 
@@ -122,7 +123,7 @@ returns-in-Ok-clause-disk g c =
     (looked-back g.D.Disk c.args.spool.spool c.oldest_message.new.self.spool (first_slot c.args.spool.spool)
     c.in-Ok.ensures.reads.0)
     (last-back g.D.Disk c.oldest_message.new.self
-    (taking (Some (c.args.number, c.report_of-report.result)) ∷ end_of_spooling ∷ offer c.args.now ∷ [])
+    (taking (Some (c.args.number, c.report_of-report.result)) ∷ end_of_spooling ∷ offer c.args.now ∷ closes ∷ [])
     (node_of c.args.tool.now) (node_of c.end_with.new.tool) c.args.out.now c.end_with.new.out c.end_with.result
     c.end_with.ensures.ends)
 
@@ -134,7 +135,7 @@ returns-in-Err-Empty-clause-disk g c =
     c.in-Err-Empty.field-0-is c.in-Err-Empty.ensures.reads in
     handed-then g.D.Disk c.args.spool.spool.disk c.oldest_message.new.self.spool.disk c.end_with-in-Err-Empty.result
     (kept-at g.D.Disk c.args.spool.spool.disk c.oldest_message.new.self.spool.disk (ap (λ v. v.disk) reads.0))
-    (last-back g.D.Disk c.oldest_message.new.self (taking None ∷ end_of_spooling ∷ offer c.args.now ∷ [])
+    (last-back g.D.Disk c.oldest_message.new.self (taking None ∷ end_of_spooling ∷ offer c.args.now ∷ closes ∷ [])
     (node_of c.args.tool.now) (node_of c.end_with-in-Err-Empty.new.tool) c.args.out.now
     c.end_with-in-Err-Empty.new.out c.end_with-in-Err-Empty.result c.end_with-in-Err-Empty.ensures.ends)
 
@@ -164,7 +165,7 @@ pub returns-in-Ok-clause-breaks : goal.returns-in-Ok-clause-breaks
 returns-in-Ok-clause-breaks g c s st stands some same told front noted =
     looked-breaks g.D.Disk (λ d u told. g.met.D.Disk.sized d u told) s c.args.spool.spool c.oldest_message.new.self
     (first_slot c.args.spool.spool) st front
-    (taking (Some (c.args.number, c.report_of-report.result)) ∷ end_of_spooling ∷ offer c.args.now ∷ [])
+    (taking (Some (c.args.number, c.report_of-report.result)) ∷ end_of_spooling ∷ offer c.args.now ∷ closes ∷ [])
     (node_of c.args.tool.now) (node_of c.end_with.new.tool) c.args.out.now c.end_with.new.out c.end_with.new.out.notes
     c.end_with.result told c.in-Ok.ensures.reads.0 c.end_with.ensures.ends
 

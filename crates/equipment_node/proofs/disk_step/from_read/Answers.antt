@@ -1,6 +1,7 @@
 use Rattle.std.proofs.Common.{[], ◌∷◌, None, Some}
 use Rattle.equipment_node.specs.Asked.{read_asks}
 use Rattle.tool_step.specs.Disk.{standing_in}
+use Rattle.message_end.specs.Parts.{closes}
 use Rattle.tool_core.specs.Node.{node_of, own_of}
 use Rattle.tool_step.specs.Spooling.{end_of_spooling}
 use Rattle.tool_step.specs.Step.{offer}
@@ -57,7 +58,7 @@ returns-in-Some-clause-asks g c =
 
 pub returns-in-None-clause-asks : goal.returns-in-None-clause-asks
 returns-in-None-clause-asks g c =
-    last-asked g.D.Disk c.args.spool (taking None ∷ end_of_spooling ∷ offer c.args.now ∷ [])
+    last-asked g.D.Disk c.args.spool (taking None ∷ end_of_spooling ∷ offer c.args.now ∷ closes ∷ [])
     (node_of c.next_unload.new.self) (node_of c.end_with.new.tool) c.args.out.now
     c.end_with.new.out (read_asks (own_of c.args.tool.now.own)) c.end_with.result c.end_with.ensures.ends
 
@@ -73,7 +74,7 @@ returns-in-None-clause-calls g c t at bytes =
     reads-by g.D.Disk t bytes c.args.spool.spool.disk c.end_with.result None
     (number-is (node_of c.args.tool.now) t at.node_is None c.in-None.ensures.number)
     (last-called g.D.Disk bytes (standing_in t.next) c.args.spool
-    (taking None ∷ end_of_spooling ∷ offer c.args.now ∷ []) (node_of c.next_unload.new.self)
+    (taking None ∷ end_of_spooling ∷ offer c.args.now ∷ closes ∷ []) (node_of c.next_unload.new.self)
     (node_of c.end_with.new.tool) c.args.out.now c.end_with.new.out c.end_with.result c.end_with.ensures.ends)
 
 pub returns-in-Some-clause-disk : goal.returns-in-Some-clause-disk
@@ -81,7 +82,7 @@ returns-in-Some-clause-disk g c = c.end_reading.ensures.disk
 
 pub returns-in-None-clause-disk : goal.returns-in-None-clause-disk
 returns-in-None-clause-disk g c =
-    last-back g.D.Disk c.args.spool (taking None ∷ end_of_spooling ∷ offer c.args.now ∷ [])
+    last-back g.D.Disk c.args.spool (taking None ∷ end_of_spooling ∷ offer c.args.now ∷ closes ∷ [])
     (node_of c.next_unload.new.self) (node_of c.end_with.new.tool) c.args.out.now c.end_with.new.out c.end_with.result
     c.end_with.ensures.ends
 
@@ -97,6 +98,6 @@ pub returns-in-None-clause-breaks : goal.returns-in-None-clause-breaks
 returns-in-None-clause-breaks g c t at s same =
     reads-breaks g.D.Disk s t c.args.spool.spool.disk c.end_with.new.out.notes c.end_with.result None
     (number-is (node_of c.args.tool.now) t at.node_is None c.in-None.ensures.number)
-    (last-breaks g.D.Disk c.args.spool (taking None ∷ end_of_spooling ∷ offer c.args.now ∷ [])
+    (last-breaks g.D.Disk c.args.spool (taking None ∷ end_of_spooling ∷ offer c.args.now ∷ closes ∷ [])
     (node_of c.next_unload.new.self) (node_of c.end_with.new.tool) c.args.out.now c.end_with.new.out t.next.mark
     c.end_with.new.out.notes c.end_with.result c.end_with.ensures.ends)
