@@ -1,3 +1,4 @@
+pub mod Added
 mod Areas
 mod Changes
 mod Firsts

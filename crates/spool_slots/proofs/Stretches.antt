@@ -16,11 +16,11 @@ use Rattle.spool_slots.specs.declared.reading.Reading.{Reading}
 use Rattle.spool_slots.specs.declared.reading.Reading.TheVariants as reading
 use Rattle.spool_slots.specs.Slot.{slot_place}
 
-nothing_more : (calls : Option (List DiskCall)) → calls ≡ option_map (λ (all : List DiskCall). all ++ []) calls
+pub nothing_more : (calls : Option (List DiskCall)) → calls ≡ option_map (λ (all : List DiskCall). all ++ []) calls
 nothing_more None = refl
 nothing_more (Some all) = ap Some (sym (append-nil all))
 
-both_more : (first last : List DiskCall) (calls : Option (List DiskCall)) →
+pub both_more : (first last : List DiskCall) (calls : Option (List DiskCall)) →
     option_map (λ (all : List DiskCall). all ++ last) (option_map (λ (all : List DiskCall). all ++ first) calls)
     ≡ option_map (λ (all : List DiskCall). all ++ (first ++ last)) calls
 both_more first last None = refl

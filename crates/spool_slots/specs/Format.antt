@@ -7,6 +7,7 @@ use Rattle.disk_base.specs.Story.{Story}
 use Rattle.disk_base.specs.declared.disk.Disk as disk
 use Rattle.disk_base.specs.declared.disk.DiskAnswer.{DiskAnswer}
 use Rattle.disk_base.specs.declared.disk.DiskAnswer.TheVariants.{Done, Failed}
+use Rattle.spool_slots.specs.Added.{OnlyAdds, WritesOrSyncs}
 use Rattle.spool_slots.specs.Changes.{Ends}
 use Rattle.spool_slots.specs.File.{SpoolFile}
 use Rattle.spool_slots.specs.Front.{front_in, magic}
@@ -54,6 +55,7 @@ pub record HasFormatted {D : Type 0} (members : disk.Ghosts D) (old new : D) (sl
   pub size : members.size_is new ≡ members.size_is old
   pub cause : HasCause (members.health old) (members.health new) (slots + 2) (slots + 4096)
       ((members.health old).room < slots + 4096) answer
+  pub calls : OnlyAdds WritesOrSyncs (members.calls old) (members.calls new)
   pub same_disk : IsSameDisk members old new
 
 -- the empty list stands, with mark 0 in the first copy, and is in hand

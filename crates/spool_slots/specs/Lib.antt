@@ -1,3 +1,4 @@
+pub mod Added
 pub mod Area
 pub mod Changes
 pub mod File

@@ -3,6 +3,7 @@
 ghost use Rattle.std.specs.Prelude.{◌≡◌, ◌+◌, ◌<◌, ◌≤◌, None};
 ghost use Rattle.disk_base.specs.Faults.{HasCause};
 ghost use Rattle.disk_base.specs.SameDisk.{IsSameDisk};
+ghost use Rattle.spool_slots.specs.Added.{OnlyAdds, WritesOrSyncs};
 ghost use Rattle.spool_slots.specs.Format.{ClosesSlots, CountsFirst, StandsEmpty, first_page as page_of};
 ghost use Rattle.spool_slots.specs.Slot.{slot_place as place_of};
 
@@ -35,6 +36,7 @@ pub fn close_slots<D: Disk>(disk: &mut D, slots: u32) -> DiskAnswer
     ensures size { D.size_is disk.new ≡ D.size_is disk.old }
     ensures cause { HasCause (D.health disk.old) (D.health disk.new) slots slots
         ((D.health disk.old).room < slots) result }
+    ensures calls { OnlyAdds WritesOrSyncs (D.calls disk.old) (D.calls disk.new) }
     ensures same_disk { IsSameDisk D.Disk disk.old disk.new }
 {
     for slot in 0..slots {
@@ -56,6 +58,7 @@ pub fn write_empty<D: Disk>(disk: &mut D, slots: u32) -> DiskAnswer
     ensures size { D.size_is disk.new ≡ D.size_is disk.old }
     ensures cause { HasCause (D.health disk.old) (D.health disk.new) (slots + 2) (slots + 4096)
         ((D.health disk.old).room < slots + 4096) result }
+    ensures calls { OnlyAdds WritesOrSyncs (D.calls disk.old) (D.calls disk.new) }
     ensures same_disk { IsSameDisk D.Disk disk.old disk.new }
 {
     match disk.write(0, &first_page(slots)) {

@@ -1,10 +1,14 @@
 -- A file that was made stands empty, and each fault has its cause, by the calls before it.
 
-use Rattle.std.proofs.Common.{◌≡◌, ◌∙◌, ◌+◌, ◌<◌, ℕ, List, length, ap, arith}
+use Rattle.std.proofs.Common.{◌≡◌, refl, inl, inr, ◌∙◌, ◌+◌, ◌<◌, ℕ, List, length, ap, arith}
 use Rattle.std.specs.Option.{option_map}
+use Rattle.disk_base.specs.Calls.{sync_call, write_call}
 use Rattle.disk_base.specs.Story.{with_write}
+use Rattle.disk_base.specs.declared.disk.DiskAnswer.TheVariants.{Done, Failed}
 use Rattle.disk_base.proofs.Stretches.{fault_behind, fault_wider, used_behind}
+use Rattle.spool_slots.specs.Added.{WritesOrSyncs}
 use Rattle.spool_slots.specs.Format.{first_page}
+use Rattle.spool_slots.proofs.Added.{adds_behind, adds_done, adds_failed}
 use Rattle.spool_slots.proofs.Fresh.{first_counts, page_long, stands_empty}
 use Rattle.spool_slots.proofs.format.write_empty.Goals as goal
 
@@ -54,3 +58,25 @@ returns-in-Failed-clause-cause g c =
     let bytes : c.deref.result.now ≡ first_page n = c.deref.ensures.0 ∙ c.first_page.ensures in
     let long : length c.deref.result.now ≡ 4096 = ap length bytes ∙ page_long n in
     fault_wider _ _ 1 (n + 2) _ ((g.D.Disk.health c.args.disk.now).room < n + 4096) (omega arith) (λ less. omega (arith, less, long)) c.in-Failed.ensures.cause
+
+-- the calls, as far as they went
+pub returns-in-Done-sync-clause-calls : goal.returns-in-Done-sync-clause-calls
+returns-in-Done-sync-clause-calls g c =
+    let page = adds_done WritesOrSyncs (write_call 0 c.deref.result.now Done) (inl refl) c.in-Done.ensures.calls in
+    adds_behind WritesOrSyncs (adds_behind WritesOrSyncs page c.in-Done-close_slots.ensures.calls)
+    (adds_done WritesOrSyncs (sync_call Done) (inr refl) c.in-Done-sync.ensures.calls)
+
+pub returns-in-Failed-sync-clause-calls : goal.returns-in-Failed-sync-clause-calls
+returns-in-Failed-sync-clause-calls g c =
+    let page = adds_done WritesOrSyncs (write_call 0 c.deref.result.now Done) (inl refl) c.in-Done.ensures.calls in
+    adds_behind WritesOrSyncs (adds_behind WritesOrSyncs page c.in-Done-close_slots.ensures.calls)
+    (adds_failed WritesOrSyncs (sync_call Failed) (inr refl) c.in-Failed-sync.ensures.calls)
+
+pub returns-in-Failed-close_slots-clause-calls : goal.returns-in-Failed-close_slots-clause-calls
+returns-in-Failed-close_slots-clause-calls g c =
+    let page = adds_done WritesOrSyncs (write_call 0 c.deref.result.now Done) (inl refl) c.in-Done.ensures.calls in
+    adds_behind WritesOrSyncs page c.in-Failed-close_slots.ensures.calls
+
+pub returns-in-Failed-clause-calls : goal.returns-in-Failed-clause-calls
+returns-in-Failed-clause-calls g c =
+    adds_failed WritesOrSyncs (write_call 0 c.deref.result.now Failed) (inl refl) c.in-Failed.ensures.calls

@@ -22,7 +22,12 @@ pub returns-in-Done : goal.returns-in-Done
 returns-in-Done g c =
     subst (λ (w : SpoolView g.row.D.Denot). Formats g.D.Disk c.args.self.disk c.args.slots (Ok w))
     (sym (c.taken_up.ensures ∙ ap (λ (n : Known). in_hand c.write_empty.new.disk n) c.new.ensures)) (
-      record { size = c.in-Done.ensures.size; cause = c.in-Done.ensures.cause; same_disk = c.in-Done.ensures.same_disk },
+      record {
+        size = c.in-Done.ensures.size;
+        cause = c.in-Done.ensures.cause;
+        calls = c.in-Done.ensures.calls;
+        same_disk = c.in-Done.ensures.same_disk;
+      },
       refl,
       c.in-Done.ensures.told,
       c.in-Done.ensures.gate,
