@@ -1,11 +1,12 @@
 -- How each S1F13 of the equipment that is open ends, one after the other.
-use Rattle.std.proofs.Common.{◌≡◌, refl, sym, ap, subst, ◌∙◌, arith, true, false, Bool, ℕ, zero, suc, ◌+◌, ◌-◌, ◌<◌, List, [], ◌∷◌, ◌++◌, length, get_or, Option, Some, None}
+use Rattle.std.proofs.Common.{◌≡◌, refl, sym, ap, subst, ◌∙◌, arith, false, ℕ, zero, suc, ◌+◌, ◌-◌, ◌<◌, List, [], ◌∷◌, length, get_or, Option, Some, None}
 use Rattle.std.specs.Prelude.{drop, flat_map, slice_get, take}
 use Rattle.std.specs.List.{position_or_len, remove}
 use Rattle.std.specs.Option.{option_map}
 use Rattle.std.proofs.lemmas.Bool.{eq-eqb, ne_eqb}
 use Rattle.std.proofs.lemmas.List.{drop_at, drop_more, length-take-le}
 use Rattle.std.proofs.lemmas.List.Edits.{length-remove}
+use Rattle.std.proofs.lemmas.List.Sums.{position_or_len_is}
 use Rattle.std.proofs.lemmas.Option.{get_or_from_slice_get, same_Some, slice_get_within}
 use Rattle.block_codec.specs.declared.header.Header.{Header}
 use Rattle.message_flow.specs.declared.step.Note.{Note}
@@ -28,17 +29,6 @@ use Rattle.tool_core.proofs.Turned.{HasTaken, ToolNode}
 
 abbrev pub all_requests : List (Begun Kind) → ToolCommands
 all_requests begun = flat_map own_request_of begun
-
--- the first one that passes
-first_at :
-    {X : Type 0} (p : X → Bool) (xs : List X) (n : ℕ) (one : X) → slice_get xs n ≡ Some one → p one ≡ true
-    → ((k : ℕ) (x : X) → k < n → slice_get xs k ≡ Some x → p x ≡ false) → position_or_len p xs ≡ n
-first_at p [] n one at is before = absurd cc
-first_at p (x ∷ xs) zero one at is before =
-    let here : p x ≡ true = ap p (same_Some x one at) ∙ is in rw (here) refl
-first_at p (x ∷ xs) (suc n) one at is before =
-    let other : p x ≡ false = before zero x (omega arith) refl in
-    rw (other) (ap suc (first_at p xs n one at is (λ k y less. before (suc k) y (omega (arith, less)))))
 
 -- the primary at a place of those that are open was passed: what is left has as much to end, and is less
 pub record IsPassed (place next : ℕ) (old new : EndView Kind) : Type 0 where
@@ -121,20 +111,19 @@ module _ (old new : EndView Kind) (place : ℕ) (header : Header) (what : Kind) 
       system_is : system_of here.one ≡ header.system
       system_is = ap (λ (p : Header × Kind). p.0.system) here.primary_is
 
-      apart : (k : ℕ) (x : Begun Kind) → k < place → slice_get old.transactions.begun k ≡ Some x
-          → has_system header.system x ≡ false
-      apart k x less at =
-          ne_eqb x.header.system header.system
+      here_at : get_or old.transactions.begun place here.one ≡ here.one
+      here_at = get_or_from_slice_get old.transactions.begun place here.one here.one here.at
+
+      apart : (k : ℕ) → k < place → has_system header.system (get_or old.transactions.begun k here.one) ≡ false
+      apart k less =
+          ne_eqb (system_of (get_or old.transactions.begun k here.one)) header.system
           (λ same. are.distinct k place here.one less inside
-          (ap (λ (b : Begun Kind). system_of b) (get_or_from_slice_get old.transactions.begun k x here.one at)
-          ∙ same ∙ sym system_is
-          ∙ sym (ap (λ (b : Begun Kind). system_of b)
-          (get_or_from_slice_get old.transactions.begun place here.one here.one here.at))))
+          (same ∙ sym system_is ∙ sym (ap (λ (b : Begun Kind). system_of b) here_at)))
 
       first : position_or_len (has_system header.system) old.transactions.begun ≡ place
       first =
-          first_at (has_system header.system) old.transactions.begun place here.one here.at
-          (eq-eqb _ _ system_is) apart
+          position_or_len_is (has_system header.system) old.transactions.begun place here.one (omega (arith, inside))
+          apart (λ there. eq-eqb _ _ (ap (λ (b : Begun Kind). system_of b) here_at ∙ system_is))
 
       gone : new.transactions.begun ≡ remove old.transactions.begun place
       gone =
