@@ -1,6 +1,7 @@
 -- From the spool in hand to the file that the disk was given.
 use Rattle.std.proofs.Common.{◌≡◌, refl, ◌∙◌, ap, subst, ℕ, ◌+◌, ◌<◌, List, [], Option, Some, None, Ok, Err, inl, inr, arith}
 use Rattle.std.specs.Option.{option_map}
+use Rattle.disk_base.specs.Calls.{DiskCall, Logs, attach_call, with_call}
 use Rattle.disk_base.specs.Disk.{Attaches}
 use Rattle.disk_base.specs.Faults.{DiskHealth, HasCause, IsUsed, Rose}
 use Rattle.disk_base.specs.Story.{Story, with_growth, with_sync}
@@ -10,26 +11,30 @@ use Rattle.disk_base.proofs.Stretches.{fault_behind, fault_wider, used_behind}
 use Rattle.gl_base.specs.Sink.{SinkHealth}
 use Rattle.gl_base.specs.Told.{SinkTold}
 use Rattle.gl_base.proofs.Appending.{told, wrote_nothing}
-use Rattle.spool_show.specs.Formatting.{LacksRoom, answer_by}
+use Rattle.spool_show.specs.Formatting.{AsksForSize, LacksRoom, answer_by}
 use Rattle.spool_show.specs.Showing.{HasFile, HasShown, IsCounted, IsSound, Keeps, ShowsFile, ShowsList, TellsSpool}
 use Rattle.spool_show.specs.Showing.{end_of_refusal, refused_disk}
 use Rattle.spool_show.specs.Text.{file_text}
 use Rattle.spool_show.specs.Told.{DiskTold}
 use Rattle.spool_show.specs.declared.spool_end.SpoolEnd.{SpoolEnd}
 use Rattle.spool_show.specs.declared.spool_end.SpoolEnd.TheVariants as end
+use Rattle.spool_slots.specs.Added.{OnlyAdds, WritesOrSyncs}
 use Rattle.spool_slots.specs.Changes.{HasRecovered, Recovers, most_reads}
 use Rattle.spool_slots.specs.File.{file_in}
 use Rattle.spool_slots.specs.Slot.{slot_place}
 use Rattle.spool_slots.specs.Spool.{Rests, SpoolView}
 use Rattle.spool_slots.specs.declared.states.Recovering.{Recovering}
 use Rattle.spool_slots.specs.declared.states.Recovering.TheVariants as recovering
+use Rattle.spool_slots.proofs.Added.{adds_as, adds_behind, adds_done, adds_failed}
 
 -- what a disk told, by its parts
-abbrev disk_parts : Option (List ℕ) → Option (List ℕ) → Option Story → Option Story → ℕ → DiskHealth → DiskHealth →
-    DiskTold
-disk_parts file file_after before after size health health_after = record {
+abbrev disk_parts : Option (List ℕ) → Option (List ℕ) → Option (List DiskCall) → Option (List DiskCall) → Option Story →
+    Option Story → ℕ → DiskHealth → DiskHealth → DiskTold
+disk_parts file file_after calls calls_after before after size health health_after = record {
   before = before;
   after = after;
+  calls = calls;
+  calls_after = calls_after;
   size = size;
   health = health;
   health_after = health_after;
@@ -70,9 +75,9 @@ recovered_text before here slots first len mark out e is rests shows =
     (recovered_list before out e (subst (λ t. ShowsList t out e) is shows))
 
 -- the same of the disk before it took the file
-pub shows_before : {f g h : Option (List ℕ)} {before mid after : Option Story} {m n : ℕ} {a b c : DiskHealth}
+pub shows_before : {f g h : Option (List ℕ)} {i k l : Option (List DiskCall)} {before mid after : Option Story} {m n : ℕ} {a b c : DiskHealth}
     (out : SinkTold) (e : SpoolEnd) → mid ≡ before → b.faults ≡ a.faults
-    → ShowsFile (disk_parts h g mid after n b c) out e → ShowsFile (disk_parts f g before after m a c) out e
+    → ShowsFile (disk_parts h g i l mid after n b c) out e → ShowsFile (disk_parts f g k l before after m a c) out e
 shows_before {before} {mid} {after} {a} {b} {c} out e is same shows = record {
   written = subst (λ t. TellsSpool t out e) is shows.written;
   kept = subst (λ t. Keeps t after) is shows.kept;
@@ -90,10 +95,10 @@ failed_count {D} {members} old new most is =
     subst (λ n. Rose n (members.health new).faults) is.cause.same is.reads.cause.rose
 
 -- where a device wasn't recovered, nothing was written
-pub not_recovered : {D : Type 0} (members : trait.Ghosts D) {f g was : Option (List ℕ)} {a : SinkHealth} (old : D)
+pub not_recovered : {D : Type 0} (members : trait.Ghosts D) {f g was : Option (List ℕ)} {k l : Option (List DiskCall)} {a : SinkHealth} (old : D)
     (refusal : Recovering D) → Recovers members old (Err refusal)
     → ShowsFile
-    (disk_parts f g (members.told old) (members.told (refused_disk refusal)) (members.size_is old)
+    (disk_parts f g k l (members.told old) (members.told (refused_disk refusal)) (members.size_is old)
     (members.health old) (members.health (refused_disk refusal)))
     (told was was a a) (end_of_refusal refusal)
 not_recovered members old (recovering.NotSpool raw place) (read, breaks) =
@@ -110,10 +115,10 @@ not_recovered members old (recovering.Failed spent) (inr read) = record {
 }
 
 -- the list of a recovered file was shown
-pub shows_recovered : {D : Type 0} {members : trait.Ghosts D} {f g : Option (List ℕ)} {out : SinkTold} (old : D)
+pub shows_recovered : {D : Type 0} {members : trait.Ghosts D} {f g : Option (List ℕ)} {k l : Option (List DiskCall)} {out : SinkTold} (old : D)
     (v w : SpoolView D) (e : SpoolEnd) → Recovers members old (Ok v) → HasShown members v w e → ShowsList (members.told v.disk) out e
     → ShowsFile
-    (disk_parts f g (members.told old) (members.told w.disk) (members.size_is old) (members.health old)
+    (disk_parts f g k l (members.told old) (members.told w.disk) (members.size_is old) (members.health old)
     (members.health w.disk)) out e
 shows_recovered {D} {members} {out = out} old v w e (read, stands) shown shows = record {
   written = recovered_text (members.told old) (members.told v.disk) v.slots v.first v.len v.mark out e read.told
@@ -123,9 +128,9 @@ shows_recovered {D} {members} {out = out} old v w e (read, stands) shown shows =
 }
 
 -- the file wasn't taken
-pub not_attached : {f g : Option (List ℕ)} {before after : Option Story} {m : ℕ} {a b : DiskHealth} {was : Option (List ℕ)}
+pub not_attached : {f g : Option (List ℕ)} {k l : Option (List DiskCall)} {before after : Option Story} {m : ℕ} {a b : DiskHealth} {was : Option (List ℕ)}
     {h : SinkHealth} → Attaches 0 before after → Rose a.faults b.faults
-    → ShowsFile (disk_parts f g before after m a b) (told was was h h) end.DiskFailed
+    → ShowsFile (disk_parts f g k l before after m a b) (told was was h h) end.DiskFailed
 not_attached is rose = record {
   written = ([], wrote_nothing, λ s told_is. (file_text (file_in s.now.bytes), refl));
   kept = inl (attached is);
@@ -133,18 +138,18 @@ not_attached is rose = record {
 }
 
 -- the same of equal disks and ends
-pub shows_same : {f g : Option (List ℕ)} {before before' after after' : Option Story} {m m' : ℕ} {a a' b b' : DiskHealth}
+pub shows_same : {f g : Option (List ℕ)} {k l : Option (List DiskCall)} {before before' after after' : Option Story} {m m' : ℕ} {a a' b b' : DiskHealth}
     {e e' : SpoolEnd} (out : SinkTold) → before ≡ before' → after ≡ after' → m ≡ m' → a ≡ a' → b ≡ b' → e ≡ e'
-    → ShowsFile (disk_parts f g before after m a b) out e
-    → ShowsFile (disk_parts f g before' after' m' a' b') out e'
-shows_same {f} {g} {before} {before'} {after} {after'} {m} {m'} {a} {a'} {b} {b'} {e} {e'} out one two size three four five
+    → ShowsFile (disk_parts f g k l before after m a b) out e
+    → ShowsFile (disk_parts f g k l before' after' m' a' b') out e'
+shows_same {f} {g} {k} {l} {before} {before'} {after} {after'} {m} {m'} {a} {a'} {b} {b'} {e} {e'} out one two size three four five
     shows =
-    subst (ShowsFile (disk_parts f g before' after' m' a' b') out) five
-    (subst (λ h. ShowsFile (disk_parts f g before' after' m' a' h) out e) four
-    (subst (λ h. ShowsFile (disk_parts f g before' after' m' h b) out e) three
-    (subst (λ n. ShowsFile (disk_parts f g before' after' n a b) out e) size
-    (subst (λ t. ShowsFile (disk_parts f g before' t m a b) out e) two
-    (subst (λ t. ShowsFile (disk_parts f g t after m a b) out e) one shows)))))
+    subst (ShowsFile (disk_parts f g k l before' after' m' a' b') out) five
+    (subst (λ h. ShowsFile (disk_parts f g k l before' after' m' a' h) out e) four
+    (subst (λ h. ShowsFile (disk_parts f g k l before' after' m' h b) out e) three
+    (subst (λ n. ShowsFile (disk_parts f g k l before' after' n a b) out e) size
+    (subst (λ t. ShowsFile (disk_parts f g k l before' t m a b) out e) two
+    (subst (λ t. ShowsFile (disk_parts f g k l t after m a b) out e) one shows)))))
 
 -- a file was attached, and is so still
 pub has_file : (name : List ℕ) (before : Option (List ℕ)) {mid after : Option (List ℕ)} (e : SpoolEnd) → mid ≡ Some name → after ≡ mid
@@ -177,3 +182,17 @@ pub unattached : (a b : DiskHealth) (slots size : ℕ) {need : ℕ} → need ≡
 unattached a b slots size {need} is more =
     fault_wider a b 1 (slots + 3) (size < need) (LacksRoom slots size a) (omega arith)
     (λ less. inl (subst (λ n. size < n) is less)) more
+
+-- it was asked for the size of the file, and for no bytes behind that
+pub asks_making : {k l m : Option (List DiskCall)} (slots : ℕ) {need : ℕ} → need ≡ slot_place slots
+    → l ≡ with_call (attach_call need answer.Done) k → OnlyAdds WritesOrSyncs l m
+    → OnlyAdds (AsksForSize (slot_place slots)) k m
+asks_making slots {need} is listed adds =
+    adds_behind (AsksForSize (slot_place slots))
+    (adds_done (AsksForSize (slot_place slots)) (attach_call need answer.Done) (inl (refl, is)) listed)
+    (adds_as WritesOrSyncs (AsksForSize (slot_place slots)) (λ call one. inr one) adds)
+
+pub asks_failed : {Crowded : Type 0} {k l : Option (List DiskCall)} (slots : ℕ) {need : ℕ} → need ≡ slot_place slots
+    → Logs (attach_call need) Crowded k l answer.Failed → OnlyAdds (AsksForSize (slot_place slots)) k l
+asks_failed slots {need} is logs =
+    adds_failed (AsksForSize (slot_place slots)) (attach_call need answer.Failed) (inl (refl, is)) logs

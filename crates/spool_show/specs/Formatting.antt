@@ -1,8 +1,10 @@
 -- What making a spool file comes to (this profile).
-use Rattle.std.specs.Prelude.{◌⊎◌, ℕ, ◌+◌, ◌<◌, List, [], Option}
+use Rattle.std.specs.Prelude.{◌≡◌, ◌⊎◌, ℕ, ◌+◌, ◌<◌, List, [], Option}
+use Rattle.disk_base.specs.Calls.{DiskCall}
 use Rattle.disk_base.specs.Disk.{TellsAsBefore}
 use Rattle.disk_base.specs.Faults.{DiskHealth, HasCause}
 use Rattle.disk_base.specs.Story.{Story}
+use Rattle.disk_base.specs.declared.disk.CallKind.TheVariants.{Attach}
 use Rattle.disk_base.specs.declared.disk.DiskAnswer.{DiskAnswer}
 use Rattle.disk_base.specs.declared.disk.DiskAnswer.TheVariants as answer
 use Rattle.gl_base.specs.Sending.{WroteShort, WroteText}
@@ -12,6 +14,7 @@ use Rattle.spool_show.specs.Text.{formatted_line}
 use Rattle.spool_show.specs.Told.{DiskTold}
 use Rattle.spool_show.specs.declared.spool_end.SpoolEnd.{SpoolEnd}
 use Rattle.spool_show.specs.declared.spool_end.SpoolEnd.TheVariants.{Done, DiskFailed, WriteFailed}
+use Rattle.spool_slots.specs.Added.{OnlyAdds, WritesOrSyncs}
 use Rattle.spool_slots.specs.Format.{StandsEmpty}
 use Rattle.spool_slots.specs.Slot.{slot_place}
 use Rattle.spool_slots.specs.declared.states.Formatting.{Formatting}
@@ -50,9 +53,14 @@ abbrev pub FailsByCause : ℕ → DiskTold → SpoolEnd → Type 0
 FailsByCause slots disk end = HasCause disk.health disk.health_after (slots + 3) (slots + 4096)
     (LacksRoom slots disk.size disk.health) (answer_by end)
 
+-- an attaching that asks for this size and no other, or a call that makes the file
+abbrev pub AsksForSize : ℕ → DiskCall → Type 0
+AsksForSize size call = ((call.kind ≡ Attach) × (call.size ≡ size)) ⊎ WritesOrSyncs call
+
 -- what came of the file of this name
 pub record FormatsSpool (name : List ℕ) (slots : ℕ) (disk : DiskTold) (out : SinkTold) (end : SpoolEnd) : Type 0 where
   pub file : HasFile name disk.file disk.file_after end
   pub made : MakesSpool slots disk.after out end
   pub tells : TellsAsBefore disk.before disk.after
   pub cause : FailsByCause slots disk end
+  pub asks : OnlyAdds (AsksForSize (slot_place slots)) disk.calls disk.calls_after

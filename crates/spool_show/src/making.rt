@@ -7,6 +7,7 @@ ghost use Rattle.gl_base.specs.Told.{sink_told};
 ghost use Rattle.spool_show.specs.Formatting.{FormatsSpool, MakesSpool, WritesFormatted};
 ghost use Rattle.spool_show.specs.Formatting.{answer_by, unformatted_disk};
 ghost use Rattle.spool_show.specs.Told.{disk_told};
+ghost use Rattle.spool_slots.specs.Added.{OnlyAdds, WritesOrSyncs};
 ghost use Rattle.spool_slots.specs.Format.{StandsEmpty};
 ghost use Rattle.spool_slots.specs.Slot.{slot_place};
 
@@ -40,6 +41,7 @@ fn format_attached<D: Disk, W: Sink>(disk: &mut D, slots: u32, out: &mut W) -> S
         ((D.health disk.old).room < slots + 4096) (answer_by result) }
     ensures file { D.file_is disk.new ≡ D.file_is disk.old }
     ensures tells { TellsAsBefore (D.told disk.old) (D.told disk.new) }
+    ensures calls { OnlyAdds WritesOrSyncs (D.calls disk.old) (D.calls disk.new) }
 {
     match make_file(disk, slots) {
         DiskAnswer::Done => write_formatted(slots, out),
@@ -57,6 +59,7 @@ fn make_file<D: Disk>(disk: &mut D, slots: u32) -> DiskAnswer
         ((D.health disk.old).room < slots + 4096) result }
     ensures file { D.file_is disk.new ≡ D.file_is disk.old }
     ensures tells { TellsAsBefore (D.told disk.old) (D.told disk.new) }
+    ensures calls { OnlyAdds WritesOrSyncs (D.calls disk.old) (D.calls disk.new) }
 {
     match Raw::new(disk).format(slots) {
         Ok(spool) => {

@@ -3,7 +3,7 @@
 use Rattle.std.proofs.Common.{◌∙◌, inl}
 use Rattle.disk_base.proofs.Told.{attached_tells}
 use Rattle.gl_base.proofs.Appending.{wrote_nothing}
-use Rattle.spool_show.proofs.SpoolFiles.{cause_behind, has_file, unattached}
+use Rattle.spool_show.proofs.SpoolFiles.{asks_failed, asks_making, cause_behind, has_file, unattached}
 use Rattle.spool_show.proofs.making.format_spool.Goals as goal
 
 pub returns-in-Done : goal.returns-in-Done
@@ -13,6 +13,7 @@ returns-in-Done g c = record {
   tells = c.format_attached.ensures.tells ∙ attached_tells _ _ c.in-Done.ensures.told;
   cause = cause_behind _ _ _ c.args.slots _ c.format_attached.result c.in-Done.ensures.cause
       c.format_attached.ensures.cause;
+  asks = asks_making c.args.slots c.slot_place.ensures c.in-Done.ensures.calls c.format_attached.ensures.calls;
 }
 
 pub returns-in-Failed : goal.returns-in-Failed
@@ -21,4 +22,5 @@ returns-in-Failed g c = record {
   made = wrote_nothing;
   tells = attached_tells _ _ c.in-Failed.ensures.told;
   cause = unattached _ _ c.args.slots _ (c.slot_place.ensures) c.in-Failed.ensures.cause;
+  asks = asks_failed c.args.slots c.slot_place.ensures c.in-Failed.ensures.calls;
 }
