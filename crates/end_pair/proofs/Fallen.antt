@@ -22,6 +22,7 @@ use Rattle.message_end.specs.Doings.{Doing, line_of, own_of}
 use Rattle.message_end.specs.Ends.{AreDecidedAt, AreOfStep, GoesSoFar, HasRestarted, Input, KeepsLaw, Loss, LosesAt, Machine, MayTake, OnStart, taking_calls}
 use Rattle.message_end.specs.Ends.Input.{Char, Command, Time}
 use Rattle.message_end.specs.History.{noted_in}
+use Rattle.message_end.specs.InStep.{NoneEnds}
 use Rattle.message_end.specs.Log.{log_of}
 use Rattle.message_end.specs.LineCalls.{calls_in}
 use Rattle.message_end.specs.Moves.{AreTimely, KeepLaws, LinePlans, Move, deeds_of, Run, line_of_moves, plan_at, run_at, seen_at}
@@ -29,9 +30,11 @@ use Rattle.message_end.specs.Own.{Has, whole_in}
 use Rattle.message_end.proofs.Fronts.{noted-behind}
 use Rattle.trace_log.specs.Laws.{log_with}
 use Rattle.trace_log.specs.Log.{Happening}
+use Rattle.end_pair.specs.InSteps.{moves_with}
 use Rattle.end_pair.specs.Steps.{gives, slips, stopped_at}
 use Rattle.end_pair.proofs.Doing.{AreDone, AreOnWay, IsNext, NoSlipIn, are-done, deeds_by, no-slip, no-slip-first, on-way-first, step-deeds}
-use Rattle.end_pair.proofs.Moved.{HasFallen, HasStopped, IsAt, calls-on, calls-quiet, deeds-moves, keep-done, like-no-slip, line-moves, log-done, log_with-behind, moves_with, own-base, own-doings, timely-done}
+use Rattle.end_pair.proofs.EndedSteps.{none-done, of-cut-step}
+use Rattle.end_pair.proofs.Moved.{HasFallen, HasStopped, IsAt, calls-on, calls-quiet, deeds-moves, keep-done, like-no-slip, line-moves, log-done, log_with-behind, own-base, own-doings, timely-done}
 use Rattle.end_pair.proofs.Renamed.{IsLike, dark-like, renamed, renamed-dark}
 
 -- ---- the first calls of a step are none, the timer alone, or those of a step
@@ -203,6 +206,7 @@ module _ {S C : Type 0} (did : ℕ → List Doing → S → Type 0) (takes : C �
     done = done;
     later = so_far.later;
     next = so_far.next;
+    begun = of-cut-step input now done so_far.calls (none-done done (subst NoneEnds (sym noted) loses.unended));
     keep = keep-done side plans now done moves so_far.lawful on keep;
     timely = timely-done side now done moves so_far.drops timely;
     no_slip =

@@ -1,6 +1,6 @@
 -- What both ends have done, as moves, at each event and in the whole run.
 use Rattle.std.specs.List.{All, slice_get}
-use Rattle.std.proofs.Common.{◌≡◌, ◌<◌, ◌≤◌, zero, suc, ℕ, ◌==◌, Bool, true, false, List, [], ◌∷◌, ◌++◌, length, inl, inr, Option, Some, None, if◌then◌else◌, refl, sym, ap, subst, ◌∙◌, append_assoc, append-nil, arith}
+use Rattle.std.proofs.Common.{◌≡◌, ◌⊎◌, ◌<◌, ◌≤◌, zero, suc, ℕ, ◌==◌, Bool, true, false, List, [], ◌∷◌, ◌++◌, length, inl, inr, Option, Some, None, if◌then◌else◌, refl, sym, ap, subst, ◌∙◌, append_assoc, append-nil, arith}
 use Rattle.disk_base.specs.declared.cut.CutChoice.{CutChoice}
 use Rattle.gl_base.specs.declared.side.Side.{Side}
 use Rattle.gl_base.specs.declared.side.Side.TheVariants.{Equipment, Host}
@@ -34,8 +34,10 @@ use Rattle.trace_log.specs.declared.commands.ToolCommand.{ToolCommand}
 use Rattle.end_pair.specs.declared.answers.WorldStep.{WorldStep}
 use Rattle.end_pair.specs.declared.answers.WorldStep.TheVariants as answer
 use Rattle.end_pair.specs.Kept.{MayHappen}
-use Rattle.end_pair.specs.Laws.{AreAtStates, AreNoNotes, AreSteps, HasBytes, HasNoStart, IsNoStart, IsOfMoves}
-use Rattle.end_pair.specs.Laws.AreSteps.{cut_short, ends_start, no_moves, one_step, world_says}
+use Rattle.end_pair.specs.InSteps.{AreAtStates, AreOfCutStep, AreOfWholeStep, AreSteps, ComeInSteps, IsCutBehind, IsFate, moves_with, power_at, started_at}
+use Rattle.end_pair.specs.InSteps.AreSteps.{both_start, line_changes, one_step, starts_anew}
+use Rattle.end_pair.specs.InSteps.ComeInSteps.{at_a_step, in_a_step, without_power}
+use Rattle.end_pair.specs.Laws.{AreNoNotes, HasBytes, IsOfMoves}
 use Rattle.end_pair.specs.Run.{piece_of}
 use Rattle.end_pair.specs.Steps.{Stepped, entries_of, made, made_by, slipped, slips, stopped_at}
 use Rattle.end_pair.specs.World.{Piece, World, added_to, after_event, after_events, again, and_more, and_on, armed, at_start, begun, both_stepped, changed_at, darkened, ended_by, equipment_stepped, given, given_next, given_times, happened, host_stepped, later, lost, lost_from, met, most_steps, settled, settled_times, started_anew, still, turned_out, way_to, with_equipment, with_host, without}
@@ -43,9 +45,10 @@ use Rattle.end_pair.proofs.ByteWays.{AreByteCharacters, AreByteWays, bytes-to, b
 use Rattle.end_pair.proofs.Causes.{never-on}
 use Rattle.end_pair.proofs.Doing.{IsNext}
 use Rattle.end_pair.proofs.LineDeeds.{lost-more, lost-none, new-stands}
+use Rattle.end_pair.proofs.EndedSteps.{cut-at-once}
 use Rattle.end_pair.proofs.Fallen.{dark-now, has-fallen, has-stopped}
 use Rattle.message_end.proofs.LineKept.{side-kept, times-kept}
-use Rattle.end_pair.proofs.Moved.{HasFallen, HasLostAll, HasStepped, HasStopped, IsAt, has-made, has-slipped, moves-split, moves_with, other-is}
+use Rattle.end_pair.proofs.Moved.{HasFallen, HasLostAll, HasStepped, HasStopped, IsAt, has-made, has-slipped, other-is}
 use Rattle.end_pair.proofs.Renamed.{IsLike, like-change, like-lost, like-noise, renamed_all}
 
 module _ {S T : Type 0}
@@ -70,13 +73,16 @@ module _ {S T : Type 0}
     pub stands : IsLike world.ways (line_of_moves plans moves)
     pub bytes : AreByteWays world.ways
 
-  -- the equipment has lost its power behind these moves
+  -- the equipment has lost its power behind these moves, and so in a step that it had begun, or was to begin, behind
+  -- those before
   pub record Fallen (world : World S T) (moves : List Move) : Type 0 where
     pub keep : KeepLaws plans moves
     pub timely : AreTimely moves
     pub clean : HasNoSlip (new_line plans.equipment.times plans.host.times) (deeds_of moves)
     pub host : IsAt did_h Host plans moves world.host
-    pub steps : AreSteps did_e did_h plans moves
+    pub before : List Move
+    pub cut : IsCutBehind did_e did_h plans Equipment world.moment before moves
+    pub steps : AreSteps did_e did_h plans before
     pub lost : HasLostAll did_e plans (e.restart world.equipment world.moment) world.ways moves
 
   -- the entries of a piece, behind those before, are the log of some moves, and at most an entry that is no note
@@ -93,26 +99,6 @@ module _ {S T : Type 0}
   at-states moves s t equipment host =
       record { state_of_equipment = s; state_of_host = t; equipment_did = equipment.is; host_did = host.is }
 
-  -- one step more
-  made-more :
-      (moves step before : List Move) (s : S) (t : T) → moves ≡ step ++ before → HasNoStart step
-      → AreSteps did_e did_h plans before → KeepLaws plans moves → AreTimely moves
-      → HasNoSlip (new_line plans.equipment.times plans.host.times) (deeds_of moves)
-      → IsAt did_e Equipment plans moves s → IsAt did_h Host plans moves t → AreMade moves s t
-  made-more moves step before s t is none steps keep timely clean equipment host = record {
-    keep = keep;
-    timely = timely;
-    clean = clean;
-    equipment = equipment;
-    host = host;
-    steps = one_step moves step before is none (at-states moves s t equipment host) steps;
-  }
-
-  -- what an end does is no start
-  did-no-start : (side : Side) (now : ℕ) (done : List Doing) → HasNoStart (moves_with side now done [])
-  did-no-start side now [] = tt
-  did-no-start side now (doing ∷ before) = (tt, did-no-start side now before)
-
   -- a log of moves, with these entries behind it
   abbrev with_last :
       (moves : List Move) (s : S) (t : T) (last log : List Entry) → AreMade moves s t → length last ≤ 1
@@ -122,7 +108,7 @@ module _ {S T : Type 0}
     keep = made.keep;
     timely = made.timely;
     no_slip = made.clean;
-    steps = made.steps;
+    steps = at_a_step made.steps;
     last = last;
     at_most_one = few;
     no_notes = no_notes;
@@ -218,25 +204,54 @@ module _ {S T : Type 0}
       })
       (log_of moves)
   step-good did side step world moves s t n cut left host_left is_cut choice holds is equipment host powered = record {
-    of = with_last later s t is.last (step.entries ++ log_of moves) made_so is.few is.no_notes log;
-    on = λ went. let on = is.on went in (on.0, record { made = made_so; stands = on.1; bytes = on.2 });
+    of = record {
+      moves = later;
+      keep = is.are.keep;
+      timely = is.are.timely;
+      no_slip = is.are.no_slip;
+      steps = steps is.how;
+      last = is.last;
+      at_most_one = is.few;
+      no_notes = is.no_notes;
+      is = log;
+    };
+    on = λ went. let on = is.on went in
+        (on.0, record { made = made_so (is.ended went); stands = on.1; bytes = on.2 });
     fallen = λ lost. absurd (powered lost);
   }
     where
-      later : List Move
-      later = moves_with side world.moment is.done moves
+      now : ℕ
+      now = world.moment
 
-      made_so : AreMade later s t
-      made_so =
-          made-more later (moves_with side world.moment is.done []) moves s t
-          (moves-split side world.moment is.done moves) (did-no-start side world.moment is.done) holds.made.steps
-          is.are.keep is.are.timely is.are.no_slip
-          equipment host
+      later : List Move
+      later = moves_with side now is.done moves
+
+      states : AreAtStates did_e did_h plans later
+      states = at-states later s t equipment host
+
+      whole : AreOfWholeStep now is.done → AreSteps did_e did_h plans later
+      whole ends = one_step later moves side now is.done refl ends states holds.made.steps
+
+      steps : AreOfWholeStep now is.done ⊎ AreOfCutStep now is.done → ComeInSteps did_e did_h plans later
+      steps (inl ends) = at_a_step (whole ends)
+      steps (inr begun) =
+          in_a_step moves side now
+          (record { done = is.done; is = refl; begun = begun; later = []; could = states }) holds.made.steps
+
+      made_so : AreOfWholeStep now is.done → AreMade later s t
+      made_so ends = record {
+        keep = is.are.keep;
+        timely = is.are.timely;
+        clean = is.are.no_slip;
+        equipment = equipment;
+        host = host;
+        steps = whole ends;
+      }
 
       log : step.entries ++ log_of moves ≡ is.last ++ log_of later
       log =
           ap (λ (es : List Entry). es ++ log_of moves) is.entries
-          ∙ append_assoc is.last (entries_of side world.moment is.noted) (log_of moves)
+          ∙ append_assoc is.last (entries_of side now is.noted) (log_of moves)
           ∙ ap (λ (es : List Entry). is.last ++ es) (sym is.are.log)
 
   made-powered :
@@ -245,33 +260,26 @@ module _ {S T : Type 0}
   made-powered machine side now input s ways (Goes step) is = absurd (cc)
   made-powered machine side now input s ways (Spent step) is = absurd (cc)
 
-  has-no-start : (side : Side) (now : ℕ) (later done : List Doing)
-      → HasNoStart (moves_with side now later [] ++ moves_with side now done [])
-  has-no-start side now [] done = did-no-start side now done
-  has-no-start side now (doing ∷ later) done = (tt, has-no-start side now later done)
-
   -- in which its disk has stopped it
-  stopped-steps :
+  abbrev stopped_cut :
       {X : Type 0} (did : ℕ → List Doing → X → Type 0) (side : Side) (step : Stepped X) (now : ℕ) (moves : List Move)
       (is : HasStopped did side plans now moves step)
       → AreAtStates did_e did_h plans (moves_with side now is.later (moves_with side now is.done moves))
-      → AreSteps did_e did_h plans moves → AreSteps did_e did_h plans (moves_with side now is.done moves)
-  stopped-steps did side step now moves is states steps =
-      let after = moves_with side now is.done moves in
-      cut_short after (moves_with side now is.later []) (moves_with side now is.done []) moves
-      (moves-split side now is.done moves) (has-no-start side now is.later is.done)
-      (subst (λ (ms : List Move). AreAtStates did_e did_h plans ms) (moves-split side now is.later after) states) steps
+      → IsCutBehind did_e did_h plans side now moves (moves_with side now is.done moves)
+  stopped_cut did side step now moves is states =
+      record { done = is.done; is = refl; begun = is.begun; later = is.later; could = states }
 
   abbrev stopped_log :
       {X : Type 0} (did : ℕ → List Doing → X → Type 0) (side : Side) (step : Stepped X) (now : ℕ) (moves : List Move)
-      (is : HasStopped did side plans now moves step) → AreSteps did_e did_h plans (moves_with side now is.done moves)
-      → IsOfMoves did_e did_h plans (step.entries ++ log_of moves)
-  stopped_log did side step now moves is steps = record {
+      (is : HasStopped did side plans now moves step)
+      → IsCutBehind did_e did_h plans side now moves (moves_with side now is.done moves)
+      → AreSteps did_e did_h plans moves → IsOfMoves did_e did_h plans (step.entries ++ log_of moves)
+  stopped_log did side step now moves is cut steps = record {
     moves = moves_with side now is.done moves;
     keep = is.keep;
     timely = is.timely;
     no_slip = is.no_slip;
-    steps = steps;
+    steps = in_a_step moves side now cut steps;
     last = [];
     at_most_one = omega arith;
     no_notes = tt;
@@ -284,7 +292,7 @@ module _ {S T : Type 0}
       → HasFallen did_e e plans world.moment moves step → (step.went ≡ answer.Went → ⊥)
       → Good (with_equipment e h world step) (log_of moves)
   fallen-good step world moves holds is stops = record {
-    of = stopped_log did_e Equipment step world.moment moves is.stopped steps;
+    of = stopped_log did_e Equipment step world.moment moves is.stopped cut holds.made.steps;
     on = λ went. absurd (stops went);
     fallen = λ went. (
       refl,
@@ -293,7 +301,9 @@ module _ {S T : Type 0}
         timely = is.stopped.timely;
         clean = is.stopped.no_slip;
         host = host;
-        steps = steps;
+        before = moves;
+        cut = cut;
+        steps = holds.made.steps;
         lost = is.lost;
       },
     );
@@ -305,9 +315,9 @@ module _ {S T : Type 0}
       host : IsAt did_h Host plans (moves_with Equipment now is.stopped.done moves) world.host
       host = other-is did_h Equipment plans now is.stopped.done moves world.host holds.made.host
 
-      steps : AreSteps did_e did_h plans (moves_with Equipment now is.stopped.done moves)
-      steps =
-          stopped-steps did_e Equipment step now moves is.stopped
+      cut : IsCutBehind did_e did_h plans Equipment now moves (moves_with Equipment now is.stopped.done moves)
+      cut =
+          stopped_cut did_e Equipment step now moves is.stopped
           (record {
             state_of_equipment = is.stopped.next;
             state_of_host = world.host;
@@ -315,7 +325,7 @@ module _ {S T : Type 0}
             host_did =
                 (other-is did_h Equipment plans now is.stopped.later (moves_with Equipment now is.stopped.done moves)
                 world.host host).is;
-          }) holds.made.steps
+          })
 
   -- the host's
   stopped-good :
@@ -323,7 +333,7 @@ module _ {S T : Type 0}
       → HasStopped did_h Host plans world.moment moves step → step.went ≡ answer.Turns
       → Good (with_host e h world step) (log_of moves)
   stopped-good step world moves holds is turns = record {
-    of = stopped_log did_h Host step world.moment moves is steps;
+    of = stopped_log did_h Host step world.moment moves is cut holds.made.steps;
     on = λ went. let same = sym went ∙ turns in cc;
     fallen = λ lost. let same = sym lost ∙ turns in cc;
   }
@@ -331,9 +341,9 @@ module _ {S T : Type 0}
       now : ℕ
       now = world.moment
 
-      steps : AreSteps did_e did_h plans (moves_with Host now is.done moves)
-      steps =
-          stopped-steps did_h Host step now moves is
+      cut : IsCutBehind did_e did_h plans Host now moves (moves_with Host now is.done moves)
+      cut =
+          stopped_cut did_h Host step now moves is
           (record {
             state_of_equipment = world.equipment;
             state_of_host = is.next;
@@ -341,7 +351,7 @@ module _ {S T : Type 0}
                 (other-is did_e Host plans now is.later (moves_with Host now is.done moves) world.equipment
                 (other-is did_e Host plans now is.done moves world.equipment holds.made.equipment)).is;
             host_did = is.could;
-          }) holds.made.steps
+          })
 
   some-same : {X : Type 0} (y x : X) → Some y ≡ Some x → x ≡ y
   some-same y x is = cc
@@ -500,30 +510,27 @@ module _ {S T : Type 0}
 
   -- ---- what becomes of characters
 
-  -- that is no end's doing
-  abbrev IsFate : Kind → Type 0
-  IsFate (Did doing) = ⊥
-  IsFate (Started found base) = ⊥
-  IsFate _ = Unit {0}
-
-  fate-no-start : (kind : Kind) → IsFate kind → IsNoStart kind
-  fate-no-start (Did doing) is = tt
-  fate-no-start (Started found base) is = is
-  fate-no-start Lost is = tt
-  fate-no-start (Changed place byte) is = tt
-  fate-no-start (Added byte) is = tt
-
   fate-made :
       (side : Side) (kind : Kind) (now : ℕ) (moves : List Move) (s : S) (t : T) → IsFate kind → AreMade moves s t
       → AreMade (record { side = side; moment = now; kind = kind } ∷ moves) s t
   fate-made side (Did doing) now moves s t is made = absurd is
   fate-made side (Started found base) now moves s t is made = absurd is
-  fate-made Equipment kind now moves s t is made =
-      made-more _ (_ ∷ []) moves s t refl (fate-no-start kind is, tt) made.steps (tt, made.keep) (tt, made.timely)
-      (refl, made.clean) made.equipment made.host
-  fate-made Host kind now moves s t is made =
-      made-more _ (_ ∷ []) moves s t refl (fate-no-start kind is, tt) made.steps (tt, made.keep) (tt, made.timely)
-      (refl, made.clean) made.equipment made.host
+  fate-made Equipment kind now moves s t is made = record {
+    keep = (tt, made.keep);
+    timely = (tt, made.timely);
+    clean = (refl, made.clean);
+    equipment = made.equipment;
+    host = made.host;
+    steps = line_changes _ moves Equipment now kind refl is made.steps;
+  }
+  fate-made Host kind now moves s t is made = record {
+    keep = (tt, made.keep);
+    timely = (tt, made.timely);
+    clean = (refl, made.clean);
+    equipment = made.equipment;
+    host = made.host;
+    steps = line_changes _ moves Host now kind refl is made.steps;
+  }
 
   lost-once : (side : Side) (world : World S T) (moves : List Move) → Holds world moves
       → Holds (lost_from 1 side world) (record { side = side; moment = world.moment; kind = Lost } ∷ moves)
@@ -579,6 +586,14 @@ module _ {S T : Type 0}
     timely = holds.made.timely;
     clean = holds.made.clean;
     host = holds.made.host;
+    before = moves;
+    cut = record {
+      done = [];
+      is = refl;
+      begun = cut-at-once world.moment;
+      later = [];
+      could = at-states moves world.equipment world.host holds.made.equipment holds.made.host;
+    };
     steps = holds.made.steps;
     lost = record {
       state = holds.made.equipment.state;
@@ -596,12 +611,11 @@ module _ {S T : Type 0}
 
   -- that is noted
   abbrev with_power : ℕ → List Move → List Move
-  with_power now moves = record { side = Equipment; moment = now; kind = Did (Says Power) } ∷ moves
+  with_power now moves = power_at now ∷ moves
 
   -- and it starts anew
   abbrev with_start : ℕ → List (ℕ × Spooled) → ℕ → List Move → List Move
-  with_start now found base moves =
-      record { side = Equipment; moment = now; kind = Started found base } ∷ with_power now moves
+  with_start now found base moves = started_at Equipment now found base ∷ with_power now moves
 
   keep-power : (world : World S T) (moves : List Move) (now : ℕ) → Fallen world moves
       → KeepLaws plans (with_power now moves)
@@ -612,11 +626,6 @@ module _ {S T : Type 0}
     ),
     fallen.keep,
   )
-
-  steps-power : (world : World S T) (moves : List Move) (now : ℕ) → Fallen world moves
-      → AreSteps did_e did_h plans (with_power now moves)
-  steps-power world moves now fallen =
-      world_says (with_power now moves) moves Equipment now Power refl tt fallen.steps
 
   -- the state of its line then
   fresh-state : (doings : List Doing) (s : LineState) → s ≡ line_of (plan_at Equipment plans) doings
@@ -645,7 +654,7 @@ module _ {S T : Type 0}
           keep = keep-power world moves now fallen;
           timely = (tt, fallen.timely);
           no_slip = fallen.clean;
-          steps = steps-power world moves now fallen;
+          steps = without_power moves fallen.before now refl fallen.cut fallen.steps;
           last = [];
           at_most_one = omega arith;
           no_notes = tt;
@@ -701,9 +710,8 @@ module _ {S T : Type 0}
             equipment = equipment;
             host = host;
             steps =
-                ends_start all (record { side = Equipment; moment = now; kind = Started found base } ∷ [])
-                (with_power now moves) refl (tt, tt) (at-states all step.next world.host equipment host)
-                (steps-power world moves now fallen);
+                starts_anew all moves fallen.before now found base refl fallen.cut
+                (at-states all step.next world.host equipment host) fallen.steps;
           }
 
           log : entries_of Equipment now (Power ∷ step.notes) ++ log_of moves ≡ log_of all
@@ -819,8 +827,8 @@ module _ {S T : Type 0}
 
   abbrev started : List Move
   started =
-      record { side = Host; moment = 0; kind = Started law_h.starts.found law_h.starts.base }
-      ∷ record { side = Equipment; moment = 0; kind = Started law_e.starts.found law_e.starts.base } ∷ []
+      started_at Host 0 law_h.starts.found law_h.starts.base
+      ∷ started_at Equipment 0 law_e.starts.found law_e.starts.base ∷ []
 
   start-holds : Holds (at_start e h first_e first_h).world started
   start-holds = record {
@@ -835,8 +843,8 @@ module _ {S T : Type 0}
           equipment = equipment;
           host = host;
           steps =
-              ends_start started started [] (sym (append-nil started)) (tt, (tt, tt))
-              (at-states started first_e.next first_h.next equipment host) no_moves;
+              both_start started law_e.starts.found law_h.starts.found law_e.starts.base law_h.starts.base refl
+              (at-states started first_e.next first_h.next equipment host);
         };
     stands = record {
       name = λ n. n;

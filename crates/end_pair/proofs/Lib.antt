@@ -1,8 +1,10 @@
 pub mod Anew
+pub mod AtEachMove
 pub mod ByteWays
 pub mod Bytes
 pub mod Causes
 pub mod Doing
+pub mod EndedSteps
 pub mod Ending
 pub mod Fallen
 pub mod FourWays

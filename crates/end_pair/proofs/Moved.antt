@@ -1,5 +1,5 @@
 -- What an end does in a step keeps the laws, makes no slip, and is noted.
-use Rattle.std.proofs.Common.{◌≡◌, ◌≤◌, ℕ, false, List, [], ◌∷◌, ◌++◌, length, None, refl, sym, ap, subst, ◌∙◌, append-nil, arith}
+use Rattle.std.proofs.Common.{◌≡◌, ◌⊎◌, inl, inr, ◌≤◌, ℕ, false, List, [], ◌∷◌, ◌++◌, length, None, refl, sym, ap, subst, ◌∙◌, append-nil, arith}
 use Rattle.std.proofs.lemmas.List.{append_cancel_left}
 use Rattle.gl_base.specs.declared.side.Side.{Side}
 use Rattle.gl_base.specs.declared.side.Side.TheVariants.{Equipment, Host}
@@ -29,7 +29,6 @@ use Rattle.message_end.specs.Log.{log_of, noted_of_own, with_note}
 use Rattle.message_end.specs.InStep.{EndsOnce, HasNoEnd}
 use Rattle.message_end.specs.LineCalls.{calls_in}
 use Rattle.message_end.specs.Moves.{AreTimely, IsOnWay, KeepLaws, LinePlans, Move, act_of_call, deeds_of, Run, line_of_moves, plan_at, run_at, seen_at}
-use Rattle.message_end.specs.Moves.Kind.{Did}
 use Rattle.message_end.specs.Own.{Own, whole_in}
 use Rattle.message_end.specs.Own.Own.{DrewNumber, DroppedMessage, GaveBlock, HeardBlock, ReceivedMessage, SentMessage, WroteFrame}
 use Rattle.message_end.specs.Plan.{EndPlan}
@@ -39,28 +38,16 @@ use Rattle.trace_log.specs.Log.{Entry, Happening}
 use Rattle.trace_log.specs.Log.Entry.{Noted}
 use Rattle.trace_log.specs.Log.Happening.{Received, Sent, Wrote}
 use Rattle.end_pair.specs.declared.answers.WorldStep.TheVariants as answer
+use Rattle.end_pair.specs.InSteps.{AreOfCutStep, AreOfWholeStep, moves_with, with_wrote}
 use Rattle.end_pair.specs.Laws.{AreNoNotes}
 use Rattle.end_pair.specs.Steps.{Stepped, entries_of, gives, made, slip_of, slipped, slips}
 use Rattle.end_pair.proofs.ByteWays.{AreByteWays, bytes-after}
 use Rattle.end_pair.proofs.Bytes.{AreBytes, are-written, behind}
 use Rattle.end_pair.proofs.Doing.{AreDone, AreOnWay, IsNext, NoSlipIn, are-done, call_deed, deeds_by, deeds_with, line-after, no-slip, no-slip-first, on-way-first, seen-after, step-deeds, step-no-slip, step-on-way}
+use Rattle.end_pair.proofs.EndedSteps.{cut-at-once, of-cut-step, of-whole-step}
 use Rattle.end_pair.proofs.Renamed.{IsLike, like-of, renamed, renamed-slips, renamed-step, renaming-step}
 
 -- ---- doings as moves
-
-abbrev pub move_of : Side → ℕ → Doing → Move
-move_of side now doing = record { side = side; moment = now; kind = Did doing }
-
-abbrev pub moves_with : Side → ℕ → List Doing → List Move → List Move
-moves_with side now [] moves = moves
-moves_with side now (doing ∷ before) moves = move_of side now doing ∷ moves_with side now before moves
-
-pub moves-split :
-    (side : Side) (now : ℕ) (done : List Doing) (moves : List Move)
-    → moves_with side now done moves ≡ moves_with side now done [] ++ moves
-moves-split side now [] moves = refl
-moves-split side now (doing ∷ before) moves =
-    ap (λ (ms : List Move). move_of side now doing ∷ ms) (moves-split side now before moves)
 
 pub deeds-moves :
     (side : Side) (now : ℕ) (done : List Doing) (moves : List Move)
@@ -269,7 +256,8 @@ pub record AreMoves {S : Type 0}
   pub at : IsAt did side plans (moves_with side now done moves) next
   pub log : log_of (moves_with side now done moves) ≡ entries_of side now noted ++ log_of moves
 
--- what a step has left is what its moves have made, but for at most an entry that is no note
+-- what a step has left is what its moves have made, but for at most an entry that is no note; and where it goes on, it
+-- has come to its end
 pub record HasStepped {S : Type 0}
     (did : ℕ → List Doing → S → Type 0) (side : Side) (plans : LinePlans) (now : ℕ) (moves : List Move)
     (step : Stepped S)
@@ -281,6 +269,8 @@ pub record HasStepped {S : Type 0}
   pub few : length last ≤ 1
   pub no_notes : AreNoNotes last
   pub entries : step.entries ≡ last ++ entries_of side now noted
+  pub how : AreOfWholeStep now done ⊎ AreOfCutStep now done
+  pub ended : step.went ≡ answer.Went → AreOfWholeStep now done
   pub on :
       step.went ≡ answer.Went
       → (last ≡ []) × IsLike step.ways (line_of_moves plans (moves_with side now done moves)) × AreByteWays step.ways
@@ -302,8 +292,8 @@ pub record HasLostAll {S : Type 0}
       IsLike (without_power Equipment ways)
       (line_after_deed (line_of_moves plans moves) (record { side = Equipment; act = PowerLoss }))
 
--- what a step has left in which a disk has stopped it is what its first moves have made, and could have gone on to a
--- state
+-- what a step has left in which a disk has stopped it is what its first moves have made, before its end, and could have
+-- gone on to a state
 pub record HasStopped {S : Type 0}
     (did : ℕ → List Doing → S → Type 0) (side : Side) (plans : LinePlans) (now : ℕ) (moves : List Move)
     (step : Stepped S)
@@ -311,6 +301,7 @@ pub record HasStopped {S : Type 0}
   pub done : List Doing
   pub later : List Doing
   pub next : S
+  pub begun : AreOfCutStep now done
   pub keep : KeepLaws plans (moves_with side now done moves)
   pub timely : AreTimely (moves_with side now done moves)
   pub no_slip : HasNoSlip (new_line plans.equipment.times plans.host.times) (deeds_of (moves_with side now done moves))
@@ -408,10 +399,7 @@ module _ {S C : Type 0} (did : ℕ → List Doing → S → Type 0) (takes : C �
       subst (λ (cs : List LineCall). HasNoSlip line (deeds_by side cs)) (sym of.are)
       (step-no-slip side input now line of.decided of.decisions quiet)
 
-  -- what was written is noted behind all else
-  abbrev with_wrote : List ℕ → List Doing → List Doing
-  with_wrote [] done = done
-  with_wrote (byte ∷ bytes) done = Says (Wrote (byte ∷ bytes)) ∷ done
+  -- ---- what was written is noted behind all else
 
   wrote-calls : (written : List ℕ) (done : List Doing) → calls_in (with_wrote written done) ≡ calls_in done
   wrote-calls [] done = refl
@@ -467,6 +455,7 @@ module _ {S C : Type 0} (did : ℕ → List Doing → S → Type 0) (takes : C �
   record HasMoved (now : ℕ) (moves : List Move) (input : Input C) (ways : Ways) (step : Step S Happening) : Type 0 where
     done : List Doing
     are : AreMoves did side plans now moves step.next (step.notes ++ wrote step.written) done
+    whole : AreOfWholeStep now done
     bytes : AreBytes step.written
     ways_are :
         StandsFor (ways_after side (gives input) (machine.line step.next).phase step.written ways)
@@ -493,6 +482,7 @@ module _ {S C : Type 0} (did : ℕ → List Doing → S → Type 0) (takes : C �
         (subst (λ (cs : List LineCall). HasNoSlip line (deeds_by side cs)) (sym (wrote-calls step.written more.done))
         are.quiet)
         (wrote-noted step.written more.done ∙ ap (λ (ns : List Happening). ns ++ wrote step.written) are.noted);
+    whole = of-whole-step input now more.done step.written more.calls more.ends;
     bytes =
         behind (written_in (plan_at side plans) run.doings) step.written
         (subst AreBytes more.written
@@ -583,6 +573,8 @@ module _ {S C : Type 0} (did : ℕ → List Doing → S → Type 0) (takes : C �
     few = omega arith;
     no_notes = (tt, tt);
     entries = refl;
+    how = inr (cut-at-once now);
+    ended = λ on. cc;
     on = λ on. cc;
   }
 
@@ -614,6 +606,8 @@ module _ {S C : Type 0} (did : ℕ → List Doing → S → Type 0) (takes : C �
             few = omega arith;
             no_notes = tt;
             entries = refl;
+            how = inl moved.whole;
+            ended = λ on. moved.whole;
             on = λ on. (
               refl,
               like-of ways (ways_after side (gives input) (machine.line step.next).phase step.written ways)
@@ -633,5 +627,7 @@ module _ {S C : Type 0} (did : ℕ → List Doing → S → Type 0) (takes : C �
         few = omega arith;
         no_notes = tt;
         entries = refl;
+        how = inr (of-cut-step input now more.done more.calls more.ends);
+        ended = λ on. cc;
         on = λ on. cc;
       }

@@ -11,11 +11,9 @@ use Rattle.line_way.specs.Ways.{Ways}
 use Rattle.message_end.specs.Core.{Step}
 use Rattle.message_end.specs.Core.Went.{Spent}
 use Rattle.message_end.specs.Doings.{Doing}
-use Rattle.message_end.specs.Doings.Doing.{Says}
-use Rattle.message_end.specs.Ends.{Input, IsOfWorld, Loss, Machine, call_of}
+use Rattle.message_end.specs.Ends.{Input, Loss, Machine, call_of}
 use Rattle.message_end.specs.Log.{log_of}
-use Rattle.message_end.specs.Moves.{AreTimely, KeepLaws, Kind, LinePlans, Move, deeds_of, plan_at, run_at}
-use Rattle.message_end.specs.Moves.Kind.{Did, Started}
+use Rattle.message_end.specs.Moves.{AreTimely, KeepLaws, LinePlans, Move, deeds_of, plan_at}
 use Rattle.message_end.specs.Plan.{EndPlan}
 use Rattle.trace_log.specs.Log.{Entry, Happening}
 use Rattle.trace_log.specs.Log.Entry.{Ended, Noted, Slipped}
@@ -23,6 +21,7 @@ use Rattle.trace_log.specs.declared.commands.HostCommand.{HostCommand}
 use Rattle.trace_log.specs.declared.commands.ToolCommand.{ToolCommand}
 use Rattle.end_pair.specs.declared.answers.WorldStep.{WorldStep}
 use Rattle.end_pair.specs.declared.answers.WorldStep.TheVariants.{NoMemory, NumbersSpent, PowerLost, Slip, Turns, Went}
+use Rattle.end_pair.specs.InSteps.{ComeInSteps}
 use Rattle.end_pair.specs.Run.{piece_of, whole_log}
 use Rattle.end_pair.specs.Steps.{slips, stepped}
 use Rattle.end_pair.specs.World.{World, most_steps}
@@ -130,59 +129,8 @@ abbrev pub AreNoNotes : List Entry → Type 0
 AreNoNotes [] = Unit {0}
 AreNoNotes (entry ∷ before) = IsNoNote entry × AreNoNotes before
 
--- the doings of both ends have made states of theirs, where `did` says so of each
-pub record AreAtStates {S T : Type 0}
-    (equipment : ℕ → List Doing → S → Type 0) (host : ℕ → List Doing → T → Type 0) (plans : LinePlans)
-    (moves : List Move) : Type 0 where
-  pub state_of_equipment : S
-  pub state_of_host : T
-  pub equipment_did :
-      equipment (run_at Equipment plans moves).base (run_at Equipment plans moves).doings state_of_equipment
-  pub host_did : host (run_at Host plans moves).base (run_at Host plans moves).doings state_of_host
-
--- each of these moves is the start of an end, or none is
-abbrev pub IsStart : Kind → Type 0
-IsStart (Started found base) = Unit {0}
-IsStart _ = ⊥
-
-abbrev pub IsNoStart : Kind → Type 0
-IsNoStart (Started found base) = ⊥
-IsNoStart _ = Unit {0}
-
-abbrev pub AreStarts : List Move → Type 0
-AreStarts [] = Unit {0}
-AreStarts (move ∷ before) = IsStart move.kind × AreStarts before
-
-abbrev pub HasNoStart : List Move → Type 0
-HasNoStart [] = Unit {0}
-HasNoStart (move ∷ before) = IsNoStart move.kind × HasNoStart before
-
--- the moves come step by step, behind each of which both ends are in states that their doings have made: ends start; a
--- step has no start in it; a disk ends a step early, whose first moves these are, and which could have gone on to such
--- states; or the world notes something of an end. So what doings keep between two steps they keep at each move
-pub data AreSteps {S T : Type 0}
-    (equipment : ℕ → List Doing → S → Type 0) (host : ℕ → List Doing → T → Type 0) (plans : LinePlans)
-    : List Move → Type 0 where
-  no_moves : AreSteps equipment host plans []
-  ends_start :
-      (moves starts before : List Move) → moves ≡ starts ++ before → AreStarts starts
-      → AreAtStates equipment host plans moves → AreSteps equipment host plans before
-      → AreSteps equipment host plans moves
-  one_step :
-      (moves step before : List Move) → moves ≡ step ++ before → HasNoStart step
-      → AreAtStates equipment host plans moves → AreSteps equipment host plans before
-      → AreSteps equipment host plans moves
-  cut_short :
-      (moves later front before : List Move) → moves ≡ front ++ before → HasNoStart (later ++ front)
-      → AreAtStates equipment host plans (later ++ moves) → AreSteps equipment host plans before
-      → AreSteps equipment host plans moves
-  world_says :
-      (moves before : List Move) (side : Side) (moment : ℕ) (what : Happening)
-      → moves ≡ record { side = side; moment = moment; kind = Did (Says what) } ∷ before → IsOfWorld what
-      → AreSteps equipment host plans before → AreSteps equipment host plans moves
-
--- the log is that of moves of which each end keeps the law, none of them a slip and each T4 drop at its moment, and at
--- most one entry behind them, that of a slip or of the end
+-- the log is that of moves of which each end keeps the law, none of them a slip and each T4 drop at its moment, which
+-- come step by step; and at most one entry stands behind them, that of a slip or of the end
 pub record IsOfMoves {S T : Type 0}
     (equipment : ℕ → List Doing → S → Type 0) (host : ℕ → List Doing → T → Type 0) (plans : LinePlans)
     (log : List Entry) : Type 0 where
@@ -190,7 +138,7 @@ pub record IsOfMoves {S T : Type 0}
   pub keep : KeepLaws plans moves
   pub timely : AreTimely moves
   pub no_slip : HasNoSlip (new_line plans.equipment.times plans.host.times) (deeds_of moves)
-  pub steps : AreSteps equipment host plans moves
+  pub steps : ComeInSteps equipment host plans moves
   pub last : List Entry
   pub at_most_one : length last ≤ 1
   pub no_notes : AreNoNotes last

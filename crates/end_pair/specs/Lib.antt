@@ -1,3 +1,4 @@
+pub mod InSteps
 pub mod Kept
 pub mod Laws
 pub mod Noted

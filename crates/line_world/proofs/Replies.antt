@@ -1,9 +1,10 @@
 -- That the replies of a log go in the steps of their primaries: what the doings of both ends keep between two steps
 -- they keep at each move of a run, and the notes are theirs.
-use Rattle.std.proofs.Common.{◌++◌, ◌≡◌, refl, ℕ, List, [], ◌∷◌, Option, Some, None, ap, subst, sym, ◌∙◌, append_assoc}
-use Rattle.end_pair.specs.Laws.{AreAtStates, AreNoNotes, AreStarts, AreSteps, HasNoStart, IsNoStart, IsOfMoves, IsStart}
-use Rattle.end_pair.specs.Laws.AreSteps.{cut_short, ends_start, no_moves, one_step, world_says}
+use Rattle.std.proofs.Common.{◌++◌, ◌≡◌, refl, ℕ, List, [], ◌∷◌, Option, Some, None, ap, subst, sym, ◌∙◌}
+use Rattle.end_pair.specs.InSteps.{AreAtStates, ComeInSteps, IsFate}
+use Rattle.end_pair.specs.Laws.{AreNoNotes, IsOfMoves}
 use Rattle.end_pair.specs.Noted.{noted_by}
+use Rattle.end_pair.proofs.AtEachMove.{AreKept, at-each-move}
 use Rattle.gl_base.specs.declared.side.Side.{Side}
 use Rattle.gl_base.specs.declared.side.Side.TheVariants.{Equipment, Host}
 use Rattle.message_end.specs.Doings.{Doing, IsLawful}
@@ -21,6 +22,8 @@ use Rattle.message_flow.specs.Message.{is_primary}
 use Rattle.trace_log.specs.InStep.{noted_in_step}
 use Rattle.trace_log.specs.Log.{Entry, Happening}
 use Rattle.trace_log.specs.Log.Entry.{Ended, Noted, Slipped}
+use Rattle.trace_log.specs.Log.Happening.{Power}
+use Rattle.trace_log.specs.Names.{Spooled}
 use Rattle.message_end.proofs.NotedSteps.{plain-note}
 use Rattle.tool_law.specs.Laws.{DidOf}
 use Rattle.line_world.specs.Safe.{HostDid, plans_of}
@@ -51,82 +54,57 @@ module _ (plans : LinePlans) where
 
   -- ---- at each move
 
-  -- a move that is no start takes the last doing off, or none
-  one-back :
-      (side end : Side) (moment : ℕ) (kind : Kind) (rest : List Move) → IsNoStart kind
-      → replied_at side (record { side = end; moment = moment; kind = kind } ∷ rest)
-      → MayAt side end rest kind × replied_at side rest
-  one-back Equipment Equipment moment (Did doing) rest none replied = replied
-  one-back Equipment Equipment moment (Started found base) rest none replied = absurd none
-  one-back Equipment Equipment moment Lost rest none replied = (tt, replied)
-  one-back Equipment Equipment moment (Changed place byte) rest none replied = (tt, replied)
-  one-back Equipment Equipment moment (Added byte) rest none replied = (tt, replied)
-  one-back Host Host moment (Did doing) rest none replied = replied
-  one-back Host Host moment (Started found base) rest none replied = absurd none
-  one-back Host Host moment Lost rest none replied = (tt, replied)
-  one-back Host Host moment (Changed place byte) rest none replied = (tt, replied)
-  one-back Host Host moment (Added byte) rest none replied = (tt, replied)
-  one-back Equipment Host moment kind rest none replied = (tt, replied)
-  one-back Host Equipment moment kind rest none replied = (tt, replied)
+  -- a doing is the last one of its end
+  doing-back :
+      (side end : Side) (moment : ℕ) (doing : Doing) (rest : List Move)
+      → replied_at side (record { side = end; moment = moment; kind = Did doing } ∷ rest)
+      → replied_at side rest
+      × (KeepsReplies side rest → KeepsReplies side (record { side = end; moment = moment; kind = Did doing } ∷ rest))
+  doing-back Equipment Equipment moment doing rest replied = (replied.1, λ kept. (replied.0, kept))
+  doing-back Host Host moment doing rest replied = (replied.1, λ kept. (replied.0, kept))
+  doing-back Equipment Host moment doing rest replied = (replied, λ kept. (tt, kept))
+  doing-back Host Equipment moment doing rest replied = (replied, λ kept. (tt, kept))
 
-  step-back :
-      (side : Side) (step before : List Move) → HasNoStart step → replied_at side (step ++ before)
-      → KeepsReplies side before → KeepsReplies side (step ++ before)
-  step-back side [] before none replied kept = kept
-  step-back side (move ∷ step) before none replied kept =
-      let one = one-back side move.side move.moment move.kind (step ++ before) none.0 replied in
-      (one.0, step-back side step before none.1 one.1 kept)
+  -- what is no end's doing, a start, and what the world notes, are no replies
+  fate-may : (side end : Side) (kind : Kind) (rest : List Move) → IsFate kind → MayAt side end rest kind
+  fate-may side end (Did doing) rest fate = absurd fate
+  fate-may side end (Started found base) rest fate = absurd fate
+  fate-may Equipment Equipment Lost rest fate = tt
+  fate-may Equipment Equipment (Changed place byte) rest fate = tt
+  fate-may Equipment Equipment (Added byte) rest fate = tt
+  fate-may Host Host Lost rest fate = tt
+  fate-may Host Host (Changed place byte) rest fate = tt
+  fate-may Host Host (Added byte) rest fate = tt
+  fate-may Equipment Host kind rest fate = tt
+  fate-may Host Equipment kind rest fate = tt
 
-  start-kind : (side : Side) (doings : List Doing) (kind : Kind) → IsStart kind → KindInStep side doings kind
-  start-kind side doings (Started found base) is = tt
-  start-kind side doings (Did doing) is = absurd is
-  start-kind side doings Lost is = absurd is
-  start-kind side doings (Changed place byte) is = absurd is
-  start-kind side doings (Added byte) is = absurd is
+  start-may : (side end : Side) (found : List (ℕ × Spooled)) (base : ℕ) (rest : List Move)
+      → MayAt side end rest (Started found base)
+  start-may Equipment Equipment found base rest = tt
+  start-may Host Host found base rest = tt
+  start-may Equipment Host found base rest = tt
+  start-may Host Equipment found base rest = tt
 
-  start-may : (side end : Side) (kind : Kind) (rest : List Move) → IsStart kind → MayAt side end rest kind
-  start-may Equipment Equipment kind rest is = start-kind Equipment (doings_at Equipment plans rest) kind is
-  start-may Host Host kind rest is = start-kind Host (doings_at Host plans rest) kind is
-  start-may Equipment Host kind rest is = tt
-  start-may Host Equipment kind rest is = tt
-
-  starts-back : (side : Side) (starts before : List Move) → AreStarts starts → KeepsReplies side before
-      → KeepsReplies side (starts ++ before)
-  starts-back side [] before are kept = kept
-  starts-back side (move ∷ starts) before are kept =
-      (start-may side move.side move.kind (starts ++ before) are.0, starts-back side starts before are.1 kept)
-
-  -- of more moves the older ones keep it
-  tail-keeps : (side : Side) (later moves : List Move) → KeepsReplies side (later ++ moves) → KeepsReplies side moves
-  tail-keeps side [] moves kept = kept
-  tail-keeps side (move ∷ later) moves kept = tail-keeps side later moves kept.1
-
-  -- what the world notes of an end is no reply
-  says-may : (side end : Side) (what : Happening) (rest : List Move) → MayAt side end rest (Did (Says what))
-  says-may Equipment Equipment what rest = tt
-  says-may Host Host what rest = tt
-  says-may Equipment Host what rest = tt
-  says-may Host Equipment what rest = tt
+  power-may : (side : Side) (rest : List Move) → MayAt side Equipment rest (Did (Says Power))
+  power-may Equipment rest = tt
+  power-may Host rest = tt
 
   module _ {S T : Type 0} (equipment : ℕ → List Doing → S → Type 0) (host : ℕ → List Doing → T → Type 0)
       (side : Side)
       (law : (moves : List Move) → AreAtStates equipment host plans moves → replied_at side moves) where
-    steps-keep : (moves : List Move) → AreSteps equipment host plans moves → KeepsReplies side moves
-    steps-keep _ no_moves = tt
-    steps-keep moves (ends_start _ starts before is are at steps) =
-        subst (KeepsReplies side) (sym is) (starts-back side starts before are (steps-keep before steps))
-    steps-keep moves (one_step _ step before is none at steps) =
-        subst (KeepsReplies side) (sym is)
-        (step-back side step before none (subst (replied_at side) is (law moves at)) (steps-keep before steps))
-    steps-keep moves (cut_short _ later front before is none at steps) =
-        let whole = ap (λ (rest : List Move). later ++ rest) is ∙ sym (append_assoc later front before) in
-        let kept =
-        step-back side (later ++ front) before none (subst (replied_at side) whole (law (later ++ moves) at))
-        (steps-keep before steps)
-        in
-        tail-keeps side later moves (subst (KeepsReplies side) (sym whole) kept)
-    steps-keep moves (world_says _ before end moment what is world steps) =
-        subst (KeepsReplies side) (sym is) (says-may side end what before, steps-keep before steps)
+    replies-kept : AreKept equipment host plans (replied_at side) (KeepsReplies side)
+    replies-kept = record {
+      law = law;
+      none = tt;
+      back = λ end moment doing before replied. doing-back side end moment doing before replied;
+      fate = λ end moment kind before fate kept. (fate-may side end kind before fate, kept);
+      start = λ end moment found base before kept. (start-may side end found base before, kept);
+      power = λ moment before kept. (power-may side before, kept);
+    }
+
+    replies-keep : (moves : List Move) → ComeInSteps equipment host plans moves → KeepsReplies side moves
+    replies-keep moves steps =
+        at-each-move equipment host plans (replied_at side) (KeepsReplies side) replies-kept moves steps
 
   -- ---- in the notes
 
@@ -273,5 +251,5 @@ replies-in-steps plans log safe = record {
         subst (RepliesAreOfSteps side)
         (sym (ap (noted_by side) moved.is ∙ no-notes side moved.last (log_of moved.moves) moved.no_notes))
         (all-noted (plans_of plans) side moved.moves moved.keep
-        (steps-keep (plans_of plans) (DidOf plans.equipment) (HostDid plans.host) side law moved.moves
+        (replies-keep (plans_of plans) (DidOf plans.equipment) (HostDid plans.host) side law moved.moves
         moved.steps)).replies

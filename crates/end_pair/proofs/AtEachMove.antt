@@ -1,0 +1,71 @@
+-- What doings keep between two steps they keep at each move of a run: a step is taken back doing by doing.
+use Rattle.std.proofs.Common.{◌≡◌, ℕ, List, [], ◌∷◌, sym, subst}
+use Rattle.gl_base.specs.declared.side.Side.{Side}
+use Rattle.gl_base.specs.declared.side.Side.TheVariants.{Equipment, Host}
+use Rattle.message_end.specs.Doings.{Doing}
+use Rattle.message_end.specs.Moves.{Kind, LinePlans, Move}
+use Rattle.message_end.specs.Moves.Kind.{Did}
+use Rattle.trace_log.specs.Names.{Spooled}
+use Rattle.end_pair.specs.InSteps.{AreAtStates, AreSteps, ComeInSteps, IsCutBehind, IsFate, moves_with, power_at, started_at}
+use Rattle.end_pair.specs.InSteps.AreSteps.{both_start, line_changes, one_step, starts_anew}
+use Rattle.end_pair.specs.InSteps.ComeInSteps.{at_a_step, in_a_step, without_power}
+
+-- what the doings so far keep, and what each move does; of an end's doing the former says the latter
+pub record AreKept {S T : Type 0}
+    (equipment : ℕ → List Doing → S → Type 0) (host : ℕ → List Doing → T → Type 0) (plans : LinePlans)
+    (SoFar AtEach : List Move → Type 0) : Type 0 where
+  pub law : (moves : List Move) → AreAtStates equipment host plans moves → SoFar moves
+  pub none : AtEach []
+  pub back :
+      (side : Side) (moment : ℕ) (doing : Doing) (before : List Move)
+      → SoFar (record { side = side; moment = moment; kind = Did doing } ∷ before)
+      → SoFar before × (AtEach before → AtEach (record { side = side; moment = moment; kind = Did doing } ∷ before))
+  pub fate :
+      (side : Side) (moment : ℕ) (kind : Kind) (before : List Move) → IsFate kind → AtEach before
+      → AtEach (record { side = side; moment = moment; kind = kind } ∷ before)
+  pub start :
+      (side : Side) (moment : ℕ) (found : List (ℕ × Spooled)) (base : ℕ) (before : List Move) → AtEach before
+      → AtEach (started_at side moment found base ∷ before)
+  pub power : (moment : ℕ) (before : List Move) → AtEach before → AtEach (power_at moment ∷ before)
+
+module _ {S T : Type 0}
+    (equipment : ℕ → List Doing → S → Type 0) (host : ℕ → List Doing → T → Type 0) (plans : LinePlans)
+    (SoFar AtEach : List Move → Type 0) (kept : AreKept equipment host plans SoFar AtEach) where
+  doings-back :
+      (side : Side) (moment : ℕ) (done : List Doing) (before : List Move) → SoFar (moves_with side moment done before)
+      → SoFar before × (AtEach before → AtEach (moves_with side moment done before))
+  doings-back side moment [] before so_far = (so_far, λ each. each)
+  doings-back side moment (doing ∷ done) before so_far =
+      let one = kept.back side moment doing (moves_with side moment done before) so_far in
+      let rest = doings-back side moment done before one.0 in
+      (rest.0, λ each. one.1 (rest.1 each))
+
+  cut-keeps :
+      (side : Side) (moment : ℕ) (before moves : List Move)
+      → IsCutBehind equipment host plans side moment before moves → AtEach before → AtEach moves
+  cut-keeps side moment before moves cut each =
+      let whole = kept.law (moves_with side moment cut.later moves) cut.could in
+      let so_far = (doings-back side moment cut.later moves whole).0 in
+      subst AtEach (sym cut.is) ((doings-back side moment cut.done before (subst SoFar cut.is so_far)).1 each)
+
+  steps-keep : (moves : List Move) → AreSteps equipment host plans moves → AtEach moves
+  steps-keep moves (both_start _ found found_there base base_there is at) =
+      subst AtEach (sym is)
+      (kept.start Host 0 found_there base_there (started_at Equipment 0 found base ∷ [])
+      (kept.start Equipment 0 found base [] kept.none))
+  steps-keep moves (one_step _ before side moment done is step at steps) =
+      subst AtEach (sym is)
+      ((doings-back side moment done before (subst SoFar is (kept.law moves at))).1 (steps-keep before steps))
+  steps-keep moves (line_changes _ before side moment kind is fate steps) =
+      subst AtEach (sym is) (kept.fate side moment kind before fate (steps-keep before steps))
+  steps-keep moves (starts_anew _ cut before moment found base is is_cut at steps) =
+      subst AtEach (sym is)
+      (kept.start Equipment moment found base (power_at moment ∷ cut)
+      (kept.power moment cut (cut-keeps Equipment moment before cut is_cut (steps-keep before steps))))
+
+  pub at-each-move : (moves : List Move) → ComeInSteps equipment host plans moves → AtEach moves
+  at-each-move moves (at_a_step steps) = steps-keep moves steps
+  at-each-move moves (in_a_step before side moment cut steps) =
+      cut-keeps side moment before moves cut (steps-keep before steps)
+  at-each-move moves (without_power dark before moment is cut steps) =
+      subst AtEach (sym is) (kept.power moment dark (cut-keeps Equipment moment before dark cut (steps-keep before steps)))
