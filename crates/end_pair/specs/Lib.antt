@@ -7,3 +7,4 @@ pub mod Steps
 pub mod TurnCauses
 pub mod World
 pub mod Worked
+pub mod WorkedSteps

@@ -11,6 +11,7 @@ ghost use Rattle.end_pair.specs.Noted.{EntriesAreOfCourses};
 ghost use Rattle.end_pair.specs.Run.{log_of};
 ghost use Rattle.end_pair.specs.TurnCauses.{TurnsEndByCause};
 ghost use Rattle.end_pair.specs.Worked.{WorkedLosses, WorkedRuns};
+ghost use Rattle.end_pair.specs.WorkedSteps.{StepsEndOnce};
 
 use message_end::End;
 use trace_log::{HostCommand, ToolCommand};
@@ -73,4 +74,9 @@ pub fn worked_runs()
 /// Losses of power that can be followed by hand, of an equipment that stores a count.
 pub fn worked_losses()
     ensures { WorkedLosses }
+{}
+
+/// What is one step of an end, and what isn't: one without its end, and two with one end.
+pub fn worked_steps()
+    ensures { StepsEndOnce }
 {}

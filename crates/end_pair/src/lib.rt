@@ -12,7 +12,7 @@ mod world;
 pub use answers::{RunEnd, WorldStep};
 pub use laws::{
     entries_are_of_courses, runs_are_bounded, runs_are_moves, runs_end_four_ways,
-    steps_end_by_cause, turns_end_by_cause, worked_losses, worked_runs,
+    steps_end_by_cause, turns_end_by_cause, worked_losses, worked_runs, worked_steps,
 };
 pub use running::run;
 pub use world::World;

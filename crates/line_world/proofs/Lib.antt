@@ -8,6 +8,7 @@ mod Events
 mod FewCalls
 mod Lines
 mod Made
+mod NotedSteps
 mod OrderSoFar
 mod OverStarts
 mod Replies

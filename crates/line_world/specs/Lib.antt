@@ -8,3 +8,4 @@ pub mod Run
 pub mod Safe
 pub mod Steps
 pub mod Worked
+pub mod WorkedSteps

@@ -1,11 +1,63 @@
--- Of a log: that replies go in the steps of their primaries (this profile).
-use Rattle.std.specs.Prelude.{List}
+-- Of a log: that the notes of a step are of one moment and its end is noted, and that replies go in the steps of their
+-- primaries (this profile).
+use Rattle.std.specs.Prelude.{◌≡◌, ◌⊎◌, ℕ, List, [], ◌∷◌, if◌then◌else◌}
 use Rattle.end_pair.specs.Noted.{noted_by}
 use Rattle.equipment_tables.specs.declared.plan.Plans.{Plans}
+use Rattle.gl_base.specs.declared.side.Side.{Side}
 use Rattle.gl_base.specs.declared.side.Side.TheVariants as side
+use Rattle.gl_base.specs.Side.{is_same_side}
 use Rattle.message_end.specs.InStep.{RepliesAreOfSteps}
-use Rattle.trace_log.specs.Log.{Entry}
+use Rattle.trace_log.specs.Log.{Entry, Happening}
+use Rattle.trace_log.specs.Log.Entry.{Ended, Noted, Slipped}
+use Rattle.trace_log.specs.Log.Happening.{EquipmentStarted, HostStarted, StepEnded, Wrote}
 use Rattle.line_world.specs.Safe.{IsSafe}
+
+-- ---- the end of a step
+
+-- what one end has noted, each with its moment, the newest first as in the log
+abbrev pub timed_by : Side → List Entry → List (ℕ × Happening)
+timed_by side [] = []
+timed_by side (Noted moment end what ∷ before) =
+    if is_same_side side end then (moment, what) ∷ timed_by side before else timed_by side before
+timed_by side (Slipped moment end frame characters ∷ before) = timed_by side before
+timed_by side (Ended moment ∷ before) = timed_by side before
+
+abbrev pub IsStepsEnd : Happening → Type 0
+IsStepsEnd StepEnded = Unit {0}
+IsStepsEnd _ = ⊥
+
+abbrev pub AreAtAnEnd : List (ℕ × Happening) → Type 0
+AreAtAnEnd [] = ⊥
+AreAtAnEnd (note ∷ before) = IsStepsEnd note.1
+
+-- behind this note a step may begin: it is the end of one, with what that has written at most behind it, or a start
+abbrev pub MayStepBehind : Happening → List (ℕ × Happening) → Type 0
+MayStepBehind StepEnded before = Unit {0}
+MayStepBehind (Wrote characters) before = AreAtAnEnd before
+MayStepBehind (EquipmentStarted found base) before = Unit {0}
+MayStepBehind HostStarted before = Unit {0}
+MayStepBehind _ before = ⊥
+
+-- a note of this moment comes behind one of the same moment, or a step may begin there
+abbrev pub IsOfAStep : ℕ → List (ℕ × Happening) → Type 0
+IsOfAStep moment [] = Unit {0}
+IsOfAStep moment (note ∷ before) = (moment ≡ note.0) ⊎ MayStepBehind note.1 before
+
+abbrev pub NotesAreOfSteps : List (ℕ × Happening) → Type 0
+NotesAreOfSteps [] = Unit {0}
+NotesAreOfSteps (note ∷ before) = IsOfAStep note.0 before × NotesAreOfSteps before
+
+-- no step of an end goes on past its moment: between two notes of the end that are of two moments it has noted that a
+-- step has ended, or that it has started
+pub record HasSteps (log : List Entry) : Type 0 where
+  pub equipment : NotesAreOfSteps (timed_by side.Equipment log)
+  pub host : NotesAreOfSteps (timed_by side.Host log)
+
+-- so it is in each safe log
+abbrev pub SafeLogsHaveSteps : Type 0
+SafeLogsHaveSteps = (plans : Plans) (log : List Entry) → IsSafe plans log → HasSteps log
+
+-- ---- replies
 
 -- each reply that an end notes as sent goes in the step in which that end has noted its primary, with W, as received;
 -- and one reply alone goes to it

@@ -2,14 +2,21 @@
 
 ghost use Rattle.line_world.specs.FewCalls.{FewCallsFindRoom};
 ghost use Rattle.line_world.specs.Safe.{HoldsAtEachEntry};
-ghost use Rattle.line_world.specs.Steps.{SafeLogsReplyInSteps};
+ghost use Rattle.line_world.specs.Steps.{SafeLogsHaveSteps, SafeLogsReplyInSteps};
 ghost use Rattle.line_world.specs.Worked.{WorkedRounds};
+ghost use Rattle.line_world.specs.WorkedSteps.{LateReplies};
 
 use tool_step::losses_are_counted;
 
 /// What is said of a safe log holds at each of its entries, by all entries up to that one.
 pub fn holds_at_each_entry()
     ensures { HoldsAtEachEntry }
+{}
+
+/// No step of an end goes on past its moment: between two notes of an end in a safe log that are of two moments, the end
+/// has noted that a step has ended, or that it has started.
+pub fn steps_are_noted()
+    ensures { SafeLogsHaveSteps }
 {}
 
 /// Each reply in a safe log goes in the step in which its end has received the primary, and once.
@@ -28,4 +35,9 @@ pub fn few_calls_find_room<H>()
 /// Rounds and a summary that can be followed by hand.
 pub fn worked_rounds()
     ensures { WorkedRounds }
+{}
+
+/// Logs with a reply behind the step of its primary, its end noted or not, which aren't safe.
+pub fn worked_steps()
+    ensures { LateReplies }
 {}

@@ -12,6 +12,9 @@ mod summary;
 
 pub use end_pair::{RunEnd, World, WorldStep};
 pub use equipment_tables::Plans;
-pub use laws::{few_calls_find_room, holds_at_each_entry, replies_go_in_steps, worked_rounds};
+pub use laws::{
+    few_calls_find_room, holds_at_each_entry, replies_go_in_steps, steps_are_noted, worked_rounds,
+    worked_steps,
+};
 pub use maker::make;
 pub use running::run;
