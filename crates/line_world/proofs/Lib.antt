@@ -1,4 +1,5 @@
 mod Asking
+mod AtOnce
 mod Behind
 mod Bodies
 mod Carried

@@ -26,6 +26,8 @@ use Rattle.trace_log.specs.Log.Happening.{Power}
 use Rattle.trace_log.specs.Names.{Spooled}
 use Rattle.message_end.proofs.NotedSteps.{plain-note}
 use Rattle.tool_law.specs.Laws.{DidOf}
+use Rattle.line_world.proofs.AtOnce.{replies-at-once}
+use Rattle.line_world.proofs.NotedSteps.{have-steps}
 use Rattle.line_world.specs.Safe.{HostDid, plans_of}
 use Rattle.line_world.specs.Steps.{SafeLogsReplyInSteps}
 
@@ -235,8 +237,10 @@ no-notes side (Ended moment ∷ last) log none = no-notes side last log none.1
 
 pub replies-in-steps : SafeLogsReplyInSteps
 replies-in-steps plans log safe = record {
-  equipment = of Equipment (λ moves at. at.equipment_did.is.steps.replies);
-  host = of Host (λ moves at. at.host_did.is.steps.replies);
+  equipment = by_equipment;
+  host = by_host;
+  equipment_at_once = replies-at-once Equipment log (have-steps plans log safe).equipment by_equipment;
+  host_at_once = replies-at-once Host log (have-steps plans log safe).host by_host;
 }
   where
     moved : IsOfMoves (DidOf plans.equipment) (HostDid plans.host) (plans_of plans) log
@@ -253,3 +257,9 @@ replies-in-steps plans log safe = record {
         (all-noted (plans_of plans) side moved.moves moved.keep
         (replies-keep (plans_of plans) (DidOf plans.equipment) (HostDid plans.host) side law moved.moves
         moved.steps)).replies
+
+    by_equipment : RepliesAreOfSteps Equipment (noted_by Equipment log)
+    by_equipment = of Equipment (λ moves at. at.equipment_did.is.steps.replies)
+
+    by_host : RepliesAreOfSteps Host (noted_by Host log)
+    by_host = of Host (λ moves at. at.host_did.is.steps.replies)

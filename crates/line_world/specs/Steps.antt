@@ -1,12 +1,16 @@
 -- Of a log: that the notes of a step are of one moment and its end is noted, and that replies go in the steps of their
 -- primaries (this profile).
-use Rattle.std.specs.Prelude.{◌≡◌, ◌⊎◌, ℕ, List, [], ◌∷◌, if◌then◌else◌}
+use Rattle.std.specs.Prelude.{◌≡◌, ◌⊎◌, ℕ, false, List, [], ◌∷◌, ◌++◌, if◌then◌else◌}
 use Rattle.end_pair.specs.Noted.{noted_by}
 use Rattle.equipment_tables.specs.declared.plan.Plans.{Plans}
 use Rattle.gl_base.specs.declared.side.Side.{Side}
 use Rattle.gl_base.specs.declared.side.Side.TheVariants as side
-use Rattle.gl_base.specs.Side.{is_same_side}
+use Rattle.gl_base.specs.Side.{is_same_side, other_side}
 use Rattle.message_end.specs.InStep.{RepliesAreOfSteps}
+use Rattle.message_end.specs.Own.{Has, IsReplyTo}
+use Rattle.message_flow.specs.Blocks.{header_of}
+use Rattle.message_flow.specs.Message.{is_primary}
+use Rattle.message_flow.specs.declared.message.Message.{Message}
 use Rattle.trace_log.specs.Log.{Entry, Happening}
 use Rattle.trace_log.specs.Log.Entry.{Ended, Noted, Slipped}
 use Rattle.trace_log.specs.Log.Happening.{EquipmentStarted, HostStarted, StepEnded, Wrote}
@@ -59,11 +63,26 @@ SafeLogsHaveSteps = (plans : Plans) (log : List Entry) → IsSafe plans log → 
 
 -- ---- replies
 
--- each reply that an end notes as sent goes in the step in which that end has noted its primary, with W, as received;
--- and one reply alone goes to it
+-- the primary of this reply was noted as received at the same moment
+pub record IsReplyAtOnce (side : Side) (before : List (ℕ × Happening)) (moment : ℕ) (message : Message) : Type 0 where
+  pub asked : Message
+  pub received : Has before (moment, Happening.Received asked)
+  pub reply : IsReplyTo (other_side side) asked (header_of side 0 message 1)
+
+-- so it is of each reply that an end notes as sent
+abbrev pub RepliesAreAtOnce : Side → List Entry → Type 0
+RepliesAreAtOnce side log =
+    (later before : List (ℕ × Happening)) (moment : ℕ) (message : Message)
+    → timed_by side log ≡ later ++ (moment, Happening.Sent message) ∷ before → is_primary message ≡ false
+    → IsReplyAtOnce side before moment message
+
+-- each reply that an end notes as sent goes in the step in which that end has noted its primary, with W, as received,
+-- and so at the same moment; and one reply alone goes to it
 pub record ReplyInSteps (log : List Entry) : Type 0 where
   pub equipment : RepliesAreOfSteps side.Equipment (noted_by side.Equipment log)
   pub host : RepliesAreOfSteps side.Host (noted_by side.Host log)
+  pub equipment_at_once : RepliesAreAtOnce side.Equipment log
+  pub host_at_once : RepliesAreAtOnce side.Host log
 
 -- so it is of each safe log
 abbrev pub SafeLogsReplyInSteps : Type 0

@@ -19,7 +19,8 @@ pub fn steps_are_noted()
     ensures { SafeLogsHaveSteps }
 {}
 
-/// Each reply in a safe log goes in the step in which its end has received the primary, and once.
+/// Each reply in a safe log goes in the step in which its end has received the primary, and once; so both are noted at
+/// the same moment.
 pub fn replies_go_in_steps()
     ensures { SafeLogsReplyInSteps }
 {}
