@@ -1,13 +1,13 @@
 -- The logs aren't safe, by the laws of `NotedSteps` and `Replies`.
 
-use Rattle.std.proofs.Common.{◌≡◌, ◌⊎◌, inl, inr}
+use Rattle.std.proofs.Common.{◌≡◌, ◌⊎◌, ℕ, inl, inr}
 use Rattle.line_world.proofs.NotedSteps.{have-steps}
 use Rattle.line_world.proofs.Replies.{replies-in-steps}
 use Rattle.line_world.specs.WorkedSteps.{ended, unended}
 use Rattle.line_world.proofs.laws.worked_steps.Goals as goal
 
 -- moments apart, and behind no end
-not-later : (10 ≡ 0) ⊎ ⊥ → ⊥
+not-later : ◌≡◌ {A = ℕ} 10 0 ⊎ ⊥ → ⊥
 not-later (inl same) = absurd (cc)
 not-later (inr none) = none
 
