@@ -1,0 +1,10 @@
+mod Coming
+mod Given
+mod Hosts
+mod Kept
+mod Lawful
+mod Lists
+mod Noting
+mod Numbered
+mod Replying
+mod Tools

@@ -1,0 +1,257 @@
+-- That each run of the equipment over a link keeps its laws, over a disk that tells its bytes.
+use Rattle.std.proofs.Common.{◌≡◌, ◌⊎◌, refl, sym, ap, subst, ◌∙◌, ◌<◌, ◌≤◌, ◌^◌, ℕ, Bool, true, false, List, [], ◌∷◌, ◌++◌, length, inl, inr, Option, Some, None, All, if◌then◌else◌, arith}
+use Rattle.command_words.specs.Asked.{Asked, Equipment}
+use Rattle.disk_base.specs.Story.{Story}
+use Rattle.gl_base.specs.Told.{FilesTold, SinkTold, SourceTold}
+use Rattle.gl_base.specs.declared.input.Input.TheVariants as input
+use Rattle.gl_base.specs.declared.link.LinkIn.{LinkIn}
+use Rattle.gl_base.specs.declared.side.Side.TheVariants as side
+use Rattle.line_schedule.specs.Lines.{lines_of}
+use Rattle.line_schedule.specs.Script.{IsScript, IsToldLine, LineFits, moment_of_line}
+use Rattle.line_schedule.proofs.Ranges.{line_fits}
+use Rattle.line_schedule.proofs.Telling.{all_fit}
+use Rattle.message_end.specs.Core.{Step, Went, at_first}
+use Rattle.message_end.specs.Core.Went.{Goes, Spent}
+use Rattle.message_end.specs.Course.{Course, Meeting, course_of, notes_of, with_meeting}
+use Rattle.message_end.specs.Course.Course.{Reached, Stopped}
+use Rattle.message_end.specs.Course.Meeting.{Acts, Breaks, Fills, LosesPower, Restarts, Writes}
+use Rattle.message_end.specs.Doings.{Doing}
+use Rattle.message_end.specs.Ends.{KeepsLaw}
+use Rattle.trace_log.specs.Commands.{ToolCommandFits}
+use Rattle.trace_log.specs.Log.{Happening}
+use Rattle.trace_log.specs.declared.commands.ToolCommand.{ToolCommand}
+use Rattle.equipment_tables.specs.declared.plan.EquipmentPlan.{EquipmentPlan}
+use Rattle.equipment_tables.specs.declared.plan.Plans.{Plans}
+use Rattle.equipment_tables.specs.Plan.{EquipmentPlanFits}
+use Rattle.spool_show.specs.Told.{DiskTold}
+use Rattle.spool_slots.specs.File.{SpoolFile, file_in, spool_break}
+use Rattle.spool_slots.specs.Slot.{Message}
+use Rattle.tool_law.specs.Laws.{DidOf, EquipmentKeepsItsLaw}
+use Rattle.tool_law.specs.Tried.{AreTried}
+use Rattle.tool_reports.specs.Laws.{ReportsAreOfTheirEvents}
+use Rattle.tool_spool.specs.LeavesInStep.{MessagesLeaveInStep}
+use Rattle.tool_spool.specs.MadeRoom.{OverwritesForPuts}
+use Rattle.tool_spool.specs.SpoolKept.{MayHold, SpoolIsKeptFrom}
+use Rattle.tool_step.specs.End.{machine}
+use Rattle.tool_step.specs.Equipment.{EquipmentView, is_marked_out, started_on, starts}
+use Rattle.tool_step.specs.Step.{end_plan}
+use Rattle.end_pair.specs.Noted.{noted_by}
+use Rattle.end_run.specs.Pieces.{Piece}
+use Rattle.end_run.specs.Script.{AreTold, ScriptLine}
+use Rattle.end_run.specs.Sides.{told_equipment}
+use Rattle.end_run.specs.declared.ending.Ending.{Ending}
+use Rattle.end_run.specs.declared.ending.Ending.TheVariants as ending
+use Rattle.end_run.proofs.Sides.{are_told_tool}
+use Rattle.gemline_app.specs.Equipment.{EquipmentComes, FileRuns, RanOver, WasRunOn, bytes_told, equipment_due, equipment_run, linked_machine}
+use Rattle.gemline_app.specs.Files.{PlansAre}
+use Rattle.gemline_app.specs.Gemline.{RunComes}
+use Rattle.gemline_app.specs.Inputs.{WasRead}
+use Rattle.gemline_app.specs.LinkTold.{LinkTold}
+use Rattle.gemline_app.specs.Linked.{IsIdle, ScriptComes, ScriptRuns, after_run, before_run}
+use Rattle.gemline_app.specs.Words.{script_limit}
+use Rattle.gemline_app.specs.declared.outcome.Outcome.{Outcome}
+use Rattle.link_courses.specs.Courses.{ComesTo, IsCourse, met_by, with_closing}
+use Rattle.link_courses.specs.Equipment.{EquipmentsKeepTheirLaws, KeepsLaws, RanInCourse, RanLawfully}
+use Rattle.link_courses.specs.Lawful.{AreDone, GiveBytes, KeepsLawOfEnd}
+use Rattle.link_courses.specs.Noting.{AreThere, HasNoted, IsFirstOf}
+use Rattle.link_courses.proofs.Coming.{run-so}
+use Rattle.link_courses.proofs.Given.{run-given}
+use Rattle.link_courses.proofs.Kept.{closing-keeps, first-keeps}
+use Rattle.link_courses.proofs.Lawful.{first-done}
+use Rattle.link_courses.proofs.Noting.{has-noted, there-first}
+use Rattle.link_courses.proofs.Numbered.{has-slots, may-hold}
+use Rattle.link_courses.proofs.Replying.{replies-noted}
+
+-- ---- a course over a link is one of the equipment
+
+-- it asks of its disk alone something else, which no course looks at
+meeting-same : (meeting : Meeting ToolCommand) (course : Course EquipmentView)
+    → with_meeting linked_machine meeting course ≡ with_meeting machine meeting course
+meeting-same meeting (Stopped notes) = refl
+meeting-same (Acts input now) (Reached s notes) = refl
+meeting-same (Restarts now) (Reached s notes) = refl
+meeting-same (Writes characters) (Reached s notes) = refl
+meeting-same LosesPower (Reached s notes) = refl
+meeting-same (Breaks input now call choice) (Reached s notes) = refl
+meeting-same (Fills input now call) (Reached s notes) = refl
+
+course-same : (start : Step EquipmentView Happening) (met : List (Meeting ToolCommand))
+    → course_of start linked_machine met ≡ course_of start machine met
+course-same start [] = refl
+course-same start (meeting ∷ met) =
+    ap (λ (c : Course EquipmentView). with_meeting linked_machine meeting c) (course-same start met)
+    ∙ meeting-same meeting (course_of start machine met)
+
+is-course :
+    (start : Step EquipmentView Happening) (lines : List ScriptLine) (polls : ℕ) (answers : List LinkIn)
+    → IsCourse machine start side.Equipment (equipment_run start lines polls answers)
+is-course start lines polls answers =
+    let run = equipment_run start lines polls answers in
+    let is = run-so linked_machine start side.Equipment equipment_due told_equipment lines polls answers in
+    let same = course-same start (met_by run.acts) in
+    record {
+      notes = is.notes;
+      noted = is.noted ∙ ap (λ (c : Course EquipmentView). with_closing run.ended (notes_of c)) same;
+      comes = subst (ComesTo run.ended run.end) same is.comes;
+    }
+
+-- ---- its start
+
+the-step : (one other : Step EquipmentView Happening) → Goes one ≡ Goes other → one ≡ other
+the-step one other same = cc
+
+-- a start that goes is that over the file
+start-is :
+    (plan : EquipmentPlan) (file : SpoolFile) (start : Step EquipmentView Happening)
+    → starts plan file.slots file.list file.mark ≡ Goes start
+    → started_on plan file.slots file.list file.mark ≡ start
+start-is plan file start = go (is_marked_out file.mark)
+  where
+    go : (b : Bool)
+        → (if b then Spent (at_first (record (started_on plan file.slots file.list file.mark).next { mark = file.mark }))
+        else Goes (started_on plan file.slots file.list file.mark))
+        ≡ Goes start
+        → started_on plan file.slots file.list file.mark ≡ start
+    go true is = absurd (cc)
+    go false is = the-step (started_on plan file.slots file.list file.mark) start is
+
+-- ---- a run keeps the laws
+
+module _ (law : EquipmentKeepsItsLaw) (reports : ReportsAreOfTheirEvents) (spool : SpoolIsKeptFrom)
+    (leaves : MessagesLeaveInStep) (room : OverwritesForPuts) where
+  module _ (plan : EquipmentPlan) (fits : EquipmentPlanFits plan) (file : SpoolFile) (some : 0 < file.slots)
+      (most : file.slots < 2 ^ 16) (may : MayHold file.slots file.list) (lines : List ScriptLine)
+      (told : AreTold told_equipment ToolCommandFits lines) (polls : ℕ) where
+    module _ (start : Step EquipmentView Happening) (started : starts plan file.slots file.list file.mark ≡ Goes start)
+        (answers : List LinkIn) where
+      abbrev run : Piece EquipmentView ToolCommand
+      run = equipment_run start lines polls answers
+
+      abbrev whole : List Happening
+      whole = with_closing run.ended (notes_of (course_of start machine (met_by run.acts)))
+
+      whole-keeps : KeepsLaws plan file whole
+      whole-keeps =
+          subst
+          (λ (first : Step EquipmentView Happening).
+          ComesTo run.ended run.end (course_of first machine (met_by run.acts))
+          → KeepsLaws plan file (with_closing run.ended (notes_of (course_of first machine (met_by run.acts)))))
+          (start-is plan file start started)
+          (closing-keeps reports spool leaves room plan fits file some most may (met_by run.acts) run.ended run.end)
+          (is-course start lines polls answers).comes
+
+      kept-law : KeepsLaw (end_plan plan) (DidOf plan) ToolCommandFits (Goes start) machine
+      kept-law =
+          subst
+          (λ (went : Went EquipmentView Happening).
+          KeepsLaw (end_plan plan) (DidOf plan) ToolCommandFits went machine)
+          started (law plan file.slots file.list file.mark fits may.sent)
+
+      first-lawful : (later noted : List Happening) → whole ≡ later ++ noted → GiveBytes answers
+          → KeepsLawOfEnd (end_plan plan) (AreTried (end_plan plan)) noted
+      first-lawful later noted is bytes =
+          let done =
+          first-done (end_plan plan) (DidOf plan) ToolCommandFits start machine kept-law (AreTried (end_plan plan))
+          (λ base doings s did. did.tried) (λ doing before tried. tried.1) (λ doings tried. (tt, tried)) run.ended
+          (met_by run.acts) later noted
+          (run-given linked_machine equipment_due told_equipment side.Equipment ToolCommandFits start lines polls
+          answers told bytes) is
+          in
+          record {
+            done = done;
+            replies = replies-noted (end_plan plan) (AreTried (end_plan plan)) noted done;
+          }
+
+    over-so : (s : Story) (disk : DiskTold) (link : LinkTold) (out : SinkTold) (ended : Ending)
+        → RanOver plan file lines polls (bytes_told disk) link out ended
+        → RanInCourse plan file lines polls link out ended
+    over-so s disk link out ended over =
+        let start = over.start in
+        let ran = over.ran in
+        let a = before_run link out start.next in
+        let b = after_run link out ran.left ran.room ran.stop in
+        let noted : HasNoted machine start side.Equipment (equipment_run start lines polls) a b ended =
+        has-noted machine start side.Equipment (equipment_run start lines polls) a b
+        (is-course start lines polls) ended ran.runs
+        in
+        let first = there-first ended (whole start over.started noted.answers)
+        (noted_by side.Equipment noted.log) noted.there in
+        record {
+          start = start;
+          started = over.started;
+          left = ran.left;
+          room = ran.room;
+          stop = ran.stop;
+          noted = noted;
+          keeps =
+              first-keeps plan file (whole start over.started noted.answers) first.later
+              (noted_by side.Equipment noted.log) first.is (whole-keeps start over.started noted.answers);
+          lawful =
+              first-lawful start over.started noted.answers first.later (noted_by side.Equipment noted.log) first.is;
+        }
+
+  -- ---- by its words
+
+  lines-told : (text : List ℕ) (lines : List ScriptLine) → IsScript side.Equipment text lines
+      → AreTold told_equipment ToolCommandFits lines
+  lines-told text lines is =
+      are_told_tool (lines_of text) 0 lines is.tell
+      (all_fit (IsToldLine side.Equipment) moment_of_line LineFits
+      (λ least line spelled there. line_fits side.Equipment line spelled there.0) 0 (lines_of text) lines is.tell).0
+
+  module _ (source : SourceTold) (files : FilesTold) (disk : DiskTold) (link : LinkTold) (out : SinkTold) (s : Story)
+      (told : disk.before ≡ Some s) (bytes : All (λ byte. byte < 256) s.now.bytes) (plan : List ℕ) (polls : ℕ)
+      (outcome : Outcome) where
+    abbrev KeptOr : Type 0
+    KeptOr = IsIdle link out ⊎ RanLawfully plan polls s.now.bytes source files link out outcome
+
+    run-kept :
+        (plans : Plans) → PlansAre plan files plans → (text : List ℕ)
+        → WasRead script_limit source (input.Whole text) → (lines : List ScriptLine)
+        → IsScript side.Equipment text lines
+        → WasRunOn plans.equipment lines polls (bytes_told disk) link out outcome → KeptOr
+    run-kept plans are text read lines script was =
+        let sound : spool_break s.now.bytes ≡ None = was.sound s told in
+        let slots = has-slots s.now.bytes sound in
+        inr (record {
+          plans = plans;
+          plans_are = are;
+          text = text;
+          read = read;
+          lines = lines;
+          script = script;
+          ended = was.ended;
+          outcome_is = was.outcome_is;
+          ran =
+              over-so plans.equipment are.is.fits.equipment (file_in s.now.bytes) slots.some
+              (omega (arith, slots.most)) (may-hold s.now.bytes sound bytes) lines (lines-told text lines script) polls
+              s disk link out was.ended (was.ran s told);
+        })
+
+    file-kept :
+        (plans : Plans) → PlansAre plan files plans → (spool text : List ℕ)
+        → WasRead script_limit source (input.Whole text) → (lines : List ScriptLine)
+        → IsScript side.Equipment text lines
+        → FileRuns plans.equipment spool lines polls disk link out outcome → KeptOr
+    file-kept plans are spool text read lines script (inl none) = inl none.idle
+    file-kept plans are spool text read lines script (inr (is, inl (refuses, idle))) = inl idle
+    file-kept plans are spool text read lines script (inr (is, inr was)) =
+        run-kept plans are text read lines script was
+
+    comes-kept : (spool : List ℕ) → EquipmentComes plan spool polls source files disk link out outcome → KeptOr
+    comes-kept spool (inl (refuses, unread, idle)) = inl idle.1
+    comes-kept spool (inr (plans, are, inl (refuses, idle))) = inl idle.1
+    comes-kept spool (inr (plans, are, inr (text, read, runs))) = elim runs.because [
+      | inl found ↦ file-kept plans are spool text read found.0 found.1 found.2
+      | inr fault ↦ inl fault.3.1
+    ]
+
+    words-kept : (address spool : List ℕ)
+        → RunComes (Some (Equipment plan address spool polls)) source files disk link out outcome → KeptOr
+    words-kept address spool (inl none) = inl (record { uncalled = none.uncalled; written = none.written })
+    words-kept address spool (inr (comes, connects, tells)) = comes-kept spool comes
+
+  pub tools-keep : EquipmentsKeepTheirLaws
+  tools-keep words source files disk link out err status plan address spool polls run asks bytes s told =
+      words-kept source files disk link out s told (bytes s told) plan polls run.outcome address spool
+      (subst (λ (asked : Option Asked). RunComes asked source files disk link out run.outcome) asks run.comes)

@@ -1,0 +1,6 @@
+pub mod Courses
+pub mod Equipment
+pub mod Host
+pub mod Lawful
+pub mod Noting
+pub mod Worked
