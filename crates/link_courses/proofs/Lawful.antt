@@ -64,6 +64,13 @@ not-some : (later : List Happening) (what : Happening) (first : List Happening) 
 not-some [] what first same = cc
 not-some (one ∷ later) what first same = cc
 
+-- the newest note is that of the last doing, or of one before it
+by-note :
+    (P : Type 0) (said : Option Happening) (notes : List Happening) (one : Happening) (rest : List Happening)
+    → (notes ≡ one ∷ rest → P) → (notes ≡ rest → P) → with_note said notes ≡ one ∷ rest → P
+by-note P None notes one rest older newest is = older is
+by-note P (Some what) notes one rest older newest is = newest (same-rest what one notes rest is)
+
 module _ (plan : EndPlan) (Such : List Doing → Type 0)
     (older : (doing : Doing) (before : List Doing) → Such (doing ∷ before) → Such before) where
   abbrev NotedBy : ℕ → List (ℕ × Spooled) → List Doing → List Happening
@@ -88,16 +95,11 @@ module _ (plan : EndPlan) (Such : List Doing → Type 0)
       absurd
       (not-some later what first (same-rest (start_of plan.side found base) one [] (later ++ what ∷ first) same))
   front-done base found (doing ∷ before) (one ∷ later) (what ∷ first) lawful replies such same =
-      go (noted_of doing)
+      by-note (AreDone plan Such (what ∷ first)) (noted_of doing) (NotedBy base found before) one
+      (later ++ what ∷ first)
+      (front-done base found before (one ∷ later) (what ∷ first) lawful.1 replies.1 (older doing before such))
+      (front-done base found before later (what ∷ first) lawful.1 replies.1 (older doing before such))
       (sym (doing-last doing before (start_of plan.side found base ∷ [])) ∙ same)
-    where
-      go : (said : Option Happening)
-          → with_note said (NotedBy base found before) ≡ one ∷ (later ++ what ∷ first) → AreDone plan Such (what ∷ first)
-      go None is =
-          front-done base found before (one ∷ later) (what ∷ first) lawful.1 replies.1 (older doing before such) is
-      go (Some said) is =
-          front-done base found before later (what ∷ first) lawful.1 replies.1 (older doing before such)
-          (same-rest said one (NotedBy base found before) (later ++ what ∷ first) is)
 
 -- ---- a course of steps
 

@@ -72,12 +72,12 @@ own-tail side (entry ∷ later) log own = own-tail side later log own.1
 pub noted-both : (side : Side) (later log : List Entry)
     → noted_by side (later ++ log) ≡ noted_by side later ++ noted_by side log
 noted-both side [] log = refl
-noted-both side (Noted moment end what ∷ later) log = go (is_same_side side end)
+noted-both side (Noted moment end what ∷ later) log = go (is_same_side side end) (noted-both side later log)
   where
-    go : (b : Bool)
+    go : (b : Bool) → noted_by side (later ++ log) ≡ noted_by side later ++ noted_by side log
         → (if b then what ∷ noted_by side (later ++ log) else noted_by side (later ++ log))
         ≡ (if b then what ∷ noted_by side later else noted_by side later) ++ noted_by side log
-    go true = ap (λ (ns : List Happening). what ∷ ns) (noted-both side later log)
-    go false = noted-both side later log
+    go true rest = ap (λ (ns : List Happening). what ∷ ns) rest
+    go false rest = rest
 noted-both side (Slipped moment end frame characters ∷ later) log = noted-both side later log
 noted-both side (Ended moment ∷ later) log = noted-both side later log

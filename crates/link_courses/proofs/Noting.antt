@@ -15,6 +15,7 @@ use Rattle.end_run.specs.Acts.{Act, lines_of, log_of}
 use Rattle.end_run.specs.Acts.Act.{Stands, Writes}
 use Rattle.end_run.specs.Outcome.{Did, DiskFails, Does, IsSpent, LinkFails, Made, MadePart, PutsLast, PutsShort, RunsOver, WriteFails}
 use Rattle.end_run.specs.Pieces.{Piece}
+use Rattle.end_run.specs.Run.{started_run}
 use Rattle.end_run.specs.Scenes.{Scene, written}
 use Rattle.end_run.specs.declared.ending.Ending.{Ending}
 use Rattle.end_run.specs.declared.ending.Ending.TheVariants.{Closed, DiskFailed, LinkFailed, NoMemory, NumbersSpent, Stopped, Turns, WriteFailed}
@@ -207,8 +208,8 @@ module _ {S C : Type 0} (machine : Machine S C) (start : Step S Happening) (side
 
 pub note-courses : {S C : Type 0} → RunsNoteCourses S C
 note-courses machine due told side start lines polls a b result over =
-    has-noted machine start side _ a b (λ answers. are-courses machine due told side start lines polls answers) result
-    over
+    has-noted machine start side (started_run machine due told side start lines polls) a b
+    (are-courses machine due told side start lines polls) result over
 
 -- ---- all of them, or the first ones
 

@@ -6,7 +6,7 @@ use Rattle.spool_slots.specs.Area.{area_break, end_of, first_at, first_of, messa
 use Rattle.spool_slots.specs.File.{file_in, slots_in, spool_break}
 use Rattle.spool_slots.specs.Front.{front_break, front_in, magic_break, mark_break, slots_break, slots_of}
 use Rattle.spool_slots.specs.Run.{IsRunFrom}
-use Rattle.spool_slots.specs.Slot.{Message, Slot, ahead_break, head_break, in_slot, is_open, message_of, slot_break, slot_in}
+use Rattle.spool_slots.specs.Slot.{Message, Slot, ahead_break, head_break, in_slot, is_open, message_of, slot_break, slot_in, slot_place}
 use Rattle.spool_slots.specs.declared.slot.SlotHead.{SlotHead}
 use Rattle.spool_works.specs.Found.{first_in}
 use Rattle.equipment_node.proofs.Found.{first-none, no-place, second-none}
@@ -214,7 +214,16 @@ pub record HasSlots (bytes : List ℕ) : Type 0 where
 
 slots-within : (front : List ℕ) (size : ℕ) → slots_break front size ≡ None
     → (0 < slots_of front) × (slots_of front ≤ 65535)
-slots-within front size none = (grind (arith, nat_tests, none), grind (arith, nat_tests, none))
+slots-within front size none = within (slots_of front) size (slot_place (slots_of front)) none
+  where
+    within :
+        (n size place : ℕ)
+        → (if nat_lt size 12 then Some size
+        else (if n == 0 then Some 8
+        else (if nat_lt 65535 n then Some 8 else (if nat_lt size place then Some size else None))))
+        ≡ None
+        → (0 < n) × (n ≤ 65535)
+    within n size place none = (grind (arith, nat_tests, none), grind (arith, nat_tests, none))
 
 front-slots : (front : List ℕ) (size : ℕ) → front_break front size ≡ None → slots_break front size ≡ None
 unfolding front_break

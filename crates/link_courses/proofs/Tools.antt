@@ -162,10 +162,10 @@ module _ (law : EquipmentKeepsItsLaw) (reports : ReportsAreOfTheirEvents) (spool
             replies = replies-noted (end_plan plan) (AreTried (end_plan plan)) noted done;
           }
 
-    over-so : (s : Story) (disk : DiskTold) (link : LinkTold) (out : SinkTold) (ended : Ending)
+    over-so : (disk : DiskTold) (link : LinkTold) (out : SinkTold) (ended : Ending)
         → RanOver plan file lines polls (bytes_told disk) link out ended
         → RanInCourse plan file lines polls link out ended
-    over-so s disk link out ended over =
+    over-so disk link out ended over =
         let start = over.start in
         let ran = over.ran in
         let a = before_run link out start.next in
@@ -225,7 +225,7 @@ module _ (law : EquipmentKeepsItsLaw) (reports : ReportsAreOfTheirEvents) (spool
           ran =
               over-so plans.equipment are.is.fits.equipment (file_in s.now.bytes) slots.some
               (omega (arith, slots.most)) (may-hold s.now.bytes sound bytes) lines (lines-told text lines script) polls
-              s disk link out was.ended (was.ran s told);
+              disk link out was.ended (was.ran s told);
         })
 
     file-kept :
