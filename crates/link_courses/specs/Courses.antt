@@ -6,7 +6,7 @@ use Rattle.line_schedule.specs.declared.script.ScriptStep.{ScriptStep}
 use Rattle.message_end.specs.Core.{Step}
 use Rattle.message_end.specs.Course.{Course, Meeting, course_of, notes_of}
 use Rattle.message_end.specs.Course.Course.{Reached, Stopped}
-use Rattle.message_end.specs.Course.Meeting as meeting
+use Rattle.message_end.specs.Course.Meeting.{Acts, Writes as WritesDown}
 use Rattle.message_end.specs.Ends.{Machine}
 use Rattle.trace_log.specs.Log.{Entry, Happening}
 use Rattle.trace_log.specs.Log.Entry.{Ended, Noted, Slipped}
@@ -24,11 +24,11 @@ use Rattle.end_run.specs.declared.ending.Ending.TheVariants as ending
 -- it makes a step where the run does, with the same input at the same moment; and what it sends is noted. It never
 -- starts anew, and loses no power
 abbrev pub met_in : {S C : Type 0} → Act S C → List (Meeting C)
-met_in (Stands at stops asked end) = meeting.Acts at.input at.moment ∷ []
+met_in (Stands at stops asked end) = Acts at.input at.moment ∷ []
 met_in Connects = []
 met_in (Polls until answer) = []
 met_in (Writes entries) = []
-met_in (Sends characters) = meeting.Writes characters ∷ []
+met_in (Sends characters) = WritesDown characters ∷ []
 
 -- all that it meets in these acts, the newest first
 abbrev pub met_by : {S C : Type 0} → List (Act S C) → List (Meeting C)
