@@ -10,13 +10,13 @@ use Rattle.message_end.specs.Core.Went.{Goes, Spent}
 use Rattle.message_end.specs.Course.{Course, Meeting, course_of, noted_behind, notes_of, went_on, with_meeting}
 use Rattle.message_end.specs.Course.Course.{Reached, Stopped}
 use Rattle.message_end.specs.Course.Meeting.{Acts, Writes as WritesDown}
-use Rattle.message_end.specs.Ends.{Asked, Input, Machine, wrote}
+use Rattle.message_end.specs.Ends.{Asked, Input, Machine}
 use Rattle.message_end.specs.Ends.Input.{Char, Command, Time}
 use Rattle.message_end.proofs.Growing.{behind-both}
 use Rattle.trace_log.specs.Log.{Entry, Happening}
 use Rattle.end_pair.specs.Noted.{noted_by}
-use Rattle.end_run.specs.Acts.{Act, log_of}
-use Rattle.end_run.specs.Pieces.{Piece, and_more, and_on, behind, still, stops}
+use Rattle.end_run.specs.Acts.{log_of}
+use Rattle.end_run.specs.Pieces.{Piece, and_more, and_on, stops}
 use Rattle.end_run.specs.Run.{begun, closed, polled, started_run, turned, upon}
 use Rattle.end_run.specs.Script.{ScriptLine, Telling, due_lines, later_lines}
 use Rattle.end_run.specs.Script.Telling.{IsOther, Stops, Tells}

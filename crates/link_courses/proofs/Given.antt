@@ -1,5 +1,5 @@
 -- That an end is given in a run what it takes: bytes of its link, and commands of its script.
-use Rattle.std.proofs.Common.{◌≡◌, sym, subst, zero, suc, ◌<◌, ℕ, List, [], ◌∷◌, ◌++◌, All, Option, Some, None}
+use Rattle.std.proofs.Common.{sym, subst, zero, suc, ℕ, List, [], ◌∷◌, ◌++◌, Option, Some, None}
 use Rattle.std.proofs.lemmas.List.Elements.{All-drop, All-head, All-tail, All-take}
 use Rattle.gl_base.specs.Events.{moment_after}
 use Rattle.gl_base.specs.declared.link.LinkIn.{LinkIn}

@@ -1,6 +1,6 @@
 -- That what the equipment has noted in a course keeps its laws, with a closing behind it and at each front.
-use Rattle.std.proofs.Common.{◌≡◌, refl, sym, ap, subst, ◌∙◌, ◌<◌, ◌^◌, ℕ, List, [], ◌∷◌, ◌++◌, inl, inr, Option, Some, None}
-use Rattle.message_end.specs.Core.{Step, Went}
+use Rattle.std.proofs.Common.{◌≡◌, sym, subst, ◌<◌, ◌^◌, ℕ, List, [], ◌∷◌, ◌++◌, inl, Option, Some, None}
+use Rattle.message_end.specs.Core.{Went}
 use Rattle.message_end.specs.Core.Went.{Goes, Spent}
 use Rattle.message_end.specs.Course.{Course, Meeting, broken_at, course_of, filled_at, noted_behind, notes_of, went_on, with_meeting}
 use Rattle.message_end.specs.Course.Course.{Reached, Stopped}

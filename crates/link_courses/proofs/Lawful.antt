@@ -5,7 +5,7 @@ use Rattle.message_end.specs.Core.Went.{Goes, Spent}
 use Rattle.message_end.specs.Course.{Course, Meeting, course_of, noted_behind, notes_of, went_on, with_meeting}
 use Rattle.message_end.specs.Course.Course.{Reached, Stopped}
 use Rattle.message_end.specs.Course.Meeting.{Acts, Breaks, Fills, LosesPower, Restarts, Writes}
-use Rattle.message_end.specs.Doings.{AreLawful, Doing, IsInTurn, own_of}
+use Rattle.message_end.specs.Doings.{AreLawful, Doing, IsInTurn}
 use Rattle.message_end.specs.Doings.Doing.{Calls, Does, Gives, Says}
 use Rattle.message_end.specs.Ends.{DoesStep, Input, IsMadeOf, KeepsLaw, Machine}
 use Rattle.message_end.specs.History.{noted_in}

@@ -1,5 +1,5 @@
 -- That what the output has of a run are the lines of what its course notes, or of what comes first of it.
-use Rattle.std.proofs.Common.{◌≡◌, ◌⊎◌, inl, inr, refl, sym, ap, subst, ◌∙◌, ℕ, List, [], ◌∷◌, ◌++◌, length, take, drop, append_assoc, append-nil, Option, Some, None}
+use Rattle.std.proofs.Common.{◌≡◌, inl, inr, refl, sym, ap, subst, ◌∙◌, ℕ, List, [], ◌∷◌, ◌++◌, take, drop, append_assoc, append-nil, Option, Some}
 use Rattle.std.proofs.lemmas.List.{take-append-drop}
 use Rattle.gl_base.specs.Sink.{with_bytes}
 use Rattle.gl_base.specs.declared.link.LinkIn.{LinkIn}
@@ -13,10 +13,10 @@ use Rattle.trace_log.specs.Text.{text_of}
 use Rattle.end_pair.specs.Noted.{noted_by}
 use Rattle.end_run.specs.Acts.{Act, lines_of, log_of}
 use Rattle.end_run.specs.Acts.Act.{Stands, Writes}
-use Rattle.end_run.specs.Outcome.{Did, DiskFails, Does, IsSpent, LinkFails, Made, MadePart, PutsLast, PutsShort, RunsOver, WriteFails}
+use Rattle.end_run.specs.Outcome.{Does, PutsLast, RunsOver}
 use Rattle.end_run.specs.Pieces.{Piece}
 use Rattle.end_run.specs.Run.{started_run}
-use Rattle.end_run.specs.Scenes.{Scene, written}
+use Rattle.end_run.specs.Scenes.{Scene}
 use Rattle.end_run.specs.declared.ending.Ending.{Ending}
 use Rattle.end_run.specs.declared.ending.Ending.TheVariants.{Closed, DiskFailed, LinkFailed, NoMemory, NumbersSpent, Stopped, Turns, WriteFailed}
 use Rattle.link_courses.specs.Courses.{AreNotesOf, IsCourse, met_by, with_closing}

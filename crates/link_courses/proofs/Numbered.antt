@@ -2,7 +2,7 @@
 use Rattle.std.proofs.Common.{◌≡◌, ℕ, zero, suc, ◌+◌, ◌^◌, ◌%◌, ◌<◌, ◌≤◌, ◌==◌, ◌&&◌, nat_le, nat_lt, Bool, true, false, if◌then◌else◌, List, [], ◌∷◌, length, Option, Some, None, refl, sym, ap, subst, ◌∙◌, arith, ◌⊎◌, inl, inr, All}
 use Rattle.std.proofs.lemmas.Bool.{cases_eq}
 use Rattle.std.proofs.lemmas.Bool.Decides.{nat_tests}
-use Rattle.spool_slots.specs.Area.{area_break, end_of, first_at, first_of, messages_below, or_else, put_by_number, put_if}
+use Rattle.spool_slots.specs.Area.{area_break, end_of, first_at, messages_below, or_else, put_by_number, put_if}
 use Rattle.spool_slots.specs.File.{file_in, slots_in, spool_break}
 use Rattle.spool_slots.specs.Front.{front_break, front_in, magic_break, mark_break, slots_break, slots_of}
 use Rattle.spool_slots.specs.Run.{IsRunFrom}
@@ -69,7 +69,8 @@ well-open n k slot none is =
     well-head n k slot.head (ap (λ (b : Bool). if b then head_break n k slot.head else None) (sym is) ∙ none)
 
 below-end :
-    (b : Bool) (end number : ℕ) → (if b && nat_le end number then Some 1 else None) ≡ None → b ≡ true → number < end
+    (b : Bool) (end number : ℕ) → if◌then◌else◌ {A = Option ℕ} (b && nat_le end number) (Some 1) None ≡ None
+    → b ≡ true → number < end
 below-end true end number none is = grind (arith, nat_tests, none)
 below-end false end number none is = absurd (cc)
 
@@ -184,11 +185,12 @@ least (x ∷ list) up each = ((omega arith, each.0), go list up.0 each.1)
 
 length-put : (m : Message) (list : List Message) → length (put_by_number m list) ≡ suc (length list)
 length-put m [] = refl
-length-put m (x ∷ list) = go (nat_lt m.number x.number)
+length-put m (x ∷ list) = go (nat_lt m.number x.number) (length-put m list)
   where
-    go : (b : Bool) → length (if b then m ∷ x ∷ list else x ∷ put_by_number m list) ≡ suc (suc (length list))
-    go true = refl
-    go false = ap suc (length-put m list)
+    go : (b : Bool) → length (put_by_number m list) ≡ suc (length list)
+        → length (if b then m ∷ x ∷ list else x ∷ put_by_number m list) ≡ suc (suc (length list))
+    go true same = refl
+    go false same = ap suc same
 
 no-longer : (slot : ℕ → Slot) (n : ℕ) → length (messages_below slot n) ≤ n
 no-longer slot zero = omega arith

@@ -1,5 +1,5 @@
 -- That replies go in the steps of their primaries, by the notes as by the doings.
-use Rattle.std.proofs.Common.{◌≡◌, refl, sym, ap, subst, ◌∙◌, ℕ, List, [], ◌∷◌, ◌++◌, Option, Some, None}
+use Rattle.std.proofs.Common.{◌≡◌, refl, sym, ap, subst, ◌∙◌, ℕ, List, [], ◌∷◌, Option}
 use Rattle.gl_base.specs.declared.side.Side.{Side}
 use Rattle.gl_base.specs.declared.side.Side.TheVariants.{Equipment, Host}
 use Rattle.message_end.specs.Course.{noted_behind}
@@ -17,7 +17,7 @@ use Rattle.message_flow.specs.Message.{is_primary}
 use Rattle.trace_log.specs.InStep.{noted_in_step}
 use Rattle.trace_log.specs.Log.{Happening}
 use Rattle.trace_log.specs.Names.{Spooled}
-use Rattle.link_courses.specs.Lawful.{AreDone, AreOfDoings}
+use Rattle.link_courses.specs.Lawful.{AreDone}
 use Rattle.link_courses.proofs.Lawful.{doing-last, with_note}
 
 -- who asks by the notes of a step is who asks by its doings; and replies are of their steps

@@ -1,5 +1,5 @@
 -- That each run of the equipment over a link keeps its laws, over a disk that tells its bytes.
-use Rattle.std.proofs.Common.{◌≡◌, ◌⊎◌, refl, sym, ap, subst, ◌∙◌, ◌<◌, ◌≤◌, ◌^◌, ℕ, Bool, true, false, List, [], ◌∷◌, ◌++◌, length, inl, inr, Option, Some, None, All, if◌then◌else◌, arith}
+use Rattle.std.proofs.Common.{◌≡◌, ◌⊎◌, refl, ap, subst, ◌∙◌, ◌<◌, ◌^◌, ℕ, Bool, true, false, List, [], ◌∷◌, ◌++◌, inl, inr, Option, Some, None, All, if◌then◌else◌, arith}
 use Rattle.command_words.specs.Asked.{Asked, Equipment}
 use Rattle.disk_base.specs.Story.{Story}
 use Rattle.gl_base.specs.Told.{FilesTold, SinkTold, SourceTold}
@@ -15,7 +15,6 @@ use Rattle.message_end.specs.Core.Went.{Goes, Spent}
 use Rattle.message_end.specs.Course.{Course, Meeting, course_of, notes_of, with_meeting}
 use Rattle.message_end.specs.Course.Course.{Reached, Stopped}
 use Rattle.message_end.specs.Course.Meeting.{Acts, Breaks, Fills, LosesPower, Restarts, Writes}
-use Rattle.message_end.specs.Doings.{Doing}
 use Rattle.message_end.specs.Ends.{KeepsLaw}
 use Rattle.trace_log.specs.Commands.{ToolCommandFits}
 use Rattle.trace_log.specs.Log.{Happening}
@@ -25,7 +24,6 @@ use Rattle.equipment_tables.specs.declared.plan.Plans.{Plans}
 use Rattle.equipment_tables.specs.Plan.{EquipmentPlanFits}
 use Rattle.spool_show.specs.Told.{DiskTold}
 use Rattle.spool_slots.specs.File.{SpoolFile, file_in, spool_break}
-use Rattle.spool_slots.specs.Slot.{Message}
 use Rattle.tool_law.specs.Laws.{DidOf, EquipmentKeepsItsLaw}
 use Rattle.tool_law.specs.Tried.{AreTried}
 use Rattle.tool_reports.specs.Laws.{ReportsAreOfTheirEvents}
@@ -40,20 +38,19 @@ use Rattle.end_run.specs.Pieces.{Piece}
 use Rattle.end_run.specs.Script.{AreTold, ScriptLine}
 use Rattle.end_run.specs.Sides.{told_equipment}
 use Rattle.end_run.specs.declared.ending.Ending.{Ending}
-use Rattle.end_run.specs.declared.ending.Ending.TheVariants as ending
 use Rattle.end_run.proofs.Sides.{are_told_tool}
 use Rattle.gemline_app.specs.Equipment.{EquipmentComes, FileRuns, RanOver, WasRunOn, bytes_told, equipment_due, equipment_run, linked_machine}
 use Rattle.gemline_app.specs.Files.{PlansAre}
 use Rattle.gemline_app.specs.Gemline.{RunComes}
 use Rattle.gemline_app.specs.Inputs.{WasRead}
 use Rattle.gemline_app.specs.LinkTold.{LinkTold}
-use Rattle.gemline_app.specs.Linked.{IsIdle, ScriptComes, ScriptRuns, after_run, before_run}
+use Rattle.gemline_app.specs.Linked.{IsIdle, after_run, before_run}
 use Rattle.gemline_app.specs.Words.{script_limit}
 use Rattle.gemline_app.specs.declared.outcome.Outcome.{Outcome}
 use Rattle.link_courses.specs.Courses.{ComesTo, IsCourse, met_by, with_closing}
 use Rattle.link_courses.specs.Equipment.{EquipmentsKeepTheirLaws, KeepsLaws, RanInCourse, RanLawfully}
-use Rattle.link_courses.specs.Lawful.{AreDone, GiveBytes, KeepsLawOfEnd}
-use Rattle.link_courses.specs.Noting.{AreThere, HasNoted, IsFirstOf}
+use Rattle.link_courses.specs.Lawful.{GiveBytes, KeepsLawOfEnd}
+use Rattle.link_courses.specs.Noting.{HasNoted}
 use Rattle.link_courses.proofs.Coming.{run-so}
 use Rattle.link_courses.proofs.Given.{run-given}
 use Rattle.link_courses.proofs.Kept.{closing-keeps, first-keeps}

@@ -1,6 +1,6 @@
 -- What the output has of a run over a link: the lines of all that its course notes, or of what comes first of it (this
 -- profile).
-use Rattle.std.specs.Prelude.{◌≡◌, ◌++◌, ℕ, List, [], Option, Some}
+use Rattle.std.specs.Prelude.{◌≡◌, ◌++◌, ℕ, List, Option, Some}
 use Rattle.gl_base.specs.Sink.{with_bytes}
 use Rattle.gl_base.specs.declared.link.LinkIn.{LinkIn}
 use Rattle.gl_base.specs.declared.side.Side.{Side}

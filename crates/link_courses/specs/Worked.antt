@@ -1,6 +1,6 @@
 -- Runs over a link in examples that can be followed by hand: one that is a course of its end, and others that are none.
 -- Entries have the newest first.
-use Rattle.std.specs.Prelude.{ℕ, ◌+◌, List, [], ◌∷◌, Option, Some, None}
+use Rattle.std.specs.Prelude.{ℕ, ◌+◌, List, [], ◌∷◌, Some, None}
 use Rattle.gl_base.specs.declared.side.Side.TheVariants as side
 use Rattle.line_end.specs.State.{LineState}
 use Rattle.message_end.specs.Core.{Step, Went}
@@ -12,7 +12,6 @@ use Rattle.trace_log.specs.Log.Entry.{Noted}
 use Rattle.end_run.specs.Acts.{Act}
 use Rattle.end_run.specs.Acts.Act.{Connects, Stands, Writes}
 use Rattle.end_run.specs.Pieces.{Piece}
-use Rattle.end_run.specs.declared.ending.Ending.{Ending}
 use Rattle.end_run.specs.declared.ending.Ending.TheVariants as ending
 use Rattle.link_courses.specs.Courses.{IsCourse}
 
