@@ -239,8 +239,8 @@ module _ {S C : Type 0} (machine : Machine S C) (start : Step S Happening) (side
         (more-so [] [] (begun machine due told side start) (polled machine due told side polls lines 0 answers)
         begun-so (polled-so polls lines 0 answers))
         in
-        let all = subst (λ (l : List Entry). IsSo run.ended run.end l (met_by run.acts)) (append-nil (log_of run.acts)) so
-        in
+        let all =
+        subst (λ (l : List Entry). IsSo run.ended run.end l (met_by run.acts)) (append-nil (log_of run.acts)) so in
         record { notes = all.notes; noted = all.noted; comes = all.comes }
 
 pub are-courses : {S C : Type 0} → RunsAreCourses S C

@@ -192,7 +192,8 @@ module _ {S C : Type 0} (plan : EndPlan) (did : ℕ → List Doing → S → Typ
 
   -- ---- with what holds of doings that have made a state
 
-  module _ (Such : List Doing → Type 0) (such : (base : ℕ) (doings : List Doing) (s : S) → did base doings s → Such doings)
+  module _ (Such : List Doing → Type 0)
+      (such : (base : ℕ) (doings : List Doing) (s : S) → did base doings s → Such doings)
       (older : (doing : Doing) (before : List Doing) → Such (doing ∷ before) → Such before)
       (closed : (doings : List Doing) → Such doings → Such (Says Happening.Closed ∷ doings)) where
     -- also with the closing behind them

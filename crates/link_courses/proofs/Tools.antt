@@ -97,20 +97,21 @@ is-course start lines polls answers =
 the-step : (one other : Step EquipmentView Happening) → Goes one ≡ Goes other → one ≡ other
 the-step one other same = cc
 
+goes-on :
+    (b : Bool) (spent begun start : Step EquipmentView Happening)
+    → (if b then Spent spent else Goes begun) ≡ Goes start → begun ≡ start
+goes-on true spent begun start is = absurd (cc)
+goes-on false spent begun start is = the-step begun start is
+
 -- a start that goes is that over the file
 start-is :
     (plan : EquipmentPlan) (file : SpoolFile) (start : Step EquipmentView Happening)
     → starts plan file.slots file.list file.mark ≡ Goes start
     → started_on plan file.slots file.list file.mark ≡ start
-start-is plan file start = go (is_marked_out file.mark)
-  where
-    go : (b : Bool)
-        → (if b then Spent (at_first (record (started_on plan file.slots file.list file.mark).next { mark = file.mark }))
-        else Goes (started_on plan file.slots file.list file.mark))
-        ≡ Goes start
-        → started_on plan file.slots file.list file.mark ≡ start
-    go true is = absurd (cc)
-    go false is = the-step (started_on plan file.slots file.list file.mark) start is
+start-is plan file start is =
+    goes-on (is_marked_out file.mark)
+    (at_first (record (started_on plan file.slots file.list file.mark).next { mark = file.mark }))
+    (started_on plan file.slots file.list file.mark) start is
 
 -- ---- a run keeps the laws
 
