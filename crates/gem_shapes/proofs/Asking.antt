@@ -86,6 +86,7 @@ by_item primary.S1F15 body r a b c d e h = absurd (c refl)
 by_item primary.S1F17 body r a b c d e h = absurd (d refl)
 by_item primary.S2F13 body r a b c d e h = h
 by_item primary.S2F15 body r a b c d e h = h
+by_item primary.S2F23 body r a b c d e h = h
 by_item primary.S2F29 body r a b c d e h = h
 by_item primary.S2F33 body r a b c d e h = h
 by_item primary.S2F35 body r a b c d e h = h

@@ -4,7 +4,7 @@ use Rattle.std.specs.Option.{option_and_then, option_map}
 use Rattle.std.proofs.lemmas.List.{append-nil}
 use Rattle.secs_items.specs.declared.item.Item.{Item}
 use Rattle.secs_items.specs.Spelling.{Spells, SpellsEach, SpellsFront}
-use Rattle.gem_shapes.specs.Elements.{all_of, below, two_of}
+use Rattle.gem_shapes.specs.Elements.{all_of, below, five_of, two_of}
 use Rattle.gem_shapes.specs.Parts.{AreSpelled, Begins}
 
 -- ---- L,2
@@ -42,6 +42,51 @@ two_found (Some (i ∷ j ∷ [])) count bytes first second rest last s both fron
     let g = behind j [] f.1 in
     rw (f.0, g.0) refl
 two_found (Some (i ∷ j ∷ k ∷ items)) count bytes first second rest last s both front behind = absurd (omega (arith, s.0, both))
+
+-- ---- L,5
+
+-- behind these items so many more are spelled
+pub record AreBehind (o : Option (List Item)) (before : List Item) (left : ℕ) (rest : List ℕ) : Type 0 where
+  pub items : List Item
+  pub all : o ≡ Some (before ++ items)
+  pub long : length items ≡ left
+  pub spelled : SpellsEach Spells items rest
+
+pub none_before : (o : Option (List Item)) (count : ℕ) (bytes : List ℕ) → AreSpelled o (Some (count, bytes)) → AreBehind o [] count bytes
+none_before None count bytes s = absurd s
+none_before (Some items) count bytes s = record { items = items; all = refl; long = sym s.0; spelled = s.1 }
+
+pub begins_behind : (o : Option (List Item)) (before : List Item) (left : ℕ) (rest : List ℕ) → AreBehind o before left rest → 0 < left → Begins rest
+begins_behind o before left rest are more = go are.items are.long are.spelled
+  where
+    go : (items : List Item) → length items ≡ left → SpellsEach Spells items rest → Begins rest
+    go [] long s = absurd (omega (arith, long, more))
+    go (i ∷ items) long s = record { first = i; others = items; spelled = s }
+
+pub one_more : (o : Option (List Item)) (before : List Item) (left : ℕ) (rest : List ℕ) (found : Item) (behind : List ℕ)
+    → AreBehind o before (left + 1) rest → IsFront rest found behind → AreBehind o (before ++ found ∷ []) left behind
+one_more o before left rest found behind are front = go are.items are.all are.long are.spelled
+  where
+    go : (items : List Item) → o ≡ Some (before ++ items) → length items ≡ left + 1 → SpellsEach Spells items rest
+        → AreBehind o (before ++ found ∷ []) left behind
+    go [] all long s = absurd (omega (arith, long))
+    go (i ∷ items) all long s =
+        let f = front i items s in
+        record {
+          items = items;
+          all = all ∙ ap (λ (j : Item). Some (before ++ j ∷ items)) (sym f.0) ∙ ap Some (sym (append_assoc before (found ∷ []) items));
+          long = omega (arith, long);
+          spelled = f.1;
+        }
+
+pub five_found : (o : Option (List Item)) (a b c d e : Item) (rest : List ℕ) → AreBehind o (a ∷ b ∷ c ∷ d ∷ e ∷ []) 0 rest
+    → Some (a, b, c, d, e) ≡ option_and_then five_of o
+five_found o a b c d e rest are = go are.items are.long are.all
+  where
+    go : (items : List Item) → length items ≡ 0 → o ≡ Some ((a ∷ b ∷ c ∷ d ∷ e ∷ []) ++ items)
+        → Some (a, b, c, d, e) ≡ option_and_then five_of o
+    go [] long all = sym (ap (option_and_then five_of) all)
+    go (i ∷ items) long all = absurd (omega (arith, long))
 
 -- ---- L,n
 

@@ -110,6 +110,27 @@ two item = option_and_then two_of (list_of (out-Item item))
 abbrev pub both : {T U : Type 0} → (Item → Option T) → (Item → Option U) → Item → Option (T × U)
 both read read_second item = option_and_then (λ items. option_zip (read items.0) (read_second items.1)) (two item)
 
+-- the items of L,5
+abbrev pub five_of : List Item → Option (Item × Item × Item × Item × Item)
+five_of (first ∷ second ∷ third ∷ fourth ∷ fifth ∷ []) = Some (first, second, third, fourth, fifth)
+five_of _ = None
+
+abbrev pub five_items : Item → Option (Item × Item × Item × Item × Item)
+five_items item = option_and_then five_of (list_of (out-Item item))
+
+-- the five values, where each is there
+abbrev pub all_five :
+    {A B C D E : Type 0} → Option A → Option B → Option C → Option D → Option E → Option (A × B × C × D × E)
+all_five (Some a) (Some b) (Some c) (Some d) (Some e) = Some (a, b, c, d, e)
+all_five _ _ _ _ _ = None
+
+-- L,5 of five such items
+abbrev pub five :
+    {A B C D E : Type 0} → (Item → Option A) → (Item → Option B) → (Item → Option C) → (Item → Option D)
+    → (Item → Option E) → Item → Option (A × B × C × D × E)
+five first second third fourth fifth item =
+    option_and_then (λ x. all_five (first x.0) (second x.1) (third x.2) (fourth x.3) (fifth x.4)) (five_items item)
+
 -- any item at all
 abbrev pub anything : Item → Option (Unit {0})
 anything item = Some tt

@@ -13,6 +13,7 @@ stream_and_function primary.S1F15 = (1, 15)
 stream_and_function primary.S1F17 = (1, 17)
 stream_and_function primary.S2F13 = (2, 13)
 stream_and_function primary.S2F15 = (2, 15)
+stream_and_function primary.S2F23 = (2, 23)
 stream_and_function primary.S2F29 = (2, 29)
 stream_and_function primary.S2F33 = (2, 33)
 stream_and_function primary.S2F35 = (2, 35)
@@ -33,9 +34,9 @@ stream_and_function primary.S10F5 = (10, 5)
 abbrev pub primaries : List Primary
 primaries =
     primary.S1F1 ∷ primary.S1F3 ∷ primary.S1F11 ∷ primary.S1F13 ∷ primary.S1F15 ∷ primary.S1F17 ∷ primary.S2F13
-    ∷ primary.S2F15 ∷ primary.S2F29 ∷ primary.S2F33 ∷ primary.S2F35 ∷ primary.S2F37 ∷ primary.S2F39 ∷ primary.S2F41
-    ∷ primary.S2F43 ∷ primary.S5F3 ∷ primary.S5F5 ∷ primary.S5F7 ∷ primary.S6F15 ∷ primary.S6F19 ∷ primary.S6F23
-    ∷ primary.S10F3 ∷ primary.S10F5 ∷ []
+    ∷ primary.S2F15 ∷ primary.S2F23 ∷ primary.S2F29 ∷ primary.S2F33 ∷ primary.S2F35 ∷ primary.S2F37 ∷ primary.S2F39
+    ∷ primary.S2F41 ∷ primary.S2F43 ∷ primary.S5F3 ∷ primary.S5F5 ∷ primary.S5F7 ∷ primary.S6F15 ∷ primary.S6F19
+    ∷ primary.S6F23 ∷ primary.S10F3 ∷ primary.S10F5 ∷ []
 
 abbrev pub has_stream : ℕ → Primary → Bool
 has_stream stream p = (stream_and_function p).0 == stream

@@ -13,7 +13,7 @@ use Rattle.gem_shapes.specs.declared.request.Request.{Request}
 use Rattle.gem_shapes.specs.declared.request.Request.TheVariants as request
 use Rattle.gem_shapes.specs.declared.request.TablesRequest.{TablesRequest}
 use Rattle.gem_shapes.specs.declared.request.TablesRequest.TheVariants as tables_request
-use Rattle.gem_shapes.specs.Elements.{anything, both, code, each, flag, identifier, identifier_or_all, identifiers, setting, small_number, text}
+use Rattle.gem_shapes.specs.Elements.{anything, both, code, each, five, flag, identifier, identifier_or_all, identifiers, setting, small_number, text}
 use Rattle.gem_shapes.specs.Primaries.{primary_with}
 
 -- an entry of S2F33: L,2 RPTID L,b VID
@@ -44,6 +44,11 @@ spool_request rsdc =
     else if rsdc == 1 then Some request.PurgeSpool
     else None
 
+-- S2F23: L,5 TRID DSPER TOTSMP REPGSZ L,n SVID, of which DSPER is any A (SEMI E5, S2F23)
+abbrev pub trace_request : Item → Option Request
+trace_request item =
+    option_map (λ x. request.Trace x.0 x.1 x.2 x.3 x.4) (five identifier text identifier identifier (each identifier) item)
+
 -- The shape of a body: anything at all; nothing, as no byte or as an empty list (this profile); or one item.
 pub data Shape : Type 0 where
   Anything : (asked : Request) → Shape
@@ -68,6 +73,7 @@ shape_of primary.S1F15 = Nothing request.GoOffline
 shape_of primary.S1F17 = Nothing request.GoOnline
 shape_of primary.S2F13 = item_shape tables_request.ConstantValues (each identifier)
 shape_of primary.S2F15 = item_shape tables_request.SetConstants (each (both identifier setting))
+shape_of primary.S2F23 = OneItem trace_request
 shape_of primary.S2F29 = item_shape tables_request.ConstantNames (each identifier)
 shape_of primary.S2F33 = item_shape (λ x. tables_request.Define x.0 x.1) (both identifier (each definition))
 shape_of primary.S2F35 = item_shape (λ x. tables_request.Link x.0 x.1) (both identifier (each linking))

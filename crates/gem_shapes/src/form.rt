@@ -2,11 +2,11 @@
 
 ghost use Rattle.std.specs.Prelude.{◌≡◌, ℕ, ◌^◌, List, Option, map, IfOk};
 ghost use Rattle.secs_items.specs.declared.item.Item.{Item, out-Item};
-ghost use Rattle.gem_shapes.specs.Elements.{anything, below, both, all_of, code, each, flag, identifier, identifier_or_all, identifiers, one_or_all, setting, small_number, text};
+ghost use Rattle.gem_shapes.specs.Elements.{anything, below, both, all_of, code, each, five, flag, identifier, identifier_or_all, identifiers, one_or_all, setting, small_number, text};
 ghost use Rattle.gem_shapes.specs.Requests.{definition, linking, rule_entry};
 
 use crate::entries::{Definition, Linking, RuleEntry};
-use crate::part::{Part, Text, front_of, two_of};
+use crate::part::{Part, Text, five_of, front_of, two_of};
 use gl_base::{NoMemory, Row};
 use secs_items::Item;
 use std::alloc::Global;
@@ -31,6 +31,11 @@ pub(crate) struct Each<F> {
 /// L,2 of items of two forms.
 pub(crate) struct Both<F, G> {
     of: PhantomData<(F, G)>,
+}
+
+/// L,5 of items of five forms.
+pub(crate) struct Five<A, B, C, D, E> {
+    of: PhantomData<(A, B, C, D, E)>,
 }
 
 /// An identifier, as VID and CEID, and DATALENGTH.
@@ -99,6 +104,36 @@ impl<'a, F: Form<'a>, G: Form<'a>> Form<'a> for Both<F, G> {
             return Ok(None);
         };
         Ok(Some((first, second)))
+    }
+}
+
+impl<'a, A: Form<'a>, B: Form<'a>, C: Form<'a>, D: Form<'a>, E: Form<'a>> Form<'a>
+    for Five<A, B, C, D, E>
+{
+    type Value = (A::Value, B::Value, C::Value, D::Value, E::Value);
+
+    ghost value_of = { five A.value_of B.value_of C.value_of D.value_of E.value_of };
+
+    fn read(alloc: Global, part: &Part<'a>) -> Result<Option<Self::Value>, NoMemory> {
+        let Some((first, second, third, fourth, fifth)) = five_of(part) else {
+            return Ok(None);
+        };
+        let Some(first) = A::read(alloc, &first)? else {
+            return Ok(None);
+        };
+        let Some(second) = B::read(alloc, &second)? else {
+            return Ok(None);
+        };
+        let Some(third) = C::read(alloc, &third)? else {
+            return Ok(None);
+        };
+        let Some(fourth) = D::read(alloc, &fourth)? else {
+            return Ok(None);
+        };
+        let Some(fifth) = E::read(alloc, &fifth)? else {
+            return Ok(None);
+        };
+        Ok(Some((first, second, third, fourth, fifth)))
     }
 }
 

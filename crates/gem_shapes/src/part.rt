@@ -6,7 +6,7 @@ ghost use Rattle.secs_items.specs.declared.item.Item.{Item, out-Item};
 ghost use Rattle.secs_items.specs.Checking.{check_of};
 ghost use Rattle.secs_items.specs.Spelling.{Spells, SpellsEach};
 ghost use Rattle.secs_items.specs.Views.{number_of};
-ghost use Rattle.gem_shapes.specs.Elements.{byte_of, flag_of, is_empty_list, list_of, numbers_of, one_flag_of, one_of, text_of, two};
+ghost use Rattle.gem_shapes.specs.Elements.{byte_of, five_items, flag_of, is_empty_list, list_of, numbers_of, one_flag_of, one_of, text_of, two};
 ghost use Rattle.gem_shapes.specs.Parts.{AreSpelled, Begins};
 
 use gl_base::NoMemory;
@@ -127,6 +127,25 @@ pub(crate) fn two_of<'a>(part: &Part<'a>) -> Option<(Part<'a>, Part<'a>)>
     let (first, rest) = front_of(bytes);
     let (second, _) = front_of(rest);
     Some((first, second))
+}
+
+/// The five items of L,5.
+pub(crate) fn five_of<'a>(
+    part: &Part<'a>,
+) -> Option<(Part<'a>, Part<'a>, Part<'a>, Part<'a>, Part<'a>)>
+    ensures { option_map (λ parts. (parts.0.item, parts.1.item, parts.2.item, parts.3.item, parts.4.item)) result
+        ≡ five_items part.now.item }
+{
+    let (count, bytes) = part.list()?;
+    if count != 5 {
+        return None;
+    }
+    let (first, rest) = front_of(bytes);
+    let (second, rest) = front_of(rest);
+    let (third, rest) = front_of(rest);
+    let (fourth, rest) = front_of(rest);
+    let (fifth, _) = front_of(rest);
+    Some((first, second, third, fourth, fifth))
 }
 
 /// The one byte.

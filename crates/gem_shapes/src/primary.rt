@@ -14,6 +14,7 @@ pub enum Primary {
     S1F17,
     S2F13,
     S2F15,
+    S2F23,
     S2F29,
     S2F33,
     S2F35,
@@ -66,6 +67,7 @@ impl Primary {
         Some(match function {
             13 => Primary::S2F13,
             15 => Primary::S2F15,
+            23 => Primary::S2F23,
             29 => Primary::S2F29,
             33 => Primary::S2F33,
             35 => Primary::S2F35,

@@ -8,7 +8,7 @@ ghost use Rattle.gem_shapes.specs.Requests.Shape.{Nothing};
 
 use crate::entries::{Definition, Linking, RuleEntry};
 use crate::form::{
-    Anything, Both, Code, Each, Flag, Form, Identifier, IdentifierOrAll, Identifiers, Setting,
+    Anything, Both, Code, Each, Five, Flag, Form, Identifier, IdentifierOrAll, Identifiers, Setting,
     SmallNumber, Words,
 };
 use crate::part::{Part, checked_part, two_of};
@@ -113,6 +113,7 @@ impl Primary {
             Primary::S1F11 => status_names(alloc, &part),
             Primary::S2F13 => constant_values(alloc, &part),
             Primary::S2F15 => set_constants(alloc, &part),
+            Primary::S2F23 => trace(alloc, &part),
             Primary::S2F29 => constant_names(alloc, &part),
             Primary::S2F33 => define(alloc, &part),
             Primary::S2F35 => link(alloc, &part),
@@ -164,6 +165,21 @@ fn set_constants<'a>(alloc: Global, part: &Part<'a>) -> Result<Option<Request<'a
 {
     match Each::<Both<Identifier, Setting>>::read(alloc, part)? {
         Some(list) => Ok(Some(Request::OfTables(TablesRequest::SetConstants(list)))),
+        None => Ok(None),
+    }
+}
+
+fn trace<'a>(alloc: Global, part: &Part<'a>) -> Result<Option<Request<'a>>, NoMemory>
+    ensures { IfOk result (λ found. found ≡ request_in (shape_of primary.S2F23) part.now.item) }
+{
+    match Five::<Identifier, Words, Identifier, Identifier, Each<Identifier>>::read(alloc, part)? {
+        Some((trid, dsper, total, group, svids)) => Ok(Some(Request::Trace {
+            trid,
+            dsper,
+            total,
+            group,
+            svids,
+        })),
         None => Ok(None),
     }
 }

@@ -4,8 +4,8 @@ use crate::entries::{Definition, Linking, RuleEntry};
 use crate::part::{Params, Text};
 use gl_base::Row;
 
-/// What a message of the host asks the equipment for. The tables answer most of it; what changes the states, or sends
-/// or purges the spool, stands for itself.
+/// What a message of the host asks the equipment for. The tables answer most of it; what changes the states, sends or
+/// purges the spool, or sets a trace, stands for itself.
 #[derive(Drop)]
 pub enum Request<'a> {
     /// What the tables answer.
@@ -20,6 +20,14 @@ pub enum Request<'a> {
     TransmitSpool,
     /// S6F23 with RSDC 1.
     PurgeSpool,
+    /// S2F23: so many samples of these variables, one each period, and so many of them in each S6F1.
+    Trace {
+        trid: u32,
+        dsper: Text<'a>,
+        total: u32,
+        group: u32,
+        svids: Row<u32>,
+    },
 }
 
 /// What a message of the host asks the tables of the equipment for. Identifiers and texts stand in the order of the
