@@ -124,6 +124,13 @@ impl Tables {
         })
     }
 
+    /// The variables and constants.
+    pub fn vars(&self) -> &Vars
+        ensures { result.now ≡ (state_of self.now).vars }
+    {
+        &self.vars
+    }
+
     /// The tool sets a variable. `false`: the plan has no such variable, or the value isn't one for it, and nothing
     /// changes.
     pub fn set(&mut self, alloc: Global, vid: u32, value: &Item) -> Result<bool, NoMemory>
