@@ -2,12 +2,13 @@
 use Rattle.std.specs.Prelude.{refl}
 use Rattle.gate_cell.specs.Cell.{copy_bytes}
 use Rattle.line_end.specs.Frames.{block_in, is_frame, sum_cause}
+use Rattle.tool_step.specs.Sampling.{sample_parts}
 use Rattle.tool_step.specs.Step.{late_parts}
 use Rattle.spool_works.specs.WorkedCalls.{CallsOfWorks}
 use Rattle.tool_step.specs.WorkedSpool.{FullSpools, LosesInOrder, PutsTheLast, SpoolingBegins, UnloadsInOrder}
 
 pub spooling-begins : SpoolingBegins
-unfolding late_parts
+unfolding late_parts sample_parts
 spooling-begins = refl
 
 pub full-spools : FullSpools
@@ -17,11 +18,11 @@ pub loses-in-order : LosesInOrder
 loses-in-order = record { ended = refl; then = refl; stands = refl }
 
 pub puts-the-last : PutsTheLast
-unfolding late_parts
+unfolding late_parts sample_parts
 puts-the-last = record { spent = refl; notes = refl; stands = refl; works = refl }
 
 pub unloads-in-order : UnloadsInOrder
-unfolding block_in is_frame sum_cause late_parts
+unfolding block_in is_frame sum_cause late_parts sample_parts
 unloads-in-order = record { first = refl; left = refl; second = refl; none = refl; inactive = refl }
 
 pub calls-of-works : CallsOfWorks

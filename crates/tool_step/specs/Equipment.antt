@@ -20,7 +20,7 @@ use Rattle.spool_ledger.specs.Ledger.{LedgerView, carried_out, new_ledger, stood
 use Rattle.equipment_tables.specs.declared.plan.EquipmentPlan.{EquipmentPlan}
 use Rattle.equipment_tables.specs.Tables.{planned_tables}
 use Rattle.tool_step.specs.declared.kind.Kind.{Kind}
-use Rattle.tool_step.specs.Own.{OwnView, ToolPart, with_ledger}
+use Rattle.tool_step.specs.Own.{OwnView, ToolPart, TracingView, with_ledger}
 use Rattle.tool_step.specs.Step.{end_plan, first_parts, last_parts}
 use Rattle.spool_works.specs.Found.{spooled_of, first_in, found_in}
 
@@ -116,6 +116,10 @@ act s input now = and_then (settled_went (begun_step s input now)) (ended_step n
 
 -- ---- starts
 
+-- no trace outlives a start (this profile)
+abbrev pub no_traces : TracingView
+no_traces = record { running = []; made = []; for_grant = [] }
+
 -- with what the spool holds
 abbrev pub new_own : EquipmentPlan → LedgerView → OwnView
 new_own plan ledger = record {
@@ -127,6 +131,7 @@ new_own plan ledger = record {
   reports = [];
   ledger = ledger;
   tried = None;
+  tracing = no_traces;
   events = 0;
   has_begun = false;
 }

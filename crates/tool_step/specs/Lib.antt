@@ -11,6 +11,7 @@ pub mod Messages
 pub mod Own
 pub mod Replies
 pub mod Reports
+pub mod Sampling
 pub mod Sent
 pub mod Spooling
 pub mod States
@@ -20,3 +21,4 @@ pub mod Tool
 pub mod WorkedLosses
 pub mod WorkedRequests
 pub mod WorkedSpool
+pub mod WorkedTraces

@@ -27,6 +27,7 @@ use Rattle.equipment_tables.specs.Answers.{answer_of, established_of, lines_of}
 use Rattle.tool_step.specs.Own.{OwnView, ToolCommands, ToolDuty, ToolTurn, is_communicating, is_enabled_in, is_local, is_online, turn_of, with_control, with_tables}
 use Rattle.tool_step.specs.Replies.{secondary_turn}
 use Rattle.equipment_tables.specs.Requests.{request_of}
+use Rattle.tool_step.specs.Sampling.{trace_turn}
 use Rattle.tool_step.specs.Sent.{abort_duty, answer_duties, error_duty, text_of}
 use Rattle.tool_step.specs.Spooling.{purge_turn, transmit_turn}
 use Rattle.tool_step.specs.States.{comms_turn, control_commands}
@@ -96,19 +97,21 @@ answer_turn request message own =
     ∷ answer_duties (answer_of own.tables (is_local own) own.plan.line.max_body request) message)
 
 -- S1F13 doesn't come here: before any request is read it establishes the communication
-abbrev pub request_turn : Request → Message → OwnView → ToolTurn
-request_turn (request.OfTables asked) message own = answer_turn asked message own
-request_turn request.Establish message own = turn_of own (abort_duty message ∷ [])
-request_turn request.GoOffline message own = control_request_turn RequestOffline message own
-request_turn request.GoOnline message own = control_request_turn RequestOnline message own
-request_turn request.TransmitSpool message own = transmit_turn message own
-request_turn request.PurgeSpool message own = purge_turn message own
+abbrev pub request_turn : Request → ℕ → Message → OwnView → ToolTurn
+request_turn (request.OfTables asked) now message own = answer_turn asked message own
+request_turn request.Establish now message own = turn_of own (abort_duty message ∷ [])
+request_turn request.GoOffline now message own = control_request_turn RequestOffline message own
+request_turn request.GoOnline now message own = control_request_turn RequestOnline message own
+request_turn request.TransmitSpool now message own = transmit_turn message own
+request_turn request.PurgeSpool now message own = purge_turn message own
+request_turn (request.Trace trid dsper total group svids) now message own =
+    trace_turn (record { trid = trid; dsper = dsper; total = total; group = group; svids = svids }) now message own
 
 -- a request that has come as far as its action counts when the equipment looks back (this profile)
-abbrev pub read_turn : Option Request → Header → Message → OwnView → ToolTurn
-read_turn None header message own = error_turn 7 header own
-read_turn (Some request) header message own =
-    led_turn (Note (Happening.Recorded (Past.Asked message))) (request_turn request message own)
+abbrev pub read_turn : ℕ → Option Request → Header → Message → OwnView → ToolTurn
+read_turn now None header message own = error_turn 7 header own
+read_turn now (Some request) header message own =
+    led_turn (Note (Happening.Recorded (Past.Asked message))) (request_turn request now message own)
 
 -- ---- the steps in their order
 
@@ -120,18 +123,18 @@ abbrev pub is_establish_request : Message → Bool
 is_establish_request message = (message.stream == 1) && (message.function == 13)
 
 -- a stream and a function that aren't known get S9F3 and S9F5, a text of another shape S9F7 (SEMI E5, stream 9)
-abbrev pub known_turn : Header → Message → OwnView → ToolTurn
-known_turn header message own =
+abbrev pub known_turn : ℕ → Header → Message → OwnView → ToolTurn
+known_turn now header message own =
     if not (is_known_stream message.stream) then error_turn 3 header own
     else if not (is_known message.stream message.function) then error_turn 5 header own
-    else read_turn (request_of message.stream message.function message.body) header message own
+    else read_turn now (request_of message.stream message.function message.body) header message own
 
 abbrev pub primary_turn : ℕ → Header → Message → OwnView → ToolTurn
 primary_turn now header message own =
     if is_establish_request message then established_turn now message own
     else if not (is_communicating own) then stray_turn now message own
     else if not (is_online own) && not (is_online_request message) then offline_turn message own
-    else known_turn header message own
+    else known_turn now header message own
 
 -- a whole message, the last block of which has this header. DISABLED it is dropped, whatever it is (SEMI E30, DISABLED)
 abbrev pub message_turn : ℕ → Header → Message → OwnView → EndView Kind → ToolTurn

@@ -8,6 +8,8 @@ use Rattle.gem_states.specs.declared.comms.CommsState.{CommsState}
 use Rattle.gem_states.specs.declared.comms.CommsState.TheVariants.{Communicating, Disabled}
 use Rattle.gem_states.specs.declared.control.ControlState.{ControlState}
 use Rattle.gem_states.specs.declared.control.ControlState.TheVariants.{Local, Remote}
+use Rattle.gem_trace.specs.Traces.{Running}
+use Rattle.secs_items.specs.declared.item.Item.{Item}
 use Rattle.message_end.specs.Core.{Command}
 use Rattle.message_end.specs.Duties.{Duty}
 use Rattle.message_end.specs.Parts.{Part, Turn}
@@ -19,9 +21,16 @@ use Rattle.tool_step.specs.declared.kind.Kind.{Kind}
 use Rattle.equipment_tables.specs.declared.plan.EquipmentPlan.{EquipmentPlan}
 use Rattle.equipment_tables.specs.Tables.{TablesState}
 
+-- the traces that run; the S6F1 that are due in this step and haven't had their turn yet; and those that wait for S6F6,
+-- in the order in which they were made
+pub record TracingView : Type 0 where
+  pub running : List Running
+  pub made : List Item
+  pub for_grant : List GrantView
+
 -- the plan; the tables; the two state models; the S6F11 that wait for S6F6, in the order in which they were made; the
 -- reports that were sent and aren't answered yet; what becomes of the spool; the system bytes with which a message of
--- it was tried last, in this start; the DATAID of the next event; and whether its first step is over
+-- it was tried last, in this start; the traces; the DATAID of the next event; and whether its first step is over
 pub record OwnView : Type 0 where
   pub plan : EquipmentPlan
   pub tables : TablesState
@@ -31,6 +40,7 @@ pub record OwnView : Type 0 where
   pub reports : List ReportView
   pub ledger : LedgerView
   pub tried : Option ℕ
+  pub tracing : TracingView
   pub events : ℕ
   pub has_begun : Bool
 
@@ -98,6 +108,9 @@ with_ledger ledger own = record own { ledger = ledger }
 abbrev pub with_tried : ℕ → OwnView → OwnView
 with_tried system own = record own { tried = Some system }
 
+abbrev pub with_tracing : TracingView → OwnView → OwnView
+with_tracing tracing own = record own { tracing = tracing }
+
 -- the one whose S6F5 has these system bytes
 abbrev pub is_granted_by : ℕ → GrantView → Bool
 is_granted_by system waiting = waiting.system == system
@@ -106,6 +119,19 @@ is_granted_by system waiting = waiting.system == system
 abbrev pub without_grant : ℕ → OwnView → OwnView
 without_grant system own =
     with_for_grant (remove own.for_grant (position_or_len (is_granted_by system) own.for_grant)) own
+
+-- so for an S6F1
+abbrev pub with_traced : List GrantView → OwnView → OwnView
+with_traced for_grant own = with_tracing (record own.tracing { for_grant = for_grant }) own
+
+abbrev pub without_traced : ℕ → OwnView → OwnView
+without_traced system own =
+    with_traced (remove own.tracing.for_grant (position_or_len (is_granted_by system) own.tracing.for_grant)) own
+
+-- the text of the one that waits so
+abbrev pub waiting_trace : ℕ → OwnView → Option (List ℕ)
+waiting_trace system own =
+    option_map (λ waiting. waiting.body) (find (is_granted_by system) own.tracing.for_grant)
 
 -- a report was sent; and its transaction has ended
 abbrev pub with_report : ℕ → Spooled → OwnView → OwnView

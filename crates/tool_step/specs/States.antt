@@ -29,6 +29,7 @@ use Rattle.message_end.specs.Parts.{fixed_turn}
 use Rattle.tool_step.specs.declared.kind.Kind.{Kind}
 use Rattle.tool_step.specs.declared.kind.Kind.TheVariants as kind
 use Rattle.tool_step.specs.Own.{OwnView, ToolCommands, ToolTurn, quiet_turn, sent_report, turn_of, waiting_report, with_comms, with_control, with_ledger}
+use Rattle.tool_step.specs.Sampling.{notes_untraced}
 use Rattle.tool_step.specs.Sent.{establish_commands}
 use Rattle.tool_step.specs.Spooling.{Stores, is_spooled, lines_commands, stores_all, stores_commands}
 use Rattle.spool_ledger.specs.Activity.{activated}
@@ -127,11 +128,13 @@ stored_by own kind.Unload system = None
 stored_by own kind.UnloadGrant system = None
 stored_by own kind.Establish system = None
 stored_by own kind.Attempt system = None
+stored_by own kind.Trace system = None
+stored_by own kind.TraceGrant system = None
 
 abbrev pub stored_of : Bool → OwnView → Begun Kind → Option Spooled
 stored_of spools own begun = if spools then stored_by own begun.kind (system_of begun) else None
 
--- what ends otherwise is noted: a message, and an S6F11 that waits for a grant behind its S6F5
+-- what ends otherwise is noted: a message, and an S6F11 or an S6F1 that waits for a grant behind its S6F5
 abbrev pub unless_stored : Option Spooled → ToolCommands → ToolCommands
 unless_stored None commands = commands
 unless_stored (Some message) commands = []
@@ -147,6 +150,8 @@ ending_commands control stored kind.Report header = unless_stored stored (notes_
 ending_commands control stored kind.Grant header = notes_failed header ++ unless_stored stored notes_unsent
 ending_commands control stored kind.Unload header = notes_failed header
 ending_commands control stored kind.UnloadGrant header = notes_failed header ++ notes_unsent
+ending_commands control stored kind.Trace header = notes_failed header
+ending_commands control stored kind.TraceGrant header = notes_failed header ++ notes_untraced
 
 abbrev pub ends_report : Bool → OwnView → Begun Kind → ToolCommands
 ends_report spools own begun = ending_commands own.control (stored_of spools own begun) begun.kind begun.header
@@ -163,7 +168,12 @@ control_after_loss control e =
     if list_any is_attempt e.transactions.begun then control_next control AttemptFailed else control
 
 abbrev pub without_open : OwnView → EndView Kind → OwnView
-without_open own e = record own { control = control_after_loss own.control e; for_grant = []; reports = [] }
+without_open own e = record own {
+  control = control_after_loss own.control e;
+  for_grant = [];
+  reports = [];
+  tracing = record own.tracing { for_grant = [] };
+}
 
 -- the change is noted, the spool's, what is put; and S1F13 goes behind it where the model says so
 abbrev pub left_commands : CommsOutcome → Booked → Stores → OwnView → ToolCommands

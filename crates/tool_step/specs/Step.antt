@@ -2,6 +2,7 @@
 use Rattle.std.specs.Prelude.{ℕ, Bool, true, false, not, ◌-◌, ◌==◌, ◌||◌, List, [], ◌∷◌, ◌++◌, replicate, Option, Some, None, if◌then◌else◌}
 use Rattle.block_codec.specs.declared.header.Header.{Header}
 use Rattle.gem_states.specs.declared.comms.CommsIn.TheVariants.{Enable, SendFailed, Time}
+use Rattle.gem_trace.specs.Traces.{deadline}
 use Rattle.gl_base.specs.declared.side.Side.TheVariants.{Equipment}
 use Rattle.message_flow.specs.declared.flow.Flow.{Flow}
 use Rattle.message_flow.specs.declared.flow.Flow.TheVariants as flow
@@ -20,6 +21,7 @@ use Rattle.tool_step.specs.declared.kind.Kind.{Kind}
 use Rattle.tool_step.specs.Messages.{message_turn}
 use Rattle.tool_step.specs.Own.{OwnView, ToolPart, ToolTurn, quiet_turn, turn_of}
 use Rattle.tool_step.specs.Replies.{block_timer, given_up_turn, reply_timer}
+use Rattle.tool_step.specs.Sampling.{sample_parts}
 use Rattle.tool_step.specs.Sent.{error_duty}
 use Rattle.tool_step.specs.Spooling.{end_of_spooling, unload_part}
 use Rattle.tool_step.specs.States.{comms_turn, end_of_talk}
@@ -92,14 +94,15 @@ offer now own e = led_turn (Offer now) (fixed_turn own [])
 unfoldable pub late_parts : ℕ → List ToolPart
 late_parts now = replicate 16 (block_timer now) ++ replicate 64 (reply_timer now)
 
--- all that is due, in its order
+-- all that is due, in its order: timers, and then samples, which have the variables as they are before the input (SEMI
+-- E30, trace data collection)
 abbrev pub due_parts : ℕ → List ToolPart
-due_parts now = line_timer now ∷ (late_parts now ++ delay_timer now ∷ [])
+due_parts now = line_timer now ∷ (late_parts now ++ delay_timer now ∷ sample_parts now)
 
 -- all that is due, and behind it what the equipment is given. What the spool owes then is done by the disk
 abbrev pub first_parts : Input ToolCommand → ℕ → List ToolPart
 first_parts input now = beginning now ∷ line_timer now
-    ∷ ((late_parts now ++ delay_timer now ∷ []) ++ input_part input now ∷ [])
+    ∷ ((late_parts now ++ delay_timer now ∷ sample_parts now) ++ input_part input now ∷ [])
 
 -- an unload goes on with the oldest message that the spool has by then, spooling ends, it is the line's turn, and the
 -- step comes to its end
@@ -111,6 +114,6 @@ last_parts oldest now = unload_part oldest ∷ end_of_spooling ∷ offer now ∷
 abbrev pub end_plan : EquipmentPlan → EndPlan
 end_plan plan = record { side = Equipment; line = plan.line }
 
--- when it acts next by itself: when the line, T4, T3 or the delay does
+-- when it acts next by itself: when the line, T4, T3, the delay or a trace does
 abbrev pub deadline_of : Node OwnView Kind → Option ℕ
-deadline_of s = least (deadline_of_end s.core) s.own.comms.deadline
+deadline_of s = least (least (deadline_of_end s.core) s.own.comms.deadline) (deadline s.own.tracing.running)

@@ -15,4 +15,8 @@ pub enum Kind {
     Unload,
     /// S6F5 for an S6F11 of the spool: S6F6 lets it go.
     UnloadGrant,
+    /// S6F1: any reply is taken, and no more comes of it.
+    Trace,
+    /// S6F5 for an S6F1 of several blocks: S6F6 lets it go.
+    TraceGrant,
 }
