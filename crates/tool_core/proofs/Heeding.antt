@@ -125,27 +125,27 @@ established_err A B now message old first new out out_new end ended met =
     duties_end A B met_turn.own met_turn.duties (established_duties message first.own) first new out out_new end met))
 
 -- a request was read
-abbrev judged_by : Header → Message → OwnView → Bool → Bool → Option Request → ToolTurn
-judged_by header message own stream function asked =
+abbrev judged_by : ℕ → Header → Message → OwnView → Bool → Bool → Option Request → ToolTurn
+judged_by now header message own stream function asked =
     if not stream then error_turn 3 header own
     else if not function then error_turn 5 header own
-    else read_turn asked header message own
+    else read_turn now asked header message own
 
 pub read_so :
-    (A : Type 0) (header : Header) (message : Message) (found : Option Request) (asked : Request)
+    (A : Type 0) (now : ℕ) (header : Header) (message : Message) (found : Option Request) (asked : Request)
     (old new : ToolNode) (out out_new : StepOut) (result : Result A Stop)
     → is_known_stream message.stream ≡ true → is_known message.stream message.function ≡ true
     → found ≡ request_of message.stream message.function message.body → found ≡ Some asked
-    → Takes (request_turn asked message old.own) old out new out_new result
-    → Takes (known_turn header message old.own) old out new out_new result
-read_so A header message found asked old new out out_new result stream function read is does =
+    → Takes (request_turn asked now message old.own) old out new out_new result
+    → Takes (known_turn now header message old.own) old out new out_new result
+read_so A now header message found asked old new out out_new result stream function read is does =
     subst (λ (turn : ToolTurn). Takes turn old out new out_new result)
-    (sym (ap (λ (b : Bool). judged_by header message old.own b (is_known message.stream message.function)
+    (sym (ap (λ (b : Bool). judged_by now header message old.own b (is_known message.stream message.function)
     (request_of message.stream message.function message.body)) stream
-    ∙ ap (λ (b : Bool). judged_by header message old.own true b
+    ∙ ap (λ (b : Bool). judged_by now header message old.own true b
     (request_of message.stream message.function message.body)) function
-    ∙ ap (λ (o : Option Request). judged_by header message old.own true true o) (sym read ∙ is)))
-    (recorded (Past.Asked message) (request_turn asked message old.own) old new out out_new result does)
+    ∙ ap (λ (o : Option Request). judged_by now header message old.own true true o) (sym read ∙ is)))
+    (recorded (Past.Asked message) (request_turn asked now message old.own) old new out out_new result does)
 
 -- S1F13 is looked at first
 abbrev primary_by : ℕ → Header → Message → OwnView → Bool → ToolTurn
@@ -153,7 +153,7 @@ primary_by now header message own first =
     if first then established_turn now message own
     else if not (is_communicating own) then stray_turn now message own
     else if not (is_online own) && not (is_online_request message) then offline_turn message own
-    else known_turn header message own
+    else known_turn now header message own
 
 pub establishes_so :
     (A : Type 0) (now : ℕ) (header : Header) (message : Message) (old new : ToolNode) (out out_new : StepOut)

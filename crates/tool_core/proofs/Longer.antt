@@ -43,6 +43,8 @@ timed_same now (Some (header, kind.Grant)) own one other same = refl
 timed_same now (Some (header, kind.Report)) own one other same = refl
 timed_same now (Some (header, kind.Unload)) own one other same = refl
 timed_same now (Some (header, kind.UnloadGrant)) own one other same = refl
+timed_same now (Some (header, kind.Trace)) own one other same = refl
+timed_same now (Some (header, kind.TraceGrant)) own one other same = refl
 
 behind_same :
     (header : Header) (one other : EndView Kind) → one.transactions ≡ other.transactions

@@ -58,6 +58,8 @@ stored_alike active control own kind.Grant system = refl
 stored_alike active control own kind.Report system = refl
 stored_alike active control own kind.Unload system = refl
 stored_alike active control own kind.UnloadGrant system = refl
+stored_alike active control own kind.Trace system = refl
+stored_alike active control own kind.TraceGrant system = refl
 
 -- the transaction that began first ends, with what is lost by it, and what is stored of it
 pub record IsLost

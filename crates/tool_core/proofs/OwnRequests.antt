@@ -160,6 +160,8 @@ module _ (old new : EndView Kind) (place : ℕ) (header : Header) (what : Kind) 
         go kind.Report is = stayed (ap (λ (k : Kind). own_request_commands k header.system) is)
         go kind.Unload is = stayed (ap (λ (k : Kind). own_request_commands k header.system) is)
         go kind.UnloadGrant is = stayed (ap (λ (k : Kind). own_request_commands k header.system) is)
+        go kind.Trace is = stayed (ap (λ (k : Kind). own_request_commands k header.system) is)
+        go kind.TraceGrant is = stayed (ap (λ (k : Kind). own_request_commands k header.system) is)
 
     -- to a place that is the next one
     pub passed_to : (next : ℕ) → next ≡ place_behind what place → IsPassed place next old new

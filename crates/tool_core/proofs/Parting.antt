@@ -70,6 +70,8 @@ stored_alike begins active own comms before after kind.Establish system on off =
 stored_alike begins active own comms before after kind.Attempt system on off = none_alike begins None
 stored_alike begins active own comms before after kind.Unload system on off = none_alike begins None
 stored_alike begins active own comms before after kind.UnloadGrant system on off = none_alike begins None
+stored_alike begins active own comms before after kind.Trace system on off = none_alike begins None
+stored_alike begins active own comms before after kind.TraceGrant system on off = none_alike begins None
 
 -- of each open transaction
 module _ (begins active : Bool) (own : OwnView) (comms : CommsView) (before after : LedgerView)

@@ -12,12 +12,13 @@ ghost use Rattle.tool_core.specs.Carried.{FailsAlike};
 ghost use Rattle.tool_core.specs.Ending.{all_stored, as_list, ends_with, stores_turn, with_active};
 ghost use Rattle.tool_core.specs.Node.{own_of};
 ghost use Rattle.tool_step.specs.Own.{with_control};
+ghost use Rattle.tool_step.specs.Sampling.{notes_untraced};
 ghost use Rattle.tool_step.specs.States.{begins_spooling, control_after_loss, control_commands, ending_commands, is_attempt_kind, end_of_talk, notes_unsent, stored_by, without_open};
 ghost use Rattle.tool_core.specs.Turns.{TakesPart, TakesTurn};
 
 use crate::awaiting::copy_awaiting;
 use crate::own::{Own, Tool};
-use crate::routing::EVENT_NAME;
+use crate::routing::{EVENT_NAME, TRACE_NAME};
 use crate::spoolable::Spoolable;
 use crate::states::{is_same_comms, note_comms, note_control};
 use block_codec::Header;
@@ -91,6 +92,7 @@ impl Tool {
         let reports = self.end_begun(alloc, active, out)?;
         self.own.for_grant.clear();
         self.own.reports.clear();
+        self.own.tracing.for_grant.clear();
         if let Some(header) = failed {
             self.core.end_failed(alloc, was_open, &header, out)?;
         }
@@ -179,7 +181,12 @@ impl Own {
         let report = match kind {
             Kind::Report => copy_awaiting(alloc, &self.reports, system)?,
             Kind::Grant => copy_awaiting(alloc, &self.for_grant, system)?,
-            Kind::Establish | Kind::Attempt | Kind::Unload | Kind::UnloadGrant => None,
+            Kind::Establish
+            | Kind::Attempt
+            | Kind::Unload
+            | Kind::UnloadGrant
+            | Kind::Trace
+            | Kind::TraceGrant => None,
         };
         match report {
             Some(report) if self.is_covered(&report) => Ok(Some(report)),
@@ -209,6 +216,7 @@ impl Own {
         match kind {
             Kind::Establish => note_failed(alloc, header, out),
             Kind::Unload => note_failed(alloc, header, out),
+            Kind::Trace => note_failed(alloc, header, out),
             Kind::Attempt => {
                 note_failed(alloc, header, out)?;
                 self.lose_attempt(alloc, first, out)
@@ -229,6 +237,10 @@ impl Own {
             Kind::UnloadGrant => {
                 note_failed(alloc, header, out)?;
                 note_unsent(alloc, out)
+            }
+            Kind::TraceGrant => {
+                note_failed(alloc, header, out)?;
+                note_untraced(alloc, out)
             }
         }
     }
@@ -280,6 +292,14 @@ fn note_unsent(alloc: Global, out: &mut StepOut) -> Result<(), NoMemory>
     ensures line { out.new.line ≡ out.old.line }
 {
     out.notes.push(dropped_note(alloc, EVENT_NAME)?)
+}
+
+// Notes an S6F1 that isn't sent.
+fn note_untraced(alloc: Global, out: &mut StepOut) -> Result<(), NoMemory>
+    ensures notes { IfOk result (λ done. (e : EndView Kind) → AreCarried notes_untraced e out.old e out.new) }
+    ensures line { out.new.line ≡ out.old.line }
+{
+    out.notes.push(dropped_note(alloc, TRACE_NAME)?)
 }
 
 // Whether spooling begins by this change of the communication: where it is lost, and where it can't be established.

@@ -9,6 +9,7 @@ mod own;
 mod primaries;
 mod replies;
 mod routing;
+mod sampling;
 mod sending;
 mod spoolable;
 mod spooling;
@@ -17,6 +18,6 @@ mod states;
 mod step;
 mod unloading;
 
-pub use own::{Own, Planned, Tool};
+pub use own::{Own, Planned, Tool, Tracing};
 pub use spoolable::{ForGrant, Live, Spoolable, primary_function};
 pub use starting::MORE;

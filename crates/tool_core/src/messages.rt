@@ -21,7 +21,8 @@ use block_codec::Header;
 use equipment_tables::{Answer, bounded, request_of};
 use gem_shapes::{Request, TablesRequest, code_item, is_known, is_known_stream};
 use gem_states::{CommsIn, ControlIn, ControlOut};
-use gl_base::NoMemory;
+use gem_trace::TraceRequest;
+use gl_base::{NoMemory, Row};
 use message_end::Stop;
 use message_flow::{Message, StepOut};
 use secs_items::BodyCheck;
@@ -81,7 +82,7 @@ impl Tool {
         if !self.own.is_online() && !is_online_request(message) {
             return self.abort_offline(alloc, message, out);
         }
-        self.read(alloc, header, message, check, out)
+        self.read(alloc, header, message, check, now, out)
     }
 
     // A message comes while the communication isn't established.
@@ -186,7 +187,13 @@ impl Tool {
                 self.core.end(system);
                 self.core.remove(true, system);
             }
-            Kind::Attempt | Kind::Grant | Kind::Report | Kind::Unload | Kind::UnloadGrant => {}
+            Kind::Attempt
+            | Kind::Grant
+            | Kind::Report
+            | Kind::Unload
+            | Kind::UnloadGrant
+            | Kind::Trace
+            | Kind::TraceGrant => {}
         }
     }
 
@@ -197,11 +204,13 @@ impl Tool {
         header: &Header,
         message: &Message,
         check: &BodyCheck,
+        now: u64,
         out: &mut StepOut,
     ) -> Result<(), Stop>
+        requires now { now < 2 ^ 62 }
         requires header { Fits header.now }
         requires checked { check.now ≡ check_of message.now.body }
-        ensures does { TakesTurn (known_turn header.now message.now) self.old out.old self.new out.new result }
+        ensures does { TakesTurn (known_turn now header.now message.now) self.old out.old self.new out.new result }
         ensures line { out.new.line ≡ out.old.line }
     {
         if !is_known_stream(message.stream) {
@@ -212,7 +221,7 @@ impl Tool {
         }
         let body = message.body.as_slice();
         match request_of(alloc, message.stream, message.function, body, check)? {
-            Some(request) => self.fulfil(alloc, &request, message, out),
+            Some(request) => self.fulfil(alloc, &request, message, now, out),
             None => self.tell_error(alloc, 7, header, out),
         }
     }
@@ -223,10 +232,12 @@ impl Tool {
         alloc: Global,
         request: &Request<'_>,
         message: &Message,
+        now: u64,
         out: &mut StepOut,
     ) -> Result<(), Stop>
-        requires { IsAsked request.now }
-        ensures does { TakesTurn (request_turn request.now message.now) self.old out.old self.new out.new result }
+        requires now { now < 2 ^ 62 }
+        requires asked { IsAsked request.now }
+        ensures does { TakesTurn (request_turn request.now now message.now) self.old out.old self.new out.new result }
         ensures line { out.new.line ≡ out.old.line }
     {
         match request {
@@ -236,6 +247,22 @@ impl Tool {
             Request::GoOnline => self.ask_control(alloc, ControlIn::RequestOnline, message, out),
             Request::TransmitSpool => self.transmit(alloc, message, out),
             Request::PurgeSpool => self.purge(alloc, message, out),
+            Request::Trace {
+                trid,
+                dsper,
+                total,
+                group,
+                svids,
+            } => {
+                let request = TraceRequest {
+                    trid: *trid,
+                    dsper: Row::of(alloc, dsper.bytes())?,
+                    total: *total,
+                    group: *group,
+                    svids: Row::of(alloc, svids.as_slice())?,
+                };
+                self.ask_trace(alloc, &request, message, now, out)
+            }
         }
     }
 
@@ -324,6 +351,12 @@ fn place_behind(kind: Kind, place: usize) -> usize
 {
     match kind {
         Kind::Establish => place,
-        Kind::Attempt | Kind::Grant | Kind::Report | Kind::Unload | Kind::UnloadGrant => place + 1,
+        Kind::Attempt
+        | Kind::Grant
+        | Kind::Report
+        | Kind::Unload
+        | Kind::UnloadGrant
+        | Kind::Trace
+        | Kind::TraceGrant => place + 1,
     }
 }

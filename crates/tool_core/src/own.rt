@@ -3,17 +3,19 @@
 ghost use Rattle.std.specs.Prelude.{◌≡◌, ◌≤◌, ◌++◌, ◌∷◌, [], IfOk, OnOk};
 ghost use Rattle.block_codec.specs.Protocol.{longest_text};
 ghost use Rattle.line_end.specs.Plan.{LinePlanFits};
-ghost use Rattle.tool_core.specs.Node.{own_of};
-ghost use Rattle.tool_step.specs.Equipment.{new_own};
-ghost use Rattle.tool_step.specs.Own.{is_communicating_in, is_enabled_in, is_local_in, is_online_in, with_for_grant, with_reports};
+ghost use Rattle.tool_core.specs.Node.{own_of, tracing_of};
+ghost use Rattle.tool_step.specs.Equipment.{new_own, no_traces};
+ghost use Rattle.tool_step.specs.Own.{is_communicating_in, is_enabled_in, is_local_in, is_online_in, with_for_grant, with_reports, with_traced};
 ghost use Rattle.equipment_tables.specs.Plan.{EquipmentPlanFits};
 
 use crate::spoolable::{ForGrant, Live};
 use equipment_tables::{EquipmentPlan, Tables};
 use gem_states::{Comms, CommsState, Control, ControlState};
-use gl_base::NoMemory;
+use gem_trace::Traces;
+use gl_base::{NoMemory, Row};
 use line_end::LinePlan;
 use message_end::MessageEnd;
+use secs_items::Item;
 use spool_ledger::Ledger;
 use std::alloc::Global;
 use std::marker::Model;
@@ -46,9 +48,19 @@ pub struct Tool {
     pub own: Own,
 }
 
+/// The traces that run; the S6F1 that the samples of a step have brought, of which so many have had their turn; and
+/// those that wait for their grants.
+#[derive(Drop)]
+pub struct Tracing {
+    pub running: Traces,
+    pub made: Row<Item>,
+    pub routed: usize,
+    pub for_grant: Vec<ForGrant>,
+}
+
 /// What the equipment keeps beside the core: its plan and tables, its two state models, the reports that wait for
 /// their grants, those that aren't answered yet, what becomes of the spool, the system bytes with which a message of it
-/// was tried last, how many events have happened since the start, and whether its first step is over.
+/// was tried last, its traces, how many events have happened since the start, and whether its first step is over.
 #[derive(Drop)]
 pub struct Own {
     pub plan: Planned,
@@ -59,6 +71,7 @@ pub struct Own {
     pub reports: Vec<Live>,
     pub ledger: Ledger,
     pub tried: Option<u32>,
+    pub tracing: Tracing,
     pub events: u32,
     pub has_begun: bool,
 }
@@ -96,6 +109,20 @@ impl Planned {
     }
 }
 
+impl Tracing {
+    /// No trace runs.
+    pub(crate) fn new(alloc: Global) -> Tracing
+        ensures { tracing_of result ≡ no_traces }
+    {
+        Tracing {
+            running: Traces::new(alloc),
+            made: Row::new(alloc),
+            routed: 0,
+            for_grant: Vec::new(alloc),
+        }
+    }
+}
+
 impl Own {
     /// What is kept at a start, with what is known of the spool.
     pub(crate) fn new(alloc: Global, plan: EquipmentPlan, ledger: Ledger) -> Result<Own, NoMemory>
@@ -113,6 +140,7 @@ impl Own {
             reports: Vec::new(alloc),
             ledger,
             tried: None,
+            tracing: Tracing::new(alloc),
             events: 0,
             has_begun: false,
         })
@@ -164,6 +192,17 @@ impl Own {
             with_for_grant (self.old.for_grant.items ++ waiting ∷ []) (own_of self.old)) }
     {
         match self.for_grant.push(waiting) {
+            Ok(()) => Ok(()),
+            Err(_failed) => Err(NoMemory),
+        }
+    }
+
+    /// An S6F1 waits for its grant.
+    pub(crate) fn keep_traced(&mut self, waiting: ForGrant) -> Result<(), NoMemory>
+        ensures { OnOk result (own_of self.new ≡
+            with_traced (self.old.tracing.for_grant.items ++ waiting ∷ []) (own_of self.old)) }
+    {
+        match self.tracing.for_grant.push(waiting) {
             Ok(()) => Ok(()),
             Err(_failed) => Err(NoMemory),
         }

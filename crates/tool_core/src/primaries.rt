@@ -2,6 +2,7 @@
 
 ghost use Rattle.std.specs.Prelude.{◌≡◌, IfOk};
 ghost use Rattle.block_codec.specs.Header.{Fits};
+ghost use Rattle.tool_step.specs.Sampling.{trace_data, trace_inquiry};
 ghost use Rattle.tool_step.specs.Sent.{error_item, error_primary, establish_request, grant_item, grant_request, online_request, primary_of, terminal_item};
 ghost use Rattle.tool_step.specs.Spooling.{unload_request};
 
@@ -59,6 +60,20 @@ pub(crate) fn unload_request(body: Row<u8>) -> Unsent<Kind>
     ensures { result ≡ unload_request body }
 {
     primary(6, 5, Kind::UnloadGrant, body)
+}
+
+/// S6F1.
+pub(crate) fn trace_data(body: Row<u8>) -> Unsent<Kind>
+    ensures { result ≡ trace_data body }
+{
+    primary(6, 1, Kind::Trace, body)
+}
+
+/// S6F5, for an S6F1.
+pub(crate) fn trace_inquiry(body: Row<u8>) -> Unsent<Kind>
+    ensures { result ≡ trace_inquiry body }
+{
+    primary(6, 5, Kind::TraceGrant, body)
 }
 
 /// The text of S10F1.

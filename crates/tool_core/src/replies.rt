@@ -213,6 +213,8 @@ impl Tool {
                 self.deny_unload(alloc, out)?;
                 Ok(())
             }
+            Kind::Trace => Ok(()),
+            Kind::TraceGrant => self.deny_trace(alloc, system, out),
         }
     }
 
@@ -313,6 +315,8 @@ impl Tool {
                 Ok(())
             }
             Kind::UnloadGrant => self.heed_unload_grant(alloc, message, check, out),
+            Kind::Trace => Ok(()),
+            Kind::TraceGrant => self.heed_trace_grant(alloc, message, check, out),
         }
     }
 
@@ -424,8 +428,8 @@ fn is_zero_in(items: &[Item]) -> bool
     }
 }
 
-// Whether a text is GRANT6 0.
-fn is_granted(alloc: Global, body: &[u8], check: &BodyCheck) -> Result<bool, NoMemory>
+/// Whether a text is GRANT6 0.
+pub(crate) fn is_granted(alloc: Global, body: &[u8], check: &BodyCheck) -> Result<bool, NoMemory>
     requires { check.now ≡ check_of body.now }
     ensures { IfOk result (λ is. is ≡ is_granted_in body.now) }
 {

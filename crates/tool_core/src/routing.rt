@@ -43,6 +43,13 @@ pub(crate) const TERMINAL_NAME: Name = Name {
     wait: true,
 };
 
+/// The name of S6F1.
+pub(crate) const TRACE_NAME: Name = Name {
+    stream: 6,
+    function: 1,
+    wait: true,
+};
+
 /// The longest text of one block.
 pub(crate) const ONE_BLOCK: usize = 244;
 

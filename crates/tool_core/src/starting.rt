@@ -67,7 +67,8 @@ impl Tool {
     pub fn deadline(&self) -> Option<u64>
         ensures { result ≡ deadline_of (node_of self.now) }
     {
-        least(self.core.deadline(), self.own.comms.deadline())
+        let timers = least(self.core.deadline(), self.own.comms.deadline());
+        least(timers, self.own.tracing.running.deadline())
     }
 }
 

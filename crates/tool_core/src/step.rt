@@ -11,6 +11,7 @@ ghost use Rattle.message_end.specs.Core.Went.{Goes};
 ghost use Rattle.message_end.specs.Ends.{MayTake, input_of};
 ghost use Rattle.message_end.specs.Parts.{Takes, after_turn, closes, on_the_way};
 ghost use Rattle.tool_core.specs.Node.{node_of, own_of};
+ghost use Rattle.tool_step.specs.Sampling.{sample_parts};
 ghost use Rattle.tool_step.specs.Spooling.{end_of_spooling};
 ghost use Rattle.tool_step.specs.Step.{beginning, character, delay_timer, due_parts, first_parts, flow_turn, input_part, is_spent, late_parts, line_timer, offer};
 ghost use Rattle.tool_step.specs.Taking.{taking};
@@ -148,14 +149,27 @@ impl Tool {
         }
     }
 
-    // What comes too late ends, and the delay.
+    // What comes too late ends, and the delay; and samples are taken.
     fn do_late(&mut self, alloc: Global, now: u64, out: &mut StepOut) -> Result<(), Stop>
         requires { now < 2 ^ 62 }
-        ensures does { ReachesParts (late_parts now ++ delay_timer now ∷ []) self.old out.old self.new out.new result }
+        ensures does { ReachesParts (late_parts now ++ delay_timer now ∷ sample_parts now)
+            self.old out.old self.new out.new result }
         ensures line { out.new.line ≡ out.old.line }
     {
         match self.end_late(alloc, now, out) {
-            Ok(()) => self.meet(alloc, CommsIn::Time, now, out),
+            Ok(()) => self.end_delay(alloc, now, out),
+            Err(stop) => Err(stop),
+        }
+    }
+
+    // The delay may end; and samples are taken.
+    fn end_delay(&mut self, alloc: Global, now: u64, out: &mut StepOut) -> Result<(), Stop>
+        requires { now < 2 ^ 62 }
+        ensures does { ReachesParts (delay_timer now ∷ sample_parts now) self.old out.old self.new out.new result }
+        ensures line { out.new.line ≡ out.old.line }
+    {
+        match self.meet(alloc, CommsIn::Time, now, out) {
+            Ok(()) => self.take_samples(alloc, now, out),
             Err(stop) => Err(stop),
         }
     }

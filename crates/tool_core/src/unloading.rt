@@ -207,7 +207,7 @@ fn needs_grant(report: &Spoolable) -> bool
 }
 
 // The DATAID in the text of an S6F11, 0 where there is none.
-fn dataid_in(body: &[u8]) -> u32
+pub(crate) fn dataid_in(body: &[u8]) -> u32
     ensures { result ≡ dataid_in body.now }
 {
     match check(body) {

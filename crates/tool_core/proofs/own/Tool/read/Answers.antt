@@ -6,7 +6,7 @@ use Rattle.tool_core.proofs.own.Tool.read.Goals as goal
 
 pub returns-in-Some-clause-does : goal.returns-in-Some-clause-does
 returns-in-Some-clause-does c =
-    read_so (Unit {0}) c.args.header.now c.args.message.now c.in_ok-request.field-0 c.in-Some.request
+    read_so (Unit {0}) c.args.now c.args.header.now c.args.message.now c.in_ok-request.field-0 c.in-Some.request
     (node_of c.args.self.now) (node_of c.fulfil.new.self) c.args.out.now c.fulfil.new.out c.fulfil.result
     (sym c.is_known_stream.ensures ∙ c.if-not-is_known_stream.false) (sym c.is_known.ensures ∙ c.if-not-is_known.false)
     (c.in_ok-request.ensures.found
