@@ -21,6 +21,7 @@ use Rattle.gem_states.specs.declared.control.ControlIn.{ControlIn}
 use Rattle.gem_states.specs.declared.control.ControlIn.TheVariants as control_in
 use Rattle.gem_states.specs.declared.control.ControlOut.{ControlOut}
 use Rattle.gem_states.specs.declared.control.ControlOut.TheVariants as control_out
+use Rattle.gem_trace.specs.declared.request.TraceRequest.{TraceRequest}
 use Rattle.gem_vars.specs.Settings as settings
 use Rattle.gem_vars.specs.declared.settings.Setting.{Setting}
 use Rattle.message_flow.specs.declared.flow.Flow.{Flow}
@@ -55,15 +56,17 @@ use Rattle.tool_step.specs.declared.kind.Kind.{Kind}
 use Rattle.tool_step.specs.declared.kind.Kind.TheVariants as kind
 use Rattle.tool_step.specs.Codes.{is_accepted_in, is_granted_in}
 use Rattle.tool_step.specs.Messages.{answer_turn, control_answer_duties, control_request_turn, dropped_turn, error_turn, established_duties, established_turn, is_establish_request, is_online_request, known_turn, message_turn, offline_turn, own_request_commands, own_request_duty, own_request_of, primary_turn, read_turn, request_turn, stray_turn}
-use Rattle.tool_step.specs.Own.{OwnView, ToolDuty, event_report, is_communicating, is_enabled_in, is_local, is_online, quiet_turn, turn_before, turn_of, waiting_report, with_control, with_ledger, with_tables, with_tried, without_grant}
+use Rattle.tool_step.specs.Own.{OwnView, ToolDuty, event_report, is_communicating, is_enabled_in, is_local, is_online, quiet_turn, turn_before, turn_of, waiting_report, waiting_trace, with_control, with_ledger, with_tables, with_tried, without_grant, without_traced}
 use Rattle.tool_law.specs.Putting.{alarm_puts, block_timer_puts, changed_puts, character_puts, command_puts, dropped_puts, enabled_puts, event_puts, flow_puts, given_up_puts, lacks_number, line_timer_puts, loss_puts, matched_puts, message_puts, puts_none, reply_puts, reply_timer_puts, timeout_puts, took_puts}
 use Rattle.tool_step.specs.Replies.{block_timer, denied_turn, given_up_by_t4, given_up_turn, granted_turn, loss_turn, matched_turn, reply_timer, reply_turn, secondary_turn, timeout_turn}
+use Rattle.tool_step.specs.Sampling.{granted_trace_turn, tiaack_code, tiaack_in, trace_turn, untraced_turn}
 use Rattle.tool_step.specs.Sent as sent
 use Rattle.tool_step.specs.Spooling.{booked_turn, dataid_in, end_of_spooling, grant_given_turn, inquiry_turn, let_go_turn, lines_commands, needs_grant, purge_turn, rsda_duties, sent_turn, stopped_turn, taking_turn, transmit_turn, tried_turn, unload_part, unload_request, unloaded_own, unloading_turn, waiting_text}
 use Rattle.tool_step.specs.States as states
 use Rattle.tool_step.specs.Step.{beginning, begun, character, flow_turn, is_spent, line_timer, long_turn, offer, took_turn}
 use Rattle.tool_step.specs.Tool.{alarm_line, alarm_report_turn, alarm_turn, attempted_turn, command_turn, enabled_turn, known_event_turn, online_turn, set_turn, told_turn, with_event}
 use Rattle.tool_law.proofs.Drawing.{AreFree, AreFreeDuties, Needs, Spends, free-both, free-need, free-spend, halt-spend, needs-as, needs-behind, needs-both, needs-more, needs-none, needs-one, or-false, primary-spend, draw-spend, both-free}
+use Rattle.tool_law.proofs.DrawnSamples.{granted-trace-need}
 use Rattle.tool_law.proofs.DrawnTurns.{one-needs, free-one, noted-free, booked-free, control-lines-free, control-free, error-spends, errors-need, comms-need, primary-need, going-need, event-need, abort-free, answers-free, NeedsFor, note-need, judged-need, report-need, left-need, leaving-need, failed-need}
 
 -- ---- a transaction ends without a reply
@@ -79,6 +82,9 @@ denied-asks comms.Communicating view delay now own = free-spend [] tt
 denied-need : (own : OwnView) → Needs 0 false (denied_turn own).duties
 denied-need own = free-need (denied_turn own).duties ((λ e. (tt, tt)), tt)
 
+untraced-need : (own : OwnView) → Needs 0 false (untraced_turn own).duties
+untraced-need own = free-need (untraced_turn own).duties ((λ e. (tt, tt)), tt)
+
 loss-need : (now : ℕ) (lost : Kind) (system : ℕ) (own : OwnView) (e : EndView Kind)
     → NeedsFor 0 (loss_puts now lost own e) (loss_turn now lost system own e)
 loss-need now kind.Establish system own e =
@@ -90,6 +96,8 @@ loss-need now kind.Grant system own e = denied-need (without_grant system own)
 loss-need now kind.Report system own e = needs-none 0
 loss-need now kind.Unload system own e = needs-none 0
 loss-need now kind.UnloadGrant system own e = denied-need (unloaded_own own)
+loss-need now kind.Trace system own e = needs-none 0
+loss-need now kind.TraceGrant system own e = untraced-need (without_traced system own)
 
 timeout-need : (now : ℕ) (primary : Option (Header × Kind)) (own : OwnView) (e : EndView Kind)
     → NeedsFor 1 (timeout_puts now primary own e) (timeout_turn now primary own e)
@@ -168,6 +176,15 @@ reply-need now kind.UnloadGrant system body own e = go (is_granted_in body)
         (if granted then grant_given_turn own e else loss_turn now kind.UnloadGrant system own e).duties
     go true = let-go-need (waiting_in own.ledger.unload) own e
     go false = one-needs false _ (loss-need now kind.UnloadGrant system own e)
+reply-need now kind.Trace system body own e = needs-none 1
+reply-need now kind.TraceGrant system body own e = go (is_granted_in body)
+  where
+    go : (granted : Bool)
+        → Needs 1 false
+        (if granted then granted_trace_turn (waiting_trace system own) (without_traced system own)
+        else loss_turn now kind.TraceGrant system own e).duties
+    go true = granted-trace-need (waiting_trace system own) (without_traced system own)
+    go false = one-needs false _ (loss-need now kind.TraceGrant system own e)
 
 matched-need : (now : ℕ) (match : Match Kind) (message : Message) (own : OwnView) (e : EndView Kind)
     → NeedsFor 1 (matched_puts now match message own e) (matched_turn now match message own e)
@@ -184,6 +201,8 @@ own-request-free kind.Grant system = tt
 own-request-free kind.Report system = tt
 own-request-free kind.Unload system = tt
 own-request-free kind.UnloadGrant system = tt
+own-request-free kind.Trace system = tt
+own-request-free kind.TraceGrant system = tt
 
 own-requests-free : (begun : List (Begun Kind)) → AreFree (flat_map own_request_of begun)
 own-requests-free [] = tt
@@ -259,23 +278,32 @@ answer-need asks message own =
       answers-free (answer_of own.tables (is_local own) own.plan.line.max_body asks) message,
     )
 
-request-need : (asks : Request) (message : Message) (own : OwnView)
-    → Needs 1 false (request_turn asks message own).duties
-request-need (request.OfTables asked) message own = answer-need asked message own
-request-need request.GoOffline message own = control-request-need control_in.RequestOffline message own
-request-need request.GoOnline message own = control-request-need control_in.RequestOnline message own
-request-need request.TransmitSpool message own = transmit-need message own
-request-need request.PurgeSpool message own = purge-need message own
-request-need request.Establish message own = free-one (sent.abort_duty message ∷ []) (abort-free message)
+trace-request-need : (asked : TraceRequest) (now : ℕ) (message : Message) (own : OwnView)
+    → Needs 1 false (trace_turn asked now message own).duties
+trace-request-need asked now message own =
+    free-one (trace_turn asked now message own).duties
+    (answers-free (sent.text_of own (code_item (tiaack_code (tiaack_in asked own)))) message)
 
-read-need : (asks : Option Request) (header : Header) (message : Message) (own : OwnView)
-    → Needs 1 false (read_turn asks header message own).duties
-read-need None header message own = errors-need 7 header own
-read-need (Some asks) header message own = led-need 1 false _ _ (tt, tt) (request-need asks message own)
+request-need : (asks : Request) (now : ℕ) (message : Message) (own : OwnView)
+    → Needs 1 false (request_turn asks now message own).duties
+request-need (request.OfTables asked) now message own = answer-need asked message own
+request-need request.GoOffline now message own = control-request-need control_in.RequestOffline message own
+request-need request.GoOnline now message own = control-request-need control_in.RequestOnline message own
+request-need request.TransmitSpool now message own = transmit-need message own
+request-need request.PurgeSpool now message own = purge-need message own
+request-need request.Establish now message own = free-one (sent.abort_duty message ∷ []) (abort-free message)
+request-need (request.Trace trid dsper total group svids) now message own =
+    trace-request-need (record { trid = trid; dsper = dsper; total = total; group = group; svids = svids }) now message
+    own
 
-known-need : (header : Header) (message : Message) (own : OwnView)
-    → Needs 1 false (known_turn header message own).duties
-known-need header message own =
+read-need : (now : ℕ) (asks : Option Request) (header : Header) (message : Message) (own : OwnView)
+    → Needs 1 false (read_turn now asks header message own).duties
+read-need now None header message own = errors-need 7 header own
+read-need now (Some asks) header message own = led-need 1 false _ _ (tt, tt) (request-need asks now message own)
+
+known-need : (now : ℕ) (header : Header) (message : Message) (own : OwnView)
+    → Needs 1 false (known_turn now header message own).duties
+known-need now header message own =
     go (is_known_stream message.stream) (is_known message.stream message.function)
     (request_of message.stream message.function message.body)
   where
@@ -283,8 +311,8 @@ known-need header message own =
         → Needs 1 false
         (if not stream then error_turn 3 header own
         else if not function then error_turn 5 header own
-        else read_turn asks header message own).duties
-    go true true asks = read-need asks header message own
+        else read_turn now asks header message own).duties
+    go true true asks = read-need now asks header message own
     go true false asks = errors-need 5 header own
     go false function asks = errors-need 3 header own
 
@@ -298,11 +326,11 @@ primary-turn-need now header message own =
         (if establishes then established_turn now message own
         else if not communicating then stray_turn now message own
         else if offline then offline_turn message own
-        else known_turn header message own).duties
+        else known_turn now header message own).duties
     go true communicating offline = established-need now message own
     go false false offline = led-need 1 false _ _ (tt, tt) (comms-need comms_in.OtherMessage now own)
     go false true true = offline-need message own
-    go false true false = known-need header message own
+    go false true false = known-need now header message own
 
 message-need : (now : ℕ) (header : Header) (message : Message) (own : OwnView) (e : EndView Kind)
     → NeedsFor 1 (message_puts now header message own e) (message_turn now header message own e)

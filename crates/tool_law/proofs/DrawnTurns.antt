@@ -280,6 +280,8 @@ ending-free control found kind.Report header = unless-free found (notes_failed h
 ending-free control found kind.Grant header = (tt, unless-free found states.notes_unsent (tt, tt))
 ending-free control found kind.Unload header = (tt, tt)
 ending-free control found kind.UnloadGrant header = (tt, (tt, tt))
+ending-free control found kind.Trace header = (tt, tt)
+ending-free control found kind.TraceGrant header = (tt, (tt, tt))
 
 begun-free : (spools : Bool) (own : OwnView) (begun : List (Begun Kind))
     → AreFree (flat_map (ends_one (states.ends_report spools own)) begun)

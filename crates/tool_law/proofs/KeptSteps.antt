@@ -35,6 +35,7 @@ use Rattle.tool_law.proofs.SpoolSound.{carried-good, settled-good, taken-good}
 use Rattle.tool_step.specs.Equipment.{EquipmentView, act, begun_step, ended_step, file_step, is_marked_out, needs_numbers, node_step, oldest_of, parts_done, reserved, settled_step, settled_went, went_with_file}
 use Rattle.spool_works.specs.Found.{spooled_of}
 use Rattle.tool_law.specs.Laws.{DidOf}
+use Rattle.tool_step.specs.Sampling.{made_part, sample_parts, sampling}
 use Rattle.tool_step.specs.Step.{beginning, delay_timer, end_plan, failed_turn, first_parts, input_part, last_parts, late_parts, line_timer, offer, took_turn}
 use Rattle.equipment_tables.specs.Tables.{most_transmitted}
 use Rattle.spool_ledger.specs.declared.ledger.Stand.{Stand}
@@ -50,6 +51,7 @@ use Rattle.tool_step.specs.Tool.{told_turn}
 use Rattle.tool_law.proofs.MildCommands.{marks-on, sound-self}
 use Rattle.tool_law.proofs.QuietTurns.{nothing-quiet, comms-quiet}
 use Rattle.tool_law.proofs.QuietMessages.{by-t4-quiet, out-quiet, waiting-is, next-held, ended-quiet}
+use Rattle.tool_law.proofs.QuietSamples.{made-quiet, sampling-quiet}
 use Rattle.tool_law.proofs.QuietCommands.{failed-is-quiet, took-quiet, told-quiet, beginning-quiet, t3-quiet}
 
 -- ---- the halves of a step
@@ -61,7 +63,13 @@ HeldAt plan slots stood tries own = IsHeld plan slots stood (λ tried. tried ≡
 held-sound : (plan : EquipmentPlan) (slots : ℕ) (stood : Stand) (tries : List ℕ) (own : OwnView)
     → HeldAt plan slots stood tries own → IsSound plan slots stood own
 held-sound plan slots stood tries own held =
-    record { plan_is = held.plan_is; texts = held.texts; reports = held.reports; ledger = held.ledger }
+    record {
+      plan_is = held.plan_is;
+      texts = held.texts;
+      traced = held.traced;
+      reports = held.reports;
+      ledger = held.ledger;
+    }
 
 -- the calls of a step so far
 abbrev AreNone : List LineCall → Type 0
@@ -176,11 +184,12 @@ module _ (plan : EquipmentPlan) (base : ℕ) (fits : EquipmentPlanFits plan) (sl
     -- T4 and T3, and the delay
     late-keep : (tries : List ℕ)
         → AllKeep (end_plan plan) base fits.line doings now limit (HeldAt plan slots stood) tries (AreTicked now)
-        (late_parts now ++ delay_timer now ∷ [])
-    unfolding late_parts
+        (late_parts now ++ delay_timer now ∷ sample_parts now)
+    unfolding late_parts sample_parts
     late-keep tries =
         all-both (end_plan plan) base fits.line doings now limit (HeldAt plan slots stood) tries (AreTicked now)
-        (replicate 16 (block_timer now) ++ replicate 64 (reply_timer now)) (delay_timer now ∷ [])
+        (replicate 16 (block_timer now) ++ replicate 64 (reply_timer now))
+        (delay_timer now ∷ sampling now ∷ replicate 16 made_part)
         (all-both (end_plan plan) base fits.line doings now limit (HeldAt plan slots stood) tries (AreTicked now)
         (replicate 16 (block_timer now)) (replicate 64 (reply_timer now))
         (all-many (end_plan plan) base fits.line doings now limit (HeldAt plan slots stood) tries (AreTicked now) 16
@@ -196,7 +205,15 @@ module _ (plan : EquipmentPlan) (base : ℕ) (fits : EquipmentPlanFits plan) (sl
           mild-keeps (end_plan plan) base fits.line doings now limit (HeldAt plan slots stood) tries (AreTicked now)
               (delay_timer now)
               (λ own e held. comms-quiet plan (TriedIs tries) fits slots stood comms_in.Time now own held),
-          tt,
+          (
+            mild-keeps (end_plan plan) base fits.line doings now limit (HeldAt plan slots stood) tries (AreTicked now)
+                (sampling now) (λ own e held. sampling-quiet plan (TriedIs tries) fits slots stood now own e held),
+            all-many (end_plan plan) base fits.line doings now limit (HeldAt plan slots stood) tries (AreTicked now) 16
+                made_part
+                (mild-keeps (end_plan plan) base fits.line doings now limit (HeldAt plan slots stood) tries
+                (AreTicked now) made_part
+                (λ own e held. made-quiet plan (TriedIs tries) fits slots stood own e held)),
+          ),
         )
 
     tick-at-part : (tries : List ℕ) (step : ToolStep) → At tries AreNone step
@@ -226,7 +243,7 @@ module _ (plan : EquipmentPlan) (base : ℕ) (fits : EquipmentPlanFits plan) (sl
         first = beginning now step.next.own step.next.core
 
         later : List ToolPart
-        later = (late_parts now ++ delay_timer now ∷ []) ++ input_part input now ∷ []
+        later = (late_parts now ++ delay_timer now ∷ sample_parts now) ++ input_part input now ∷ []
 
         rest : List ToolPart
         rest = line_timer now ∷ later
@@ -242,7 +259,7 @@ module _ (plan : EquipmentPlan) (base : ℕ) (fits : EquipmentPlanFits plan) (sl
             (λ next at.
             parts-then (end_plan plan) base fits.line doings now limit (HeldAt plan slots stood) tries (AreTicked now)
             HasStepped
-            HasBegun (late_parts now ++ delay_timer now ∷ []) (input_part input now ∷ []) next (late-keep tries) at
+            HasBegun (late_parts now ++ delay_timer now ∷ sample_parts now) (input_part input now ∷ []) next (late-keep tries) at
             (λ end ended. some-less tries (AreTicked now) (AreBegunOf input now) end (begun-ticked input now) ended)
             (λ end ended. input-at tries end may ended))
 
@@ -285,6 +302,7 @@ module _ (plan : EquipmentPlan) (base : ℕ) (fits : EquipmentPlanFits plan) (sl
             took-held ts number system message can other so = record {
               plan_is = so.plan_is;
               texts = so.texts;
+              traced = so.traced;
               reports = so.reports;
               ledger = taken-good number system (waiting_text message) other.ledger
                   (waiting-is plan (TriedIs ts) fits slots stood message can) so.ledger;
@@ -475,6 +493,7 @@ module _ (plan : EquipmentPlan) (base : ℕ) (fits : EquipmentPlanFits plan) whe
         held = record {
           plan_is = at.node.at.held.plan_is;
           texts = at.node.at.held.texts;
+          traced = at.node.at.held.traced;
           reports = at.node.at.held.reports;
           ledger = carried-good step.next.node.own.ledger at.node.at.held.ledger;
           tried_is = at.node.at.held.tried_is;
@@ -507,6 +526,7 @@ module _ (plan : EquipmentPlan) (base : ℕ) (fits : EquipmentPlanFits plan) whe
   held-at doings s did = record {
     plan_is = did.sound.own.plan_is;
     texts = did.sound.own.texts;
+    traced = did.sound.own.traced;
     reports = did.sound.own.reports;
     ledger = did.sound.own.ledger;
     tried_is = did.last;

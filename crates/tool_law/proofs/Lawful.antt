@@ -38,6 +38,7 @@ use Rattle.equipment_tables.specs.Answers.{identity_of}
 use Rattle.tool_step.specs.Own.{OwnView, ToolPart, ToolTurn, quiet_turn, with_comms}
 use Rattle.equipment_tables.specs.Plan.{EquipmentPlanFits}
 use Rattle.tool_step.specs.Replies.{block_timer, reply_timer}
+use Rattle.tool_step.specs.Sampling.{made_part, sample_parts, sampling}
 use Rattle.tool_step.specs.Sent as sent
 use Rattle.tool_law.specs.Sound.{AllCanBeSent, CanBeSent, IsHeld, IsSound}
 use Rattle.tool_step.specs.Spooling.{end_of_spooling, taking_turn}
@@ -62,6 +63,7 @@ use Rattle.spool_law.specs.Tries.{tries_in}
 use Rattle.tool_law.proofs.MildCommands.{sound-self}
 use Rattle.tool_law.proofs.QuietTurns.{comms-quiet}
 use Rattle.tool_law.proofs.QuietMessages.{by-t4-quiet, taking-held, unload-held, ended-quiet}
+use Rattle.tool_law.proofs.QuietSamples.{made-quiet, sampling-quiet}
 use Rattle.tool_law.proofs.QuietCommands.{failed-is-quiet, took-quiet, told-quiet, beginning-quiet, t3-quiet}
 use Rattle.tool_law.proofs.KeptSteps.{begun-unended, goes-on}
 
@@ -76,6 +78,7 @@ module _ (plan : EquipmentPlan) (fits : EquipmentPlanFits plan) (slots : ℕ) (s
   any-held own sound = record {
     plan_is = sound.plan_is;
     texts = sound.texts;
+    traced = sound.traced;
     reports = sound.reports;
     ledger = sound.ledger;
     tried_is = tt;
@@ -83,7 +86,13 @@ module _ (plan : EquipmentPlan) (fits : EquipmentPlanFits plan) (slots : ℕ) (s
 
   any-sound : (own : OwnView) → IsHeld plan slots stood IsAny own → IsSound plan slots stood own
   any-sound own held =
-      record { plan_is = held.plan_is; texts = held.texts; reports = held.reports; ledger = held.ledger }
+      record {
+        plan_is = held.plan_is;
+        texts = held.texts;
+        traced = held.traced;
+        reports = held.reports;
+        ledger = held.ledger;
+      }
 
   abbrev pub KeepsSound : ToolPart → Type 0
   KeepsSound part =
@@ -135,6 +144,14 @@ module _ (plan : EquipmentPlan) (fits : EquipmentPlanFits plan) (slots : ℕ) (s
       (many-keep 64 (reply_timer now)
       (λ own e sound. any-sound _ (t3-quiet plan IsAny fits slots stood now own e (any-held own sound)).sound))
 
+  samples-sound : (now : ℕ) → AllKeepSound (sample_parts now)
+  unfolding sample_parts
+  samples-sound now = (
+    (λ own e sound. any-sound _ (sampling-quiet plan IsAny fits slots stood now own e (any-held own sound)).sound),
+    many-keep 16 made_part
+        (λ own e sound. any-sound _ (made-quiet plan IsAny fits slots stood own e (any-held own sound)).sound),
+  )
+
   input-sound : (input : Input ToolCommand) (now : ℕ) → KeepsSound (input_part input now)
   input-sound (Char byte) now own e sound =
       any-sound _ (took-quiet plan IsAny fits slots stood now (took_at e byte now) own (core_after (Take byte now) e)
@@ -150,11 +167,11 @@ module _ (plan : EquipmentPlan) (fits : EquipmentPlanFits plan) (slots : ℕ) (s
       (λ own e sound.
           any-sound _ (failed-is-quiet plan IsAny fits slots stood now (failed_at e now) own (core_after (Tick now) e)
           (any-held own sound)).sound),
-      both-keep (late_parts now ++ delay_timer now ∷ []) (input_part input now ∷ [])
-          (both-keep (late_parts now) (delay_timer now ∷ []) (late-sound now) (
+      both-keep (late_parts now ++ delay_timer now ∷ sample_parts now) (input_part input now ∷ [])
+          (both-keep (late_parts now) (delay_timer now ∷ sample_parts now) (late-sound now) (
             (λ own e sound. any-sound _
                 (comms-quiet plan IsAny fits slots stood comms_in.Time now own (any-held own sound)).sound),
-            tt,
+            samples-sound now,
           ))
           (input-sound input now, tt),
     ),
@@ -205,6 +222,7 @@ module _ (plan : EquipmentPlan) (fits : EquipmentPlanFits plan) where
     own = record {
       plan_is = good.own.plan_is;
       texts = good.own.texts;
+      traced = good.own.traced;
       reports = good.own.reports;
       ledger = carried-good s.node.own.ledger good.own.ledger;
     };
@@ -385,6 +403,7 @@ module _ (plan : EquipmentPlan) (fits : EquipmentPlanFits plan) where
       sound = record {
         plan_is = refl;
         texts = All-nil (λ (one : GrantView). IsText one.body);
+        traced = All-nil (λ (one : GrantView). IsText one.body);
         reports = All-nil (λ (one : ReportView). CanBeSent one.message);
         ledger = new-good slots (first_in list) (length list);
       }
@@ -453,7 +472,7 @@ module _ (plan : EquipmentPlan) (slots : ℕ) (list : List Kept) (mark : ℕ) wh
   asking-own = with_comms asks.next first-own
 
   rest-parts : List ToolPart
-  rest-parts = line_timer 0 ∷ ((late_parts 0 ++ delay_timer 0 ∷ []) ++ input_part Time 0 ∷ [])
+  rest-parts = line_timer 0 ∷ ((late_parts 0 ++ delay_timer 0 ∷ sample_parts 0) ++ input_part Time 0 ∷ [])
 
   -- S1F13 under a number, if there is one
   asking-went : List ℕ → Option ℕ → Went (Node OwnView Kind) Happening
@@ -478,7 +497,7 @@ module _ (plan : EquipmentPlan) (slots : ℕ) (list : List Kept) (mark : ℕ) wh
   goes-by :
       (over : Bool) (body : Text) (step : Step EquipmentView Happening)
       → first-act (after_turn Some (first-turn over body) (at_first first-view.node)) ≢ Spent step
-  unfolding late_parts first-act first-turn first-view first-own asking-own rest-parts asking-went
+  unfolding late_parts sample_parts first-act first-turn first-view first-own asking-own rest-parts asking-went
   goes-by true body step same = absurd (cc)
   goes-by false text.TooLong step same = absurd (cc)
   goes-by false (text.Body body) step same =
@@ -495,7 +514,7 @@ module _ (plan : EquipmentPlan) (slots : ℕ) (list : List Kept) (mark : ℕ) wh
 
   first-goes :
       (step : Step EquipmentView Happening) → act (started_on plan slots list mark).next Time 0 ≢ Spent step
-  unfolding late_parts first-act first-turn first-view first-own asking-own rest-parts asking-went
+  unfolding late_parts sample_parts first-act first-turn first-view first-own asking-own rest-parts asking-went
   first-goes step same =
       goes-by (not plan.enable) (sent.text_of first-own (identity_of first-own.tables)) step (starts-by ∙ same)
     where

@@ -1,6 +1,7 @@
 pub mod CoreSteps
 pub mod Drawing
 pub mod DrawnReplies
+pub mod DrawnSamples
 pub mod DrawnTurns
 pub mod KeptSteps
 pub mod Lawful
@@ -8,6 +9,7 @@ pub mod LawfulLosses
 pub mod MildCommands
 pub mod QuietCommands
 pub mod QuietMessages
+pub mod QuietSamples
 pub mod QuietTurns
 pub mod SpentCauses
 pub mod SpentRuns

@@ -31,6 +31,7 @@ use Rattle.tool_step.specs.declared.kind.Kind.TheVariants as kind
 use Rattle.equipment_tables.specs.declared.plan.EquipmentPlan.{EquipmentPlan}
 use Rattle.equipment_tables.specs.Answers.{has_bytes, lines_of, spelled_body}
 use Rattle.tool_step.specs.Own.{OwnView, ToolCommands, event_report, is_local}
+use Rattle.tool_step.specs.Sampling.{notes_untraced, trace_data, trace_inquiry, trace_name}
 use Rattle.tool_step.specs.Sent as sent
 use Rattle.tool_law.specs.Sound.{CanBeSent, IsSound}
 use Rattle.tool_step.specs.Spooling.{unload_request, unloaded}
@@ -101,6 +102,12 @@ may-establish body is = record { stream = omega arith; function = omega arith; o
 
 pub may-ask : (body : List ℕ) → IsText body → IsUnsent (sent.grant_request body)
 may-ask body is = record { stream = omega arith; function = omega arith; odd = refl; body = is }
+
+pub may-trace : (body : List ℕ) → IsText body → IsUnsent (trace_data body)
+may-trace body is = record { stream = omega arith; function = omega arith; odd = refl; body = is }
+
+pub may-inquire : (body : List ℕ) → IsText body → IsUnsent (trace_inquiry body)
+may-inquire body is = record { stream = omega arith; function = omega arith; odd = refl; body = is }
 
 pub may-report : (message : Spooled) → CanBeSent message → IsUnsent (sent.live_report message)
 may-report message can =
@@ -183,6 +190,9 @@ ending-quiet control stored kind.Grant header =
 ending-quiet control stored kind.Unload header = failed-note header
 ending-quiet control stored kind.UnloadGrant header =
     joined (notes_failed header) states.notes_unsent (failed-note header) unsent-note
+ending-quiet control stored kind.Trace header = failed-note header
+ending-quiet control stored kind.TraceGrant header =
+    joined (notes_failed header) notes_untraced (failed-note header) (one-note (Happening.Dropped trace_name) tt)
 
 pub begun-quiet :
     (spools : Bool) (own : OwnView) (begun : List (Begun Kind))
@@ -259,6 +269,7 @@ pub sound-self : (plan : EquipmentPlan) (slots : ℕ) (stood : Stand) (own : Own
 sound-self plan slots stood own sound = record {
   plan_is = sound.plan_is;
   texts = sound.texts;
+  traced = sound.traced;
   reports = sound.reports;
   ledger = record {
     waiting = sound.ledger.waiting;

@@ -165,6 +165,7 @@ module _ (plan : EquipmentPlan) (TriedIs : Option ℕ → Type 0) (fits : Equipm
           texts =
               All-snoc (λ (one : GrantView). IsText one.body) own.for_grant (record { system = system; body = body })
               sound.texts is;
+          traced = sound.traced;
           reports = sound.reports;
           ledger = sound.ledger;
           tried_is = sound.tried_is;
@@ -207,7 +208,7 @@ module _ (plan : EquipmentPlan) (TriedIs : Option ℕ → Type 0) (fits : Equipm
         (enabled_turn (is_enabled_in own.tables.reports ceid) ceid own.events (with_event own) e)
         (one-note (Happening.Event ceid own.events) tt)
         (happened-quiet (is_enabled_in own.tables.reports ceid) ceid own.events (with_event own) e
-        ((kept plan TriedIs fits slots stood) own (with_event own) sound refl refl refl refl refl))
+        ((kept plan TriedIs fits slots stood) own (with_event own) sound refl refl refl refl refl refl))
     event-is-quiet false ceid own e sound = (note-quiet plan TriedIs fits slots stood) own Happening.Refused sound tt
 
     alarm-quiet : (step : AlarmStep) (alid : ℕ) (is_set : Bool) (own : OwnView) (e : EndView Kind) → (Sound plan TriedIs fits slots stood) own
@@ -220,7 +221,7 @@ module _ (plan : EquipmentPlan) (TriedIs : Option ℕ → Type 0) (fits : Equipm
         (one-note (Happening.Alarm alid is_set) tt) (go enabled)
       where
         changed : (Sound plan TriedIs fits slots stood) (with_tables (alarm_after alid is_set own.tables) own)
-        changed = (kept plan TriedIs fits slots stood) own (with_tables (alarm_after alid is_set own.tables) own) sound refl refl refl refl refl
+        changed = (kept plan TriedIs fits slots stood) own (with_tables (alarm_after alid is_set own.tables) own) sound refl refl refl refl refl refl
 
         go : (enabled : Bool) →
             (Quiet plan TriedIs fits slots stood) (alarm_report_turn enabled alid (with_tables (alarm_after alid is_set own.tables) own) e)
@@ -241,7 +242,7 @@ module _ (plan : EquipmentPlan) (TriedIs : Option ℕ → Type 0) (fits : Equipm
             (fixed-quiet plan TriedIs fits slots stood) (with_control (control_next own.control control_in.AttemptFailed) own)
             (Primary sent.online_request ∷ states.control_commands control_in.AttemptFailed own.control)
             ((kept plan TriedIs fits slots stood) own (with_control (control_next own.control control_in.AttemptFailed) own) sound refl refl refl refl
-            refl)
+            refl refl)
             (record { calls = (tt, lines.calls); may = (may-attempt, lines.may) })
         go false = (fixed-quiet plan TriedIs fits slots stood) own (Primary sent.online_request ∷ []) sound
             (record { calls = (tt, tt); may = (may-attempt, tt) })
@@ -257,7 +258,7 @@ module _ (plan : EquipmentPlan) (TriedIs : Option ℕ → Type 0) (fits : Equipm
     online-quiet own e sound =
         let rest = attempted-quiet (control_step own.control input).output
         (with_control (control_step own.control input).next own) e
-        ((kept plan TriedIs fits slots stood) own (with_control (control_step own.control input).next own) sound refl refl refl refl refl) in
+        ((kept plan TriedIs fits slots stood) own (with_control (control_step own.control input).next own) sound refl refl refl refl refl refl) in
         record {
           quiet = ((λ f. control-lines own.control.state (control_step own.control input).next.state), rest.quiet);
           sound = rest.sound;
@@ -271,7 +272,7 @@ module _ (plan : EquipmentPlan) (TriedIs : Option ℕ → Type 0) (fits : Equipm
     set-quiet (Some refusal) vid value own sound = (note-quiet plan TriedIs fits slots stood) own Happening.Refused sound tt
     set-quiet None vid value own sound =
         (note-quiet plan TriedIs fits slots stood) (with_tables (set_after vid value own.tables) own) (Happening.Set vid)
-        ((kept plan TriedIs fits slots stood) own (with_tables (set_after vid value own.tables) own) sound refl refl refl refl refl) tt
+        ((kept plan TriedIs fits slots stood) own (with_tables (set_after vid value own.tables) own) sound refl refl refl refl refl refl) tt
 
     command-quiet : (command : ToolCommand) (now : ℕ) (own : OwnView) (e : EndView Kind) → (Sound plan TriedIs fits slots stood) own
         → (Quiet plan TriedIs fits slots stood) (command_turn command now own e)
@@ -302,7 +303,7 @@ module _ (plan : EquipmentPlan) (TriedIs : Option ℕ → Type 0) (fits : Equipm
     beginning-quiet now own e sound = go (own.has_begun || not own.plan.enable)
       where
         started-sound : (Sound plan TriedIs fits slots stood) (begun own)
-        started-sound = (kept plan TriedIs fits slots stood) own (begun own) sound refl refl refl refl refl
+        started-sound = (kept plan TriedIs fits slots stood) own (begun own) sound refl refl refl refl refl refl
 
         go : (over : Bool) → (Quiet plan TriedIs fits slots stood) (if over then quiet_turn (begun own)
             else states.comms_turn comms_in.Enable now (begun own))

@@ -14,6 +14,7 @@ use Rattle.gem_states.specs.declared.control.ControlIn.{ControlIn}
 use Rattle.gem_states.specs.declared.control.ControlIn.TheVariants as control_in
 use Rattle.gem_states.specs.declared.control.ControlOut.{ControlOut}
 use Rattle.gem_states.specs.declared.control.ControlOut.TheVariants as control_out
+use Rattle.gem_trace.specs.declared.request.TraceRequest.{TraceRequest}
 use Rattle.message_flow.specs.declared.message.Message.{Message}
 use Rattle.message_flow.specs.Message.{is_primary}
 use Rattle.trace_log.specs.Log.{Happening, Past}
@@ -34,11 +35,12 @@ use Rattle.tool_step.specs.declared.kind.Kind.TheVariants as kind
 use Rattle.equipment_tables.specs.declared.plan.EquipmentPlan.{EquipmentPlan}
 use Rattle.equipment_tables.specs.Answers.{answer_of, established_of, lines_of, reply_to}
 use Rattle.tool_step.specs.Codes.{is_accepted_in, is_granted_in}
-use Rattle.tool_step.specs.Own.{OwnView, event_report, is_communicating, is_enabled_in as is_comms_enabled, is_local, is_online, turn_before, turn_of, waiting_report, with_control, with_ledger, with_tables, with_tried, without_grant, without_report}
+use Rattle.tool_step.specs.Own.{OwnView, event_report, is_communicating, is_enabled_in as is_comms_enabled, is_local, is_online, turn_before, turn_of, waiting_report, waiting_trace, with_control, with_ledger, with_tables, with_tried, without_grant, without_report, without_traced}
 use Rattle.tool_step.specs.Messages.{answer_turn, control_answer_duties, control_request_turn, dropped_turn, error_turn, established_duties, established_turn, is_establish_request, is_online_request, known_turn, message_turn, offline_turn, own_request_commands, own_request_of, primary_turn, read_turn, request_turn, stray_turn}
 use Rattle.equipment_tables.specs.Plan.{EquipmentPlanFits}
 use Rattle.tool_step.specs.Replies.{given_up_by_t4, given_up_turn, granted_turn, loss_turn, matched_turn, reply_turn, secondary_turn, timeout_turn}
 use Rattle.equipment_tables.specs.Requests.{request_of}
+use Rattle.tool_step.specs.Sampling.{granted_trace_turn, tiaack_code, tiaack_in, trace_name, trace_turn}
 use Rattle.tool_step.specs.Sent as sent
 use Rattle.tool_law.specs.Sound.{CanBeSent}
 use Rattle.tool_step.specs.Spooling.{booked_turn, dataid_in, end_of_spooling, grant_given_turn, inquiry_turn, let_go_turn, needs_grant, purge_turn, rsda_duties, sent_turn, stopped_turn, taking_turn, transmit_turn, tried_turn, unload_part, unload_request, unloaded, unloaded_own, unloading_turn, waiting_text}
@@ -53,7 +55,8 @@ use Rattle.spool_ledger.specs.Unloading.{after_next, confirmed, fresh, let_go, n
 use Rattle.tool_step.specs.Live.{ReportView}
 use Rattle.tool_law.proofs.TriedSteps.{IsMild}
 use Rattle.tool_law.proofs.MildCommands.{IsSpelled, joined, none-quiet, one-note, sent-quiet, may-report, may-unload, may-ask-unload, can-event, IsOdd, may-tell, control-lines, abort-quiet, body-quiet, long-quiet, lines-plain, lines-quiet}
-use Rattle.tool_law.proofs.QuietTurns.{Sound, Quiet, AreQuiet, text-is, kept, ungranted, unreported, booked-sound, unloaded-sound, waiting-can, kept-or-ended, fixed-quiet, nothing-quiet, note-quiet, led-quiet, both-quiet, before-quiet, booked-quiet, comms-quiet, control-quiet, leaving-quiet}
+use Rattle.tool_law.proofs.QuietSamples.{granted-trace-quiet, waiting-trace-is}
+use Rattle.tool_law.proofs.QuietTurns.{Sound, Quiet, AreQuiet, text-is, kept, ungranted, unreported, untraced, booked-sound, unloaded-sound, waiting-can, kept-or-ended, fixed-quiet, nothing-quiet, note-quiet, led-quiet, both-quiet, before-quiet, booked-quiet, comms-quiet, control-quiet, leaving-quiet}
 
 module _ (plan : EquipmentPlan) (TriedIs : Option ℕ → Type 0) (fits : EquipmentPlanFits plan) (slots : ℕ)
     (stood : Stand)
@@ -103,6 +106,10 @@ module _ (plan : EquipmentPlan) (TriedIs : Option ℕ → Type 0) (fits : Equipm
     loss-is-quiet now kind.Unload system own e sound = (nothing-quiet plan TriedIs fits slots stood) (unloaded_own own) ((unloaded-sound plan TriedIs fits slots stood) own sound)
     loss-is-quiet now kind.UnloadGrant system own e sound =
         (note-quiet plan TriedIs fits slots stood) (unloaded_own own) (Happening.Denied states.event_name) ((unloaded-sound plan TriedIs fits slots stood) own sound) tt
+    loss-is-quiet now kind.Trace system own e sound = (nothing-quiet plan TriedIs fits slots stood) own sound
+    loss-is-quiet now kind.TraceGrant system own e sound =
+        (note-quiet plan TriedIs fits slots stood) (without_traced system own) (Happening.Denied trace_name)
+        ((untraced plan TriedIs fits slots stood) own system sound) tt
 
     pub timeout-quiet :
         (now : ℕ) (primary : Option (Header × Kind)) (own : OwnView) (e : EndView Kind) → (Sound plan TriedIs fits slots stood) own
@@ -144,6 +151,7 @@ module _ (plan : EquipmentPlan) (TriedIs : Option ℕ → Type 0) (fits : Equipm
         go false (Some system) = record {
           plan_is = sound.plan_is;
           texts = sound.texts;
+          traced = sound.traced;
           reports =
               All-snoc (λ (one : ReportView). CanBeSent one.message) own.reports
               (record { system = system; message = message }) sound.reports can;
@@ -209,6 +217,7 @@ module _ (plan : EquipmentPlan) (TriedIs : Option ℕ → Type 0) (fits : Equipm
     taken-held number system message can own sound is = record {
       plan_is = sound.plan_is;
       texts = sound.texts;
+      traced = sound.traced;
       reports = sound.reports;
       ledger = taken-good number system (waiting_text message) own.ledger (waiting-is message can) sound.ledger;
       tried_is = is;
@@ -304,6 +313,18 @@ module _ (plan : EquipmentPlan) (TriedIs : Option ℕ → Type 0) (fits : Equipm
             → (Quiet plan TriedIs fits slots stood) (if granted then grant_given_turn own e else loss_turn now kind.UnloadGrant system own e)
         go true = let-go-quiet (waiting_in own.ledger.unload) sound.ledger.waiting own e sound
         go false = loss-is-quiet now kind.UnloadGrant system own e sound
+    reply-is-quiet now kind.Trace system body own e sound = (nothing-quiet plan TriedIs fits slots stood) own sound
+    reply-is-quiet now kind.TraceGrant system body own e sound = go (is_granted_in body)
+      where
+        go : (granted : Bool)
+            → (Quiet plan TriedIs fits slots stood)
+            (if granted then granted_trace_turn (waiting_trace system own) (without_traced system own)
+            else loss_turn now kind.TraceGrant system own e)
+        go true =
+            (granted-trace-quiet plan TriedIs fits slots stood) (waiting_trace system own)
+            ((waiting-trace-is plan TriedIs fits slots stood) own system sound) (without_traced system own)
+            ((untraced plan TriedIs fits slots stood) own system sound)
+        go false = loss-is-quiet now kind.TraceGrant system own e sound
 
     matched-quiet :
         (now : ℕ) (found : Match Kind) (message : Message) (own : OwnView) (e : EndView Kind) → (Sound plan TriedIs fits slots stood) own
@@ -331,6 +352,8 @@ module _ (plan : EquipmentPlan) (TriedIs : Option ℕ → Type 0) (fits : Equipm
     own-request-quiet kind.Report system = none-quiet
     own-request-quiet kind.Unload system = none-quiet
     own-request-quiet kind.UnloadGrant system = none-quiet
+    own-request-quiet kind.Trace system = none-quiet
+    own-request-quiet kind.TraceGrant system = none-quiet
 
     own-requests-quiet : (begun : List (Begun Kind)) → IsMild (flat_map own_request_of begun)
     own-requests-quiet [] = none-quiet
@@ -373,7 +396,7 @@ module _ (plan : EquipmentPlan) (TriedIs : Option ℕ → Type 0) (fits : Equipm
         (λ e. control-lines own.control.state (control_step own.control input).next.state),
         control-answer-quiet (control_step own.control input).output message own sound,
       );
-      sound = (kept plan TriedIs fits slots stood) own (with_control (control_step own.control input).next own) sound refl refl refl refl refl;
+      sound = (kept plan TriedIs fits slots stood) own (with_control (control_step own.control input).next own) sound refl refl refl refl refl refl;
     }
 
     answer-quiet : (request : TablesRequest) (message : Message) (own : OwnView) → (Sound plan TriedIs fits slots stood) own
@@ -386,7 +409,7 @@ module _ (plan : EquipmentPlan) (TriedIs : Option ℕ → Type 0) (fits : Equipm
             ((text-is plan TriedIs fits slots stood) own sound (reply_to own.tables (is_local own) request))
             message,
       );
-      sound = (kept plan TriedIs fits slots stood) own (with_tables (tables_after request own.tables) own) sound refl refl refl refl refl;
+      sound = (kept plan TriedIs fits slots stood) own (with_tables (tables_after request own.tables) own) sound refl refl refl refl refl refl;
     }
 
     -- what S6F23 is answered
@@ -422,16 +445,32 @@ module _ (plan : EquipmentPlan) (TriedIs : Option ℕ → Type 0) (fits : Equipm
             ((booked-quiet plan TriedIs fits slots stood) (all_out own.ledger) own sound (all-out-good own.ledger sound.ledger))
         go false = record { quiet = rsda-quiet message own sound; sound = sound }
 
-    request-is-quiet : (request : Request) (message : Message) (own : OwnView) → (Sound plan TriedIs fits slots stood) own
-        → (Quiet plan TriedIs fits slots stood) (request_turn request message own)
-    request-is-quiet (request.OfTables asked) message own sound = answer-quiet asked message own sound
-    request-is-quiet request.GoOffline message own sound =
+    trace-request-quiet : (asked : TraceRequest) (now : ℕ) (message : Message) (own : OwnView)
+        → (Sound plan TriedIs fits slots stood) own → (Quiet plan TriedIs fits slots stood) (trace_turn asked now message own)
+    trace-request-quiet asked now message own sound =
+        let code = code_item (tiaack_code (tiaack_in asked own)) in
+        record {
+          quiet =
+              answers-quiet (sent.text_of own code) ((text-is plan TriedIs fits slots stood) own sound code) message;
+          sound = (kept plan TriedIs fits slots stood) own (trace_turn asked now message own).own sound refl refl refl refl refl
+              refl;
+        }
+
+    request-is-quiet : (request : Request) (now : ℕ) (message : Message) (own : OwnView)
+        → (Sound plan TriedIs fits slots stood) own
+        → (Quiet plan TriedIs fits slots stood) (request_turn request now message own)
+    request-is-quiet (request.OfTables asked) now message own sound = answer-quiet asked message own sound
+    request-is-quiet request.GoOffline now message own sound =
         control-request-quiet control_in.RequestOffline message own sound
-    request-is-quiet request.GoOnline message own sound =
+    request-is-quiet request.GoOnline now message own sound =
         control-request-quiet control_in.RequestOnline message own sound
-    request-is-quiet request.Establish message own sound = record { quiet = abort-is-quiet message; sound = sound }
-    request-is-quiet request.TransmitSpool message own sound = transmit-quiet message own sound
-    request-is-quiet request.PurgeSpool message own sound = purge-quiet message own sound
+    request-is-quiet request.Establish now message own sound =
+        record { quiet = abort-is-quiet message; sound = sound }
+    request-is-quiet request.TransmitSpool now message own sound = transmit-quiet message own sound
+    request-is-quiet request.PurgeSpool now message own sound = purge-quiet message own sound
+    request-is-quiet (request.Trace trid dsper total group svids) now message own sound =
+        trace-request-quiet
+        (record { trid = trid; dsper = dsper; total = total; group = group; svids = svids }) now message own sound
 
     -- an error of stream 9
     pub error-is-quiet :
@@ -441,17 +480,18 @@ module _ (plan : EquipmentPlan) (TriedIs : Option ℕ → Type 0) (fits : Equipm
         record { quiet = errors-quiet function odd header own sound; sound = sound }
 
     read-quiet :
-        (read : Option Request) (header : Header) (message : Message) (own : OwnView) → (Sound plan TriedIs fits slots stood) own
-        → (Quiet plan TriedIs fits slots stood) (read_turn read header message own)
-    read-quiet None header message own sound =
+        (now : ℕ) (read : Option Request) (header : Header) (message : Message) (own : OwnView) → (Sound plan TriedIs fits slots stood) own
+        → (Quiet plan TriedIs fits slots stood) (read_turn now read header message own)
+    read-quiet now None header message own sound =
         error-is-quiet 7 (record { byte = omega arith; odd = refl }) header own sound
-    read-quiet (Some request) header message own sound =
-        (led-quiet plan TriedIs fits slots stood) (Note (Happening.Recorded (Past.Asked message))) (request_turn request message own)
-        (one-note (Happening.Recorded (Past.Asked message)) tt) (request-is-quiet request message own sound)
+    read-quiet now (Some request) header message own sound =
+        (led-quiet plan TriedIs fits slots stood) (Note (Happening.Recorded (Past.Asked message)))
+        (request_turn request now message own)
+        (one-note (Happening.Recorded (Past.Asked message)) tt) (request-is-quiet request now message own sound)
 
-    known-quiet : (header : Header) (message : Message) (own : OwnView) → (Sound plan TriedIs fits slots stood) own
-        → (Quiet plan TriedIs fits slots stood) (known_turn header message own)
-    known-quiet header message own sound =
+    known-quiet : (now : ℕ) (header : Header) (message : Message) (own : OwnView) → (Sound plan TriedIs fits slots stood) own
+        → (Quiet plan TriedIs fits slots stood) (known_turn now header message own)
+    known-quiet now header message own sound =
         go (not (is_known_stream message.stream)) (not (is_known message.stream message.function))
       where
         read : Option Request
@@ -459,10 +499,10 @@ module _ (plan : EquipmentPlan) (TriedIs : Option ℕ → Type 0) (fits : Equipm
 
         go : (strange unknown : Bool)
             → (Quiet plan TriedIs fits slots stood) (if strange then error_turn 3 header own else if unknown then error_turn 5 header own
-            else read_turn read header message own)
+            else read_turn now read header message own)
         go true unknown = error-is-quiet 3 (record { byte = omega arith; odd = refl }) header own sound
         go false true = error-is-quiet 5 (record { byte = omega arith; odd = refl }) header own sound
-        go false false = read-quiet read header message own sound
+        go false false = read-quiet now read header message own sound
 
     dropped-quiet : (message : Message) (own : OwnView) → (Sound plan TriedIs fits slots stood) own → (Quiet plan TriedIs fits slots stood) (dropped_turn message own)
     dropped-quiet message own sound = (note-quiet plan TriedIs fits slots stood) own (Happening.Dropped (message_name message)) sound tt
@@ -484,14 +524,14 @@ module _ (plan : EquipmentPlan) (TriedIs : Option ℕ → Type 0) (fits : Equipm
       where
         go : (establishes silent offline : Bool)
             → (Quiet plan TriedIs fits slots stood) (if establishes then established_turn now message own else if silent then stray_turn now message own
-            else if offline then offline_turn message own else known_turn header message own)
+            else if offline then offline_turn message own else known_turn now header message own)
         go true silent offline = established-quiet now message own sound
         go false true offline =
             (led-quiet plan TriedIs fits slots stood) (Note (Happening.Dropped (message_name message)))
             (states.comms_turn comms_in.OtherMessage now own)
             (one-note (Happening.Dropped (message_name message)) tt) ((comms-quiet plan TriedIs fits slots stood) comms_in.OtherMessage now own sound)
         go false false true = offline-quiet message own sound
-        go false false false = known-quiet header message own sound
+        go false false false = known-quiet now header message own sound
 
     pub message-quiet :
         (now : ℕ) (header : Header) (message : Message) (own : OwnView) (e : EndView Kind) → (Sound plan TriedIs fits slots stood) own

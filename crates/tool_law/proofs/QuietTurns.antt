@@ -27,7 +27,7 @@ use Rattle.tool_step.specs.declared.kind.Kind.{Kind}
 use Rattle.tool_step.specs.declared.kind.Kind.TheVariants as kind
 use Rattle.equipment_tables.specs.declared.plan.EquipmentPlan.{EquipmentPlan}
 use Rattle.equipment_tables.specs.Answers.{identity_of}
-use Rattle.tool_step.specs.Own.{OwnView, ToolCommands, ToolDuty, ToolTurn, event_report, is_granted_by, is_report_of, quiet_turn, sent_report, turn_before, waiting_report, with_comms, with_control, with_ledger, without_grant, without_report}
+use Rattle.tool_step.specs.Own.{OwnView, ToolCommands, ToolDuty, ToolTurn, event_report, is_granted_by, is_report_of, quiet_turn, sent_report, turn_before, waiting_report, with_comms, with_control, with_ledger, without_grant, without_report, without_traced}
 use Rattle.equipment_tables.specs.Plan.{EquipmentPlanFits}
 use Rattle.tool_step.specs.Sent as sent
 use Rattle.tool_law.specs.Sound.{CanBeSent, IsGoodLedger, IsHeld}
@@ -67,10 +67,12 @@ module _ (plan : EquipmentPlan) (TriedIs : Option ℕ → Type 0) (fits : Equipm
     -- ---- what is kept stays sound
 
     pub kept : (own : OwnView) (other : OwnView) → Sound own → other.plan ≡ own.plan → other.for_grant ≡ own.for_grant
-        → other.reports ≡ own.reports → other.ledger ≡ own.ledger → other.tried ≡ own.tried → Sound other
-    kept own other sound same texts reports ledger tried = record {
+        → other.reports ≡ own.reports → other.ledger ≡ own.ledger → other.tried ≡ own.tried
+        → other.tracing.for_grant ≡ own.tracing.for_grant → Sound other
+    kept own other sound same texts reports ledger tried traced = record {
       plan_is = same ∙ sound.plan_is;
       texts = subst (λ (waiting : List GrantView). All (λ one. IsText one.body) waiting) (sym texts) sound.texts;
+      traced = subst (λ (waiting : List GrantView). All (λ one. IsText one.body) waiting) (sym traced) sound.traced;
       reports = subst (λ (live : List ReportView). All (λ one. CanBeSent one.message) live) (sym reports) sound.reports;
       ledger = subst (λ (v : LedgerView). IsGoodLedger slots stood v) (sym ledger) sound.ledger;
       tried_is = subst
@@ -83,6 +85,20 @@ module _ (plan : EquipmentPlan) (TriedIs : Option ℕ → Type 0) (fits : Equipm
       texts = subst (λ (waiting : List GrantView). All (λ one. IsText one.body) waiting)
           (sym (removed (is_granted_by system) own.for_grant))
           (All-without (is_granted_by system) (λ one. IsText one.body) own.for_grant sound.texts);
+      traced = sound.traced;
+      reports = sound.reports;
+      ledger = sound.ledger;
+      tried_is = sound.tried_is;
+    }
+
+    -- an S6F1 waits no more
+    pub untraced : (own : OwnView) (system : ℕ) → Sound own → Sound (without_traced system own)
+    untraced own system sound = record {
+      plan_is = sound.plan_is;
+      texts = sound.texts;
+      traced = subst (λ (waiting : List GrantView). All (λ one. IsText one.body) waiting)
+          (sym (removed (is_granted_by system) own.tracing.for_grant))
+          (All-without (is_granted_by system) (λ one. IsText one.body) own.tracing.for_grant sound.traced);
       reports = sound.reports;
       ledger = sound.ledger;
       tried_is = sound.tried_is;
@@ -92,6 +108,7 @@ module _ (plan : EquipmentPlan) (TriedIs : Option ℕ → Type 0) (fits : Equipm
     unreported own system sound = record {
       plan_is = sound.plan_is;
       texts = sound.texts;
+      traced = sound.traced;
       reports = subst (λ (live : List ReportView). All (λ one. CanBeSent one.message) live)
           (sym (removed (is_report_of system) own.reports))
           (All-without (is_report_of system) (λ one. CanBeSent one.message) own.reports sound.reports);
@@ -105,6 +122,7 @@ module _ (plan : EquipmentPlan) (TriedIs : Option ℕ → Type 0) (fits : Equipm
         record {
           plan_is = sound.plan_is;
           texts = sound.texts;
+          traced = sound.traced;
           reports = sound.reports;
           ledger = good;
           tried_is = sound.tried_is;
@@ -118,6 +136,7 @@ module _ (plan : EquipmentPlan) (TriedIs : Option ℕ → Type 0) (fits : Equipm
     opened own e sound = record {
       plan_is = sound.plan_is;
       texts = All-nil (λ (one : GrantView). IsText one.body);
+      traced = All-nil (λ (one : GrantView). IsText one.body);
       reports = All-nil (λ (one : ReportView). CanBeSent one.message);
       ledger = sound.ledger;
       tried_is = sound.tried_is;
@@ -198,13 +217,13 @@ module _ (plan : EquipmentPlan) (TriedIs : Option ℕ → Type 0) (fits : Equipm
     comms-quiet input now own sound =
         fixed-quiet (with_comms (states.comms_outcome input now own).next own)
         (states.comms_commands (states.comms_outcome input now own) own)
-        (kept own (with_comms (states.comms_outcome input now own).next own) sound refl refl refl refl refl)
+        (kept own (with_comms (states.comms_outcome input now own).next own) sound refl refl refl refl refl refl)
         (comms-commands (states.comms_outcome input now own) own sound)
 
     pub control-quiet : (input : ControlIn) (own : OwnView) → Sound own → Quiet (states.control_turn input own)
     control-quiet input own sound =
         fixed-quiet (with_control (control_next own.control input) own) (states.control_commands input own.control)
-        (kept own (with_control (control_next own.control input) own) sound refl refl refl refl refl)
+        (kept own (with_control (control_next own.control input) own) sound refl refl refl refl refl refl)
         (control-lines own.control.state (control_next own.control input).state)
 
     open-quiet : (spools : Bool) (own : OwnView) (e : EndView Kind) (failed : Option Header)
@@ -238,6 +257,8 @@ module _ (plan : EquipmentPlan) (TriedIs : Option ℕ → Type 0) (fits : Equipm
         go kind.UnloadGrant = tt
         go kind.Establish = tt
         go kind.Attempt = tt
+        go kind.Trace = tt
+        go kind.TraceGrant = tt
 
     all-stored : (spools : Bool) (own : OwnView) → Sound own → (begun : List (Begun Kind))
         → All CanBeSent (filter_map (states.stored_of spools own) begun)
@@ -280,7 +301,7 @@ module _ (plan : EquipmentPlan) (TriedIs : Option ℕ → Type 0) (fits : Equipm
         left-sound : Sound left
         left-sound =
             booked-sound (with_comms outcome.next own) activity.next
-            (kept own (with_comms outcome.next own) sound refl refl refl refl refl) good.next
+            (kept own (with_comms outcome.next own) sound refl refl refl refl refl refl) good.next
 
         stores : Stores
         stores =

@@ -16,12 +16,14 @@ use Rattle.message_end.specs.Parts.{Node, after_parts, after_turn, closes, core_
 use Rattle.tool_step.specs.declared.kind.Kind.{Kind}
 use Rattle.tool_step.specs.Equipment.{EquipmentView, act, ended_step, is_marked_out, needs_numbers, node_step, oldest_of, parts_done, reserved, settled_went, went_with_file}
 use Rattle.tool_step.specs.Own.{OwnView, ToolPart, ToolTurn}
-use Rattle.tool_law.specs.Putting.{PartPuts, block_timer_puts, character_puts, first_puts, input_puts, lacks_number, late_puts, line_timer_puts, none_put, one_lacks, reply_timer_puts, timer_puts, where_goes}
+use Rattle.tool_law.specs.Putting.{PartPuts, block_timer_puts, character_puts, first_puts, input_puts, lacks_number, late_puts, line_timer_puts, none_put, one_lacks, reply_timer_puts, sample_puts, timer_puts, where_goes}
 use Rattle.tool_law.specs.SpentSteps.{DrawsFew, SpentByCause, ends_spent, finds_spent}
 use Rattle.tool_step.specs.Spooling.{end_of_spooling, unload_part}
 use Rattle.tool_step.specs.Replies.{block_timer, reply_timer}
+use Rattle.tool_step.specs.Sampling.{made_part, sample_parts, sampling}
 use Rattle.tool_step.specs.Step.{beginning, character, delay_timer, first_parts, input_part, is_spent, last_parts, late_parts, line_timer, offer}
 use Rattle.tool_law.proofs.Drawing.{Costs, Needs, costs-as, costs-none, costs-on, costs-then, needs-none, or-false, takes-stay}
+use Rattle.tool_law.proofs.DrawnSamples.{made-need, sampling-need}
 use Rattle.tool_law.proofs.DrawnReplies.{beginning-need, block-timer-need, character-need, closing-need, delay-need, ending-need, is_long, line-timer-need, offer-need, reply-timer-need, told-need, unload-need}
 
 abbrev NodeStep : Type 0
@@ -168,30 +170,37 @@ late-one now =
     (part-of 1 (reply_timer_puts now) (reply_timer now) (reply-timer-need now)))
 
 abbrev timers : ℕ → List ToolPart
-timers now = beginning now ∷ line_timer now ∷ (late_parts now ++ delay_timer now ∷ [])
+timers now = beginning now ∷ line_timer now ∷ (late_parts now ++ delay_timer now ∷ sample_parts now)
 
-timers-count : (now : ℕ) → length (timers now) ≡ 83
-unfolding late_parts
+timers-count : (now : ℕ) → length (timers now) ≡ 100
+unfolding late_parts sample_parts
 timers-count now = refl
+
+samples-one : (now : ℕ) → AllOne sample_puts (sample_parts now)
+unfolding sample_parts sample_puts
+samples-one now = (
+  part-of 1 none_put (sampling now) (sampling-need now),
+  many-one 16 none_put made_part (part-of 1 none_put made_part made-need),
+)
 
 timers-one : (now : ℕ) → AllOne (timer_puts now) (timers now)
 timers-one now = (
   part-of 1 none_put (beginning now) (beginning-need now),
   (
     part-of 1 (line_timer_puts now) (line_timer now) (line-timer-need now),
-    both-one (late_puts now) (none_put ∷ []) (late_parts now) (delay_timer now ∷ []) (late-one now)
-        (part-of 1 none_put (delay_timer now) (λ own e. delay-need now own), tt),
+    both-one (late_puts now) (none_put ∷ sample_puts) (late_parts now) (delay_timer now ∷ sample_parts now)
+        (late-one now) (part-of 1 none_put (delay_timer now) (λ own e. delay-need now own), samples-one now),
   ),
 )
 
 -- all that comes before the works of the disk
 first-cost : (input : Input ToolCommand) (now : ℕ) (step : NodeStep)
-    → NodeCosts 85 (one_lacks (first_puts input now) (first_parts input now) step) step.next.core.numbers
+    → NodeCosts 102 (one_lacks (first_puts input now) (first_parts input now) step) step.next.core.numbers
     (after_parts Some (first_parts input now) step)
 first-cost input now step =
     let count = timers-count now in
     let lacks = one_lacks (first_puts input now) (first_parts input now) step in
-    costs-as (length (timers now) + 2) 85 lacks lacks _ _ _ (omega (arith, count)) refl
+    costs-as (length (timers now) + 2) 102 lacks lacks _ _ _ (omega (arith, count)) refl
     (parts-cost (timer_puts now) (timers now) (input_puts input now) (input_part input now) (timers-one now)
     (input-costs input now) step)
 
@@ -239,15 +248,15 @@ module _ (input : Input ToolCommand) (now : ℕ) where
   parts_lack step = one_lacks (first_puts input now) (first_parts input now) (node_step step)
 
   acts-cost : (s : EquipmentView)
-      → FileCosts 87 (parts_lack (at_first s)) (file_numbers s)
+      → FileCosts 104 (parts_lack (at_first s)) (file_numbers s)
       (and_then (settled_went (parts_done (first_parts input now) (at_first s))) (ended_step now))
   acts-cost s =
       let lacks = parts_lack (at_first s) in
       let begun = parts_done (first_parts input now) (at_first s) in
-      costs-as (85 + 2) 87 (lacks || false) lacks _ _ _ (omega arith) (or-false lacks)
-      (costs-then file_numbers 85 2 lacks false (file_numbers s) (settled_went begun) (ended_step now)
-      (settled-costs 85 lacks (file_numbers s) begun
-      (file-costs 85 lacks (file_numbers s) s (after_parts Some (first_parts input now) (node_step (at_first s)))
+      costs-as (102 + 2) 104 (lacks || false) lacks _ _ _ (omega arith) (or-false lacks)
+      (costs-then file_numbers 102 2 lacks false (file_numbers s) (settled_went begun) (ended_step now)
+      (settled-costs 102 lacks (file_numbers s) begun
+      (file-costs 102 lacks (file_numbers s) s (after_parts Some (first_parts input now) (node_step (at_first s)))
       (first-cost input now (node_step (at_first s)))))
       (λ step.
       file-costs 2 false (file_numbers step.next) step.next
@@ -264,7 +273,7 @@ module _ (input : Input ToolCommand) (now : ℕ) where
   none-few : (next : ℕ) → next < next + 128
   none-few next = omega arith
 
-  so-few : (new old : ℕ) → new ≤ old + 87 → new < old + 128
+  so-few : (new old : ℕ) → new ≤ old + 104 → new < old + 128
   so-few new old few = omega (arith, few)
 
   few-drawn : (s : EquipmentView) → (file_numbers (step_in (act s input now)).next).next < (file_numbers s).next + 128
@@ -278,12 +287,12 @@ module _ (input : Input ToolCommand) (now : ℕ) where
 
   -- as many are left then as the step may draw
   left-then : (numbers : NumbersView) → nat_lt numbers.end (numbers.next + 128) ≡ false
-      → numbers.next + 87 ≤ numbers.end
+      → numbers.next + 104 ≤ numbers.end
   left-then numbers none = grind (arith, nat_tests, none)
 
   left-reserved :
       (next end mark : ℕ) → next ≤ end → end ≡ mark → nat_lt (2 ^ 32) (mark + 4096) ≡ false
-      → next + 87 ≤ min (end + 4096) (2 ^ 32)
+      → next + 104 ≤ min (end + 4096) (2 ^ 32)
   left-reserved next end mark ordered same room = grind (arith, nat_tests, ordered, same, room)
 
   spent-so :

@@ -211,9 +211,13 @@ input_puts (Input.Command command) now = command_puts command now
 unfoldable pub late_puts : ℕ → List PartPuts
 late_puts now = replicate 16 (block_timer_puts now) ++ replicate 64 (reply_timer_puts now)
 
+-- no sample puts anything, and no S6F1
+unfoldable pub sample_puts : List PartPuts
+sample_puts = none_put ∷ replicate 16 none_put
+
 -- of all that comes before the works of the disk; behind them nothing is put
 abbrev pub timer_puts : ℕ → List PartPuts
-timer_puts now = none_put ∷ line_timer_puts now ∷ (late_puts now ++ none_put ∷ [])
+timer_puts now = none_put ∷ line_timer_puts now ∷ (late_puts now ++ none_put ∷ sample_puts)
 
 abbrev pub first_puts : Input ToolCommand → ℕ → List PartPuts
 first_puts input now = timer_puts now ++ input_puts input now ∷ []

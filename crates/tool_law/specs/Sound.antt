@@ -35,11 +35,12 @@ pub record IsGoodLedger (slots : ℕ) (stood : Stand) (ledger : LedgerView) : Ty
   pub slots_are : ledger.slots ≡ slots
   pub stood_is : ledger.stood ≡ stood
 
--- the plan stays; and whatever is kept for later can be sent: what waits for S6F6, what was sent and may be put into
--- the spool, and what the ledger has
+-- the plan stays; and whatever is kept for later can be sent: the S6F11 and S6F1 that wait for S6F6, what was sent and
+-- may be put into the spool, and what the ledger has
 pub record IsSound (plan : EquipmentPlan) (slots : ℕ) (stood : Stand) (own : OwnView) : Type 0 where
   pub plan_is : own.plan ≡ plan
   pub texts : All (λ waiting. IsText waiting.body) own.for_grant
+  pub traced : All (λ waiting. IsText waiting.body) own.tracing.for_grant
   pub reports : All (λ live. CanBeSent live.message) own.reports
   pub ledger : IsGoodLedger slots stood own.ledger
 
@@ -48,6 +49,7 @@ pub record IsHeld
     (plan : EquipmentPlan) (slots : ℕ) (stood : Stand) (TriedIs : Option ℕ → Type 0) (own : OwnView) : Type 0 where
   pub plan_is : own.plan ≡ plan
   pub texts : All (λ waiting. IsText waiting.body) own.for_grant
+  pub traced : All (λ waiting. IsText waiting.body) own.tracing.for_grant
   pub reports : All (λ live. CanBeSent live.message) own.reports
   pub ledger : IsGoodLedger slots stood own.ledger
   pub tried_is : TriedIs own.tried
