@@ -61,6 +61,7 @@ module _ {D : Type 0} (plan : EquipmentPlan) (fits : EquipmentPlanFits plan) whe
       sound = record {
         plan_is = refl;
         texts = All-nil (λ (one : GrantView). IsText one.body);
+        traced = All-nil (λ (one : GrantView). IsText one.body);
         reports = All-nil (λ (one : ReportView). CanBeSent one.message);
         ledger = new-good g.spool.slots g.spool.first g.spool.len;
       };

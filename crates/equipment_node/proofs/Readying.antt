@@ -67,6 +67,7 @@ settled-sound own is = record {
   sound = record {
     plan_is = is.sound.plan_is;
     texts = is.sound.texts;
+    traced = is.sound.traced;
     reports = is.sound.reports;
     ledger = carried-good own.ledger is.sound.ledger;
   };
@@ -94,6 +95,7 @@ asked-sound own is core = record {
   sound = record {
     plan_is = is.sound.plan_is;
     texts = is.sound.texts;
+    traced = is.sound.traced;
     reports = is.sound.reports;
     ledger = next-good (most_transmitted own.tables) own.ledger is.sound.ledger;
   };

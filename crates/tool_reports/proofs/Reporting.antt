@@ -213,6 +213,7 @@ module _ (plan : EquipmentPlan) (fits : EquipmentPlanFits plan) (looked : Tables
           own = record {
             plan_is = same;
             texts = All-nil (λ (one : GrantView). IsText one.body);
+            traced = All-nil (λ (one : GrantView). IsText one.body);
             reports = All-nil (λ (one : ReportView). CanBeSent one.message);
             ledger = new-good slots (first_in list) (length list);
           };
@@ -294,6 +295,7 @@ module _ (plan : EquipmentPlan) (fits : EquipmentPlanFits plan) (looked : Tables
       own = record {
         plan_is = refl;
         texts = All-nil (λ (one : GrantView). IsText one.body);
+        traced = All-nil (λ (one : GrantView). IsText one.body);
         reports = All-nil (λ (one : ReportView). CanBeSent one.message);
         ledger = new-good slots (first_in list) (length list);
       };
