@@ -166,6 +166,7 @@ module _ (vars : VarsAreLookedBackFor) (reports : ReportsGoByWhatStands) (alarms
   asked_same e (Some request.GoOnline) = refl
   asked_same e (Some request.TransmitSpool) = refl
   asked_same e (Some request.PurgeSpool) = refl
+  asked_same e (Some (request.Trace trid dsper total group svids)) = refl
 
   pub entry_same :
       (past : List Past) (entry : Past) → tables_at plan (entry ∷ past) ≡ after_past entry (tables_at plan past)

@@ -19,7 +19,7 @@ use Rattle.gem_shapes.specs.declared.request.Request.{Request}
 use Rattle.gem_shapes.specs.declared.request.Request.TheVariants as request
 use Rattle.gem_shapes.specs.declared.request.TablesRequest.{TablesRequest}
 use Rattle.gem_shapes.specs.declared.request.TablesRequest.TheVariants as tables_request
-use Rattle.gem_shapes.specs.Elements.{both, code, each, flag, identifier, identifier_or_all, identifiers, is_empty_list, setting, small_number, text, two}
+use Rattle.gem_shapes.specs.Elements.{both, code, each, five, flag, identifier, identifier_or_all, identifiers, is_empty_list, setting, small_number, text, two}
 use Rattle.gem_shapes.specs.Primaries.{primary_with}
 use Rattle.gem_shapes.specs.Requests.{Asks, AsksFor, FitsShape, IsFound, IsNothing, Shape, definition, enables, linking, parameters, rule_entry, shape_of, spool_request}
 use Rattle.gem_shapes.specs.Requests.Shape.{Anything, Nothing, OneItem}
@@ -168,6 +168,12 @@ spooled (Some n) r is = go (n == 0) (n == 1) is
     go false true here = let same : request.PurgeSpool ≡ r = cc in subst IsAsked same tt
     go false false here = absurd (cc)
 
+traced :
+    (o : Option (ℕ × List ℕ × ℕ × ℕ × List ℕ)) (r : Request)
+    → option_map (λ x. request.Trace x.0 x.1 x.2 x.3 x.4) o ≡ Some r → IsAsked r
+traced None r is = absurd (cc)
+traced (Some x) r is = let same : request.Trace x.0 x.1 x.2 x.3 x.4 ≡ r = cc in subst IsAsked same tt
+
 abbrev command_of : List ℕ × Item → Request
 command_of x = request.OfTables (tables_request.Command x.0 x.1)
 
@@ -201,6 +207,8 @@ asked_for are primary.S1F17 body r fits = subst IsAsked (sym fits.1) tt
 asked_for are primary.S2F13 body r fits = made tables_request.ConstantValues (λ t. tt) (each identifier fits.0) r fits.2
 asked_for are primary.S2F15 body r fits =
     made tables_request.SetConstants (λ t. tt) (each (both identifier setting) fits.0) r fits.2
+asked_for are primary.S2F23 body r fits =
+    traced (five identifier text identifier identifier (each identifier) fits.0) r fits.2
 asked_for are primary.S2F29 body r fits = made tables_request.ConstantNames (λ t. tt) (each identifier fits.0) r fits.2
 asked_for are primary.S2F33 body r fits =
     made (λ x. tables_request.Define x.0 x.1) (λ t. tt) (both identifier (each definition) fits.0) r fits.2

@@ -33,7 +33,7 @@ use Rattle.tool_step.specs.declared.kind.Kind.{Kind}
 use Rattle.tool_step.specs.declared.kind.Kind.TheVariants as kind
 use Rattle.tool_step.specs.Codes.{is_accepted_in, is_granted_in}
 use Rattle.tool_step.specs.Messages.{dropped_turn, error_turn, established_turn, is_establish_request, is_online_request, known_turn, message_turn, offline_turn, primary_turn, read_turn, stray_turn}
-use Rattle.tool_step.specs.Own.{OwnView, ToolTurn, is_communicating, is_enabled_in as is_comms_enabled, is_online, waiting_report, without_grant}
+use Rattle.tool_step.specs.Own.{OwnView, ToolTurn, is_communicating, is_enabled_in as is_comms_enabled, is_online, waiting_report, waiting_trace, without_grant, without_traced}
 use Rattle.tool_step.specs.Replies.{granted_turn, loss_turn, matched_turn, reply_turn, secondary_turn}
 use Rattle.tool_step.specs.Spooling.{grant_given_turn}
 use Rattle.spool_ledger.specs.Unloading.{confirmed}
@@ -42,7 +42,9 @@ use Rattle.tool_reports.specs.Reported.{past_in}
 use Rattle.tool_step.specs.States as states
 use Rattle.tool_reports.proofs.HeldReports.{Any, any-lasts, Ends, Free, Keeps, KeepsAt, granted-keeps, led-at, noted-so, plain, plain-at, so_far}
 use Rattle.tool_reports.proofs.QuietReports.{Holds}
-use Rattle.tool_reports.proofs.PlainTurns.{booked-plain, comms-plain, confirmed-quiet, control-plain, dropped-plain, error-plain, nothing-plain, offline-plain, stray-plain}
+use Rattle.tool_reports.proofs.PlainSamples.{granted-trace-plain}
+use Rattle.tool_reports.proofs.PlainTurns.{booked-plain, comms-plain, confirmed-quiet, control-plain, dropped-plain, error-plain, nothing-plain, offline-plain, stays, stray-plain}
+use Rattle.tool_step.specs.Sampling.{granted_trace_turn}
 use Rattle.tool_reports.proofs.QuietNotes.{one-behind}
 use Rattle.tool_law.proofs.CoreSteps.{CoreStep}
 use Rattle.tool_reports.proofs.HostReports.{AsksOf, asks-none, IsNewest, newest-lasts, may-behind, may-establish, named, is-other, requested, event_asked, report_asked}
@@ -78,27 +80,27 @@ module _
         noted-so plan said before (requested asks own) (Happening.Recorded (Past.Asked message)) step
         ((asked-noted plan fits looked said before) asks message own (so_far plan said before step) earlier holds newest is)
 
-    abbrev read_by : Option Request → Header → ToolTurn
-    read_by read header = read_turn read header message own
+    abbrev read_by : ℕ → Option Request → Header → ToolTurn
+    read_by now read header = read_turn now read header message own
 
     -- of a primary that no report answers
     others :
-        (p : Primary) (header : Header) (read : Option Request)
+        (p : Primary) (now : ℕ) (header : Header) (read : Option Request)
         → primary_with message.stream message.function ≡ Some p → asks_for_report p ≡ false
-        → asked_by (shape_of p) message.body ≡ read → KeptBy (read_by read header)
-    others p header None with_p not_one is = errs 7 refl header
-    others p header (Some asks) with_p not_one is =
+        → asked_by (shape_of p) message.body ≡ read → KeptBy (read_by now read header)
+    others p now header None with_p not_one is = errs 7 refl header
+    others p now header (Some asks) with_p not_one is =
         (request-keeps plan fits looked said before) message (IsNewest message) (newest-lasts message)
-        (may-behind message (is-other p message (named p message with_p) not_one)) asks own next it
+        (may-behind message (is-other p message (named p message with_p) not_one)) asks now own next it
         (past_in (so_far plan said before step), next-past)
         (next-holds asks
         (ap (λ (found : Option Primary). option_and_then (λ q. asked_by (shape_of q) message.body) found) with_p
         ∙ is))
 
     for-event :
-        (header : Header) → primary_with message.stream message.function ≡ Some primary.S6F15
-        → KeptBy (read_by (asked_by (shape_of primary.S6F15) message.body) header)
-    for-event header with_p = by_item (item_in message.body) refl
+        (now : ℕ) (header : Header) → primary_with message.stream message.function ≡ Some primary.S6F15
+        → KeptBy (read_by now (asked_by (shape_of primary.S6F15) message.body) header)
+    for-event now header with_p = by_item (item_in message.body) refl
       where
         found : request_of message.stream message.function message.body
             ≡ asked_by (shape_of primary.S6F15) message.body
@@ -107,7 +109,7 @@ module _
 
         by_ceid : (ceid : Option ℕ)
             → asked_by (shape_of primary.S6F15) message.body ≡ option_map event_asked ceid
-            → KeptBy (read_by (option_map event_asked ceid) header)
+            → KeptBy (read_by now (option_map event_asked ceid) header)
         by_ceid None is = errs 7 refl header
         by_ceid (Some ceid) is =
             (answered-at plan fits looked said before) message (spelled_body own.plan.line.max_body (event_item own.tables ceid 0))
@@ -118,7 +120,7 @@ module _
             (next-holds (event_asked ceid) (found ∙ is)).tables_are next-past waits spelled)
 
         by_item : (o : Option Item) → item_in message.body ≡ o
-            → KeptBy (read_by (option_and_then (λ item. option_map event_asked (identifier item)) o) header)
+            → KeptBy (read_by now (option_and_then (λ item. option_map event_asked (identifier item)) o) header)
         by_item None is = errs 7 refl header
         by_item (Some item) is =
             by_ceid (identifier item)
@@ -126,9 +128,9 @@ module _
             is)
 
     for-report :
-        (header : Header) → primary_with message.stream message.function ≡ Some primary.S6F19
-        → KeptBy (read_by (asked_by (shape_of primary.S6F19) message.body) header)
-    for-report header with_p = by_item (item_in message.body) refl
+        (now : ℕ) (header : Header) → primary_with message.stream message.function ≡ Some primary.S6F19
+        → KeptBy (read_by now (asked_by (shape_of primary.S6F19) message.body) header)
+    for-report now header with_p = by_item (item_in message.body) refl
       where
         found : request_of message.stream message.function message.body
             ≡ asked_by (shape_of primary.S6F19) message.body
@@ -137,7 +139,7 @@ module _
 
         by_rptid : (rptid : Option ℕ)
             → asked_by (shape_of primary.S6F19) message.body ≡ option_map report_asked rptid
-            → KeptBy (read_by (option_map report_asked rptid) header)
+            → KeptBy (read_by now (option_map report_asked rptid) header)
         by_rptid None is = errs 7 refl header
         by_rptid (Some rptid) is =
             (answered-at plan fits looked said before) message (spelled_body own.plan.line.max_body (report_item_of own.tables rptid))
@@ -148,43 +150,43 @@ module _
             (next-holds (report_asked rptid) (found ∙ is)).tables_are next-past waits spelled)
 
         by_item : (o : Option Item) → item_in message.body ≡ o
-            → KeptBy (read_by (option_and_then (λ item. option_map report_asked (identifier item)) o) header)
+            → KeptBy (read_by now (option_and_then (λ item. option_map report_asked (identifier item)) o) header)
         by_item None is = errs 7 refl header
         by_item (Some item) is =
             by_rptid (identifier item)
             (ap (λ (o : Option Item). option_and_then (λ item. option_map report_asked (identifier item)) o) is)
 
-    abbrev KeepsFor : Header → Primary → Type 0
-    KeepsFor header p =
+    abbrev KeepsFor : ℕ → Header → Primary → Type 0
+    KeepsFor now header p =
         primary_with message.stream message.function ≡ Some p
-        → KeptBy (read_by (asked_by (shape_of p) message.body) header)
+        → KeptBy (read_by now (asked_by (shape_of p) message.body) header)
 
-    by-primary : (p : Primary) (header : Header) → KeepsFor header p
-    by-primary p header =
-        each_primary (KeepsFor header) (for-event header) (for-report header)
-        (λ q other is. others q header (asked_by (shape_of q) message.body) is other refl) p
+    by-primary : (p : Primary) (now : ℕ) (header : Header) → KeepsFor now header p
+    by-primary p now header =
+        each_primary (KeepsFor now header) (for-event now header) (for-report now header)
+        (λ q other is. others q now header (asked_by (shape_of q) message.body) is other refl) p
 
-    read-keeps : (header : Header)
-        → KeptBy (read_by (request_of message.stream message.function message.body) header)
-    read-keeps header = go (primary_with message.stream message.function) refl
+    read-keeps : (now : ℕ) (header : Header)
+        → KeptBy (read_by now (request_of message.stream message.function message.body) header)
+    read-keeps now header = go (primary_with message.stream message.function) refl
       where
         go : (found : Option Primary) → primary_with message.stream message.function ≡ found
-            → KeptBy (read_by (option_and_then (λ q. asked_by (shape_of q) message.body) found) header)
+            → KeptBy (read_by now (option_and_then (λ q. asked_by (shape_of q) message.body) found) header)
         go None is = errs 7 refl header
-        go (Some p) is = by-primary p header is
+        go (Some p) is = by-primary p now header is
 
-    known-keeps : (header : Header) → KeptBy (known_turn header message own)
-    known-keeps header = go (not (is_known_stream message.stream)) (not (is_known message.stream message.function))
+    known-keeps : (now : ℕ) (header : Header) → KeptBy (known_turn now header message own)
+    known-keeps now header = go (not (is_known_stream message.stream)) (not (is_known message.stream message.function))
       where
         turn_by : Bool → Bool → ToolTurn
         turn_by strange unknown =
             if strange then error_turn 3 header own else if unknown then error_turn 5 header own
-            else read_by (request_of message.stream message.function message.body) header
+            else read_by now (request_of message.stream message.function message.body) header
 
         go : (strange unknown : Bool) → KeptBy (turn_by strange unknown)
         go true unknown = errs 3 refl header
         go false true = errs 5 refl header
-        go false false = read-keeps header
+        go false false = read-keeps now header
 
     primary-keeps : (now : ℕ) (header : Header) → KeptBy (primary_turn now header message own)
     primary-keeps now header =
@@ -194,7 +196,7 @@ module _
         turn_by : Bool → Bool → Bool → ToolTurn
         turn_by establishing silent offline =
             if establishing then established_turn now message own else if silent then stray_turn now message own
-            else if offline then offline_turn message own else known_turn header message own
+            else if offline then offline_turn message own else known_turn now header message own
 
         go : (establishing : Bool) → is_establish_request message ≡ establishing → (silent offline : Bool)
             → KeptBy (turn_by establishing silent offline)
@@ -208,7 +210,7 @@ module _
         go false is false true =
             plain plan said before own (offline_turn message own)
             (offline-plain Free tt Any any-lasts message own) step holds
-        go false is false false = known-keeps header
+        go false is false false = known-keeps now header
 
   -- ---- a reply
 
@@ -247,6 +249,19 @@ module _
           (if granted then grant_given_turn own e else loss_turn now kind.UnloadGrant system own e)
       go true = leave-given-keeps plan said before own e
       go false = loss-keeps plan said before now kind.UnloadGrant system own e
+  replied-keeps now kind.Trace system body own e = loss-keeps plan said before now kind.Trace system own e
+  replied-keeps now kind.TraceGrant system body own e = go (is_granted_in body)
+    where
+      go : (granted : Bool)
+          → Keeps plan said before own
+          (if granted then granted_trace_turn (waiting_trace system own) (without_traced system own)
+          else loss_turn now kind.TraceGrant system own e)
+      go true =
+          plain plan said before own (granted_trace_turn (waiting_trace system own) (without_traced system own))
+          (granted-trace-plain Free tt Any any-lasts own (without_traced system own)
+          (stays Free tt Any any-lasts own (without_traced system own) refl refl refl refl refl)
+          (waiting_trace system own))
+      go false = loss-keeps plan said before now kind.TraceGrant system own e
 
   matched-keeps :
       (now : ℕ) (found : Match Kind) (message : Message) (own : OwnView) (e : EndView Kind)

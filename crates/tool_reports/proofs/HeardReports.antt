@@ -12,6 +12,7 @@ use Rattle.gem_states.specs.declared.control.ControlIn.{ControlIn}
 use Rattle.gem_states.specs.declared.control.ControlIn.TheVariants as control_in
 use Rattle.gem_states.specs.declared.control.ControlOut.{ControlOut}
 use Rattle.gem_states.specs.declared.control.ControlOut.TheVariants as control_out
+use Rattle.gem_trace.specs.declared.request.TraceRequest.{TraceRequest}
 use Rattle.message_flow.specs.declared.message.Message.{Message}
 use Rattle.trace_log.specs.declared.commands.ToolCommand.{ToolCommand}
 use Rattle.trace_log.specs.declared.names.Title.{Title}
@@ -35,11 +36,12 @@ use Rattle.spool_ledger.specs.Activity.{rsda_of}
 use Rattle.spool_ledger.specs.Storing.{all_out}
 use Rattle.spool_ledger.specs.Unloading.{fresh, with_unload}
 use Rattle.tool_reports.specs.Reported.{HoldsItsValues, IsTextOf, count_of, count_of_events, is_of, past_in, reports_in, tables_in}
+use Rattle.tool_step.specs.Sampling.{tiaack_code, tiaack_in, trace_turn}
 use Rattle.tool_step.specs.Sent as sent
 use Rattle.tool_step.specs.States as states
 use Rattle.tool_reports.proofs.HeldReports.{Any, any-lasts, Ends, noted-so, plain-at, so_far}
 use Rattle.tool_reports.proofs.QuietReports.{Holds, IsSpelledSo, holds-as, spelled-so}
-use Rattle.tool_reports.proofs.PlainTurns.{IsPlain, count_waiting, answers-silent, abort-silent, all-out-quiet, before-plain, booked-plain, booked-stays, comms-plain, control-lines, itself, long-silent, own-requests-silent}
+use Rattle.tool_reports.proofs.PlainTurns.{IsPlain, count_waiting, answers-silent, abort-silent, all-out-quiet, before-plain, booked-plain, booked-stays, comms-plain, control-lines, itself, long-silent, own-requests-silent, stays}
 use Rattle.tool_reports.proofs.QuietNotes.{AreSettled, IsAsBefore, never-live, quiet-note, settled-more}
 use Rattle.tool_reports.proofs.SilentCommands.{AreSilentDuties, both-duties}
 use Rattle.message_end.proofs.Parts.{either-then}
@@ -157,16 +159,28 @@ module _
             (all-out-quiet own.ledger))
         go false = record { silent = rsda-of own; less = itself (AsksOf message) (asks-none message) Fact lasts own }
 
-    request-plain : (asks : Request) (own : OwnView) → Plain (requested asks own) (request_turn asks message own)
-    request-plain (request.OfTables asked) own = answer-plain asked own
-    request-plain request.GoOffline own = control-request-plain control_in.RequestOffline own
-    request-plain request.GoOnline own = control-request-plain control_in.RequestOnline own
-    request-plain request.Establish own = record {
+    -- S2F23
+    trace-plain : (asked : TraceRequest) (now : ℕ) (own : OwnView) → Plain own (trace_turn asked now message own)
+    trace-plain asked now own = record {
+      silent = answers-of (sent.text_of own (code_item (tiaack_code (tiaack_in asked own))));
+      less =
+          stays (AsksOf message) (asks-none message) Fact lasts own (trace_turn asked now message own).own refl refl
+          refl refl refl;
+    }
+
+    request-plain : (asks : Request) (now : ℕ) (own : OwnView)
+        → Plain (requested asks own) (request_turn asks now message own)
+    request-plain (request.OfTables asked) now own = answer-plain asked own
+    request-plain request.GoOffline now own = control-request-plain control_in.RequestOffline own
+    request-plain request.GoOnline now own = control-request-plain control_in.RequestOnline own
+    request-plain request.Establish now own = record {
       silent = abort-silent (AsksOf message) (asks-none message) Fact lasts message;
       less = itself (AsksOf message) (asks-none message) Fact lasts own;
     }
-    request-plain request.TransmitSpool own = transmit-plain own
-    request-plain request.PurgeSpool own = purge-plain own
+    request-plain request.TransmitSpool now own = transmit-plain own
+    request-plain request.PurgeSpool now own = purge-plain own
+    request-plain (request.Trace trid dsper total group svids) now own =
+        trace-plain (record { trid = trid; dsper = dsper; total = total; group = group; svids = svids }) now own
 
     pub established-plain : (now : ℕ) (own : OwnView) → Plain own (established_turn now message own)
     established-plain now own =
@@ -184,16 +198,14 @@ module _
 
     -- a turn of which nothing is said, behind the primary
     pub request-keeps :
-        (asks : Request) (own : OwnView) (step : CoreStep) → AsksOf message step.next.asked
+        (asks : Request) (now : ℕ) (own : OwnView) (step : CoreStep) → AsksOf message step.next.asked
         → Fact (so_far plan said before step)
         → Holds plan said (requested asks own) step.next.drawn (so_far plan said before step)
-        → Ends plan said before (request_turn asks message own).own (all_done Some (request_turn asks message
-        own).duties step)
-    request-keeps asks own step it fact holds =
+        → Ends plan said before (request_turn asks now message own).own
+        (all_done Some (request_turn asks now message own).duties step)
+    request-keeps asks now own step it fact holds =
         plain-at plan said before (AsksOf message) (asks-none message) Fact lasts (requested asks own)
-        (request_turn asks message
-        own) step
-        (request-plain asks own) it fact holds
+        (request_turn asks now message own) step (request-plain asks now own) it fact holds
 
   -- ---- reports that are asked for
 

@@ -419,6 +419,8 @@ module _ (plan : EquipmentPlan) (said : List ToolCommand) (before : List Happeni
       of_kind kind.UnloadGrant = tt
       of_kind kind.Establish = tt
       of_kind kind.Attempt = tt
+      of_kind kind.Trace = tt
+      of_kind kind.TraceGrant = tt
 
       of : (spools : Bool)
           → IfSome (states.stored_of spools left first) (λ message. IsKeptReport plan message notes)

@@ -35,7 +35,7 @@ use Rattle.equipment_tables.specs.declared.plan.EquipmentPlan.{EquipmentPlan}
 use Rattle.equipment_tables.specs.Tables.{may_spool, most_transmitted, overwrites}
 use Rattle.tool_step.specs.declared.kind.Kind.{Kind}
 use Rattle.tool_step.specs.declared.kind.Kind.TheVariants as kind
-use Rattle.tool_step.specs.Own.{OwnView, ToolCommands, ToolDuty, ToolTurn, event_report, quiet_turn, turn_before, with_comms, with_ledger, without_grant, without_report, with_tried}
+use Rattle.tool_step.specs.Own.{OwnView, ToolCommands, ToolDuty, ToolTurn, event_report, quiet_turn, turn_before, with_comms, with_ledger, without_grant, without_report, without_traced, with_tried}
 use Rattle.tool_step.specs.Replies.{given_up_by_t4, given_up_turn, loss_turn, timeout_turn}
 use Rattle.tool_reports.specs.Reported.{count_of_events, is_answer, is_live, is_of, reports_in, tries_in}
 use Rattle.tool_step.specs.Sent as sent
@@ -43,7 +43,8 @@ use Rattle.tool_step.specs.Spooling.{Stores, dataid_in, grant_given_turn, inquir
 use Rattle.tool_step.specs.States as states
 use Rattle.tool_reports.proofs.HeldReports.{Any, any-lasts, Ends, Free, Keeps, KeepsAt, all-kept, led-at, noted-so, plain, quietly-holds, silent-at, so_far, stores-at, stores-said}
 use Rattle.tool_reports.proofs.QuietReports.{Holds, holds-as, holds-less}
-use Rattle.tool_reports.proofs.PlainTurns.{IsNoMore, booked-stays, comms-lines-silent, control-plain, count_waiting, denied-plain, activated-quiet, errors-silent, fixed-plain, itself, lines-silent, open-silent, request-commands-silent, ungranted, unreported, tried-stays}
+use Rattle.tool_reports.proofs.PlainSamples.{untraced-plain}
+use Rattle.tool_reports.proofs.PlainTurns.{IsNoMore, booked-stays, comms-lines-silent, control-plain, count_waiting, denied-plain, activated-quiet, errors-silent, fixed-plain, itself, lines-silent, nothing-plain, open-silent, request-commands-silent, stays, ungranted, unreported, tried-stays}
 use Rattle.tool_reports.proofs.QuietNotes.{AreSettled, one-behind, quiet-note, settled-more}
 use Rattle.tool_reports.proofs.SilentCommands.{AreSilent, AreSilentDuties, IsQuietly, both-silent, done-quietly}
 use Rattle.message_end.proofs.Parts.{either-then, either-less}
@@ -201,6 +202,13 @@ module _ (plan : EquipmentPlan) (said : List ToolCommand) (before : List Happeni
       plain plan said before own (loss_turn now kind.UnloadGrant system own e)
       (denied-plain Free tt Any any-lasts own (unloaded_own own)
       (booked-stays Free tt Any any-lasts own (with_unload None own.ledger)))
+  loss-keeps now kind.Trace system own e =
+      plain plan said before own (loss_turn now kind.Trace system own e)
+      (nothing-plain Free tt Any any-lasts own)
+  loss-keeps now kind.TraceGrant system own e =
+      plain plan said before own (loss_turn now kind.TraceGrant system own e)
+      (untraced-plain Free tt Any any-lasts own (without_traced system own)
+      (stays Free tt Any any-lasts own (without_traced system own) refl refl refl refl refl))
 
   pub timeout-keeps :
       (now : ℕ) (primary : Option (Header × Kind)) (own : OwnView) (e : EndView Kind)

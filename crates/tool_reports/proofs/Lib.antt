@@ -3,6 +3,7 @@ pub mod HeardReports
 pub mod HeldReports
 pub mod HostReports
 pub mod LeavingReports
+pub mod PlainSamples
 pub mod PlainTurns
 pub mod QuietNotes
 pub mod QuietReports

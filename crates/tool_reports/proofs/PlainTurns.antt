@@ -401,6 +401,8 @@ module _
   ending-silent control stored kind.Grant header = (tt, unless-silent stored states.notes_unsent (tt, tt))
   ending-silent control stored kind.Unload header = (tt, tt)
   ending-silent control stored kind.UnloadGrant header = (tt, (tt, tt))
+  ending-silent control stored kind.Trace header = (tt, tt)
+  ending-silent control stored kind.TraceGrant header = (tt, (tt, tt))
 
   begun-silent : (spools : Bool) (own : OwnView) (begun : List (Begun Kind))
       → Silent (flat_map (ends_one (states.ends_report spools own)) begun)
@@ -460,6 +462,8 @@ module _
   own-request-silent kind.Report system = tt
   own-request-silent kind.Unload system = tt
   own-request-silent kind.UnloadGrant system = tt
+  own-request-silent kind.Trace system = tt
+  own-request-silent kind.TraceGrant system = tt
 
   pub own-requests-silent : (begun : List (Begun Kind)) → Silent (flat_map own_request_of begun)
   own-requests-silent [] = tt

@@ -34,6 +34,7 @@ use Rattle.tool_step.specs.Replies.{block_timer, given_up_by_t4, given_up_turn, 
 use Rattle.spool_works.specs.DiskWorks.{DiskWork, behind_change, fronts_of, up_to_change}
 use Rattle.spool_works.specs.DiskWorks.DiskWork.{Change, ReadOldest, Reserve}
 use Rattle.tool_reports.specs.Histories.{with_command}
+use Rattle.tool_step.specs.Sampling.{made_part, sample_parts, sampling}
 use Rattle.tool_step.specs.Sent as sent
 use Rattle.tool_step.specs.States as states
 use Rattle.tool_law.proofs.Lawful.{split-change}
@@ -47,6 +48,7 @@ use Rattle.tool_reports.proofs.ToolReports.{told-keeps}
 use Rattle.tool_reports.proofs.HeldReports.{Any, any-lasts, Ends, Free, Keeps, KeepsAt, led-at, plain, quietly-holds, silent-at, so_far}
 use Rattle.tool_reports.proofs.QuietReports.{Holds}
 use Rattle.tool_reports.proofs.LeavingReports.{by-t4-keeps, given-up-keeps, leaving-keeps, timeout-keeps, unload-keeps}
+use Rattle.tool_reports.proofs.PlainSamples.{made-plain, sampling-plain}
 use Rattle.tool_reports.proofs.PlainTurns.{IsPlain, booked-plain, comms-plain, error-plain, errors-silent, fixed-plain, itself, led-plain, nothing-plain, rested-quiet}
 use Rattle.tool_reports.proofs.QuietNotes.{AreSettled, adds-quiet, one-behind}
 use Rattle.message_end.proofs.Parts.{OnEither, either-then}
@@ -390,6 +392,13 @@ module _ (plan : EquipmentPlan) (fits : EquipmentPlanFits plan) (looked : Tables
         both-keep (replicate 16 (block_timer now)) (replicate 64 (reply_timer now))
         (many-keep 16 (block_timer now) (t4-keeps now)) (many-keep 64 (reply_timer now) (t3-keeps now))
 
+    samples-keep : (now : ℕ) → AllKeep (sample_parts now)
+    unfolding sample_parts
+    samples-keep now = (
+      plain-part (sampling now) (λ own e. sampling-plain Free tt Any any-lasts now own e),
+      many-keep 16 made_part (plain-part made_part (λ own e. made-plain Free tt Any any-lasts own e)),
+    )
+
     pub offer-plain : (now : ℕ) (own : OwnView) (e : EndView Kind) → IsPlain Free tt Any any-lasts own (offer now own e)
     offer-plain now own e =
         led-plain Free tt Any any-lasts own (Offer now) (fixed_turn own []) (tt, tt)
@@ -430,15 +439,15 @@ module _ (plan : EquipmentPlan) (fits : EquipmentPlanFits plan) (looked : Tables
       → NodeEnds (with_command input said) before (after_parts Some (first_parts input now) step)
   first-keeps said before input now step holds =
       parts-then said (with_command input said) before
-      (beginning now ∷ line_timer now ∷ (late_parts now ++ delay_timer now ∷ []))
+      (beginning now ∷ line_timer now ∷ (late_parts now ++ delay_timer now ∷ sample_parts now))
       (input_part input now ∷ []) (
         plain-part said before (beginning now) (begin-plain said before now),
         (
           tick-keeps said before now,
-          both-keep said before (late_parts now) (delay_timer now ∷ []) (late-keep said before now) (
+          both-keep said before (late_parts now) (delay_timer now ∷ sample_parts now) (late-keep said before now) (
             plain-part said before (delay_timer now)
                 (λ own e. comms-plain Free tt Any any-lasts comms_in.Time now own),
-            tt,
+            samples-keep said before now,
           ),
         ),
       ) step holds

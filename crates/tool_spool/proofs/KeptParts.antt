@@ -43,14 +43,17 @@ use Rattle.spool_works.specs.Found.{spooled_of}
 use Rattle.tool_reports.specs.Histories.{with_command}
 use Rattle.tool_step.specs.Own.{OwnView, ToolPart, ToolTurn, is_communicating, quiet_turn, turn_of}
 use Rattle.tool_step.specs.Replies.{block_timer, given_up_by_t4, given_up_turn, reply_timer, timeout_turn}
+use Rattle.tool_step.specs.Sampling.{made_part, sample_parts, sampling}
 use Rattle.tool_step.specs.Sent as sent
 use Rattle.tool_step.specs.Spooling.{end_of_spooling, unload_part}
 use Rattle.tool_step.specs.States as states
 use Rattle.tool_step.specs.Step.{begun, beginning, character, delay_timer, failed_turn, first_parts, flow_turn, input_part, is_spent, last_parts, late_parts, line_timer, long_turn, offer, took_turn}
+use Rattle.tool_spool.proofs.CalmSamples.{made-calm, sampling-calm}
 use Rattle.tool_spool.proofs.CalmParts.{IsCalmTurn, closes-calm, comms-calm, error-turn-calm, errors-calm, fixed-calm, like-as, likes, offer-calm}
 use Rattle.tool_spool.proofs.CalmTurns.{IsCalmRun, carry-run}
 use Rattle.tool_reports.proofs.HeldReports.{Any, Free, any-lasts}
 use Rattle.tool_reports.proofs.LeavingReports.{unload-keeps as unload-reports}
+use Rattle.tool_reports.proofs.PlainSamples.{made-plain, sampling-plain}
 use Rattle.tool_reports.proofs.PlainTurns.{booked-plain, comms-plain, rested-quiet}
 use Rattle.tool_reports.proofs.QuietNotes.{AreSettled, one-behind}
 use Rattle.tool_reports.proofs.ReportedParts.{HoldsStep, NodeEnds, NodeStep, PartKeeps, begin-plain, closes-plain, input-keeps as input-reports, of-turn as of-reports, offer-plain, plain-part, t3-keeps, t4-keeps, tick-keeps}
@@ -346,6 +349,19 @@ module _ (plan : EquipmentPlan) (fits : EquipmentPlanFits plan) (looked : Tables
         (many-both said 64 (reply_timer now)
         (part-both said (reply_timer now) (t3-keeps plan fits looked said before now) (t3-part now)))
 
+    samples-both : (said : List ToolCommand) (now : ℕ) → AllBoth said (sample_parts now)
+    unfolding sample_parts
+    samples-both said now = (
+      part-both said (sampling now)
+          (plain-part plan fits looked said before (sampling now)
+          (λ own e. sampling-plain Free tt Any any-lasts now own e))
+          (calm-part (sampling now) (λ own e. sampling-calm now own e)),
+      many-both said 16 made_part
+          (part-both said made_part
+          (plain-part plan fits looked said before made_part (λ own e. made-plain Free tt Any any-lasts own e))
+          (calm-part made_part (λ own e. made-calm own e))),
+    )
+
     parts-then :
         (said to : List ToolCommand) (parts rest : List ToolPart) → AllBoth said parts → (step : NodeStep)
         → Both said step
@@ -362,18 +378,19 @@ module _ (plan : EquipmentPlan) (fits : EquipmentPlanFits plan) (looked : Tables
         → BothEnd (with_command input said) (after_parts Some (first_parts input now) step)
     first-both said input now step both =
         parts-then said (with_command input said)
-        (beginning now ∷ line_timer now ∷ (late_parts now ++ delay_timer now ∷ [])) (input_part input now ∷ []) (
+        (beginning now ∷ line_timer now ∷ (late_parts now ++ delay_timer now ∷ sample_parts now))
+        (input_part input now ∷ []) (
           part-both said (beginning now)
               (plain-part plan fits looked said before (beginning now) (begin-plain plan fits looked said before now))
               (calm-part (beginning now) (begin-part now)),
           (
             part-both said (line_timer now) (tick-keeps plan fits looked said before now) (tick-part now),
-            append-both said (late_parts now) (delay_timer now ∷ []) (late-both said now) (
+            append-both said (late_parts now) (delay_timer now ∷ sample_parts now) (late-both said now) (
               part-both said (delay_timer now)
                   (plain-part plan fits looked said before (delay_timer now)
                   (λ own e. comms-plain Free tt Any any-lasts comms_in.Time now own))
                   (calm-part (delay_timer now) (λ own e. comms-calm comms_in.Time now own)),
-              tt,
+              samples-both said now,
             ),
           ),
         ) step both

@@ -186,6 +186,8 @@ loss-owes now kind.Grant system own e is = (refl, refl)
 loss-owes now kind.Report system own e is = (refl, refl)
 loss-owes now kind.Unload system own e is = (refl, refl)
 loss-owes now kind.UnloadGrant system own e is = (refl, refl)
+loss-owes now kind.Trace system own e is = (refl, refl)
+loss-owes now kind.TraceGrant system own e is = (refl, refl)
 
 pub timeout-owes :
     (now : ℕ) (primary : Option (Header × Kind)) (own : OwnView) (e : EndView Kind) → is_communicating own ≡ true

@@ -1,5 +1,6 @@
 pub mod CalmCommands
 pub mod CalmParts
+pub mod CalmSamples
 pub mod CalmTurns
 pub mod FromStarts
 pub mod Interrupted

@@ -19,6 +19,7 @@ use Rattle.gem_states.specs.declared.comms.CommsIn.TheVariants as comms_in
 use Rattle.gem_states.specs.declared.control.ControlIn.TheVariants as control_in
 use Rattle.gem_vars.specs.Settings.{refusal_of}
 use Rattle.gem_vars.specs.declared.settings.Setting.{Setting}
+use Rattle.gem_trace.specs.declared.request.TraceRequest.{TraceRequest}
 use Rattle.message_flow.specs.declared.message.Message.{Message}
 use Rattle.message_flow.specs.Message.{is_primary}
 use Rattle.trace_log.specs.declared.commands.ToolCommand.{ToolCommand}
@@ -53,14 +54,16 @@ use Rattle.tool_step.specs.declared.kind.Kind.TheVariants as kind
 use Rattle.tool_step.specs.Codes.{is_accepted_in, is_granted_in}
 use Rattle.tool_step.specs.Grants.{GrantView}
 use Rattle.tool_step.specs.Messages.{answer_turn, dropped_turn, error_turn, established_turn, is_establish_request, is_online_request, known_turn, message_turn, offline_turn, primary_turn, read_turn, request_turn, stray_turn}
-use Rattle.tool_step.specs.Own.{OwnView, event_report, is_communicating, is_enabled_in as is_comms_enabled, is_granted_by, is_online, turn_before, turn_of, waiting_report, with_ledger, with_tables, without_grant, without_report}
+use Rattle.tool_step.specs.Own.{OwnView, event_report, is_communicating, is_enabled_in as is_comms_enabled, is_granted_by, is_online, turn_before, turn_of, waiting_report, waiting_trace, with_ledger, with_tables, without_grant, without_report, without_traced}
 use Rattle.tool_step.specs.Replies.{granted_turn, loss_turn, matched_turn, reply_turn, secondary_turn}
 use Rattle.tool_reports.specs.Reported.{past_in, tables_in}
+use Rattle.tool_step.specs.Sampling.{granted_trace_turn, trace_turn}
 use Rattle.tool_step.specs.Sent as sent
 use Rattle.tool_step.specs.Spooling.{booked_turn, grant_given_turn, rsda_duties}
 use Rattle.tool_spool.specs.SpoolKept.{is_purge, policy_of}
 use Rattle.tool_step.specs.States as states
 use Rattle.tool_step.specs.Tool.{alarm_report_turn, alarm_turn, command_turn, enabled_turn, known_event_turn, online_turn, refused_turn, set_turn, told_turn, with_event}
+use Rattle.tool_spool.proofs.CalmSamples.{granted-trace-calm, trace-calm}
 use Rattle.tool_spool.proofs.CalmParts.{abort-calm, answer-calm, comms-calm, control-calm, control-request-calm, dropped-calm, error-turn-calm, established-calm, event-calm, fixed-calm, going-calm, like-as, likes, offline-calm, online-calm, refused-calm, rsda-calm, stray-calm, unreported-like}
 use Rattle.tool_spool.proofs.KeptLedger.{one-call}
 use Rattle.tool_spool.proofs.KeptUnload.{MayConfirm}
@@ -197,6 +200,19 @@ module _ (plan : EquipmentPlan) (slots : ℕ) (list : List Put) (base before : L
           (if leave then grant_given_turn own e else loss_turn now kind.UnloadGrant system own e) step
       go true = leave-given-keeps plan slots list base before own e step room (none true refl) holds.shelves
       go false = loss-keeps plan slots list base before now kind.UnloadGrant system own e step none holds
+  replied-keeps now kind.Trace system body own e step none room confirmed holds = holds.shelves
+  replied-keeps now kind.TraceGrant system body own e step none room confirmed holds = go (is_granted_in body)
+    where
+      go : (leave : Bool)
+          → TurnEnds plan slots list base before
+          (if leave then granted_trace_turn (waiting_trace system own) (without_traced system own)
+          else loss_turn now kind.TraceGrant system own e) step
+      go true =
+          calm-turn plan slots list base before own
+          (granted_trace_turn (waiting_trace system own) (without_traced system own)) step
+          (granted-trace-calm (waiting_trace system own) own (without_traced system own)
+          (like-as own (without_traced system own) refl refl)) holds.shelves
+      go false = loss-keeps plan slots list base before now kind.TraceGrant system own e step none holds
 
   -- a secondary was received just now, the last block of which has this header
   secondary-keeps :
@@ -308,18 +324,23 @@ module _ (plan : EquipmentPlan) (slots : ℕ) (list : List Put) (base before : L
       calm-turn plan slots list base before own (answer_turn asks message own) step (answer-calm asks message own) holds
 
   asked-turn :
-      (asks : Request) (message : Message) (own : OwnView) (step : CoreStep)
+      (asks : Request) (now : ℕ) (message : Message) (own : OwnView) (step : CoreStep)
       → request_of message.stream message.function message.body ≡ Some asks → IsNewest message step
       → ShelvesAt plan slots list base before own step → TurnEnds plan slots list base before
-      (request_turn asks message own) step
-  asked-turn (request.OfTables asked) message own step is newest holds = answered asked message own step holds
-  asked-turn request.GoOffline message own step is newest holds =
-      calm-turn plan slots list base before own (request_turn request.GoOffline message own) step
+      (request_turn asks now message own) step
+  asked-turn (request.OfTables asked) now message own step is newest holds = answered asked message own step holds
+  asked-turn request.GoOffline now message own step is newest holds =
+      calm-turn plan slots list base before own (request_turn request.GoOffline now message own) step
       (control-request-calm control_in.RequestOffline message own) holds
-  asked-turn request.GoOnline message own step is newest holds =
-      calm-turn plan slots list base before own (request_turn request.GoOnline message own) step
+  asked-turn request.GoOnline now message own step is newest holds =
+      calm-turn plan slots list base before own (request_turn request.GoOnline now message own) step
       (control-request-calm control_in.RequestOnline message own) holds
-  asked-turn request.TransmitSpool message own step is newest holds = go (rsda_of own.ledger == 0) refl
+  asked-turn (request.Trace trid dsper total group svids) now message own step is newest holds =
+      let asked : TraceRequest =
+      record { trid = trid; dsper = dsper; total = total; group = group; svids = svids } in
+      calm-turn plan slots list base before own (trace_turn asked now message own) step
+      (trace-calm asked now message own) holds
+  asked-turn request.TransmitSpool now message own step is newest holds = go (rsda_of own.ledger == 0) refl
     where
       go : (may : Bool) → (rsda_of own.ledger == 0) ≡ may
           → TurnEnds plan slots list base before
@@ -338,7 +359,7 @@ module _ (plan : EquipmentPlan) (slots : ℕ) (list : List Put) (base before : L
       go false may =
           calm-keeps plan slots list base before false own own (rsda_duties message own) step (likes own)
           (rsda-calm message own) holds
-  asked-turn request.PurgeSpool message own step is newest holds = go (rsda_of own.ledger == 0)
+  asked-turn request.PurgeSpool now message own step is newest holds = go (rsda_of own.ledger == 0)
     where
       asks_it : is_purge (request_of message.stream message.function message.body) ≡ true
       asks_it = subst (λ (asks : Option Request). is_purge asks ≡ true) (sym is) refl
@@ -359,28 +380,28 @@ module _ (plan : EquipmentPlan) (slots : ℕ) (list : List Put) (base before : L
       go false =
           calm-keeps plan slots list base before false own own (rsda_duties message own) step (likes own)
           (rsda-calm message own) holds
-  asked-turn request.Establish message own step is newest holds =
+  asked-turn request.Establish now message own step is newest holds =
       calm-keeps plan slots list base before false own own (sent.abort_duty message ∷ []) step (likes own)
       (abort-calm message) holds
 
   read-keeps :
-      (header : Header) (message : Message) (own : OwnView) (step : CoreStep) → IsNewest message step
+      (now : ℕ) (header : Header) (message : Message) (own : OwnView) (step : CoreStep) → IsNewest message step
       → HoldsAt plan slots list base before own step
       → TurnEnds plan slots list base before
-      (read_turn (request_of message.stream message.function message.body) header message own) step
-  read-keeps header message own step newest holds =
+      (read_turn now (request_of message.stream message.function message.body) header message own) step
+  read-keeps now header message own step newest holds =
       go (request_of message.stream message.function message.body) refl
     where
       next : CoreStep
       next = noted Some (Happening.Recorded (Past.Asked message)) step
 
       go : (read : Option Request) → request_of message.stream message.function message.body ≡ read
-          → TurnEnds plan slots list base before (read_turn read header message own) step
+          → TurnEnds plan slots list base before (read_turn now read header message own) step
       go None is =
           calm-turn plan slots list base before own (error_turn 7 header own) step (error-turn-calm 7 header own)
           holds.shelves
       go (Some asks) is =
-          asked-turn asks message own next is
+          asked-turn asks now message own next is
           (record {
             earlier = newest.earlier;
             since =
@@ -394,23 +415,23 @@ module _ (plan : EquipmentPlan) (slots : ℕ) (list : List Put) (base before : L
           (full-so plan slots list base before own (Happening.Recorded (Past.Asked message)) step refl holds.shelves)
 
   known-keeps :
-      (header : Header) (message : Message) (own : OwnView) (step : CoreStep) → IsNewest message step
+      (now : ℕ) (header : Header) (message : Message) (own : OwnView) (step : CoreStep) → IsNewest message step
       → HoldsAt plan slots list base before own step
-      → TurnEnds plan slots list base before (known_turn header message own) step
-  known-keeps header message own step newest holds =
+      → TurnEnds plan slots list base before (known_turn now header message own) step
+  known-keeps now header message own step newest holds =
       go (not (is_known_stream message.stream)) (not (is_known message.stream message.function))
     where
       go : (strange unknown : Bool)
           → TurnEnds plan slots list base before
           (if strange then error_turn 3 header own else if unknown then error_turn 5 header own
-          else read_turn (request_of message.stream message.function message.body) header message own) step
+          else read_turn now (request_of message.stream message.function message.body) header message own) step
       go true unknown =
           calm-turn plan slots list base before own (error_turn 3 header own) step (error-turn-calm 3 header own)
           holds.shelves
       go false true =
           calm-turn plan slots list base before own (error_turn 5 header own) step (error-turn-calm 5 header own)
           holds.shelves
-      go false false = read-keeps header message own step newest holds
+      go false false = read-keeps now header message own step newest holds
 
   primary-keeps :
       (now : ℕ) (header : Header) (message : Message) (own : OwnView) (step : CoreStep) → IsNewest message step
@@ -423,7 +444,7 @@ module _ (plan : EquipmentPlan) (slots : ℕ) (list : List Put) (base before : L
       go : (establishing silent offline : Bool)
           → TurnEnds plan slots list base before
           (if establishing then established_turn now message own else if silent then stray_turn now message own
-          else if offline then offline_turn message own else known_turn header message own) step
+          else if offline then offline_turn message own else known_turn now header message own) step
       go true silent offline =
           calm-turn plan slots list base before own (established_turn now message own) step
           (established-calm now message own) holds.shelves
@@ -433,7 +454,7 @@ module _ (plan : EquipmentPlan) (slots : ℕ) (list : List Put) (base before : L
       go false false true =
           calm-turn plan slots list base before own (offline_turn message own) step (offline-calm message own)
           holds.shelves
-      go false false false = known-keeps header message own step newest holds
+      go false false false = known-keeps now header message own step newest holds
 
   -- a whole message was received just now, the last block of which has this header
   pub message-keeps :

@@ -38,15 +38,17 @@ use Rattle.tool_step.specs.declared.kind.Kind.{Kind}
 use Rattle.tool_step.specs.declared.kind.Kind.TheVariants as kind
 use Rattle.tool_step.specs.Grants.{GrantView}
 use Rattle.tool_step.specs.Live.{ReportView}
-use Rattle.tool_step.specs.Own.{OwnView, ToolCommands, ToolDuty, ToolTurn, event_report, is_communicating, is_granted_by, is_online, is_report_of, quiet_turn, sent_report, turn_before, waiting_report, with_comms, with_ledger, without_grant, without_report}
+use Rattle.tool_step.specs.Own.{OwnView, ToolCommands, ToolDuty, ToolTurn, event_report, is_communicating, is_granted_by, is_online, is_report_of, quiet_turn, sent_report, turn_before, waiting_report, with_comms, with_ledger, without_grant, without_report, without_traced}
 use Rattle.tool_step.specs.Replies.{loss_turn, timeout_turn}
 use Rattle.tool_reports.specs.Reported.{tables_in}
 use Rattle.tool_step.specs.Reports.{judged_turn, text_turn, unreported_turn}
+use Rattle.tool_step.specs.Sampling.{notes_untraced}
 use Rattle.tool_step.specs.Sent as sent
 use Rattle.tool_step.specs.Spooling.{Stores, is_spooled, lines_commands, stored_turn, stores_all, stores_commands, unloaded_own}
 use Rattle.tool_spool.specs.SpoolKept.{policy_of}
 use Rattle.tool_step.specs.States as states
 use Rattle.tool_spool.proofs.CalmCommands.{AreCalm, AreCalmDuties}
+use Rattle.tool_spool.proofs.CalmSamples.{untraced-calm}
 use Rattle.tool_spool.proofs.CalmParts.{IsCalmTurn, comms-lines-calm, control-calm, denied-calm, errors-calm, likes, like-as, open-calm, request-calm, too-long-calm, unreported-calm, unreported-like}
 use Rattle.tool_spool.proofs.CalmTurns.{IsCalmRun, IsReady, carried-run, done-run, ready-behind, runs-both}
 use Rattle.tool_reports.proofs.QuietReports.{has-found}
@@ -97,6 +99,8 @@ all-well left spools (first ∷ begun) are =
     of_kind kind.UnloadGrant = tt
     of_kind kind.Establish = tt
     of_kind kind.Attempt = tt
+    of_kind kind.Trace = tt
+    of_kind kind.TraceGrant = tt
 
     of : (spools : Bool) → IfSome (states.stored_of spools left first) IsPutWell
     of true = of_kind first.kind
@@ -169,6 +173,9 @@ ending-leaves control stored kind.Grant header =
 ending-leaves control stored kind.Unload header = failed-leaves header
 ending-leaves control stored kind.UnloadGrant header =
     leaves-both (notes_failed header) states.notes_unsent (failed-leaves header) unsent-leaves
+ending-leaves control stored kind.Trace header = failed-leaves header
+ending-leaves control stored kind.TraceGrant header =
+    leaves-both (notes_failed header) notes_untraced (failed-leaves header) (λ step. refl)
 
 same-number : (n : ℕ) → (n == n) ≡ true
 same-number n = grind (arith, nat_tests)
@@ -494,6 +501,10 @@ module _ (plan : EquipmentPlan) (slots : ℕ) (list : List Put) (base before : L
       calm-turn (unloaded_own own) (loss_turn now kind.UnloadGrant system own e) step
       (denied-calm (unloaded_own own) (unloaded_own own) (likes (unloaded_own own)))
       (end-keeps plan slots list base before own step.next (so_far step) (none true refl) holds.shelves)
+  loss-keeps now kind.Trace system own e step none holds = holds.shelves
+  loss-keeps now kind.TraceGrant system own e step none holds =
+      calm-turn own (loss_turn now kind.TraceGrant system own e) step
+      (untraced-calm own (without_traced system own) (like-as own (without_traced system own) refl refl)) holds.shelves
 
   pub before-keeps :
       (turn : ToolTurn) (duties : List ToolDuty) (step : CoreStep) → AreCalmDuties false duties → TurnEnds turn step
