@@ -16,3 +16,5 @@ mod planned_tool;
 mod played_host;
 #[cfg(test)]
 mod reports;
+#[cfg(test)]
+mod traces;

@@ -42,6 +42,8 @@ pub(crate) enum Given {
     Begin(u32),
     // S2F33 of the host, which defines a report of so many times variable 1.
     Define(u8),
+    // S2F23 of the host: TRID, TOTSMP, REPGSZ, and so many times variable 1 each second.
+    Trace(u8, u8, u8, u8),
     // Nothing: it acts next at this moment.
     ActsAt(u64),
 }
@@ -380,6 +382,39 @@ fn defines(
     )
 }
 
+// S2F23: so many times variable 1, each second.
+fn tracing(alloc: Global, trid: u8, total: u8, group: u8, count: u8) -> Option<Row<u8>> {
+    let front = [
+        0x01, 0x05, 0xA5, 0x01, trid, 0x41, 0x06, 0x30, 0x30, 0x30, 0x30, 0x30, 0x31, 0xA5, 0x01,
+        total, 0xA5, 0x01, group, 0x01, count,
+    ];
+    let Ok(mut body) = Row::of(alloc, &front) else {
+        return None;
+    };
+    for _ in 0..count {
+        if body.extend(&[0xA5, 0x01, 0x01]).is_err() {
+            return None;
+        }
+    }
+    Some(body)
+}
+
+fn traces(
+    alloc: Global,
+    equipment: &mut Option<Equipment<MemDisk>>,
+    asked: (u8, u8, u8, u8),
+    now: u64,
+    text: &mut Row<u8>,
+) -> bool
+    requires { now < 2 ^ 62 }
+{
+    let Some(body) = tracing(alloc, asked.0, asked.1, asked.2, asked.3) else {
+        return false;
+    };
+    let block = block((2, 23, true), 1, WHOLE, body.as_slice());
+    hears(alloc, equipment, block, now, text)
+}
+
 // The host begins so many messages.
 fn begins(
     alloc: Global,
@@ -437,6 +472,9 @@ fn is_done(
         }
         Given::Begin(count) => begins(alloc, equipment, *count, now, text),
         Given::Define(count) => defines(alloc, equipment, *count, now, text),
+        Given::Trace(trid, total, group, count) => {
+            traces(alloc, equipment, (*trid, *total, *group, *count), now, text)
+        }
         Given::ActsAt(at) => acts_at(equipment) == Some(*at),
     }
 }

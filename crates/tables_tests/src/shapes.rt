@@ -18,7 +18,7 @@ struct Bodies {
     bad: [&'static [u8]; 3],
 }
 
-static FIRST: [Bodies; 8] = [
+static FIRST: [Bodies; 9] = [
     Bodies {
         stream: 1,
         function: 1,
@@ -92,6 +92,27 @@ static FIRST: [Bodies; 8] = [
                 0x01, 0x01, 0x01, 0x03, 0xA5, 0x01, 0x01, 0xA5, 0x01, 0x05, 0x01, 0x00,
             ],
             &[0x01, 0x01, 0x01, 0x02, 0xA5, 0x01, 0x01, 0x21, 0x01, 0x05],
+        ],
+    },
+    Bodies {
+        stream: 2,
+        function: 23,
+        good: &[
+            0x01, 0x05, 0xA5, 0x01, 0x01, 0x41, 0x01, 0x58, 0xA5, 0x01, 0x02, 0xA9, 0x02, 0x00,
+            0x02, 0x01, 0x01, 0xA5, 0x01, 0x07,
+        ],
+        bad: [
+            &[
+                0x01, 0x04, 0xA5, 0x01, 0x01, 0x41, 0x00, 0xA5, 0x01, 0x02, 0xA5, 0x01, 0x02,
+            ],
+            &[
+                0x01, 0x05, 0xA5, 0x01, 0x01, 0x21, 0x00, 0xA5, 0x01, 0x02, 0xA5, 0x01, 0x02, 0x01,
+                0x00,
+            ],
+            &[
+                0x01, 0x05, 0xA5, 0x01, 0x01, 0x41, 0x00, 0xA5, 0x01, 0x02, 0xA5, 0x02, 0x02, 0x02,
+                0x01, 0x00,
+            ],
         ],
     },
     Bodies {
@@ -351,6 +372,19 @@ fn sets(request: &Request<'_>, wanted: &[(u32, u32)]) -> bool {
     }
 }
 
+fn traces(request: &Request<'_>, wanted: &[u8], svids: &[u32]) -> bool {
+    match request {
+        Request::Trace {
+            trid: 1,
+            dsper,
+            total: 2,
+            group: 2,
+            svids: asked,
+        } => dsper.bytes() == wanted && asked.as_slice() == svids,
+        _ => false,
+    }
+}
+
 fn commands(request: &Request<'_>, wanted: &[u8], count: usize) -> bool {
     match request {
         Request::OfTables(TablesRequest::Command { name, params }) => {
@@ -388,6 +422,7 @@ fn values_are_those_of_the_body(rt: HostRuntime) -> Result<(), Fail> {
     let all = [0x01, 0x02, 0x21, 0x01, 0xFF, 0xB1, 0x00];
     assert!(rt; defines(&asked(alloc, 2, 33, SECOND[0].good), 10, 1));
     assert!(rt; sets(&asked(alloc, 2, 15, FIRST[6].good), &[(1, 5), (2, 1)]));
+    assert!(rt; traces(&asked(alloc, 2, 23, FIRST[7].good), b"X", &[7]));
     assert!(rt; commands(&asked(alloc, 2, 41, SECOND[4].good), b"S", 1));
     assert!(rt; displays(&asked(alloc, 10, 3, THIRD[5].good), b"HI"));
     assert!(rt; enables(&asked(alloc, 5, 3, &all), None));

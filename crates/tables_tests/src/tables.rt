@@ -339,7 +339,7 @@ fn alarms_are_answered(rt: HostRuntime) -> Result<(), Fail> {
     Ok(())
 }
 
-static COMMANDS: [Case; 8] = [
+static COMMANDS: [Case; 9] = [
     (
         2,
         41,
@@ -384,11 +384,18 @@ static COMMANDS: [Case; 8] = [
     ),
     (2, 43, b"\xA5\x01\x05", Wanted::Broken, 0),
     (6, 23, b"\xA5\x01\x01", Wanted::Elsewhere, 0),
+    (
+        2,
+        23,
+        b"\x01\x05\xA5\x01\x01\x41\0\xA5\x01\x02\xA5\x01\x02\x01\0",
+        Wanted::Elsewhere,
+        0,
+    ),
 ];
 
 #[test]
 fn commands_and_texts_are_answered(rt: HostRuntime) -> Result<(), Fail> {
-    assert!(rt; first_wrong(rt.alloc(), &COMMANDS) == 8);
+    assert!(rt; first_wrong(rt.alloc(), &COMMANDS) == 9);
     Ok(())
 }
 

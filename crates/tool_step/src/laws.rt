@@ -6,7 +6,7 @@ ghost use Rattle.tool_step.specs.Losses.{LossesAreCounted};
 ghost use Rattle.tool_step.specs.WorkedLosses.{LosesAtCalls};
 ghost use Rattle.tool_step.specs.WorkedRequests.{EndOwnRequests};
 ghost use Rattle.tool_step.specs.WorkedSpool.{FullSpools, LosesInOrder, PutsTheLast, SpoolingBegins, UnloadsInOrder};
-ghost use Rattle.tool_step.specs.WorkedTraces.{TraceDataGoesOut, TracesAreWorked};
+ghost use Rattle.tool_step.specs.WorkedTraces.{TraceDataGoes, TracesAreWorked};
 
 /// The disk's calls in a step are as many, and write as many bytes, as is counted of its works.
 pub fn calls_are_counted()
@@ -26,11 +26,11 @@ pub fn worked_spool_runs()
     ensures calls { CallsOfWorks }
 {}
 
-/// A trace of two samples of one variable, from S2F23 to its S6F1, and one whose S6F1 comes with each sample; requests
-/// that are refused; and an S6F1 that asks for a grant, or can't go.
+/// A trace of two samples of one variable, from what the host asks for to its S6F1, and requests that are refused; and
+/// what becomes of an S6F1: it goes, asks for a grant, or is dropped.
 pub fn worked_traces()
     ensures traces { TracesAreWorked }
-    ensures data { TraceDataGoesOut }
+    ensures data { TraceDataGoes }
 {}
 
 /// Power may be lost in a step once at each call that it asks of its disk, with what is noted where the disk fails at
