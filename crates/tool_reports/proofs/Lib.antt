@@ -11,3 +11,4 @@ pub mod ReportedParts
 pub mod Reporting
 pub mod SilentCommands
 pub mod ToolReports
+pub mod WorkedSteps

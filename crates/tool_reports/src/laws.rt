@@ -3,6 +3,7 @@
 ghost use Rattle.tool_reports.specs.Laws.{ReportsAreOfTheirEvents};
 ghost use Rattle.tool_reports.specs.LookedBack.{StepsHaveWhatWasSet, TablesAreWhatWasSet};
 ghost use Rattle.tool_reports.specs.WorkedReports.{LaterSettingsAreNotReported};
+ghost use Rattle.tool_reports.specs.WorkedSampled.{SamplesAreWorked};
 ghost use Rattle.tool_reports.specs.WorkedSettings.{AlarmsStayEnabled};
 
 use equipment_tables::tables_are_looked_back_for;
@@ -40,4 +41,10 @@ pub fn tables_are_what_was_set()
 /// and an equipment that forgets it doesn't keep the law.
 pub fn worked_settings()
     ensures { AlarmsStayEnabled }
+{}
+
+/// An example of what is said of S6F1: one of two samples, with the variable set between them. It holds what the
+/// variable held at each; and none goes out that nobody has asked for, and no second one.
+pub fn worked_samples()
+    ensures { SamplesAreWorked }
 {}

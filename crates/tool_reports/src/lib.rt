@@ -5,5 +5,5 @@ mod laws;
 
 pub use laws::{
     later_settings_are_not_reported, reports_are_of_their_events, tables_are_what_was_set,
-    worked_settings,
+    worked_samples, worked_settings,
 };

@@ -1,0 +1,141 @@
+-- The worked steps of a trace: what is due in them, and which S6F1 they have sent.
+use Rattle.std.proofs.Common.{◌≡◌, refl, sym, ap, subst, ◌∙◌, inl, inr, arith, ◌&&◌, ◌≤◌, ◌+◌, Bool, true, false, ℕ, List, [], ◌∷◌, ◌++◌, length, Option, if◌then◌else◌}
+use Rattle.std.specs.List.{cons_option}
+use Rattle.std.specs.Prelude.{bytes_eq, filter}
+use Rattle.gem_shapes.specs.declared.request.Request.{Request}
+use Rattle.gem_trace.specs.History.{Look, TraceEntry, bodies_at, traces_at}
+use Rattle.gem_trace.specs.History.TraceEntry.{Step}
+use Rattle.message_flow.specs.declared.message.Message.{Message}
+use Rattle.secs_items.specs.declared.item.Item.{Item}
+use Rattle.secs_items.specs.declared.item.Item.TheVariants as item
+use Rattle.secs_items.specs.Spelling.{shortest_spelling}
+use Rattle.trace_log.specs.declared.commands.ToolCommand.TheVariants.{Set}
+use Rattle.message_end.specs.Own.{Has}
+use Rattle.equipment_tables.specs.Past.{Entries, asked_counts, command_counts, vars_by}
+use Rattle.tool_step.specs.WorkedTraces.{seven_and_nine}
+use Rattle.tool_reports.specs.Reported.{IsTextOf, count_of, is_of}
+use Rattle.tool_reports.specs.Sampled.{IsOfTrace, datas_in, due_in, is_text_of, setting_of}
+use Rattle.tool_reports.specs.WorkedSampled.{Are, IsAsking, IsData, again, asked, notes_behind, sampling, start, steps_of, the_plan}
+use Rattle.tool_reports.proofs.QuietNotes.{counted, one}
+use Rattle.tool_reports.proofs.QuietReports.{equal-bytes}
+
+-- ---- what is due, by what the host has asked for
+
+abbrev nothing : Entries
+nothing = record { vars = []; reports = []; alarms = []; rules = [] }
+
+abbrev asked_by : Option Request → Entries
+asked_by asks = asked_counts the_plan asks nothing
+
+abbrev set_by : Option Request → Entries
+set_by asks = command_counts the_plan (Set 1 (item.U4 (9 ∷ []))) (asked_by asks)
+
+abbrev looks : Entries → ℕ → Look
+looks entries now = record { vars = vars_by the_plan entries; now = now }
+
+abbrev first_look : Look
+first_look = looks nothing 0
+
+abbrev one_step : Option Request → List TraceEntry
+one_step asks = Step first_look ∷ cons_option (setting_of asks first_look (traces_at (Step first_look ∷ []))) []
+
+abbrev two_steps : Option Request → List TraceEntry
+two_steps asks = one_step asks ++ Step (looks (asked_by asks) 1000) ∷ []
+
+abbrev three_steps : Option Request → List TraceEntry
+three_steps asks = two_steps asks ++ Step (looks (asked_by asks) 1000) ∷ []
+
+abbrev four_steps : Option Request → List TraceEntry
+four_steps asks = three_steps asks ++ Step (looks (set_by asks) 2000) ∷ []
+
+abbrev due_by : Option Request → List Item
+due_by asks =
+    bodies_at (three_steps asks) (looks (set_by asks) 2000)
+    ++ (bodies_at (two_steps asks) (looks (asked_by asks) 1000)
+    ++ (bodies_at (one_step asks) (looks (asked_by asks) 1000) ++ (bodies_at [] first_look ++ [])))
+
+pub asked-due : (message data : Message) → IsAsking message
+    → due_in the_plan (steps_of (asked message data)) ≡ seven_and_nine ∷ []
+asked-due message data is = ap due_by is
+
+again-due : (message data other : Message) → IsAsking message
+    → due_in the_plan (steps_of (again message data other)) ≡ seven_and_nine ∷ []
+again-due message data other is =
+    ap (λ (asks : Option Request). bodies_at (four_steps asks) (looks (set_by asks) 3000) ++ due_by asks) is
+
+-- ---- which were sent
+
+data-true : (data : Message) → IsData data → (is_of 6 1 data && (data.wait && true)) ≡ true
+data-true data is =
+    ap (λ (b : Bool). b && (data.wait && true)) is.named ∙ ap (λ (b : Bool). b && true) is.wait
+
+sent-is : (data : Message) → IsData data
+    → (if is_of 6 1 data && (data.wait && true) then data.body ∷ [] else []) ≡ data.body ∷ []
+sent-is data is = ap (λ (b : Bool). if b then data.body ∷ [] else []) (data-true data is)
+
+pub data-is : (data : Message) → IsData data → Has (datas_in (notes_behind (sampling data) start)) data.body
+data-is data is = subst (λ (all : List (List ℕ)). Has all data.body) (sym (sent-is data is)) (inl refl)
+
+pub sent-one : (message data : Message) → IsData data
+    → Has (datas_in (notes_behind (asked message data) start)) data.body
+sent-one message data is = subst (λ (all : List (List ℕ)). Has all data.body) (sym (sent-is data is)) (inl refl)
+
+sent-two : (message data other : Message) → IsData data → IsData other
+    → datas_in (notes_behind (again message data other) start) ≡ other.body ∷ data.body ∷ []
+sent-two message data other is also =
+    ap (λ (b : Bool). if b then other.body ∷ sent else sent) (data-true other also)
+    ∙ ap (λ (all : List (List ℕ)). other.body ∷ all) (sent-is data is)
+  where
+    sent : List (List ℕ)
+    sent = if is_of 6 1 data && (data.wait && true) then data.body ∷ [] else []
+
+-- ---- what one holds
+
+-- where this one alone is due
+pub of-one : (due : List Item) (body : List ℕ) → due ≡ seven_and_nine ∷ []
+    → (item : Item) → Has due item → IsTextOf item body → body ≡ shortest_spelling seven_and_nine
+of-one due body is item has text =
+    go (subst (λ (all : List Item). Has all item) is has)
+  where
+    go : Has (seven_and_nine ∷ []) item → body ≡ shortest_spelling seven_and_nine
+    go (inl same) = text.shortest ∙ ap shortest_spelling same
+    go (inr none) = absurd none
+
+-- ---- two of one text
+
+twice-counted : (body other : List ℕ) → other ≡ body → count_of body (other ∷ body ∷ []) ≡ 2
+twice-counted body other same =
+    ap (λ (b : List ℕ). count_of body (b ∷ body ∷ [])) same
+    ∙ (let is = ap one (equal-bytes body) in
+    let first = counted (bytes_eq body) body (body ∷ []) in
+    let second = counted (bytes_eq body) body [] in
+    omega (arith, is, first, second))
+
+one-most : (b : Bool) → one b ≤ 1
+one-most true = omega arith
+one-most false = omega arith
+
+due-most : (body : List ℕ) (due : List Item) → due ≡ seven_and_nine ∷ [] → length (filter (is_text_of body) due) ≤ 1
+due-most body due is =
+    subst (λ (all : List Item). length (filter (is_text_of body) all) ≤ 1) (sym is)
+    (let first = counted (is_text_of body) seven_and_nine [] in
+    let most = one-most (is_text_of body seven_and_nine) in
+    omega (arith, first, most))
+
+pub never-again : (message data other : Message) → IsAsking message → IsData data → IsData other
+    → Are (again message data other) → ⊥
+never-again message data other is one two are =
+    let due = again-due message data other is in
+    let sent = sent-two message data other one two in
+    let of_data = are.each data.body (subst (λ (all : List (List ℕ)). Has all data.body) (sym sent) (inr (inl refl))) in
+    let of_other = are.each other.body (subst (λ (all : List (List ℕ)). Has all other.body) (sym sent) (inl refl)) in
+    let same =
+    of-one _ other.body due of_other.item of_other.due of_other.text
+    ∙ sym (of-one _ data.body due of_data.item of_data.due of_data.text) in
+    let most =
+    subst (λ (all : List (List ℕ)). count_of data.body all
+    ≤ length (filter (is_text_of data.body) (due_in the_plan (steps_of (again message data other))))) sent
+    (are.once data.body) in
+    let twice = twice-counted data.body other.body same in
+    let few = due-most data.body (due_in the_plan (steps_of (again message data other))) due in
+    omega (arith, most, twice, few)
