@@ -52,9 +52,9 @@ pub record AreBehind (o : Option (List Item)) (before : List Item) (left : ℕ) 
   pub long : length items ≡ left
   pub spelled : SpellsEach Spells items rest
 
-pub none_before : (o : Option (List Item)) (count : ℕ) (bytes : List ℕ) → AreSpelled o (Some (count, bytes)) → AreBehind o [] count bytes
-none_before None count bytes s = absurd s
-none_before (Some items) count bytes s = record { items = items; all = refl; long = sym s.0; spelled = s.1 }
+pub five_before : (o : Option (List Item)) (count : ℕ) (bytes : List ℕ) → AreSpelled o (Some (count, bytes)) → count ≡ 5 → AreBehind o [] 5 bytes
+five_before None count bytes s five = absurd s
+five_before (Some items) count bytes s five = record { items = items; all = refl; long = sym s.0 ∙ five; spelled = s.1 }
 
 pub begins_behind : (o : Option (List Item)) (before : List Item) (left : ℕ) (rest : List ℕ) → AreBehind o before left rest → 0 < left → Begins rest
 begins_behind o before left rest are more = go are.items are.long are.spelled

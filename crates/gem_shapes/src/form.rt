@@ -108,8 +108,7 @@ impl<'a, F: Form<'a>, G: Form<'a>> Form<'a> for Both<F, G> {
 }
 
 impl<'a, A: Form<'a>, B: Form<'a>, C: Form<'a>, D: Form<'a>, E: Form<'a>> Form<'a>
-    for Five<A, B, C, D, E>
-{
+    for Five<A, B, C, D, E> {
     type Value = (A::Value, B::Value, C::Value, D::Value, E::Value);
 
     ghost value_of = { five A.value_of B.value_of C.value_of D.value_of E.value_of };

@@ -8,8 +8,8 @@ ghost use Rattle.gem_shapes.specs.Requests.Shape.{Nothing};
 
 use crate::entries::{Definition, Linking, RuleEntry};
 use crate::form::{
-    Anything, Both, Code, Each, Five, Flag, Form, Identifier, IdentifierOrAll, Identifiers, Setting,
-    SmallNumber, Words,
+    Anything, Both, Code, Each, Five, Flag, Form, Identifier, IdentifierOrAll, Identifiers,
+    Setting, SmallNumber, Words,
 };
 use crate::part::{Part, checked_part, two_of};
 use crate::primary::Primary;

@@ -321,19 +321,34 @@ fn off_line_and_disabled_it_is_dropped(rt: HostRuntime) -> Result<(), Fail> {
 
 #[test]
 fn a_long_one_goes_by_grant(rt: HostRuntime) -> Result<(), Fail> {
-    assert!(rt; runs(rt.alloc(), &[&ESTABLISHES, &GOES_ONLINE, &INQUIRES, &IS_GRANTED]));
+    assert!(rt;
+        runs(
+            rt.alloc(),
+            &[&ESTABLISHES, &GOES_ONLINE, &INQUIRES, &IS_GRANTED]
+        )
+    );
     Ok(())
 }
 
 #[test]
 fn a_long_one_is_denied(rt: HostRuntime) -> Result<(), Fail> {
-    assert!(rt; runs(rt.alloc(), &[&ESTABLISHES, &GOES_ONLINE, &INQUIRES, &IS_DENIED]));
+    assert!(rt;
+        runs(
+            rt.alloc(),
+            &[&ESTABLISHES, &GOES_ONLINE, &INQUIRES, &IS_DENIED]
+        )
+    );
     Ok(())
 }
 
 #[test]
 fn the_grant_of_a_long_one_is_missed(rt: HostRuntime) -> Result<(), Fail> {
-    assert!(rt; runs(rt.alloc(), &[&ESTABLISHES, &GOES_ONLINE, &INQUIRES, &TIMES_OUT]));
+    assert!(rt;
+        runs(
+            rt.alloc(),
+            &[&ESTABLISHES, &GOES_ONLINE, &INQUIRES, &TIMES_OUT]
+        )
+    );
     Ok(())
 }
 

@@ -54,40 +54,40 @@ due_by asks =
     ++ (bodies_at (two_steps asks) (looks (asked_by asks) 1000)
     ++ (bodies_at (one_step asks) (looks (asked_by asks) 1000) ++ (bodies_at [] first_look ++ [])))
 
-pub asked-due : (message data : Message) → IsAsking message
-    → due_in the_plan (steps_of (asked message data)) ≡ seven_and_nine ∷ []
-asked-due message data is = ap due_by is
+pub asked-due : (message brought : Message) → IsAsking message
+    → due_in the_plan (steps_of (asked message brought)) ≡ seven_and_nine ∷ []
+asked-due message brought is = ap due_by is
 
-again-due : (message data other : Message) → IsAsking message
-    → due_in the_plan (steps_of (again message data other)) ≡ seven_and_nine ∷ []
-again-due message data other is =
+again-due : (message brought other : Message) → IsAsking message
+    → due_in the_plan (steps_of (again message brought other)) ≡ seven_and_nine ∷ []
+again-due message brought other is =
     ap (λ (asks : Option Request). bodies_at (four_steps asks) (looks (set_by asks) 3000) ++ due_by asks) is
 
 -- ---- which were sent
 
-data-true : (data : Message) → IsData data → (is_of 6 1 data && (data.wait && true)) ≡ true
-data-true data is =
-    ap (λ (b : Bool). b && (data.wait && true)) is.named ∙ ap (λ (b : Bool). b && true) is.wait
+data-true : (brought : Message) → IsData brought → (is_of 6 1 brought && (brought.wait && true)) ≡ true
+data-true brought is =
+    ap (λ (b : Bool). b && (brought.wait && true)) is.named ∙ ap (λ (b : Bool). b && true) is.wait
 
-sent-is : (data : Message) → IsData data
-    → (if is_of 6 1 data && (data.wait && true) then data.body ∷ [] else []) ≡ data.body ∷ []
-sent-is data is = ap (λ (b : Bool). if b then data.body ∷ [] else []) (data-true data is)
+sent-is : (brought : Message) → IsData brought
+    → (if is_of 6 1 brought && (brought.wait && true) then brought.body ∷ [] else []) ≡ brought.body ∷ []
+sent-is brought is = ap (λ (b : Bool). if b then brought.body ∷ [] else []) (data-true brought is)
 
-pub data-is : (data : Message) → IsData data → Has (datas_in (notes_behind (sampling data) start)) data.body
-data-is data is = subst (λ (all : List (List ℕ)). Has all data.body) (sym (sent-is data is)) (inl refl)
+pub data-is : (brought : Message) → IsData brought → Has (datas_in (notes_behind (sampling brought) start)) brought.body
+data-is brought is = subst (λ (all : List (List ℕ)). Has all brought.body) (sym (sent-is brought is)) (inl refl)
 
-pub sent-one : (message data : Message) → IsData data
-    → Has (datas_in (notes_behind (asked message data) start)) data.body
-sent-one message data is = subst (λ (all : List (List ℕ)). Has all data.body) (sym (sent-is data is)) (inl refl)
+pub sent-one : (message brought : Message) → IsData brought
+    → Has (datas_in (notes_behind (asked message brought) start)) brought.body
+sent-one message brought is = subst (λ (all : List (List ℕ)). Has all brought.body) (sym (sent-is brought is)) (inl refl)
 
-sent-two : (message data other : Message) → IsData data → IsData other
-    → datas_in (notes_behind (again message data other) start) ≡ other.body ∷ data.body ∷ []
-sent-two message data other is also =
+sent-two : (message brought other : Message) → IsData brought → IsData other
+    → datas_in (notes_behind (again message brought other) start) ≡ other.body ∷ brought.body ∷ []
+sent-two message brought other is also =
     ap (λ (b : Bool). if b then other.body ∷ sent else sent) (data-true other also)
-    ∙ ap (λ (all : List (List ℕ)). other.body ∷ all) (sent-is data is)
+    ∙ ap (λ (all : List (List ℕ)). other.body ∷ all) (sent-is brought is)
   where
     sent : List (List ℕ)
-    sent = if is_of 6 1 data && (data.wait && true) then data.body ∷ [] else []
+    sent = if is_of 6 1 brought && (brought.wait && true) then brought.body ∷ [] else []
 
 -- ---- what one holds
 
@@ -122,20 +122,20 @@ due-most body due is =
     let most = one-most (is_text_of body seven_and_nine) in
     omega (arith, first, most))
 
-pub never-again : (message data other : Message) → IsAsking message → IsData data → IsData other
-    → Are (again message data other) → ⊥
-never-again message data other is one two are =
-    let due = again-due message data other is in
-    let sent = sent-two message data other one two in
-    let of_data = are.each data.body (subst (λ (all : List (List ℕ)). Has all data.body) (sym sent) (inr (inl refl))) in
+pub never-again : (message brought other : Message) → IsAsking message → IsData brought → IsData other
+    → Are (again message brought other) → ⊥
+never-again message brought other is one two are =
+    let due = again-due message brought other is in
+    let sent = sent-two message brought other one two in
+    let of_data = are.each brought.body (subst (λ (all : List (List ℕ)). Has all brought.body) (sym sent) (inr (inl refl))) in
     let of_other = are.each other.body (subst (λ (all : List (List ℕ)). Has all other.body) (sym sent) (inl refl)) in
     let same =
     of-one _ other.body due of_other.item of_other.due of_other.text
-    ∙ sym (of-one _ data.body due of_data.item of_data.due of_data.text) in
+    ∙ sym (of-one _ brought.body due of_data.item of_data.due of_data.text) in
     let most =
-    subst (λ (all : List (List ℕ)). count_of data.body all
-    ≤ length (filter (is_text_of data.body) (due_in the_plan (steps_of (again message data other))))) sent
-    (are.once data.body) in
-    let twice = twice-counted data.body other.body same in
-    let few = due-most data.body (due_in the_plan (steps_of (again message data other))) due in
+    subst (λ (all : List (List ℕ)). count_of brought.body all
+    ≤ length (filter (is_text_of brought.body) (due_in the_plan (steps_of (again message brought other))))) sent
+    (are.once brought.body) in
+    let twice = twice-counted brought.body other.body same in
+    let few = due-most brought.body (due_in the_plan (steps_of (again message brought other))) due in
     omega (arith, most, twice, few)

@@ -52,28 +52,28 @@ pub record IsData (message : Message) : Type 0 where
 
 -- the first sample is taken, the variable is set to 9, and the second is taken, with this S6F1
 abbrev pub sampling : Message → Made
-sampling data =
+sampling brought =
     (1000, Happening.StepEnded ∷ [])
     ∷ (1000, Happening.Recorded (Past.Commanded (Set 1 (item.U4 (9 ∷ [])))) ∷ Happening.Set 1 ∷ Happening.StepEnded ∷ [])
-    ∷ (2000, Happening.Sent data ∷ Happening.StepEnded ∷ []) ∷ []
+    ∷ (2000, Happening.Sent brought ∷ Happening.StepEnded ∷ []) ∷ []
 
 -- the host has asked for it
 abbrev pub asked : Message → Message → Made
-asked message data =
+asked message brought =
     (0, Happening.Received message ∷ Happening.Recorded (Past.Asked message) ∷ Happening.StepEnded ∷ [])
-    ∷ sampling data
+    ∷ sampling brought
 
 -- and another goes out behind it
 abbrev pub again : Message → Message → Message → Made
-again message data other = asked message data ++ (3000, Happening.Sent other ∷ Happening.StepEnded ∷ []) ∷ []
+again message brought other = asked message brought ++ (3000, Happening.Sent other ∷ Happening.StepEnded ∷ []) ∷ []
 
 -- one S6F1 is due, with what the variable held at each of its samples; that is what one that goes out holds; and there is
 -- none where nobody has asked for it, and no second one
 pub record SamplesAreWorked : Type 0 where
-  pub due : (message data : Message) → IsAsking message
-      → due_in the_plan (steps_of (asked message data)) ≡ seven_and_nine ∷ []
-  pub holds : (message data : Message) → IsAsking message → IsData data → Are (asked message data)
-      → data.body ≡ shortest_spelling seven_and_nine
-  pub unasked : (data : Message) → IsData data → Are (sampling data) → ⊥
-  pub once : (message data other : Message) → IsAsking message → IsData data → IsData other
-      → Are (again message data other) → ⊥
+  pub due : (message brought : Message) → IsAsking message
+      → due_in the_plan (steps_of (asked message brought)) ≡ seven_and_nine ∷ []
+  pub holds : (message brought : Message) → IsAsking message → IsData brought → Are (asked message brought)
+      → brought.body ≡ shortest_spelling seven_and_nine
+  pub unasked : (brought : Message) → IsData brought → Are (sampling brought) → ⊥
+  pub once : (message brought other : Message) → IsAsking message → IsData brought → IsData other
+      → Are (again message brought other) → ⊥

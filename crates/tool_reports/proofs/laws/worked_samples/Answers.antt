@@ -7,11 +7,11 @@ use Rattle.tool_reports.proofs.laws.worked_samples.Goals as goal
 
 pub returns : goal.returns
 returns c = record {
-  due = λ message data is. asked-due message data is;
-  holds = λ message data is named are.
-      let of = are.each data.body (sent-one message data named) in
-      of-one (due_in the_plan (steps_of (asked message data))) data.body (asked-due message data is) of.item of.due
+  due = λ message brought is. asked-due message brought is;
+  holds = λ message brought is named are.
+      let of = are.each brought.body (sent-one message brought named) in
+      of-one (due_in the_plan (steps_of (asked message brought))) brought.body (asked-due message brought is) of.item of.due
       of.text;
-  unasked = λ data named are. (are.each data.body (data-is data named)).due;
-  once = λ message data other is one two are. never-again message data other is one two are;
+  unasked = λ brought named are. (are.each brought.body (data-is brought named)).due;
+  once = λ message brought other is one two are. never-again message brought other is one two are;
 }
