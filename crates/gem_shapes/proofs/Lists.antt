@@ -52,11 +52,13 @@ pub record AreBehind (o : Option (List Item)) (before : List Item) (left : ℕ) 
   pub long : length items ≡ left
   pub spelled : SpellsEach Spells items rest
 
-pub five_before : (o : Option (List Item)) (count : ℕ) (bytes : List ℕ) → AreSpelled o (Some (count, bytes)) → count ≡ 5 → AreBehind o [] 5 bytes
+pub five_before : (o : Option (List Item)) (count : ℕ) (bytes : List ℕ) → AreSpelled o (Some (count, bytes))
+    → count ≡ 5 → AreBehind o [] 5 bytes
 five_before None count bytes s five = absurd s
 five_before (Some items) count bytes s five = record { items = items; all = refl; long = sym s.0 ∙ five; spelled = s.1 }
 
-pub begins_behind : (o : Option (List Item)) (before : List Item) (left : ℕ) (rest : List ℕ) → AreBehind o before left rest → 0 < left → Begins rest
+pub begins_behind : (o : Option (List Item)) (before : List Item) (left : ℕ) (rest : List ℕ)
+    → AreBehind o before left rest → 0 < left → Begins rest
 begins_behind o before left rest are more = go are.items are.long are.spelled
   where
     go : (items : List Item) → length items ≡ left → SpellsEach Spells items rest → Begins rest
@@ -74,13 +76,15 @@ one_more o before left rest found behind are front = go are.items are.all are.lo
         let f = front i items s in
         record {
           items = items;
-          all = all ∙ ap (λ (j : Item). Some (before ++ j ∷ items)) (sym f.0) ∙ ap Some (sym (append_assoc before (found ∷ []) items));
+          all =
+              all ∙ ap (λ (j : Item). Some (before ++ j ∷ items)) (sym f.0)
+              ∙ ap Some (sym (append_assoc before (found ∷ []) items));
           long = omega (arith, long);
           spelled = f.1;
         }
 
-pub five_found : (o : Option (List Item)) (a b c d e : Item) (rest : List ℕ) → AreBehind o (a ∷ b ∷ c ∷ d ∷ e ∷ []) 0 rest
-    → Some (a, b, c, d, e) ≡ option_and_then five_of o
+pub five_found : (o : Option (List Item)) (a b c d e : Item) (rest : List ℕ)
+    → AreBehind o (a ∷ b ∷ c ∷ d ∷ e ∷ []) 0 rest → Some (a, b, c, d, e) ≡ option_and_then five_of o
 five_found o a b c d e rest are = go are.items are.long are.all
   where
     go : (items : List Item) → length items ≡ 0 → o ≡ Some ((a ∷ b ∷ c ∷ d ∷ e ∷ []) ++ items)

@@ -47,7 +47,8 @@ spool_request rsdc =
 -- S2F23: L,5 TRID DSPER TOTSMP REPGSZ L,n SVID, of which DSPER is any A (SEMI E5, S2F23)
 abbrev pub trace_request : Item → Option Request
 trace_request item =
-    option_map (λ x. request.Trace x.0 x.1 x.2 x.3 x.4) (five identifier text identifier identifier (each identifier) item)
+    option_map (λ x. request.Trace x.0 x.1 x.2 x.3 x.4)
+    (five identifier text identifier identifier (each identifier) item)
 
 -- The shape of a body: anything at all; nothing, as no byte or as an empty list (this profile); or one item.
 pub data Shape : Type 0 where

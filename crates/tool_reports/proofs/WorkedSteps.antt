@@ -54,40 +54,40 @@ due_by asks =
     ++ (bodies_at (two_steps asks) (looks (asked_by asks) 1000)
     ++ (bodies_at (one_step asks) (looks (asked_by asks) 1000) ++ (bodies_at [] first_look ++ [])))
 
-pub asked-due : (message brought : Message) → IsAsking message
-    → due_in the_plan (steps_of (asked message brought)) ≡ seven_and_nine ∷ []
-asked-due message brought is = ap due_by is
+pub asked-due : (message s6f1 : Message) → IsAsking message
+    → due_in the_plan (steps_of (asked message s6f1)) ≡ seven_and_nine ∷ []
+asked-due message s6f1 is = ap due_by is
 
-again-due : (message brought other : Message) → IsAsking message
-    → due_in the_plan (steps_of (again message brought other)) ≡ seven_and_nine ∷ []
-again-due message brought other is =
+again-due : (message s6f1 other : Message) → IsAsking message
+    → due_in the_plan (steps_of (again message s6f1 other)) ≡ seven_and_nine ∷ []
+again-due message s6f1 other is =
     ap (λ (asks : Option Request). bodies_at (four_steps asks) (looks (set_by asks) 3000) ++ due_by asks) is
 
 -- ---- which were sent
 
-data-true : (brought : Message) → IsData brought → (is_of 6 1 brought && (brought.wait && true)) ≡ true
-data-true brought is =
-    ap (λ (b : Bool). b && (brought.wait && true)) is.named ∙ ap (λ (b : Bool). b && true) is.wait
+data-true : (s6f1 : Message) → IsData s6f1 → (is_of 6 1 s6f1 && (s6f1.wait && true)) ≡ true
+data-true s6f1 is =
+    ap (λ (b : Bool). b && (s6f1.wait && true)) is.named ∙ ap (λ (b : Bool). b && true) is.wait
 
-sent-is : (brought : Message) → IsData brought
-    → (if is_of 6 1 brought && (brought.wait && true) then brought.body ∷ [] else []) ≡ brought.body ∷ []
-sent-is brought is = ap (λ (b : Bool). if b then brought.body ∷ [] else []) (data-true brought is)
+sent-is : (s6f1 : Message) → IsData s6f1
+    → (if is_of 6 1 s6f1 && (s6f1.wait && true) then s6f1.body ∷ [] else []) ≡ s6f1.body ∷ []
+sent-is s6f1 is = ap (λ (b : Bool). if b then s6f1.body ∷ [] else []) (data-true s6f1 is)
 
-pub data-is : (brought : Message) → IsData brought → Has (datas_in (notes_behind (sampling brought) start)) brought.body
-data-is brought is = subst (λ (all : List (List ℕ)). Has all brought.body) (sym (sent-is brought is)) (inl refl)
+pub data-is : (s6f1 : Message) → IsData s6f1 → Has (datas_in (notes_behind (sampling s6f1) start)) s6f1.body
+data-is s6f1 is = subst (λ (all : List (List ℕ)). Has all s6f1.body) (sym (sent-is s6f1 is)) (inl refl)
 
-pub sent-one : (message brought : Message) → IsData brought
-    → Has (datas_in (notes_behind (asked message brought) start)) brought.body
-sent-one message brought is = subst (λ (all : List (List ℕ)). Has all brought.body) (sym (sent-is brought is)) (inl refl)
+pub sent-one : (message s6f1 : Message) → IsData s6f1
+    → Has (datas_in (notes_behind (asked message s6f1) start)) s6f1.body
+sent-one message s6f1 is = subst (λ (all : List (List ℕ)). Has all s6f1.body) (sym (sent-is s6f1 is)) (inl refl)
 
-sent-two : (message brought other : Message) → IsData brought → IsData other
-    → datas_in (notes_behind (again message brought other) start) ≡ other.body ∷ brought.body ∷ []
-sent-two message brought other is also =
+sent-two : (message s6f1 other : Message) → IsData s6f1 → IsData other
+    → datas_in (notes_behind (again message s6f1 other) start) ≡ other.body ∷ s6f1.body ∷ []
+sent-two message s6f1 other is also =
     ap (λ (b : Bool). if b then other.body ∷ sent else sent) (data-true other also)
-    ∙ ap (λ (all : List (List ℕ)). other.body ∷ all) (sent-is brought is)
+    ∙ ap (λ (all : List (List ℕ)). other.body ∷ all) (sent-is s6f1 is)
   where
     sent : List (List ℕ)
-    sent = if is_of 6 1 brought && (brought.wait && true) then brought.body ∷ [] else []
+    sent = if is_of 6 1 s6f1 && (s6f1.wait && true) then s6f1.body ∷ [] else []
 
 -- ---- what one holds
 
@@ -122,20 +122,20 @@ due-most body due is =
     let most = one-most (is_text_of body seven_and_nine) in
     omega (arith, first, most))
 
-pub never-again : (message brought other : Message) → IsAsking message → IsData brought → IsData other
-    → Are (again message brought other) → ⊥
-never-again message brought other is one two are =
-    let due = again-due message brought other is in
-    let sent = sent-two message brought other one two in
-    let of_data = are.each brought.body (subst (λ (all : List (List ℕ)). Has all brought.body) (sym sent) (inr (inl refl))) in
+pub never-again : (message s6f1 other : Message) → IsAsking message → IsData s6f1 → IsData other
+    → Are (again message s6f1 other) → ⊥
+never-again message s6f1 other is one two are =
+    let due = again-due message s6f1 other is in
+    let sent = sent-two message s6f1 other one two in
+    let of_data = are.each s6f1.body (subst (λ (all : List (List ℕ)). Has all s6f1.body) (sym sent) (inr (inl refl))) in
     let of_other = are.each other.body (subst (λ (all : List (List ℕ)). Has all other.body) (sym sent) (inl refl)) in
     let same =
     of-one _ other.body due of_other.item of_other.due of_other.text
-    ∙ sym (of-one _ brought.body due of_data.item of_data.due of_data.text) in
+    ∙ sym (of-one _ s6f1.body due of_data.item of_data.due of_data.text) in
     let most =
-    subst (λ (all : List (List ℕ)). count_of brought.body all
-    ≤ length (filter (is_text_of brought.body) (due_in the_plan (steps_of (again message brought other))))) sent
-    (are.once brought.body) in
-    let twice = twice-counted brought.body other.body same in
-    let few = due-most brought.body (due_in the_plan (steps_of (again message brought other))) due in
+    subst (λ (all : List (List ℕ)). count_of s6f1.body all
+    ≤ length (filter (is_text_of s6f1.body) (due_in the_plan (steps_of (again message s6f1 other))))) sent
+    (are.once s6f1.body) in
+    let twice = twice-counted s6f1.body other.body same in
+    let few = due-most s6f1.body (due_in the_plan (steps_of (again message s6f1 other))) due in
     omega (arith, most, twice, few)

@@ -52,28 +52,28 @@ pub record IsData (message : Message) : Type 0 where
 
 -- the first sample is taken, the variable is set to 9, and the second is taken, with this S6F1
 abbrev pub sampling : Message → Made
-sampling brought =
+sampling s6f1 =
     (1000, Happening.StepEnded ∷ [])
     ∷ (1000, Happening.Recorded (Past.Commanded (Set 1 (item.U4 (9 ∷ [])))) ∷ Happening.Set 1 ∷ Happening.StepEnded ∷ [])
-    ∷ (2000, Happening.Sent brought ∷ Happening.StepEnded ∷ []) ∷ []
+    ∷ (2000, Happening.Sent s6f1 ∷ Happening.StepEnded ∷ []) ∷ []
 
 -- the host has asked for it
 abbrev pub asked : Message → Message → Made
-asked message brought =
+asked message s6f1 =
     (0, Happening.Received message ∷ Happening.Recorded (Past.Asked message) ∷ Happening.StepEnded ∷ [])
-    ∷ sampling brought
+    ∷ sampling s6f1
 
 -- and another goes out behind it
 abbrev pub again : Message → Message → Message → Made
-again message brought other = asked message brought ++ (3000, Happening.Sent other ∷ Happening.StepEnded ∷ []) ∷ []
+again message s6f1 other = asked message s6f1 ++ (3000, Happening.Sent other ∷ Happening.StepEnded ∷ []) ∷ []
 
--- one S6F1 is due, with what the variable held at each of its samples; that is what one that goes out holds; and there is
--- none where nobody has asked for it, and no second one
+-- one S6F1 is due, with what the variable held at each of its samples; that is what one that goes out holds; and none
+-- is there where nobody has asked for it, and no second one
 pub record SamplesAreWorked : Type 0 where
-  pub due : (message brought : Message) → IsAsking message
-      → due_in the_plan (steps_of (asked message brought)) ≡ seven_and_nine ∷ []
-  pub holds : (message brought : Message) → IsAsking message → IsData brought → Are (asked message brought)
-      → brought.body ≡ shortest_spelling seven_and_nine
-  pub unasked : (brought : Message) → IsData brought → Are (sampling brought) → ⊥
-  pub once : (message brought other : Message) → IsAsking message → IsData brought → IsData other
-      → Are (again message brought other) → ⊥
+  pub due : (message s6f1 : Message) → IsAsking message
+      → due_in the_plan (steps_of (asked message s6f1)) ≡ seven_and_nine ∷ []
+  pub holds : (message s6f1 : Message) → IsAsking message → IsData s6f1 → Are (asked message s6f1)
+      → s6f1.body ≡ shortest_spelling seven_and_nine
+  pub unasked : (s6f1 : Message) → IsData s6f1 → Are (sampling s6f1) → ⊥
+  pub once : (message s6f1 other : Message) → IsAsking message → IsData s6f1 → IsData other
+      → Are (again message s6f1 other) → ⊥

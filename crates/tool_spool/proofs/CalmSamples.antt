@@ -100,4 +100,5 @@ untraced-calm own other like =
 pub granted-trace-calm : (waiting : Option (List ℕ)) (own other : OwnView) → IsLikeIt own other
     → IsCalmTurn own (granted_trace_turn waiting other)
 granted-trace-calm None own other like = record { duties = tt; like = like }
-granted-trace-calm (Some body) own other like = with-less own other (trace_sent_turn body other) like (trace-sent-calm body other)
+granted-trace-calm (Some body) own other like =
+    with-less own other (trace_sent_turn body other) like (trace-sent-calm body other)

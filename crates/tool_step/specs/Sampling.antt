@@ -80,7 +80,7 @@ trace_inquiry = primary_of 6 5 kind.TraceGrant
 abbrev pub trace_sent_turn : List ℕ → OwnView → ToolTurn
 trace_sent_turn body own = fixed_turn own (Primary (trace_data body) ∷ [])
 
--- one of several blocks waits for S6F6, under the number of its S6F5, unless that isn't sent: then it is dropped with it
+-- one of several blocks waits for S6F6, under the number of its S6F5; where that isn't sent it is dropped with it
 -- (SEMI E5, S6F5; the latter is this profile's)
 abbrev pub with_inquired : Option ℕ → List ℕ → OwnView → OwnView
 with_inquired None body own = own
@@ -109,7 +109,8 @@ sampled_text_turn (answer.Body body) own e =
     if is_communicating own then trace_data_turn body own e else unreported_turn trace_name own
 sampled_text_turn answer.TooLong own e = fixed_turn own (Note (Happening.TooLong trace_name) ∷ [])
 
--- off-line it is dropped, whatever its text; else one that is too long (SEMI E30, OFF-LINE; the order is this profile's)
+-- off-line it is dropped, whatever its text; else one that is too long (SEMI E30, OFF-LINE; the order is this
+-- profile's)
 abbrev pub sampled_turn : Item → OwnView → EndView Kind → ToolTurn
 sampled_turn item own e =
     if is_online own then sampled_text_turn (text_of own item) own e else unreported_turn trace_name own

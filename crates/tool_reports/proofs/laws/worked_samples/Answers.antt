@@ -7,11 +7,11 @@ use Rattle.tool_reports.proofs.laws.worked_samples.Goals as goal
 
 pub returns : goal.returns
 returns c = record {
-  due = λ message brought is. asked-due message brought is;
-  holds = λ message brought is named are.
-      let of = are.each brought.body (sent-one message brought named) in
-      of-one (due_in the_plan (steps_of (asked message brought))) brought.body (asked-due message brought is) of.item of.due
+  due = λ message s6f1 is. asked-due message s6f1 is;
+  holds = λ message s6f1 is named are.
+      let of = are.each s6f1.body (sent-one message s6f1 named) in
+      of-one (due_in the_plan (steps_of (asked message s6f1))) s6f1.body (asked-due message s6f1 is) of.item of.due
       of.text;
-  unasked = λ brought named are. (are.each brought.body (data-is brought named)).due;
-  once = λ message brought other is one two are. never-again message brought other is one two are;
+  unasked = λ s6f1 named are. (are.each s6f1.body (data-is s6f1 named)).due;
+  once = λ message s6f1 other is one two are. never-again message s6f1 other is one two are;
 }
