@@ -12,5 +12,6 @@ pub mod Storing
 pub mod Taking
 pub mod Texts
 pub mod ToldLong
+pub mod Traced
 pub mod Trying
 pub mod Turned

@@ -7,7 +7,6 @@ ghost use Rattle.block_codec.specs.Protocol.{longest_text};
 ghost use Rattle.secs_items.specs.Checking.{check_of};
 ghost use Rattle.message_end.specs.Core.Command.{Primary};
 ghost use Rattle.message_end.specs.Parts.{fixed_turn};
-ghost use Rattle.tool_core.specs.Carried.{IsTaken};
 ghost use Rattle.tool_core.specs.Judged.{IsShort};
 ghost use Rattle.tool_core.specs.Node.{node_of, own_of};
 ghost use Rattle.tool_core.specs.Turns.{HasTakenPart, ReachesParts, TakesPart, TakesParts, TakesTurn};
@@ -111,31 +110,23 @@ impl Tool {
     {
         let mut left = MOST_MADE;
         'made: while left > 0 {
-            if !self.route_first(alloc, out)? {
-                return Ok(());
-            }
+            self.route_first(alloc, out)?;
             left -= 1;
         }
         Ok(())
     }
 
-    // Gives the first S6F1 that has had no turn its own; `false` where there is none.
-    fn route_first(&mut self, alloc: Global, out: &mut StepOut) -> Result<bool, Stop>
+    // Gives the first S6F1 that has had no turn its own, if there is one.
+    fn route_first(&mut self, alloc: Global, out: &mut StepOut) -> Result<(), Stop>
         ensures does { TakesPart made_part self.old out.old self.new out.new result }
-        ensures none { IfOk result (λ some. some ≡ false → IsTaken
-            (made_part (own_of self.old.own) self.old.core)
-            (node_of self.old) out.old (node_of self.old) out.old) }
         ensures line { out.new.line ≡ out.old.line }
     {
         let place = self.own.tracing.routed;
         let Some(text) = self.made_text(alloc, place)? else {
-            return Ok(false);
+            return Ok(());
         };
         self.own.tracing.routed = place + 1;
-        match self.route_data(alloc, text, out) {
-            Ok(()) => Ok(true),
-            Err(stop) => Err(stop),
-        }
+        self.route_data(alloc, text, out)
     }
 
     // The text of the S6F1 at this place, if there is one.

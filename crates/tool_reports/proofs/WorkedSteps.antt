@@ -83,11 +83,10 @@ sent-one message s6f1 is = subst (λ (all : List (List ℕ)). Has all s6f1.body)
 sent-two : (message s6f1 other : Message) → IsData s6f1 → IsData other
     → datas_in (notes_behind (again message s6f1 other) start) ≡ other.body ∷ s6f1.body ∷ []
 sent-two message s6f1 other is also =
-    ap (λ (b : Bool). if b then other.body ∷ sent else sent) (data-true other also)
+    ap
+    (λ (b : Bool). if b then other.body ∷ (if is_of 6 1 s6f1 && (s6f1.wait && true) then s6f1.body ∷ [] else [])
+    else (if is_of 6 1 s6f1 && (s6f1.wait && true) then s6f1.body ∷ [] else [])) (data-true other also)
     ∙ ap (λ (all : List (List ℕ)). other.body ∷ all) (sent-is s6f1 is)
-  where
-    sent : List (List ℕ)
-    sent = if is_of 6 1 s6f1 && (s6f1.wait && true) then s6f1.body ∷ [] else []
 
 -- ---- what one holds
 

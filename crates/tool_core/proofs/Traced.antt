@@ -1,0 +1,121 @@
+-- S2F23 as the code carries it out; and the S6F1 that a sample brought, by how many of them have had their turn.
+use Rattle.std.proofs.Common.{◌≡◌, ◌≢◌, refl, sym, ap, subst, ◌∙◌, ℕ, zero, suc, ◌+◌, List, [], ◌∷◌, Option, Some, None, if◌then◌else◌}
+use Rattle.std.specs.Prelude.{drop, Result, Ok}
+use Rattle.std.specs.List.{slice_get}
+use Rattle.std.specs.Option.{option_map}
+use Rattle.gem_shapes.specs.Answers.{code_item}
+use Rattle.gem_trace.specs.declared.request.TraceRequest.{TraceRequest}
+use Rattle.gem_trace.specs.declared.request.Tiaack.{Tiaack}
+use Rattle.gem_trace.specs.declared.request.Tiaack.TheVariants as tiaack
+use Rattle.gem_trace.specs.Traces.{Running, after_setting}
+use Rattle.message_flow.specs.declared.message.Message.{Message}
+use Rattle.message_flow.specs.declared.step.StepOut.{StepOut}
+use Rattle.secs_items.specs.declared.item.Item.{Item}
+use Rattle.trace_log.specs.Text.{printed_note}
+use Rattle.message_end.specs.declared.end.Stop.{Stop}
+use Rattle.message_end.specs.Core.{EndView}
+use Rattle.message_end.specs.Parts.{Takes, after_turn, on_the_way}
+use Rattle.equipment_tables.specs.declared.answers.Answer.{Answer}
+use Rattle.tool_step.specs.declared.kind.Kind.{Kind}
+use Rattle.tool_step.specs.Own.{OwnView, is_online, turn_of}
+use Rattle.tool_step.specs.Reports.{unreported_turn}
+use Rattle.tool_step.specs.Sampling.{first_turn, running_by, sampled_text_turn, tiaack_code, tiaack_in, trace_name, trace_turn, with_made, with_running}
+use Rattle.tool_step.specs.Sent.{answer_duties, text_of}
+use Rattle.tool_core.proofs.Turned.{HasTaken, ToolNode}
+
+-- ---- S2F23
+
+-- what runs then
+pub set_so : (answer : Tiaack) (request : TraceRequest) (now : ℕ) (old new : List Running)
+    → (answer ≡ tiaack.Done → new ≡ after_setting request now old) → (answer ≢ tiaack.Done → new ≡ old)
+    → new ≡ running_by answer request now old
+set_so tiaack.Done request now old new taken refused = taken refl
+set_so tiaack.TooMany request now old new taken refused = refused (λ is. cc)
+set_so tiaack.NoMore request now old new taken refused = refused (λ is. cc)
+set_so tiaack.BadPeriod request now old new taken refused = refused (λ is. cc)
+set_so (tiaack.Unknown svid) request now old new taken refused = refused (λ is. cc)
+set_so tiaack.BadGroup request now old new taken refused = refused (λ is. cc)
+
+-- the answer to it goes, with this kept beside the core
+abbrev Answered :
+    {A : Type 0} → Message → ToolNode → StepOut → StepOut → Result A Stop → OwnView → Answer → EndView Kind → Type 0
+Answered message new out out_new result own text core =
+    Takes (turn_of own (answer_duties text message)) (record { own = own; core = core }) out new out_new result
+
+abbrev with_answer : TraceRequest → ℕ → Tiaack → OwnView → OwnView
+with_answer request now answer own = with_running (running_by answer request now own.tracing.running) own
+
+-- it is set, and answered
+pub set_and_answered :
+    {A : Type 0} (request : TraceRequest) (now : ℕ) (message : Message) (own own_set : OwnView)
+    (core core_set : EndView Kind) (answer : Tiaack) (text : Answer) (new : ToolNode) (out out_new : StepOut)
+    (result : Result A Stop)
+    → answer ≡ tiaack_in request own
+    → own_set ≡ with_answer request now answer own
+    → core_set ≡ core
+    → text ≡ text_of own (code_item (tiaack_code answer))
+    → Answered message new out out_new result own_set text core_set
+    → Takes (trace_turn request now message own) (record { own = own; core = core }) out new out_new result
+set_and_answered {A} request now message own own_set core core_set answer text new out out_new result is set same by to =
+    subst
+    (λ (a : Tiaack). Answered message new out out_new result (with_answer request now a own)
+    (text_of own (code_item (tiaack_code a))) core) is
+    (subst
+    (λ (c : EndView Kind). Answered message new out out_new result (with_answer request now answer own)
+    (text_of own (code_item (tiaack_code answer))) c) same
+    (subst
+    (λ (t : Answer). Answered message new out out_new result (with_answer request now answer own) t core_set) by
+    (subst (λ (o : OwnView). Answered message new out out_new result o text core_set) set to)))
+
+-- ---- S6F1
+
+-- which one is the next, and that none is left
+one_left : (made : List Item) (routed : ℕ) (item : Item) → slice_get made routed ≡ Some item
+    → drop routed made ≡ item ∷ drop (routed + 1) made
+one_left [] zero item is = absurd cc
+one_left [] (suc n) item is = absurd cc
+one_left (one ∷ made) zero item is =
+    let same : one ≡ item = cc in
+    ap (λ (i : Item). i ∷ made) same
+one_left (one ∷ made) (suc n) item is = one_left made n item is
+
+none_left : (read : Item → Answer) (made : List Item) (routed : ℕ) → None ≡ option_map read (slice_get made routed)
+    → drop routed made ≡ []
+none_left read [] zero is = refl
+none_left read [] (suc n) is = refl
+none_left read (one ∷ made) zero is = absurd cc
+none_left read (one ∷ made) (suc n) is = none_left read made n is
+
+-- with none left nothing is done
+pub none_routed : (node : ToolNode) (made : List Item) (routed : ℕ) (out : StepOut)
+    → node.own.tracing.made ≡ drop routed made → None ≡ option_map (text_of node.own) (slice_get made routed)
+    → HasTaken (first_turn node.own.tracing.made node.own node.core) node out node out
+none_routed node made routed out is none =
+    ap (λ (left : List Item). after_turn printed_note (first_turn left node.own node.core) (on_the_way node out))
+    (is ∙ none_left (text_of node.own) made routed none)
+
+-- where one is left it has the turn of its text
+pub first_routed :
+    {A : Type 0} (old new : ToolNode) (made : List Item) (routed : ℕ) (text : Answer) (out out_new : StepOut)
+    (result : Result A Stop)
+    → old.own.tracing.made ≡ drop routed made
+    → Some text ≡ option_map (text_of old.own) (slice_get made routed)
+    → Takes
+    (if is_online old.own then sampled_text_turn text (with_made (drop (routed + 1) made) old.own) old.core
+    else unreported_turn trace_name (with_made (drop (routed + 1) made) old.own)) old out new out_new result
+    → Takes (first_turn old.own.tracing.made old.own old.core) old out new out_new result
+first_routed {A} old new made routed text out out_new result is text_is taken =
+    go (slice_get made routed) refl text_is
+  where
+    go : (at : Option Item) → slice_get made routed ≡ at → Some text ≡ option_map (text_of old.own) at
+        → Takes (first_turn old.own.tracing.made old.own old.core) old out new out_new result
+    go None found none = absurd cc
+    go (Some item) found some =
+        let same : text ≡ text_of old.own item = cc in
+        subst (λ (left : List Item). Takes (first_turn left old.own old.core) old out new out_new result)
+        (sym (is ∙ one_left made routed item found))
+        (subst
+        (λ (t : Answer). Takes
+        (if is_online old.own then sampled_text_turn t (with_made (drop (routed + 1) made) old.own) old.core
+        else unreported_turn trace_name (with_made (drop (routed + 1) made) old.own)) old out new out_new result)
+        same taken)
