@@ -1,6 +1,6 @@
 -- S2F23 as the code carries it out; and the S6F1 that a sample brought, by how many of them have had their turn.
 use Rattle.std.proofs.Common.{◌≡◌, ◌≢◌, refl, sym, ap, subst, ◌∙◌, ℕ, zero, suc, ◌+◌, List, [], ◌∷◌, Option, Some, None, if◌then◌else◌}
-use Rattle.std.specs.Prelude.{drop, Result, Ok}
+use Rattle.std.specs.Prelude.{drop, Result}
 use Rattle.std.specs.List.{slice_get}
 use Rattle.std.specs.Option.{option_map}
 use Rattle.gem_shapes.specs.Answers.{code_item}

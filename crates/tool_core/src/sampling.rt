@@ -1,6 +1,6 @@
 //! S2F23, the samples of a step, and what becomes of the S6F1 that they bring.
 
-ghost use Rattle.std.specs.Prelude.{◌≡◌, ◌<◌, ◌≤◌, ◌^◌, ◌∷◌, [], false, length, replicate, if◌then◌else◌, IfOk, IfSome};
+ghost use Rattle.std.specs.Prelude.{◌≡◌, ◌<◌, ◌≤◌, ◌^◌, ◌∷◌, [], length, replicate, if◌then◌else◌, IfOk, IfSome};
 ghost use Rattle.std.specs.List.{slice_get};
 ghost use Rattle.std.specs.Option.{option_map};
 ghost use Rattle.block_codec.specs.Protocol.{longest_text};
@@ -8,7 +8,7 @@ ghost use Rattle.secs_items.specs.Checking.{check_of};
 ghost use Rattle.message_end.specs.Core.Command.{Primary};
 ghost use Rattle.message_end.specs.Parts.{fixed_turn};
 ghost use Rattle.tool_core.specs.Judged.{IsShort};
-ghost use Rattle.tool_core.specs.Node.{node_of, own_of};
+ghost use Rattle.tool_core.specs.Node.{own_of};
 ghost use Rattle.tool_core.specs.Turns.{HasTakenPart, ReachesParts, TakesPart, TakesParts, TakesTurn};
 ghost use Rattle.tool_step.specs.Codes.{is_granted_in};
 ghost use Rattle.tool_step.specs.Own.{is_online, waiting_trace, without_traced};

@@ -1,5 +1,5 @@
 -- The samples of a step, and what becomes of the S6F1 that they bring; and S2F23 (SEMI E30, trace data collection).
-use Rattle.std.specs.Prelude.{ℕ, ◌∷◌, ◌++◌, [], List, length, nat_le, replicate, Option, Some, None, if◌then◌else◌}
+use Rattle.std.specs.Prelude.{ℕ, ◌∷◌, ◌++◌, [], true, List, length, nat_le, replicate, Option, Some, None, if◌then◌else◌}
 use Rattle.gem_shapes.specs.Answers.{code_item}
 use Rattle.gem_trace.specs.declared.request.TraceRequest.{TraceRequest}
 use Rattle.gem_trace.specs.declared.request.Tiaack.{Tiaack}
