@@ -1,7 +1,8 @@
--- S2F23 as the code carries it out; and the S6F1 that a sample brought, by how many of them have had their turn.
+-- S2F23 as the code carries it out; the S6F1 that a sample brought, by how many of them have had their turn; and the one
+-- that waits for S6F6.
 use Rattle.std.proofs.Common.{◌≡◌, ◌≢◌, refl, sym, ap, subst, ◌∙◌, ℕ, zero, suc, ◌+◌, List, [], ◌∷◌, Option, Some, None, if◌then◌else◌}
 use Rattle.std.specs.Prelude.{drop, Result}
-use Rattle.std.specs.List.{slice_get}
+use Rattle.std.specs.List.{find, slice_get}
 use Rattle.std.specs.Option.{option_map}
 use Rattle.gem_shapes.specs.Answers.{code_item}
 use Rattle.gem_trace.specs.declared.request.TraceRequest.{TraceRequest}
@@ -11,15 +12,18 @@ use Rattle.gem_trace.specs.Traces.{Running, after_setting}
 use Rattle.message_flow.specs.declared.message.Message.{Message}
 use Rattle.message_flow.specs.declared.step.StepOut.{StepOut}
 use Rattle.secs_items.specs.declared.item.Item.{Item}
+use Rattle.trace_log.specs.Names.{Spooled}
 use Rattle.trace_log.specs.Text.{printed_note}
 use Rattle.message_end.specs.declared.end.Stop.{Stop}
 use Rattle.message_end.specs.Core.{EndView}
+use Rattle.message_end.specs.Core.Went.{Goes}
 use Rattle.message_end.specs.Parts.{Takes, after_turn, on_the_way}
 use Rattle.equipment_tables.specs.declared.answers.Answer.{Answer}
 use Rattle.tool_step.specs.declared.kind.Kind.{Kind}
-use Rattle.tool_step.specs.Own.{OwnView, is_online, turn_of}
+use Rattle.tool_step.specs.Grants.{GrantView}
+use Rattle.tool_step.specs.Own.{OwnView, event_report, is_granted_by, is_online, turn_of, waiting_trace, without_traced}
 use Rattle.tool_step.specs.Reports.{unreported_turn}
-use Rattle.tool_step.specs.Sampling.{first_turn, running_by, sampled_text_turn, tiaack_code, tiaack_in, trace_name, trace_turn, with_made, with_running}
+use Rattle.tool_step.specs.Sampling.{first_turn, granted_trace_turn, running_by, sampled_text_turn, tiaack_code, tiaack_in, trace_name, trace_sent_turn, trace_turn, with_made, with_running}
 use Rattle.tool_step.specs.Sent.{answer_duties, text_of}
 use Rattle.tool_core.proofs.Turned.{HasTaken, ToolNode}
 
@@ -119,3 +123,53 @@ first_routed {A} old new made routed text out out_new result is text_is taken =
         (if is_online old.own then sampled_text_turn t (with_made (drop (routed + 1) made) old.own) old.core
         else unreported_turn trace_name (with_made (drop (routed + 1) made) old.own)) old out new out_new result)
         same taken)
+
+-- ---- the one that waits for S6F6
+
+-- it is kept as the code keeps an S6F11
+abbrev waiting_as : ℕ → OwnView → Option Spooled
+waiting_as system own =
+    option_map (λ (one : GrantView). event_report one.body) (find (is_granted_by system) own.tracing.for_grant)
+
+text_read : (found : Option GrantView)
+    → option_map (λ (message : Spooled). message.body) (option_map (λ (one : GrantView). event_report one.body) found)
+    ≡ option_map (λ (one : GrantView). one.body) found
+text_read None = refl
+text_read (Some one) = refl
+
+waits_so : (system : ℕ) (own : OwnView) (waiting : Option Spooled) → waiting ≡ waiting_as system own
+    → waiting_trace system own ≡ option_map (λ (message : Spooled). message.body) waiting
+waits_so system own waiting is =
+    sym (text_read (find (is_granted_by system) own.tracing.for_grant))
+    ∙ ap (option_map (λ (message : Spooled). message.body)) (sym is)
+
+-- it goes
+pub granted_sent :
+    {A : Type 0} (system : ℕ) (own left : OwnView) (core : EndView Kind) (waiting : Spooled) (body : List ℕ)
+    (new : ToolNode) (out out_new : StepOut) (result : Result A Stop)
+    → left ≡ without_traced system own → Some waiting ≡ waiting_as system own → body ≡ waiting.body
+    → Takes (trace_sent_turn body left) (record { own = left; core = core }) out new out_new result
+    → Takes (granted_trace_turn (waiting_trace system own) (without_traced system own))
+    (record { own = own; core = core }) out new out_new result
+granted_sent {A} system own left core waiting body new out out_new result left_is is text taken =
+    subst
+    (λ (one : Option (List ℕ)). Takes (granted_trace_turn one (without_traced system own))
+    (record { own = own; core = core }) out new out_new result) (sym (waits_so system own (Some waiting) is))
+    (subst
+    (λ (o : OwnView). Takes (trace_sent_turn waiting.body o) (record { own = own; core = core }) out new out_new
+    result) left_is
+    (subst
+    (λ (b : List ℕ). Takes (trace_sent_turn b left) (record { own = own; core = core }) out new out_new result) text
+    taken))
+
+-- there is none
+pub granted_nothing :
+    (system : ℕ) (own left : OwnView) (core : EndView Kind) (out : StepOut) → left ≡ without_traced system own
+    → None ≡ waiting_as system own
+    → HasTaken (granted_trace_turn (waiting_trace system own) (without_traced system own))
+    (record { own = own; core = core }) out (record { own = left; core = core }) out
+granted_nothing system own left core out left_is is =
+    ap
+    (λ (one : Option (List ℕ)). after_turn printed_note (granted_trace_turn one (without_traced system own))
+    (on_the_way (record { own = own; core = core }) out)) (waits_so system own None is)
+    ∙ ap (λ (o : OwnView). Goes (on_the_way (record { own = o; core = core }) out)) (sym left_is)
