@@ -1,40 +1,82 @@
 -- The worked steps of a trace: what is due in them, and which S6F1 they have sent.
-use Rattle.std.proofs.Common.{◌≡◌, refl, sym, ap, subst, ◌∙◌, inl, inr, arith, ◌&&◌, ◌≤◌, ◌+◌, Bool, true, false, ℕ, List, [], ◌∷◌, ◌++◌, length, Option, if◌then◌else◌}
+use Rattle.std.proofs.Common.{◌≡◌, refl, sym, ap, subst, ◌∙◌, inl, inr, arith, ◌==◌, ◌&&◌, ◌≤◌, ◌+◌, nat_le, Bool, true, false, ℕ, List, [], ◌∷◌, ◌++◌, length, Option, Some, None, if◌then◌else◌}
 use Rattle.std.specs.List.{cons_option}
 use Rattle.std.specs.Prelude.{bytes_eq, filter}
 use Rattle.gem_shapes.specs.declared.request.Request.{Request}
+use Rattle.gem_shapes.specs.declared.request.Request.TheVariants as request
 use Rattle.gem_trace.specs.History.{Look, TraceEntry, bodies_at, traces_at}
 use Rattle.gem_trace.specs.History.TraceEntry.{Step}
+use Rattle.gem_vars.specs.declared.settings.Setting.{Setting}
+use Rattle.gem_vars.specs.declared.settings.Setting.TheVariants as setting
+use Rattle.gem_vars.specs.Settings.{refusal_of, same_kind, value_fits}
 use Rattle.message_flow.specs.declared.message.Message.{Message}
-use Rattle.secs_items.specs.declared.item.Item.{Item}
+use Rattle.secs_items.specs.declared.item.Item.{Item, out-Item}
+use Rattle.secs_items.specs.declared.item.Item.TheFolds.{fold-roll-Item}
+use Rattle.secs_items.specs.declared.item.Item.TheOpen.{Item-F}
 use Rattle.secs_items.specs.declared.item.Item.TheVariants as item
-use Rattle.secs_items.specs.Spelling.{shortest_spelling}
-use Rattle.trace_log.specs.declared.commands.ToolCommand.TheVariants.{Set}
+use Rattle.secs_items.specs.declared.item.Item.TheVariants.{rolls-U4}
+use Rattle.secs_items.specs.declared.item.Item.TheViews.{out-roll-Item}
+use Rattle.secs_items.specs.Kinds.{code_of}
+use Rattle.secs_items.specs.Layers.{kind_of}
+use Rattle.secs_items.specs.Measures.{depth_of, layer_depth}
+use Rattle.secs_items.specs.Spelling.{shortest_layer, shortest_spelling}
 use Rattle.message_end.specs.Own.{Has}
-use Rattle.equipment_tables.specs.Past.{Entries, asked_counts, command_counts, vars_by}
-use Rattle.tool_step.specs.WorkedTraces.{seven_and_nine}
+use Rattle.equipment_tables.specs.Past.{Entries, asked_counts, set_counts, vars_by}
+use Rattle.tool_step.specs.WorkedTraces.{each_second, seven_and_nine}
 use Rattle.tool_reports.specs.Reported.{IsTextOf, count_of, is_of}
-use Rattle.tool_reports.specs.Sampled.{IsOfTrace, datas_in, due_in, is_text_of, setting_of}
+use Rattle.tool_reports.specs.Sampled.{datas_in, due_in, is_text_of, setting_of}
 use Rattle.tool_reports.specs.WorkedSampled.{Are, IsAsking, IsData, again, asked, notes_behind, sampling, start, steps_of, the_plan}
 use Rattle.tool_reports.proofs.QuietNotes.{counted, one}
 use Rattle.tool_reports.proofs.QuietReports.{equal-bytes}
 
--- ---- what is due, by what the host has asked for
+-- ---- the variable may be set so
 
 abbrev nothing : Entries
 nothing = record { vars = []; reports = []; alarms = []; rules = [] }
 
-abbrev asked_by : Option Request → Entries
-asked_by asks = asked_counts the_plan asks nothing
+abbrev of_u4 : ℕ → Item-F Item
+of_u4 n = Item-F.U4 (n ∷ [])
 
-abbrev set_by : Option Request → Entries
-set_by asks = command_counts the_plan (Set 1 (item.U4 (9 ∷ []))) (asked_by asks)
+out-u4 : (n : ℕ) → out-Item (item.U4 (n ∷ [])) ≡ of_u4 n
+out-u4 n = ap out-Item (sym (rolls-U4 (n ∷ []))) ∙ out-roll-Item (of_u4 n)
+
+of-one-kind : same_kind (item.U4 (7 ∷ [])) (item.U4 (9 ∷ [])) ≡ true
+of-one-kind =
+    ap (λ (held : Item-F Item). code_of (kind_of held) == code_of (kind_of (out-Item (item.U4 (9 ∷ []))))) (out-u4 7)
+    ∙ ap (λ (value : Item-F Item). code_of (kind_of (of_u4 7)) == code_of (kind_of value)) (out-u4 9)
+
+is-short : value_fits (item.U4 (9 ∷ [])) ≡ true
+is-short =
+    ap (λ (bytes : List ℕ). nat_le (length bytes) 4096 && nat_le (depth_of (item.U4 (9 ∷ []))) 60)
+    (ap shortest_spelling (sym (rolls-U4 (9 ∷ [])))
+    ∙ fold-roll-Item (List ℕ) shortest_layer (Item-F.U4 (9 ∷ [])))
+    ∙ ap (λ (depth : ℕ). nat_le (length (shortest_layer (Item-F.U4 (9 ∷ [])))) 4096 && nat_le depth 60)
+    (ap depth_of (sym (rolls-U4 (9 ∷ []))) ∙ fold-roll-Item ℕ layer_depth (Item-F.U4 (9 ∷ [])))
+
+accepted : refusal_of (vars_by the_plan nothing) 1 (item.U4 (9 ∷ [])) ≡ None
+accepted =
+    ap
+    (λ (same : Bool). if same then if value_fits (item.U4 (9 ∷ [])) then None else Some (setting.TooLong 1)
+    else Some (setting.Kind 1)) of-one-kind
+    ∙ ap (λ (fits : Bool). if fits then None else Some (setting.TooLong 1)) is-short
+
+-- ---- what is due, by what the host has asked for
 
 abbrev looks : Entries → ℕ → Look
 looks entries now = record { vars = vars_by the_plan entries; now = now }
 
 abbrev first_look : Look
 first_look = looks nothing 0
+
+abbrev asked_by : Option Request → Entries
+asked_by asks = asked_counts the_plan asks nothing
+
+-- the variable is set, unless that is refused
+abbrev set_by : Option Setting → Option Request → Entries
+set_by refusal asks = set_counts refusal 1 (item.U4 (9 ∷ [])) (asked_by asks)
+
+abbrev refused_by : Option Request → Option Setting
+refused_by asks = refusal_of (vars_by the_plan (asked_by asks)) 1 (item.U4 (9 ∷ []))
 
 abbrev one_step : Option Request → List TraceEntry
 one_step asks = Step first_look ∷ cons_option (setting_of asks first_look (traces_at (Step first_look ∷ []))) []
@@ -45,23 +87,33 @@ two_steps asks = one_step asks ++ Step (looks (asked_by asks) 1000) ∷ []
 abbrev three_steps : Option Request → List TraceEntry
 three_steps asks = two_steps asks ++ Step (looks (asked_by asks) 1000) ∷ []
 
-abbrev four_steps : Option Request → List TraceEntry
-four_steps asks = three_steps asks ++ Step (looks (set_by asks) 2000) ∷ []
+abbrev four_steps : Option Setting → Option Request → List TraceEntry
+four_steps refusal asks = three_steps asks ++ Step (looks (set_by refusal asks) 2000) ∷ []
 
-abbrev due_by : Option Request → List Item
-due_by asks =
-    bodies_at (three_steps asks) (looks (set_by asks) 2000)
+abbrev due_by : Option Setting → Option Request → List Item
+due_by refusal asks =
+    bodies_at (three_steps asks) (looks (set_by refusal asks) 2000)
     ++ (bodies_at (two_steps asks) (looks (asked_by asks) 1000)
     ++ (bodies_at (one_step asks) (looks (asked_by asks) 1000) ++ (bodies_at [] first_look ++ [])))
 
+abbrev still_due_by : Option Setting → Option Request → List Item
+still_due_by refusal asks =
+    bodies_at (four_steps refusal asks) (looks (set_by refusal asks) 3000) ++ due_by refusal asks
+
+abbrev a_trace : Option Request
+a_trace = Some (request.Trace 1 each_second 2 2 (1 ∷ []))
+
 pub asked-due : (message s6f1 : Message) → IsAsking message
     → due_in the_plan (steps_of (asked message s6f1)) ≡ seven_and_nine ∷ []
-asked-due message s6f1 is = ap due_by is
+asked-due message s6f1 is =
+    ap (λ (asks : Option Request). due_by (refused_by asks) asks) is
+    ∙ ap (λ (refusal : Option Setting). due_by refusal a_trace) accepted
 
 again-due : (message s6f1 other : Message) → IsAsking message
     → due_in the_plan (steps_of (again message s6f1 other)) ≡ seven_and_nine ∷ []
 again-due message s6f1 other is =
-    ap (λ (asks : Option Request). bodies_at (four_steps asks) (looks (set_by asks) 3000) ++ due_by asks) is
+    ap (λ (asks : Option Request). still_due_by (refused_by asks) asks) is
+    ∙ ap (λ (refusal : Option Setting). still_due_by refusal a_trace) accepted
 
 -- ---- which were sent
 

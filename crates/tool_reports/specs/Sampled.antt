@@ -1,7 +1,7 @@
 -- What is said of the S6F1 of the equipment: each holds what its variables held at its samples, and comes of a trace
 -- that the host has asked for and that ran (SEMI E30, trace data collection). When a sample is due, moments tell, which no
 -- note has; so it is said over the steps of a start. The newest comes first.
-use Rattle.std.specs.Prelude.{◌≡◌, ◌≤◌, ◌&&◌, ℕ, Bool, not, nat_eq, bytes_eq, is_some, List, [], ◌∷◌, ◌++◌, filter, length, Option, Some, None, if◌then◌else◌}
+use Rattle.std.specs.Prelude.{◌≤◌, ◌&&◌, ℕ, Bool, not, nat_eq, bytes_eq, is_some, List, [], ◌∷◌, ◌++◌, filter, length, Option, Some, None, if◌then◌else◌}
 use Rattle.std.specs.List.{cons_option, list_any}
 use Rattle.gem_shapes.specs.declared.request.Request.{Request}
 use Rattle.gem_shapes.specs.declared.request.Request.TheVariants as request

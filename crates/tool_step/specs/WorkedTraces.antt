@@ -11,12 +11,12 @@ use Rattle.trace_log.specs.Log.{Happening}
 use Rattle.message_end.specs.Core.{at_first, step_in}
 use Rattle.message_end.specs.Parts.{after_turn}
 use Rattle.equipment_tables.specs.declared.answers.Answer.TheVariants as answer
-use Rattle.equipment_tables.specs.Tables.{set_after}
+use Rattle.equipment_tables.specs.Tables.{set_by}
 use Rattle.tool_step.specs.Equipment.{EquipmentView}
 use Rattle.tool_step.specs.Own.{OwnView, ToolTurn, waiting_trace, with_comms, with_control, with_tables, without_traced}
 use Rattle.tool_step.specs.Sampling.{granted_trace_turn, inquired_turn, running_by, sampled, sampled_text_turn, sampled_turn, tiaack_code, tiaack_in, trace_name, untraced_turn, with_running}
 use Rattle.tool_step.specs.Step.{deadline_of}
-use Rattle.tool_step.specs.WorkedSpool.{on_spool, plan_with, with_host, with_own}
+use Rattle.tool_step.specs.WorkedSpool.{on_spool, plan_with, with_host}
 
 -- ---- what the host asks for
 
@@ -60,14 +60,14 @@ running_with due taken values = record {
   values = values;
 }
 
--- the first sample is taken, the variable is set to 9, and the second is taken
+-- the first sample is taken, the variable is set to 9, which isn't refused, and the second is taken
 abbrev pub own_first : OwnView
 own_first = record (own_after two_of_one) {
   tracing = sampled host_own.tables.vars 1000 (own_after two_of_one).tracing;
 }
 
 abbrev pub own_set : OwnView
-own_set = with_tables (set_after 1 (item.U4 (9 ∷ [])) host_own.tables) own_first
+own_set = with_tables (set_by None 1 (item.U4 (9 ∷ [])) host_own.tables) own_first
 
 -- TRID 1, SMPLN 2, no STIME, and both values
 abbrev pub seven_and_nine : Item
