@@ -211,7 +211,7 @@ input_puts (Input.Command command) now = command_puts command now
 unfoldable pub late_puts : ℕ → List PartPuts
 late_puts now = replicate 16 (block_timer_puts now) ++ replicate 64 (reply_timer_puts now)
 
--- no sample puts anything, and no S6F1
+-- neither a sample nor an S6F1 that it brings puts anything
 unfoldable pub sample_puts : List PartPuts
 sample_puts = none_put ∷ replicate 16 none_put
 

@@ -1,6 +1,6 @@
 -- What is said of the S6F1 of the equipment: each holds what its variables held at its samples, and comes of a trace
--- that the host has asked for and that ran (SEMI E30, trace data collection). When a sample is due, moments tell, which no
--- note has; so it is said over the steps of a start. The newest comes first.
+-- that the host has asked for and that ran (SEMI E30, trace data collection). When a sample is due, moments tell, which
+-- no note has; so it is said over the steps of a start. The newest comes first.
 use Rattle.std.specs.Prelude.{◌≤◌, ◌&&◌, ℕ, Bool, not, nat_eq, bytes_eq, is_some, List, [], ◌∷◌, ◌++◌, filter, length, Option, Some, None, if◌then◌else◌}
 use Rattle.std.specs.List.{cons_option, list_any}
 use Rattle.gem_shapes.specs.declared.request.Request.{Request}
@@ -46,7 +46,7 @@ setting_of (Some (request.Trace trid dsper total group svids)) look running =
     setting_by (tiaack_of look.vars running asked) asked look.now
 setting_of _ look running = None
 
--- what the host has asked for, and it counts
+-- what the host has asked for, and it counts; a step has one at most
 abbrev pub settings_in : List Happening → Look → List Running → List TraceEntry
 settings_in [] look running = []
 settings_in (Happening.Recorded (Past.Asked message) ∷ notes) look running =

@@ -1,5 +1,5 @@
 -- A trace of two samples, from what the host asks for to its S6F1, that can be followed by hand.
-use Rattle.std.specs.Prelude.{◌≡◌, ℕ, true, false, List, [], ◌∷◌, codes, None, Some}
+use Rattle.std.specs.Prelude.{◌≡◌, ℕ, true, false, List, [], ◌∷◌, codes, replicate, None, Some}
 use Rattle.gem_states.specs.declared.comms.CommsState.TheVariants.{WaitCra}
 use Rattle.gem_states.specs.declared.control.ControlState.TheVariants.{EquipmentOffline}
 use Rattle.gem_trace.specs.declared.request.TraceRequest.{TraceRequest}
@@ -75,13 +75,18 @@ seven_and_nine =
     item.L (item.U4 (1 ∷ []) ∷ item.U4 (2 ∷ []) ∷ item.A []
     ∷ item.L (item.U4 (7 ∷ []) ∷ item.U4 (9 ∷ []) ∷ []) ∷ [])
 
--- the answers by their codes; the first S6F1 comes with the second sample, and has both values; and what is refused sets
--- no trace
+-- the answers by their codes; the first S6F1 comes with the second sample, and has both values; and what is refused
+-- sets no trace
 pub record TracesAreWorked : Type 0 where
   pub taken : answered two_of_one ≡ 0
   pub period : answered (asks_for (codes "000060") 2 1) ≡ 3
   pub group : answered (asks_for each_second 3 1) ≡ 5
   pub unknown : answered (asks_for each_second 2 99) ≡ 4
+  pub many : answered (record two_of_one { svids = replicate 257 1 }) ≡ 1
+  pub full :
+      tiaack_code (tiaack_in two_of_one
+      (with_running (replicate 16 (record (running_with 1000 0 []) { trid = 2 })) host_own))
+      ≡ 2
   pub none : (own_after (asks_for each_second 2 99)).tracing.running ≡ []
   pub runs : (own_after two_of_one).tracing.running ≡ running_with 1000 0 [] ∷ []
   pub due : deadline_of (record at_host.node { own = own_after two_of_one }) ≡ Some 1000
