@@ -1,7 +1,7 @@
 -- The worked steps of a trace: what is due in them, and which S6F1 they have sent.
-use Rattle.std.proofs.Common.{◌≡◌, refl, sym, ap, subst, ◌∙◌, inl, inr, arith, ◌==◌, ◌&&◌, ◌≤◌, ◌+◌, nat_le, Bool, true, false, ℕ, List, [], ◌∷◌, ◌++◌, length, Option, Some, None, if◌then◌else◌}
+use Rattle.std.proofs.Common.{◌≡◌, refl, sym, ap, subst, ◌∙◌, inl, inr, arith, ◌==◌, ◌&&◌, ◌≤◌, ◌+◌, nat_le, not, Bool, true, false, ℕ, List, [], ◌∷◌, ◌++◌, length, Option, Some, None, if◌then◌else◌}
 use Rattle.std.specs.List.{cons_option}
-use Rattle.std.specs.Prelude.{bytes_eq, filter}
+use Rattle.std.specs.Prelude.{bytes_eq, filter, is_some}
 use Rattle.gem_shapes.specs.declared.request.Request.{Request}
 use Rattle.gem_shapes.specs.declared.request.Request.TheVariants as request
 use Rattle.gem_trace.specs.History.{Look, TraceEntry, bodies_at, traces_at}
@@ -10,6 +10,7 @@ use Rattle.gem_vars.specs.declared.settings.Setting.{Setting}
 use Rattle.gem_vars.specs.declared.settings.Setting.TheVariants as setting
 use Rattle.gem_vars.specs.Settings.{refusal_of, same_kind, value_fits}
 use Rattle.message_flow.specs.declared.message.Message.{Message}
+use Rattle.secs_items.specs.declared.encode_fault.EncodeFault.{EncodeFault}
 use Rattle.secs_items.specs.declared.item.Item.{Item, out-Item}
 use Rattle.secs_items.specs.declared.item.Item.TheFolds.{fold-roll-Item}
 use Rattle.secs_items.specs.declared.item.Item.TheOpen.{Item-F}
@@ -24,7 +25,7 @@ use Rattle.message_end.specs.Own.{Has}
 use Rattle.equipment_tables.specs.Past.{Entries, asked_counts, set_counts, vars_by}
 use Rattle.tool_step.specs.WorkedTraces.{each_second, seven_and_nine}
 use Rattle.tool_reports.specs.Reported.{IsTextOf, count_of, is_of}
-use Rattle.tool_reports.specs.Sampled.{datas_in, due_in, is_text_of, setting_of}
+use Rattle.tool_reports.specs.Sampled.{IsOfTrace, datas_in, due_in, is_text_of, setting_of}
 use Rattle.tool_reports.specs.WorkedSampled.{Are, IsAsking, IsData, again, asked, notes_behind, sampling, start, steps_of, the_plan}
 use Rattle.tool_reports.proofs.QuietNotes.{counted, one}
 use Rattle.tool_reports.proofs.QuietReports.{equal-bytes}
@@ -117,12 +118,11 @@ again-due message s6f1 other is =
 
 -- ---- which were sent
 
-data-true : (s6f1 : Message) → IsData s6f1 → (is_of 6 1 s6f1 && (s6f1.wait && true)) ≡ true
-data-true s6f1 is =
-    ap (λ (b : Bool). b && (s6f1.wait && true)) is.named ∙ ap (λ (b : Bool). b && true) is.wait
+data-true : (s6f1 : Message) → IsData s6f1 → (is_of 6 1 s6f1 && true) ≡ true
+data-true s6f1 is = ap (λ (b : Bool). b && true) is.named
 
 sent-is : (s6f1 : Message) → IsData s6f1
-    → (if is_of 6 1 s6f1 && (s6f1.wait && true) then s6f1.body ∷ [] else []) ≡ s6f1.body ∷ []
+    → (if is_of 6 1 s6f1 && true then s6f1.body ∷ [] else []) ≡ s6f1.body ∷ []
 sent-is s6f1 is = ap (λ (b : Bool). if b then s6f1.body ∷ [] else []) (data-true s6f1 is)
 
 pub data-is : (s6f1 : Message) → IsData s6f1 → Has (datas_in (notes_behind (sampling s6f1) start)) s6f1.body
@@ -136,8 +136,8 @@ sent-two : (message s6f1 other : Message) → IsData s6f1 → IsData other
     → datas_in (notes_behind (again message s6f1 other) start) ≡ other.body ∷ s6f1.body ∷ []
 sent-two message s6f1 other is also =
     ap
-    (λ (b : Bool). if b then other.body ∷ (if is_of 6 1 s6f1 && (s6f1.wait && true) then s6f1.body ∷ [] else [])
-    else (if is_of 6 1 s6f1 && (s6f1.wait && true) then s6f1.body ∷ [] else [])) (data-true other also)
+    (λ (b : Bool). if b then other.body ∷ (if is_of 6 1 s6f1 && true then s6f1.body ∷ [] else [])
+    else (if is_of 6 1 s6f1 && true then s6f1.body ∷ [] else [])) (data-true other also)
     ∙ ap (λ (all : List (List ℕ)). other.body ∷ all) (sent-is s6f1 is)
 
 -- ---- what one holds
@@ -190,3 +190,42 @@ never-again message s6f1 other is one two are =
     let twice = twice-counted s6f1.body other.body same in
     let few = due-most s6f1.body (due_in the_plan (steps_of (again message s6f1 other))) due in
     omega (arith, most, twice, few)
+
+-- ---- one that may go
+
+counts-alike : (body text : List ℕ) → IsTextOf seven_and_nine text
+    → one (bytes_eq body text) ≡ one (is_text_of body seven_and_nine)
+counts-alike body text is =
+    ap (λ (t : List ℕ). one (bytes_eq body t)) is.shortest
+    ∙ sym
+    (ap (λ (fault : Option EncodeFault). one (not (is_some fault) && bytes_eq body (shortest_spelling seven_and_nine)))
+    is.spelled)
+
+pub asked-is : (message s6f1 : Message) → IsAsking message → IsData s6f1 → IsTextOf seven_and_nine s6f1.body
+    → Are (asked message s6f1)
+asked-is message s6f1 is named text = record {
+  wait = ((λ is_one. named.wait), tt);
+  each = λ body has. of_one body (subst (λ (all : List (List ℕ)). Has all body) (sent-is s6f1 named) has);
+  once = λ body.
+      let sent = ap (count_of body) (sent-is s6f1 named) in
+      let due = ap (λ (all : List Item). length (filter (is_text_of body) all)) (asked-due message s6f1 is) in
+      let first = counted (bytes_eq body) s6f1.body [] in
+      let second = counted (is_text_of body) seven_and_nine [] in
+      let same = counts-alike body s6f1.body text in
+      omega (arith, sent, due, first, second, same);
+}
+  where
+    of_one : (body : List ℕ) → Has (s6f1.body ∷ []) body → IsOfTrace the_plan body (steps_of (asked message s6f1))
+    of_one body (inl same) = record {
+      item = seven_and_nine;
+      due = subst (λ (all : List Item). Has all seven_and_nine) (sym (asked-due message s6f1 is)) (inl refl);
+      text = subst (IsTextOf seven_and_nine) (sym same) text;
+    }
+    of_one body (inr none) = absurd none
+
+-- ---- one without W
+
+pub never-unawaited : (s6f1 : Message) → is_of 6 1 s6f1 ≡ true → s6f1.wait ≡ false → Are (sampling s6f1) → ⊥
+never-unawaited s6f1 named none are =
+    let wait = are.wait.0 (ap (λ (b : Bool). b && true) named) in
+    absurd (cc)

@@ -1,7 +1,7 @@
 -- What is said of the S6F1 of the equipment: each holds what its variables held at its samples, and comes of a trace
 -- that the host has asked for and that ran (SEMI E30, trace data collection). When a sample is due, moments tell, which
 -- no note has; so it is said over the steps of a start. The newest comes first.
-use Rattle.std.specs.Prelude.{◌≤◌, ◌&&◌, ℕ, Bool, not, nat_eq, bytes_eq, is_some, List, [], ◌∷◌, ◌++◌, filter, length, Option, Some, None, if◌then◌else◌}
+use Rattle.std.specs.Prelude.{◌≡◌, ◌≤◌, ◌&&◌, ℕ, Bool, not, nat_eq, bytes_eq, is_some, true, List, [], ◌∷◌, ◌++◌, filter, length, Option, Some, None, if◌then◌else◌}
 use Rattle.std.specs.List.{cons_option, list_any}
 use Rattle.gem_shapes.specs.declared.request.Request.{Request}
 use Rattle.gem_shapes.specs.declared.request.Request.TheVariants as request
@@ -78,10 +78,9 @@ count_due plan body steps = length (filter (is_text_of body) (due_in plan steps)
 
 -- ---- which were sent
 
--- an S6F1 W that was sent, and not out of the spool (SEMI E5, S6F1)
+-- an S6F1 that was sent, and not out of the spool (SEMI E5, S6F1)
 abbrev pub is_data : Message → List Happening → Bool
-is_data message before =
-    is_of 6 1 message && (message.wait && not (list_any (nat_eq message.system) (tries_in before)))
+is_data message before = is_of 6 1 message && not (list_any (nat_eq message.system) (tries_in before))
 
 -- the texts of these, since the newest start
 abbrev pub datas_in : List Happening → List (List ℕ)
@@ -91,6 +90,12 @@ datas_in (Happening.Sent message ∷ before) =
     if is_data message before then message.body ∷ datas_in before else datas_in before
 datas_in (_ ∷ before) = datas_in before
 
+-- each of them has W (SEMI E5, S6F1)
+abbrev pub HaveWait : List Happening → Type 0
+HaveWait [] = Unit {0}
+HaveWait (Happening.Sent message ∷ before) = (is_data message before ≡ true → message.wait ≡ true) × HaveWait before
+HaveWait (_ ∷ before) = HaveWait before
+
 -- ---- what is said of them
 
 -- it was due in one of these steps
@@ -99,7 +104,8 @@ pub record IsOfTrace (plan : EquipmentPlan) (body : List ℕ) (steps : List Step
   pub due : Has (due_in plan steps) item
   pub text : IsTextOf item body
 
--- each S6F1 that was sent was due by then; and no more were sent with one text than were due with it
+-- each S6F1 that was sent has W, and was due by then; and no more were sent with one text than were due with it
 pub record AreSampled (plan : EquipmentPlan) (notes : List Happening) (steps : List Stepped) : Type 0 where
+  pub wait : HaveWait notes
   pub each : (body : List ℕ) → Has (datas_in notes) body → IsOfTrace plan body steps
   pub once : (body : List ℕ) → count_of body (datas_in notes) ≤ count_due plan body steps

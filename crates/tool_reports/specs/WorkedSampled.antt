@@ -1,5 +1,5 @@
 -- What is said of S6F1, in one example that can be followed by hand: a trace of two samples.
-use Rattle.std.specs.Prelude.{◌≡◌, ℕ, true, List, [], ◌∷◌, ◌++◌, Some}
+use Rattle.std.specs.Prelude.{◌≡◌, ℕ, true, false, List, [], ◌∷◌, ◌++◌, Some}
 use Rattle.secs_items.specs.declared.item.Item.TheVariants as item
 use Rattle.secs_items.specs.Spelling.{shortest_spelling}
 use Rattle.gem_shapes.specs.declared.request.Request.TheVariants.{Trace}
@@ -11,7 +11,7 @@ use Rattle.equipment_tables.specs.declared.plan.EquipmentPlan.{EquipmentPlan}
 use Rattle.equipment_tables.specs.Requests.{request_of}
 use Rattle.tool_step.specs.WorkedSpool.{plan_with}
 use Rattle.tool_step.specs.WorkedTraces.{each_second, seven_and_nine}
-use Rattle.tool_reports.specs.Reported.{is_of}
+use Rattle.tool_reports.specs.Reported.{IsTextOf, is_of}
 use Rattle.tool_reports.specs.Sampled.{AreSampled, Stepped, due_in}
 
 -- steps since a start, the oldest first, each with its moment and its notes
@@ -67,13 +67,17 @@ asked message s6f1 =
 abbrev pub again : Message → Message → Message → Made
 again message s6f1 other = asked message s6f1 ++ (3000, Happening.Sent other ∷ Happening.StepEnded ∷ []) ∷ []
 
--- one S6F1 is due, with what the variable held at each of its samples; that is what one that goes out holds; and none
--- is there where nobody has asked for it, and no second one
+-- one S6F1 is due, with what the variable held at each of its samples; one with that may go out, and holds nothing else;
+-- none goes where nobody has asked for it, none without W, and no second one
 pub record SamplesAreWorked : Type 0 where
   pub due : (message s6f1 : Message) → IsAsking message
       → due_in the_plan (steps_of (asked message s6f1)) ≡ seven_and_nine ∷ []
   pub holds : (message s6f1 : Message) → IsAsking message → IsData s6f1 → Are (asked message s6f1)
       → s6f1.body ≡ shortest_spelling seven_and_nine
+  pub is :
+      (message s6f1 : Message) → IsAsking message → IsData s6f1 → IsTextOf seven_and_nine s6f1.body
+      → Are (asked message s6f1)
+  pub unawaited : (s6f1 : Message) → is_of 6 1 s6f1 ≡ true → s6f1.wait ≡ false → Are (sampling s6f1) → ⊥
   pub unasked : (s6f1 : Message) → IsData s6f1 → Are (sampling s6f1) → ⊥
   pub once : (message s6f1 other : Message) → IsAsking message → IsData s6f1 → IsData other
       → Are (again message s6f1 other) → ⊥

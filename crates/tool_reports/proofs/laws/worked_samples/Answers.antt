@@ -2,7 +2,7 @@
 
 use Rattle.tool_reports.specs.Sampled.{due_in}
 use Rattle.tool_reports.specs.WorkedSampled.{asked, steps_of, the_plan}
-use Rattle.tool_reports.proofs.WorkedSteps.{asked-due, data-is, never-again, of-one, sent-one}
+use Rattle.tool_reports.proofs.WorkedSteps.{asked-due, asked-is, data-is, never-again, never-unawaited, of-one, sent-one}
 use Rattle.tool_reports.proofs.laws.worked_samples.Goals as goal
 
 pub returns : goal.returns
@@ -12,6 +12,8 @@ returns c = record {
       let of = are.each s6f1.body (sent-one message s6f1 named) in
       of-one (due_in the_plan (steps_of (asked message s6f1))) s6f1.body (asked-due message s6f1 is) of.item of.due
       of.text;
+  is = λ message s6f1 is named text. asked-is message s6f1 is named text;
+  unawaited = λ s6f1 named none are. never-unawaited s6f1 named none are;
   unasked = λ s6f1 named are. (are.each s6f1.body (data-is s6f1 named)).due;
   once = λ message s6f1 other is one two are. never-again message s6f1 other is one two are;
 }
