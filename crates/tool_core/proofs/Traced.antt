@@ -1,5 +1,5 @@
--- S2F23 as the code carries it out; the S6F1 that a sample brought, by how many of them have had their turn; and the one
--- that waits for S6F6.
+-- S2F23 as the code carries it out; the S6F1 that a sample brought, by how many of them have had their turn; and the
+-- one that waits for S6F6.
 use Rattle.std.proofs.Common.{◌≡◌, ◌≢◌, refl, sym, ap, subst, ◌∙◌, ℕ, zero, suc, ◌+◌, List, [], ◌∷◌, Option, Some, None, if◌then◌else◌}
 use Rattle.std.specs.Prelude.{drop, Result}
 use Rattle.std.specs.List.{find, slice_get}
@@ -21,7 +21,7 @@ use Rattle.message_end.specs.Parts.{Takes, after_turn, on_the_way}
 use Rattle.equipment_tables.specs.declared.answers.Answer.{Answer}
 use Rattle.tool_step.specs.declared.kind.Kind.{Kind}
 use Rattle.tool_step.specs.Grants.{GrantView}
-use Rattle.tool_step.specs.Own.{OwnView, event_report, is_granted_by, is_online, turn_of, waiting_trace, without_traced}
+use Rattle.tool_step.specs.Own.{OwnView, event_report, is_granted_by, is_online, turn_of, waiting_data, without_waiting_data}
 use Rattle.tool_step.specs.Reports.{unreported_turn}
 use Rattle.tool_step.specs.Sampling.{first_turn, granted_trace_turn, running_by, sampled_text_turn, tiaack_code, tiaack_in, trace_name, trace_sent_turn, trace_turn, with_made, with_running}
 use Rattle.tool_step.specs.Sent.{answer_duties, text_of}
@@ -60,7 +60,7 @@ pub set_and_answered :
     → text ≡ text_of own (code_item (tiaack_code answer))
     → Answered message new out out_new result own_set text core_set
     → Takes (trace_turn request now message own) (record { own = own; core = core }) out new out_new result
-set_and_answered {A} request now message own own_set core core_set answer text new out out_new result is set same by to =
+set_and_answered {A} request now message own to core core_to answer text new out out_new result is set same by so =
     subst
     (λ (a : Tiaack). Answered message new out out_new result (with_answer request now a own)
     (text_of own (code_item (tiaack_code a))) core) is
@@ -68,8 +68,8 @@ set_and_answered {A} request now message own own_set core core_set answer text n
     (λ (c : EndView Kind). Answered message new out out_new result (with_answer request now answer own)
     (text_of own (code_item (tiaack_code answer))) c) same
     (subst
-    (λ (t : Answer). Answered message new out out_new result (with_answer request now answer own) t core_set) by
-    (subst (λ (o : OwnView). Answered message new out out_new result o text core_set) set to)))
+    (λ (t : Answer). Answered message new out out_new result (with_answer request now answer own) t core_to) by
+    (subst (λ (o : OwnView). Answered message new out out_new result o text core_to) set so)))
 
 -- ---- S6F1
 
@@ -138,7 +138,7 @@ text_read None = refl
 text_read (Some one) = refl
 
 waits_so : (system : ℕ) (own : OwnView) (waiting : Option Spooled) → waiting ≡ waiting_as system own
-    → waiting_trace system own ≡ option_map (λ (message : Spooled). message.body) waiting
+    → waiting_data system own ≡ option_map (λ (message : Spooled). message.body) waiting
 waits_so system own waiting is =
     sym (text_read (find (is_granted_by system) own.tracing.for_grant))
     ∙ ap (option_map (λ (message : Spooled). message.body)) (sym is)
@@ -147,13 +147,13 @@ waits_so system own waiting is =
 pub granted_sent :
     {A : Type 0} (system : ℕ) (own left : OwnView) (core : EndView Kind) (waiting : Spooled) (body : List ℕ)
     (new : ToolNode) (out out_new : StepOut) (result : Result A Stop)
-    → left ≡ without_traced system own → Some waiting ≡ waiting_as system own → body ≡ waiting.body
+    → left ≡ without_waiting_data system own → Some waiting ≡ waiting_as system own → body ≡ waiting.body
     → Takes (trace_sent_turn body left) (record { own = left; core = core }) out new out_new result
-    → Takes (granted_trace_turn (waiting_trace system own) (without_traced system own))
+    → Takes (granted_trace_turn (waiting_data system own) (without_waiting_data system own))
     (record { own = own; core = core }) out new out_new result
 granted_sent {A} system own left core waiting body new out out_new result left_is is text taken =
     subst
-    (λ (one : Option (List ℕ)). Takes (granted_trace_turn one (without_traced system own))
+    (λ (one : Option (List ℕ)). Takes (granted_trace_turn one (without_waiting_data system own))
     (record { own = own; core = core }) out new out_new result) (sym (waits_so system own (Some waiting) is))
     (subst
     (λ (o : OwnView). Takes (trace_sent_turn waiting.body o) (record { own = own; core = core }) out new out_new
@@ -164,12 +164,12 @@ granted_sent {A} system own left core waiting body new out out_new result left_i
 
 -- there is none
 pub granted_nothing :
-    (system : ℕ) (own left : OwnView) (core : EndView Kind) (out : StepOut) → left ≡ without_traced system own
+    (system : ℕ) (own left : OwnView) (core : EndView Kind) (out : StepOut) → left ≡ without_waiting_data system own
     → None ≡ waiting_as system own
-    → HasTaken (granted_trace_turn (waiting_trace system own) (without_traced system own))
+    → HasTaken (granted_trace_turn (waiting_data system own) (without_waiting_data system own))
     (record { own = own; core = core }) out (record { own = left; core = core }) out
 granted_nothing system own left core out left_is is =
     ap
-    (λ (one : Option (List ℕ)). after_turn printed_note (granted_trace_turn one (without_traced system own))
+    (λ (one : Option (List ℕ)). after_turn printed_note (granted_trace_turn one (without_waiting_data system own))
     (on_the_way (record { own = own; core = core }) out)) (waits_so system own None is)
     ∙ ap (λ (o : OwnView). Goes (on_the_way (record { own = o; core = core }) out)) (sym left_is)

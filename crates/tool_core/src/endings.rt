@@ -12,7 +12,7 @@ ghost use Rattle.tool_core.specs.Carried.{FailsAlike};
 ghost use Rattle.tool_core.specs.Ending.{all_stored, as_list, ends_with, stores_turn, with_active};
 ghost use Rattle.tool_core.specs.Node.{own_of};
 ghost use Rattle.tool_step.specs.Own.{with_control};
-ghost use Rattle.tool_step.specs.Sampling.{notes_untraced};
+ghost use Rattle.tool_step.specs.Sampling.{notes_data_unsent};
 ghost use Rattle.tool_step.specs.States.{begins_spooling, control_after_loss, control_commands, ending_commands, is_attempt_kind, end_of_talk, notes_unsent, stored_by, without_open};
 ghost use Rattle.tool_core.specs.Turns.{TakesPart, TakesTurn};
 
@@ -240,7 +240,7 @@ impl Own {
             }
             Kind::TraceGrant => {
                 note_failed(alloc, header, out)?;
-                note_untraced(alloc, out)
+                note_data_unsent(alloc, out)
             }
         }
     }
@@ -295,8 +295,8 @@ fn note_unsent(alloc: Global, out: &mut StepOut) -> Result<(), NoMemory>
 }
 
 // Notes an S6F1 that isn't sent.
-fn note_untraced(alloc: Global, out: &mut StepOut) -> Result<(), NoMemory>
-    ensures notes { IfOk result (λ done. (e : EndView Kind) → AreCarried notes_untraced e out.old e out.new) }
+fn note_data_unsent(alloc: Global, out: &mut StepOut) -> Result<(), NoMemory>
+    ensures notes { IfOk result (λ done. (e : EndView Kind) → AreCarried notes_data_unsent e out.old e out.new) }
     ensures line { out.new.line ≡ out.old.line }
 {
     out.notes.push(dropped_note(alloc, TRACE_NAME)?)

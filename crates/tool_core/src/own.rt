@@ -5,7 +5,7 @@ ghost use Rattle.block_codec.specs.Protocol.{longest_text};
 ghost use Rattle.line_end.specs.Plan.{LinePlanFits};
 ghost use Rattle.tool_core.specs.Node.{own_of, tracing_of};
 ghost use Rattle.tool_step.specs.Equipment.{new_own, no_traces};
-ghost use Rattle.tool_step.specs.Own.{is_communicating_in, is_enabled_in, is_local_in, is_online_in, with_for_grant, with_reports, with_traced};
+ghost use Rattle.tool_step.specs.Own.{is_communicating_in, is_enabled_in, is_local_in, is_online_in, with_for_grant, with_reports, with_waiting_data};
 ghost use Rattle.equipment_tables.specs.Plan.{EquipmentPlanFits};
 
 use crate::spoolable::{ForGrant, Live};
@@ -200,7 +200,7 @@ impl Own {
     /// An S6F1 waits for its grant.
     pub(crate) fn keep_traced(&mut self, waiting: ForGrant) -> Result<(), NoMemory>
         ensures { OnOk result (own_of self.new ≡
-            with_traced (self.old.tracing.for_grant.items ++ waiting ∷ []) (own_of self.old)) }
+            with_waiting_data (self.old.tracing.for_grant.items ++ waiting ∷ []) (own_of self.old)) }
     {
         match self.tracing.for_grant.push(waiting) {
             Ok(()) => Ok(()),

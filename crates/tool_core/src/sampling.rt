@@ -11,9 +11,9 @@ ghost use Rattle.tool_core.specs.Judged.{IsShort};
 ghost use Rattle.tool_core.specs.Node.{own_of};
 ghost use Rattle.tool_core.specs.Turns.{HasTakenPart, ReachesParts, TakesPart, TakesParts, TakesTurn};
 ghost use Rattle.tool_step.specs.Codes.{is_granted_in};
-ghost use Rattle.tool_step.specs.Own.{is_online, waiting_trace, without_traced};
+ghost use Rattle.tool_step.specs.Own.{is_online, waiting_data, without_waiting_data};
 ghost use Rattle.tool_step.specs.Reports.{unreported_turn};
-ghost use Rattle.tool_step.specs.Sampling.{granted_trace_turn, inquired_own, made_part, running_by, sample_parts, sampled_text_turn, sampling, tiaack_code, tiaack_in, trace_data_turn, trace_grant_turn, trace_inquiry, trace_name, trace_turn, untraced_turn, with_running};
+ghost use Rattle.tool_step.specs.Sampling.{granted_trace_turn, data_inquiry_own, made_part, running_by, sample_parts, sampled_text_turn, sampling, tiaack_code, tiaack_in, trace_data_turn, trace_grant_turn, trace_inquiry, trace_name, trace_turn, denied_data_turn, with_running};
 ghost use Rattle.tool_step.specs.Sent.{text_of};
 
 use crate::awaiting::take_awaiting;
@@ -214,7 +214,7 @@ impl Tool {
         requires text { length text ≤ longest_text }
         requires body { length body ≤ longest_text }
         ensures does { TakesPart
-            (λ own core. fixed_turn (inquired_own body own core) (Primary (trace_inquiry text) ∷ []))
+            (λ own core. fixed_turn (data_inquiry_own body own core) (Primary (trace_inquiry text) ∷ []))
             self.old out.old self.new out.new result }
         ensures line { out.new.line ≡ out.old.line }
     {
@@ -237,8 +237,8 @@ impl Tool {
         requires { check.now ≡ check_of message.now.body }
         ensures does { TakesTurn
             (λ own. if is_granted_in message.now.body
-            then granted_trace_turn (waiting_trace message.now.system own) (without_traced message.now.system own)
-            else untraced_turn (without_traced message.now.system own))
+            then granted_trace_turn (waiting_data message.now.system own) (without_waiting_data message.now.system own)
+            else denied_data_turn (without_waiting_data message.now.system own))
             self.old out.old self.new out.new result }
         ensures line { out.new.line ≡ out.old.line }
     {
@@ -251,7 +251,7 @@ impl Tool {
     // The S6F1 whose S6F5 has these system bytes goes.
     fn grant_trace(&mut self, alloc: Global, system: u32, out: &mut StepOut) -> Result<(), Stop>
         ensures does { TakesTurn
-            (λ own. granted_trace_turn (waiting_trace system own) (without_traced system own))
+            (λ own. granted_trace_turn (waiting_data system own) (without_waiting_data system own))
             self.old out.old self.new out.new result }
         ensures line { out.new.line ≡ out.old.line }
     {
@@ -268,7 +268,7 @@ impl Tool {
         system: u32,
         out: &mut StepOut,
     ) -> Result<(), Stop>
-        ensures does { TakesTurn (λ own. untraced_turn (without_traced system own))
+        ensures does { TakesTurn (λ own. denied_data_turn (without_waiting_data system own))
             self.old out.old self.new out.new result }
         ensures line { out.new.line ≡ out.old.line }
     {

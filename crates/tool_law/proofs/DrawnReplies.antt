@@ -56,10 +56,10 @@ use Rattle.tool_step.specs.declared.kind.Kind.{Kind}
 use Rattle.tool_step.specs.declared.kind.Kind.TheVariants as kind
 use Rattle.tool_step.specs.Codes.{is_accepted_in, is_granted_in}
 use Rattle.tool_step.specs.Messages.{answer_turn, control_answer_duties, control_request_turn, dropped_turn, error_turn, established_duties, established_turn, is_establish_request, is_online_request, known_turn, message_turn, offline_turn, own_request_commands, own_request_duty, own_request_of, primary_turn, read_turn, request_turn, stray_turn}
-use Rattle.tool_step.specs.Own.{OwnView, ToolDuty, event_report, is_communicating, is_enabled_in, is_local, is_online, quiet_turn, turn_before, turn_of, waiting_report, waiting_trace, with_control, with_ledger, with_tables, with_tried, without_grant, without_traced}
+use Rattle.tool_step.specs.Own.{OwnView, ToolDuty, event_report, is_communicating, is_enabled_in, is_local, is_online, quiet_turn, turn_before, turn_of, waiting_report, waiting_data, with_control, with_ledger, with_tables, with_tried, without_grant, without_waiting_data}
 use Rattle.tool_law.specs.Putting.{alarm_puts, block_timer_puts, changed_puts, character_puts, command_puts, dropped_puts, enabled_puts, event_puts, flow_puts, given_up_puts, lacks_number, line_timer_puts, loss_puts, matched_puts, message_puts, puts_none, reply_puts, reply_timer_puts, timeout_puts, took_puts}
 use Rattle.tool_step.specs.Replies.{block_timer, denied_turn, given_up_by_t4, given_up_turn, granted_turn, loss_turn, matched_turn, reply_timer, reply_turn, secondary_turn, timeout_turn}
-use Rattle.tool_step.specs.Sampling.{granted_trace_turn, tiaack_code, tiaack_in, trace_turn, untraced_turn}
+use Rattle.tool_step.specs.Sampling.{granted_trace_turn, tiaack_code, tiaack_in, trace_turn, denied_data_turn}
 use Rattle.tool_step.specs.Sent as sent
 use Rattle.tool_step.specs.Spooling.{booked_turn, dataid_in, end_of_spooling, grant_given_turn, inquiry_turn, let_go_turn, lines_commands, needs_grant, purge_turn, rsda_duties, sent_turn, stopped_turn, taking_turn, transmit_turn, tried_turn, unload_part, unload_request, unloaded_own, unloading_turn, waiting_text}
 use Rattle.tool_step.specs.States as states
@@ -82,8 +82,8 @@ denied-asks comms.Communicating view delay now own = free-spend [] tt
 denied-need : (own : OwnView) → Needs 0 false (denied_turn own).duties
 denied-need own = free-need (denied_turn own).duties ((λ e. (tt, tt)), tt)
 
-untraced-need : (own : OwnView) → Needs 0 false (untraced_turn own).duties
-untraced-need own = free-need (untraced_turn own).duties ((λ e. (tt, tt)), tt)
+untraced-need : (own : OwnView) → Needs 0 false (denied_data_turn own).duties
+untraced-need own = free-need (denied_data_turn own).duties ((λ e. (tt, tt)), tt)
 
 loss-need : (now : ℕ) (lost : Kind) (system : ℕ) (own : OwnView) (e : EndView Kind)
     → NeedsFor 0 (loss_puts now lost own e) (loss_turn now lost system own e)
@@ -97,7 +97,7 @@ loss-need now kind.Report system own e = needs-none 0
 loss-need now kind.Unload system own e = needs-none 0
 loss-need now kind.UnloadGrant system own e = denied-need (unloaded_own own)
 loss-need now kind.Trace system own e = needs-none 0
-loss-need now kind.TraceGrant system own e = untraced-need (without_traced system own)
+loss-need now kind.TraceGrant system own e = untraced-need (without_waiting_data system own)
 
 timeout-need : (now : ℕ) (primary : Option (Header × Kind)) (own : OwnView) (e : EndView Kind)
     → NeedsFor 1 (timeout_puts now primary own e) (timeout_turn now primary own e)
@@ -181,9 +181,9 @@ reply-need now kind.TraceGrant system body own e = go (is_granted_in body)
   where
     go : (granted : Bool)
         → Needs 1 false
-        (if granted then granted_trace_turn (waiting_trace system own) (without_traced system own)
+        (if granted then granted_trace_turn (waiting_data system own) (without_waiting_data system own)
         else loss_turn now kind.TraceGrant system own e).duties
-    go true = granted-trace-need (waiting_trace system own) (without_traced system own)
+    go true = granted-trace-need (waiting_data system own) (without_waiting_data system own)
     go false = one-needs false _ (loss-need now kind.TraceGrant system own e)
 
 matched-need : (now : ℕ) (match : Match Kind) (message : Message) (own : OwnView) (e : EndView Kind)

@@ -1,5 +1,5 @@
 -- That the samples draw no system bytes, and the turn of each S6F1 one at most.
-use Rattle.std.proofs.Common.{refl, arith, Bool, true, false, ℕ, List, [], ◌∷◌, length, Option, Some, None, if◌then◌else◌, nat_le}
+use Rattle.std.proofs.Common.{Bool, true, false, ℕ, List, [], ◌∷◌, length, Option, Some, None, if◌then◌else◌, nat_le}
 use Rattle.secs_items.specs.declared.item.Item.{Item}
 use Rattle.trace_log.specs.Log.{Happening}
 use Rattle.message_end.specs.Core.{EndView}
@@ -8,7 +8,7 @@ use Rattle.equipment_tables.specs.declared.answers.Answer.TheVariants as answer
 use Rattle.tool_step.specs.declared.kind.Kind.{Kind}
 use Rattle.tool_step.specs.Own.{OwnView, is_communicating, is_online}
 use Rattle.tool_step.specs.Reports.{unreported_turn}
-use Rattle.tool_step.specs.Sampling.{first_turn, granted_trace_turn, inquired_own, inquired_turn, made_part, sampled_text_turn, sampled_turn, sampling, trace_data, trace_data_turn, trace_grant_turn, trace_inquiry, trace_name, trace_sent_turn, with_made}
+use Rattle.tool_step.specs.Sampling.{first_turn, granted_trace_turn, data_inquiry_own, data_inquiry_turn, made_part, sampled_text_turn, sampled_turn, sampling, trace_data, trace_data_turn, trace_grant_turn, trace_inquiry, trace_name, trace_sent_turn, with_made}
 use Rattle.tool_step.specs.Sent as sent
 use Rattle.tool_step.specs.Spooling.{dataid_in}
 use Rattle.tool_law.proofs.Drawing.{Needs, needs-none}
@@ -18,8 +18,8 @@ pub sampling-need : (now : ℕ) (own : OwnView) (e : EndView Kind) → Needs 1 f
 sampling-need now own e = needs-none 1
 
 inquired-need : (asked : Text) (body : List ℕ) (own : OwnView) (e : EndView Kind)
-    → Needs 1 false (inquired_turn asked body own e).duties
-inquired-need (answer.Body text) body own e = primary-need (inquired_own body own e) (trace_inquiry text)
+    → Needs 1 false (data_inquiry_turn asked body own e).duties
+inquired-need (answer.Body text) body own e = primary-need (data_inquiry_own body own e) (trace_inquiry text)
 inquired-need answer.TooLong body own e = needs-none 1
 
 data-need : (body : List ℕ) (own : OwnView) (e : EndView Kind) → Needs 1 false (trace_data_turn body own e).duties

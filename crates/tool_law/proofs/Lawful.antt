@@ -38,7 +38,7 @@ use Rattle.equipment_tables.specs.Answers.{identity_of}
 use Rattle.tool_step.specs.Own.{OwnView, ToolPart, ToolTurn, quiet_turn, with_comms}
 use Rattle.equipment_tables.specs.Plan.{EquipmentPlanFits}
 use Rattle.tool_step.specs.Replies.{block_timer, reply_timer}
-use Rattle.tool_step.specs.Sampling.{made_part, sample_parts, sampling}
+use Rattle.tool_step.specs.Sampling.{made_part, sample_parts}
 use Rattle.tool_step.specs.Sent as sent
 use Rattle.tool_law.specs.Sound.{AllCanBeSent, CanBeSent, IsHeld, IsSound}
 use Rattle.tool_step.specs.Spooling.{end_of_spooling, taking_turn}

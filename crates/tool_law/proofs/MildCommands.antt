@@ -31,7 +31,7 @@ use Rattle.tool_step.specs.declared.kind.Kind.TheVariants as kind
 use Rattle.equipment_tables.specs.declared.plan.EquipmentPlan.{EquipmentPlan}
 use Rattle.equipment_tables.specs.Answers.{has_bytes, lines_of, spelled_body}
 use Rattle.tool_step.specs.Own.{OwnView, ToolCommands, event_report, is_local}
-use Rattle.tool_step.specs.Sampling.{notes_untraced, trace_data, trace_inquiry, trace_name}
+use Rattle.tool_step.specs.Sampling.{notes_data_unsent, trace_data, trace_inquiry, trace_name}
 use Rattle.tool_step.specs.Sent as sent
 use Rattle.tool_law.specs.Sound.{CanBeSent, IsSound}
 use Rattle.tool_step.specs.Spooling.{unload_request, unloaded}
@@ -192,7 +192,7 @@ ending-quiet control stored kind.UnloadGrant header =
     joined (notes_failed header) states.notes_unsent (failed-note header) unsent-note
 ending-quiet control stored kind.Trace header = failed-note header
 ending-quiet control stored kind.TraceGrant header =
-    joined (notes_failed header) notes_untraced (failed-note header) (one-note (Happening.Dropped trace_name) tt)
+    joined (notes_failed header) notes_data_unsent (failed-note header) (one-note (Happening.Dropped trace_name) tt)
 
 pub begun-quiet :
     (spools : Bool) (own : OwnView) (begun : List (Begun Kind))

@@ -35,7 +35,7 @@ use Rattle.tool_step.specs.declared.kind.Kind.TheVariants as kind
 use Rattle.equipment_tables.specs.declared.plan.EquipmentPlan.{EquipmentPlan}
 use Rattle.equipment_tables.specs.Answers.{answer_of, established_of, lines_of, reply_to}
 use Rattle.tool_step.specs.Codes.{is_accepted_in, is_granted_in}
-use Rattle.tool_step.specs.Own.{OwnView, event_report, is_communicating, is_enabled_in as is_comms_enabled, is_local, is_online, turn_before, turn_of, waiting_report, waiting_trace, with_control, with_ledger, with_tables, with_tried, without_grant, without_report, without_traced}
+use Rattle.tool_step.specs.Own.{OwnView, event_report, is_communicating, is_enabled_in as is_comms_enabled, is_local, is_online, turn_before, turn_of, waiting_report, waiting_data, with_control, with_ledger, with_tables, with_tried, without_grant, without_report, without_waiting_data}
 use Rattle.tool_step.specs.Messages.{answer_turn, control_answer_duties, control_request_turn, dropped_turn, error_turn, established_duties, established_turn, is_establish_request, is_online_request, known_turn, message_turn, offline_turn, own_request_commands, own_request_of, primary_turn, read_turn, request_turn, stray_turn}
 use Rattle.equipment_tables.specs.Plan.{EquipmentPlanFits}
 use Rattle.tool_step.specs.Replies.{given_up_by_t4, given_up_turn, granted_turn, loss_turn, matched_turn, reply_turn, secondary_turn, timeout_turn}
@@ -108,7 +108,7 @@ module _ (plan : EquipmentPlan) (TriedIs : Option ℕ → Type 0) (fits : Equipm
         (note-quiet plan TriedIs fits slots stood) (unloaded_own own) (Happening.Denied states.event_name) ((unloaded-sound plan TriedIs fits slots stood) own sound) tt
     loss-is-quiet now kind.Trace system own e sound = (nothing-quiet plan TriedIs fits slots stood) own sound
     loss-is-quiet now kind.TraceGrant system own e sound =
-        (note-quiet plan TriedIs fits slots stood) (without_traced system own) (Happening.Denied trace_name)
+        (note-quiet plan TriedIs fits slots stood) (without_waiting_data system own) (Happening.Denied trace_name)
         ((untraced plan TriedIs fits slots stood) own system sound) tt
 
     pub timeout-quiet :
@@ -318,11 +318,11 @@ module _ (plan : EquipmentPlan) (TriedIs : Option ℕ → Type 0) (fits : Equipm
       where
         go : (granted : Bool)
             → (Quiet plan TriedIs fits slots stood)
-            (if granted then granted_trace_turn (waiting_trace system own) (without_traced system own)
+            (if granted then granted_trace_turn (waiting_data system own) (without_waiting_data system own)
             else loss_turn now kind.TraceGrant system own e)
         go true =
-            (granted-trace-quiet plan TriedIs fits slots stood) (waiting_trace system own)
-            ((waiting-trace-is plan TriedIs fits slots stood) own system sound) (without_traced system own)
+            (granted-trace-quiet plan TriedIs fits slots stood) (waiting_data system own)
+            ((waiting-trace-is plan TriedIs fits slots stood) own system sound) (without_waiting_data system own)
             ((untraced plan TriedIs fits slots stood) own system sound)
         go false = loss-is-quiet now kind.TraceGrant system own e sound
 

@@ -15,9 +15,9 @@ use Rattle.equipment_tables.specs.declared.plan.EquipmentPlan.{EquipmentPlan}
 use Rattle.equipment_tables.specs.Plan.{EquipmentPlanFits}
 use Rattle.tool_step.specs.declared.kind.Kind.{Kind}
 use Rattle.tool_step.specs.Grants.{GrantView}
-use Rattle.tool_step.specs.Own.{OwnView, is_communicating, is_granted_by, is_online, waiting_trace}
+use Rattle.tool_step.specs.Own.{OwnView, is_communicating, is_granted_by, is_online, waiting_data}
 use Rattle.tool_step.specs.Reports.{unreported_turn}
-use Rattle.tool_step.specs.Sampling.{first_turn, granted_trace_turn, inquired_own, inquired_turn, made_part, sampled_text_turn, sampled_turn, sampling, trace_data, trace_data_turn, trace_grant_turn, trace_inquiry, trace_name, trace_sent_turn, with_inquired, with_made}
+use Rattle.tool_step.specs.Sampling.{first_turn, granted_trace_turn, data_inquiry_own, data_inquiry_turn, made_part, sampled_text_turn, sampled_turn, sampling, trace_data, trace_data_turn, trace_grant_turn, trace_inquiry, trace_name, trace_sent_turn, with_data_inquiry, with_made}
 use Rattle.tool_step.specs.Sent as sent
 use Rattle.tool_step.specs.Spooling.{dataid_in}
 use Rattle.spool_ledger.specs.declared.ledger.Stand.{Stand}
@@ -50,11 +50,12 @@ module _ (plan : EquipmentPlan) (TriedIs : Option ℕ → Type 0) (fits : Equipm
         (record { calls = (tt, tt); may = (may-trace body is, tt) })
 
     inquired-sound : (body : List ℕ) → IsText body → (own : OwnView) (e : EndView Kind)
-        → (Sound plan TriedIs fits slots stood) own → (Sound plan TriedIs fits slots stood) (inquired_own body own e)
+        → (Sound plan TriedIs fits slots stood) own
+        → (Sound plan TriedIs fits slots stood) (data_inquiry_own body own e)
     inquired-sound body is own e sound = go (is_crowded_out true e) (next_number e.numbers)
       where
         go : (crowded : Bool) (next : Option ℕ)
-            → (Sound plan TriedIs fits slots stood) (if crowded then own else with_inquired next body own)
+            → (Sound plan TriedIs fits slots stood) (if crowded then own else with_data_inquiry next body own)
         go true next = sound
         go false None = sound
         go false (Some system) = record {
@@ -71,9 +72,9 @@ module _ (plan : EquipmentPlan) (TriedIs : Option ℕ → Type 0) (fits : Equipm
     inquired-quiet :
         (asked : Text) → IsSpelled asked → (body : List ℕ) → IsText body → (own : OwnView) (e : EndView Kind)
         → (Sound plan TriedIs fits slots stood) own
-        → (Quiet plan TriedIs fits slots stood) (inquired_turn asked body own e)
+        → (Quiet plan TriedIs fits slots stood) (data_inquiry_turn asked body own e)
     inquired-quiet (text.Body asked) may body is own e sound =
-        (fixed-quiet plan TriedIs fits slots stood) (inquired_own body own e) (Primary (trace_inquiry asked) ∷ [])
+        (fixed-quiet plan TriedIs fits slots stood) (data_inquiry_own body own e) (Primary (trace_inquiry asked) ∷ [])
         (inquired-sound body is own e sound)
         (record { calls = (tt, tt); may = (may-inquire asked may, tt) })
     inquired-quiet text.TooLong may body is own e sound = (nothing-quiet plan TriedIs fits slots stood) own sound
@@ -130,7 +131,7 @@ module _ (plan : EquipmentPlan) (TriedIs : Option ℕ → Type 0) (fits : Equipm
     -- ---- one that waits for S6F6
 
     pub waiting-trace-is : (own : OwnView) (system : ℕ) → (Sound plan TriedIs fits slots stood) own
-        → IfSome (waiting_trace system own) IsText
+        → IfSome (waiting_data system own) IsText
     waiting-trace-is own system sound = go (find (is_granted_by system) own.tracing.for_grant) refl
       where
         go : (found : Option GrantView) → find (is_granted_by system) own.tracing.for_grant ≡ found

@@ -27,7 +27,7 @@ use Rattle.tool_step.specs.declared.kind.Kind.{Kind}
 use Rattle.tool_step.specs.declared.kind.Kind.TheVariants as kind
 use Rattle.equipment_tables.specs.declared.plan.EquipmentPlan.{EquipmentPlan}
 use Rattle.equipment_tables.specs.Answers.{identity_of}
-use Rattle.tool_step.specs.Own.{OwnView, ToolCommands, ToolDuty, ToolTurn, event_report, is_granted_by, is_report_of, quiet_turn, sent_report, turn_before, waiting_report, with_comms, with_control, with_ledger, without_grant, without_report, without_traced}
+use Rattle.tool_step.specs.Own.{OwnView, ToolCommands, ToolDuty, ToolTurn, event_report, is_granted_by, is_report_of, quiet_turn, sent_report, turn_before, waiting_report, with_comms, with_control, with_ledger, without_grant, without_report, without_waiting_data}
 use Rattle.equipment_tables.specs.Plan.{EquipmentPlanFits}
 use Rattle.tool_step.specs.Sent as sent
 use Rattle.tool_law.specs.Sound.{CanBeSent, IsGoodLedger, IsHeld}
@@ -92,7 +92,7 @@ module _ (plan : EquipmentPlan) (TriedIs : Option ℕ → Type 0) (fits : Equipm
     }
 
     -- an S6F1 waits no more
-    pub untraced : (own : OwnView) (system : ℕ) → Sound own → Sound (without_traced system own)
+    pub untraced : (own : OwnView) (system : ℕ) → Sound own → Sound (without_waiting_data system own)
     untraced own system sound = record {
       plan_is = sound.plan_is;
       texts = sound.texts;

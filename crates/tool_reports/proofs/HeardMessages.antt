@@ -33,7 +33,7 @@ use Rattle.tool_step.specs.declared.kind.Kind.{Kind}
 use Rattle.tool_step.specs.declared.kind.Kind.TheVariants as kind
 use Rattle.tool_step.specs.Codes.{is_accepted_in, is_granted_in}
 use Rattle.tool_step.specs.Messages.{dropped_turn, error_turn, established_turn, is_establish_request, is_online_request, known_turn, message_turn, offline_turn, primary_turn, read_turn, stray_turn}
-use Rattle.tool_step.specs.Own.{OwnView, ToolTurn, is_communicating, is_enabled_in as is_comms_enabled, is_online, waiting_report, waiting_trace, without_grant, without_traced}
+use Rattle.tool_step.specs.Own.{OwnView, ToolTurn, is_communicating, is_enabled_in as is_comms_enabled, is_online, waiting_report, waiting_data, without_grant, without_waiting_data}
 use Rattle.tool_step.specs.Replies.{granted_turn, loss_turn, matched_turn, reply_turn, secondary_turn}
 use Rattle.tool_step.specs.Spooling.{grant_given_turn}
 use Rattle.spool_ledger.specs.Unloading.{confirmed}
@@ -254,13 +254,13 @@ module _
     where
       go : (granted : Bool)
           → Keeps plan said before own
-          (if granted then granted_trace_turn (waiting_trace system own) (without_traced system own)
+          (if granted then granted_trace_turn (waiting_data system own) (without_waiting_data system own)
           else loss_turn now kind.TraceGrant system own e)
       go true =
-          plain plan said before own (granted_trace_turn (waiting_trace system own) (without_traced system own))
-          (granted-trace-plain Free tt Any any-lasts own (without_traced system own)
-          (stays Free tt Any any-lasts own (without_traced system own) refl refl refl refl refl)
-          (waiting_trace system own))
+          plain plan said before own (granted_trace_turn (waiting_data system own) (without_waiting_data system own))
+          (granted-trace-plain Free tt Any any-lasts own (without_waiting_data system own)
+          (stays Free tt Any any-lasts own (without_waiting_data system own) refl refl refl refl refl)
+          (waiting_data system own))
       go false = loss-keeps plan said before now kind.TraceGrant system own e
 
   matched-keeps :

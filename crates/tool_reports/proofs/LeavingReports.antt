@@ -35,7 +35,7 @@ use Rattle.equipment_tables.specs.declared.plan.EquipmentPlan.{EquipmentPlan}
 use Rattle.equipment_tables.specs.Tables.{may_spool, most_transmitted, overwrites}
 use Rattle.tool_step.specs.declared.kind.Kind.{Kind}
 use Rattle.tool_step.specs.declared.kind.Kind.TheVariants as kind
-use Rattle.tool_step.specs.Own.{OwnView, ToolCommands, ToolDuty, ToolTurn, event_report, quiet_turn, turn_before, with_comms, with_ledger, without_grant, without_report, without_traced, with_tried}
+use Rattle.tool_step.specs.Own.{OwnView, ToolCommands, ToolDuty, ToolTurn, event_report, quiet_turn, turn_before, with_comms, with_ledger, without_grant, without_report, without_waiting_data, with_tried}
 use Rattle.tool_step.specs.Replies.{given_up_by_t4, given_up_turn, loss_turn, timeout_turn}
 use Rattle.tool_reports.specs.Reported.{count_of_events, is_answer, is_live, is_of, reports_in, tries_in}
 use Rattle.tool_step.specs.Sent as sent
@@ -207,8 +207,8 @@ module _ (plan : EquipmentPlan) (said : List ToolCommand) (before : List Happeni
       (nothing-plain Free tt Any any-lasts own)
   loss-keeps now kind.TraceGrant system own e =
       plain plan said before own (loss_turn now kind.TraceGrant system own e)
-      (untraced-plain Free tt Any any-lasts own (without_traced system own)
-      (stays Free tt Any any-lasts own (without_traced system own) refl refl refl refl refl))
+      (untraced-plain Free tt Any any-lasts own (without_waiting_data system own)
+      (stays Free tt Any any-lasts own (without_waiting_data system own) refl refl refl refl refl))
 
   pub timeout-keeps :
       (now : ℕ) (primary : Option (Header × Kind)) (own : OwnView) (e : EndView Kind)

@@ -12,7 +12,7 @@ use Rattle.equipment_tables.specs.declared.answers.Answer.TheVariants as answer
 use Rattle.tool_step.specs.declared.kind.Kind.{Kind}
 use Rattle.tool_step.specs.Own.{OwnView, is_communicating, is_online}
 use Rattle.tool_step.specs.Reports.{unreported_turn}
-use Rattle.tool_step.specs.Sampling.{first_turn, granted_trace_turn, inquired_own, inquired_turn, made_part, sampled_text_turn, sampled_turn, sampling, trace_data, trace_data_turn, trace_grant_turn, trace_inquiry, trace_name, trace_sent_turn, untraced_turn, with_inquired, with_made}
+use Rattle.tool_step.specs.Sampling.{first_turn, granted_trace_turn, data_inquiry_own, data_inquiry_turn, made_part, sampled_text_turn, sampled_turn, sampling, trace_data, trace_data_turn, trace_grant_turn, trace_inquiry, trace_name, trace_sent_turn, denied_data_turn, with_data_inquiry, with_made}
 use Rattle.tool_step.specs.Sent as sent
 use Rattle.tool_step.specs.Spooling.{dataid_in}
 use Rattle.tool_reports.proofs.PlainTurns.{IsNoMore, IsPlain, fixed-plain, stays}
@@ -38,7 +38,7 @@ module _
     sent-plain body =
         fixed-plain Asks none Fact lasts own other (Primary (trace_data body) ∷ []) less ((refl, refl), tt)
 
-    pub untraced-plain : IsPlain Asks none Fact lasts own (untraced_turn other)
+    pub untraced-plain : IsPlain Asks none Fact lasts own (denied_data_turn other)
     untraced-plain = noted-plain (Happening.Denied trace_name) tt
 
     pub granted-trace-plain : (waiting : Option (List ℕ))
@@ -46,11 +46,11 @@ module _
     granted-trace-plain None = record { silent = tt; less = less }
     granted-trace-plain (Some body) = sent-plain body
 
-    inquired-less : (body : List ℕ) (e : EndView Kind) → IsNoMore own (inquired_own body other e)
+    inquired-less : (body : List ℕ) (e : EndView Kind) → IsNoMore own (data_inquiry_own body other e)
     inquired-less body e = go (is_crowded_out true e) (next_number e.numbers)
       where
         go : (crowded : Bool) (next : Option ℕ)
-            → IsNoMore own (if crowded then other else with_inquired next body other)
+            → IsNoMore own (if crowded then other else with_data_inquiry next body other)
         go true next = less
         go false None = less
         go false (Some system) = record {
@@ -62,9 +62,9 @@ module _
         }
 
     inquired-plain : (asked : Text) (body : List ℕ) (e : EndView Kind)
-        → IsPlain Asks none Fact lasts own (inquired_turn asked body other e)
+        → IsPlain Asks none Fact lasts own (data_inquiry_turn asked body other e)
     inquired-plain (answer.Body text) body e =
-        fixed-plain Asks none Fact lasts own (inquired_own body other e) (Primary (trace_inquiry text) ∷ [])
+        fixed-plain Asks none Fact lasts own (data_inquiry_own body other e) (Primary (trace_inquiry text) ∷ [])
         (inquired-less body e) ((refl, refl), tt)
     inquired-plain answer.TooLong body e = record { silent = tt; less = less }
 

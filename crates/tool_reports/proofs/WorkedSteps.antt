@@ -26,7 +26,7 @@ use Rattle.equipment_tables.specs.Past.{Entries, asked_counts, set_counts, vars_
 use Rattle.tool_step.specs.WorkedTraces.{each_second, seven_and_nine}
 use Rattle.tool_reports.specs.Reported.{IsTextOf, count_of, is_of}
 use Rattle.tool_reports.specs.Sampled.{IsOfTrace, datas_in, due_in, is_text_of, setting_of}
-use Rattle.tool_reports.specs.WorkedSampled.{Are, IsAsking, IsData, again, asked, notes_behind, sampling, start, steps_of, the_plan}
+use Rattle.tool_reports.specs.WorkedSampled.{Are, IsAsking, IsData, again, asked, notes_behind, without_asking, start, steps_of, the_plan}
 use Rattle.tool_reports.proofs.QuietNotes.{counted, one}
 use Rattle.tool_reports.proofs.QuietReports.{equal-bytes}
 
@@ -125,7 +125,7 @@ sent-is : (s6f1 : Message) → IsData s6f1
     → (if is_of 6 1 s6f1 && true then s6f1.body ∷ [] else []) ≡ s6f1.body ∷ []
 sent-is s6f1 is = ap (λ (b : Bool). if b then s6f1.body ∷ [] else []) (data-true s6f1 is)
 
-pub data-is : (s6f1 : Message) → IsData s6f1 → Has (datas_in (notes_behind (sampling s6f1) start)) s6f1.body
+pub data-is : (s6f1 : Message) → IsData s6f1 → Has (datas_in (notes_behind (without_asking s6f1) start)) s6f1.body
 data-is s6f1 is = subst (λ (all : List (List ℕ)). Has all s6f1.body) (sym (sent-is s6f1 is)) (inl refl)
 
 pub sent-one : (message s6f1 : Message) → IsData s6f1
@@ -225,7 +225,7 @@ asked-is message s6f1 is named text = record {
 
 -- ---- one without W
 
-pub never-unawaited : (s6f1 : Message) → is_of 6 1 s6f1 ≡ true → s6f1.wait ≡ false → Are (sampling s6f1) → ⊥
+pub never-unawaited : (s6f1 : Message) → is_of 6 1 s6f1 ≡ true → s6f1.wait ≡ false → Are (without_asking s6f1) → ⊥
 never-unawaited s6f1 named none are =
     let wait = are.wait.0 (ap (λ (b : Bool). b && true) named) in
     absurd (cc)

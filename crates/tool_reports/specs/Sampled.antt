@@ -29,8 +29,8 @@ pub record Stepped : Type 0 where
   pub notes : List Happening
 
 -- its samples are of the variables as they were set before it
-abbrev pub look_of : EquipmentPlan → Stepped → Look
-look_of plan step = record { vars = (tables_in plan step.before).vars; now = step.now }
+abbrev pub look_at_step : EquipmentPlan → Stepped → Look
+look_at_step plan step = record { vars = (tables_in plan step.before).vars; now = step.now }
 
 -- ---- which traces ran
 
@@ -61,13 +61,13 @@ with_entries look notes past = past ++ Step look ∷ settings_in notes look (tra
 -- the history of the traces; its oldest entry stands first
 abbrev pub history_of : EquipmentPlan → List Stepped → List TraceEntry
 history_of plan [] = []
-history_of plan (step ∷ earlier) = with_entries (look_of plan step) step.notes (history_of plan earlier)
+history_of plan (step ∷ earlier) = with_entries (look_at_step plan step) step.notes (history_of plan earlier)
 
 -- ---- which S6F1 were due
 
 abbrev pub due_in : EquipmentPlan → List Stepped → List Item
 due_in plan [] = []
-due_in plan (step ∷ earlier) = bodies_at (history_of plan earlier) (look_of plan step) ++ due_in plan earlier
+due_in plan (step ∷ earlier) = bodies_at (history_of plan earlier) (look_at_step plan step) ++ due_in plan earlier
 
 -- an item has this text
 abbrev pub is_text_of : List ℕ → Item → Bool

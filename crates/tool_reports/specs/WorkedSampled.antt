@@ -15,15 +15,15 @@ use Rattle.tool_reports.specs.Reported.{IsTextOf, is_of}
 use Rattle.tool_reports.specs.Sampled.{AreSampled, Stepped, due_in}
 
 -- steps since a start, the oldest first, each with its moment and its notes
-abbrev pub Made : Type 0
-Made = List (ℕ × List Happening)
+abbrev pub StepNotes : Type 0
+StepNotes = List (ℕ × List Happening)
 
-abbrev pub steps_behind : Made → List Happening → List Stepped → List Stepped
+abbrev pub steps_behind : StepNotes → List Happening → List Stepped → List Stepped
 steps_behind [] before steps = steps
 steps_behind (made ∷ rest) before steps =
     steps_behind rest (noted_behind made.1 before) (record { now = made.0; before = before; notes = made.1 } ∷ steps)
 
-abbrev pub notes_behind : Made → List Happening → List Happening
+abbrev pub notes_behind : StepNotes → List Happening → List Happening
 notes_behind [] before = before
 notes_behind (made ∷ rest) before = notes_behind rest (noted_behind made.1 before)
 
@@ -34,10 +34,10 @@ start = Happening.EquipmentStarted [] 0 ∷ []
 abbrev pub the_plan : EquipmentPlan
 the_plan = plan_with 1 0
 
-abbrev pub steps_of : Made → List Stepped
+abbrev pub steps_of : StepNotes → List Stepped
 steps_of made = steps_behind made start []
 
-abbrev pub Are : Made → Type 0
+abbrev pub Are : StepNotes → Type 0
 Are made = AreSampled the_plan (notes_behind made start) (steps_of made)
 
 -- a trace of two samples each second, and one S6F1 of both
@@ -51,24 +51,27 @@ pub record IsData (message : Message) : Type 0 where
   pub wait : message.wait ≡ true
 
 -- the first sample is taken, the variable is set to 9, and the second is taken, with this S6F1
-abbrev pub sampling : Message → Made
-sampling s6f1 =
+abbrev pub without_asking : Message → StepNotes
+without_asking s6f1 =
     (1000, Happening.StepEnded ∷ [])
-    ∷ (1000, Happening.Recorded (Past.Commanded (Set 1 (item.U4 (9 ∷ [])))) ∷ Happening.Set 1 ∷ Happening.StepEnded ∷ [])
+    ∷ (
+      1000,
+      Happening.Recorded (Past.Commanded (Set 1 (item.U4 (9 ∷ [])))) ∷ Happening.Set 1 ∷ Happening.StepEnded ∷ [],
+    )
     ∷ (2000, Happening.Sent s6f1 ∷ Happening.StepEnded ∷ []) ∷ []
 
 -- the host has asked for it
-abbrev pub asked : Message → Message → Made
+abbrev pub asked : Message → Message → StepNotes
 asked message s6f1 =
     (0, Happening.Received message ∷ Happening.Recorded (Past.Asked message) ∷ Happening.StepEnded ∷ [])
-    ∷ sampling s6f1
+    ∷ without_asking s6f1
 
 -- and another goes out behind it
-abbrev pub again : Message → Message → Message → Made
+abbrev pub again : Message → Message → Message → StepNotes
 again message s6f1 other = asked message s6f1 ++ (3000, Happening.Sent other ∷ Happening.StepEnded ∷ []) ∷ []
 
--- one S6F1 is due, with what the variable held at each of its samples; one with that may go out, and holds nothing else;
--- none goes where nobody has asked for it, none without W, and no second one
+-- one S6F1 is due, with what the variable held at each of its samples; one with that may go out, and none with another
+-- text; none goes where nobody has asked for it, none without W, and no second one
 pub record SamplesAreWorked : Type 0 where
   pub due : (message s6f1 : Message) → IsAsking message
       → due_in the_plan (steps_of (asked message s6f1)) ≡ seven_and_nine ∷ []
@@ -77,7 +80,7 @@ pub record SamplesAreWorked : Type 0 where
   pub is :
       (message s6f1 : Message) → IsAsking message → IsData s6f1 → IsTextOf seven_and_nine s6f1.body
       → Are (asked message s6f1)
-  pub unawaited : (s6f1 : Message) → is_of 6 1 s6f1 ≡ true → s6f1.wait ≡ false → Are (sampling s6f1) → ⊥
-  pub unasked : (s6f1 : Message) → IsData s6f1 → Are (sampling s6f1) → ⊥
+  pub unawaited : (s6f1 : Message) → is_of 6 1 s6f1 ≡ true → s6f1.wait ≡ false → Are (without_asking s6f1) → ⊥
+  pub unasked : (s6f1 : Message) → IsData s6f1 → Are (without_asking s6f1) → ⊥
   pub once : (message s6f1 other : Message) → IsAsking message → IsData s6f1 → IsData other
       → Are (again message s6f1 other) → ⊥

@@ -43,7 +43,7 @@ use Rattle.tool_step.specs.Messages.{answer_turn, control_answer_duties, control
 use Rattle.tool_step.specs.Own.{OwnView, ToolCommands, ToolDuty, ToolTurn, is_communicating, is_local, is_report_of, quiet_turn, turn_before, turn_of, with_comms, with_control, with_report, with_tables, without_report}
 use Rattle.tool_step.specs.Replies.{denied_turn}
 use Rattle.tool_step.specs.Reports.{unreported_turn}
-use Rattle.tool_step.specs.Sampling.{notes_untraced}
+use Rattle.tool_step.specs.Sampling.{notes_data_unsent}
 use Rattle.tool_step.specs.Sent as sent
 use Rattle.tool_step.specs.Spooling.{rsda_duties}
 use Rattle.tool_step.specs.States as states
@@ -247,7 +247,7 @@ ending-calm control stored kind.UnloadGrant header =
     both-calm (notes_failed header) states.notes_unsent (failed-note header) unsent-note
 ending-calm control stored kind.Trace header = failed-note header
 ending-calm control stored kind.TraceGrant header =
-    both-calm (notes_failed header) notes_untraced (failed-note header) (((λ told. tt), λ notes. refl), tt)
+    both-calm (notes_failed header) notes_data_unsent (failed-note header) (((λ told. tt), λ notes. refl), tt)
 
 begun-calm : (spools : Bool) (own : OwnView) (begun : List (Begun Kind))
     → AreCalm false (flat_map (ends_one (states.ends_report spools own)) begun)

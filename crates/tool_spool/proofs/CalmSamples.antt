@@ -13,7 +13,7 @@ use Rattle.equipment_tables.specs.declared.answers.Answer.TheVariants as answer
 use Rattle.tool_step.specs.declared.kind.Kind.{Kind}
 use Rattle.tool_step.specs.Own.{OwnView, ToolTurn, is_communicating, is_online}
 use Rattle.tool_step.specs.Reports.{unreported_turn}
-use Rattle.tool_step.specs.Sampling.{first_turn, granted_trace_turn, inquired_own, inquired_turn, made_part, sampled_text_turn, sampled_turn, sampling, tiaack_code, tiaack_in, trace_data, trace_data_turn, trace_grant_turn, trace_inquiry, trace_name, trace_sent_turn, trace_turn, untraced_turn, with_inquired, with_made}
+use Rattle.tool_step.specs.Sampling.{first_turn, granted_trace_turn, data_inquiry_own, data_inquiry_turn, made_part, sampled_text_turn, sampled_turn, sampling, tiaack_code, tiaack_in, trace_data, trace_data_turn, trace_grant_turn, trace_inquiry, trace_name, trace_sent_turn, trace_turn, denied_data_turn, with_data_inquiry, with_made}
 use Rattle.tool_step.specs.Sent as sent
 use Rattle.tool_step.specs.Spooling.{dataid_in}
 use Rattle.tool_spool.proofs.CalmParts.{IsCalmTurn, answers-calm, fixed-calm, like-as, likes, nothing-calm, too-long-calm, unreported-calm}
@@ -39,15 +39,15 @@ trace-sent-calm : (body : List ℕ) (own : OwnView) → IsCalmTurn own (trace_se
 trace-sent-calm body own = fixed-calm own own (Primary (trace_data body) ∷ []) (likes own) (refl, tt)
 
 inquired-calm : (asked : Text) (body : List ℕ) (own : OwnView) (e : EndView Kind)
-    → IsCalmTurn own (inquired_turn asked body own e)
+    → IsCalmTurn own (data_inquiry_turn asked body own e)
 inquired-calm (answer.Body text) body own e =
-    fixed-calm own (inquired_own body own e) (Primary (trace_inquiry text) ∷ [])
+    fixed-calm own (data_inquiry_own body own e) (Primary (trace_inquiry text) ∷ [])
     (go (is_crowded_out true e) (next_number e.numbers)) (refl, tt)
   where
-    go : (crowded : Bool) (next : Option ℕ) → IsLikeIt own (if crowded then own else with_inquired next body own)
+    go : (crowded : Bool) (next : Option ℕ) → IsLikeIt own (if crowded then own else with_data_inquiry next body own)
     go true next = likes own
     go false None = likes own
-    go false (Some system) = like-as own (with_inquired (Some system) body own) refl refl
+    go false (Some system) = like-as own (with_data_inquiry (Some system) body own) refl refl
 inquired-calm answer.TooLong body own e = nothing-calm own
 
 data-calm : (body : List ℕ) (own : OwnView) (e : EndView Kind) → IsCalmTurn own (trace_data_turn body own e)
@@ -93,7 +93,7 @@ made-calm own e = go own.tracing.made
 
 -- ---- one that waits for S6F6
 
-pub untraced-calm : (own other : OwnView) → IsLikeIt own other → IsCalmTurn own (untraced_turn other)
+pub untraced-calm : (own other : OwnView) → IsLikeIt own other → IsCalmTurn own (denied_data_turn other)
 untraced-calm own other like =
     fixed-calm own other (Note (Happening.Denied trace_name) ∷ []) like (((λ told. tt), λ notes. refl), tt)
 

@@ -54,7 +54,7 @@ use Rattle.tool_step.specs.declared.kind.Kind.TheVariants as kind
 use Rattle.tool_step.specs.Codes.{is_accepted_in, is_granted_in}
 use Rattle.tool_step.specs.Grants.{GrantView}
 use Rattle.tool_step.specs.Messages.{answer_turn, dropped_turn, error_turn, established_turn, is_establish_request, is_online_request, known_turn, message_turn, offline_turn, primary_turn, read_turn, request_turn, stray_turn}
-use Rattle.tool_step.specs.Own.{OwnView, event_report, is_communicating, is_enabled_in as is_comms_enabled, is_granted_by, is_online, turn_before, turn_of, waiting_report, waiting_trace, with_ledger, with_tables, without_grant, without_report, without_traced}
+use Rattle.tool_step.specs.Own.{OwnView, event_report, is_communicating, is_enabled_in as is_comms_enabled, is_granted_by, is_online, turn_before, turn_of, waiting_report, waiting_data, with_ledger, with_tables, without_grant, without_report, without_waiting_data}
 use Rattle.tool_step.specs.Replies.{granted_turn, loss_turn, matched_turn, reply_turn, secondary_turn}
 use Rattle.tool_reports.specs.Reported.{past_in, tables_in}
 use Rattle.tool_step.specs.Sampling.{granted_trace_turn, trace_turn}
@@ -205,13 +205,13 @@ module _ (plan : EquipmentPlan) (slots : ℕ) (list : List Put) (base before : L
     where
       go : (leave : Bool)
           → TurnEnds plan slots list base before
-          (if leave then granted_trace_turn (waiting_trace system own) (without_traced system own)
+          (if leave then granted_trace_turn (waiting_data system own) (without_waiting_data system own)
           else loss_turn now kind.TraceGrant system own e) step
       go true =
           calm-turn plan slots list base before own
-          (granted_trace_turn (waiting_trace system own) (without_traced system own)) step
-          (granted-trace-calm (waiting_trace system own) own (without_traced system own)
-          (like-as own (without_traced system own) refl refl)) holds.shelves
+          (granted_trace_turn (waiting_data system own) (without_waiting_data system own)) step
+          (granted-trace-calm (waiting_data system own) own (without_waiting_data system own)
+          (like-as own (without_waiting_data system own) refl refl)) holds.shelves
       go false = loss-keeps plan slots list base before now kind.TraceGrant system own e step none holds
 
   -- a secondary was received just now, the last block of which has this header

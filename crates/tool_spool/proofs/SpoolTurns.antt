@@ -38,11 +38,11 @@ use Rattle.tool_step.specs.declared.kind.Kind.{Kind}
 use Rattle.tool_step.specs.declared.kind.Kind.TheVariants as kind
 use Rattle.tool_step.specs.Grants.{GrantView}
 use Rattle.tool_step.specs.Live.{ReportView}
-use Rattle.tool_step.specs.Own.{OwnView, ToolCommands, ToolDuty, ToolTurn, event_report, is_communicating, is_granted_by, is_online, is_report_of, quiet_turn, sent_report, turn_before, waiting_report, with_comms, with_ledger, without_grant, without_report, without_traced}
+use Rattle.tool_step.specs.Own.{OwnView, ToolCommands, ToolDuty, ToolTurn, event_report, is_communicating, is_granted_by, is_online, is_report_of, quiet_turn, sent_report, turn_before, waiting_report, with_comms, with_ledger, without_grant, without_report, without_waiting_data}
 use Rattle.tool_step.specs.Replies.{loss_turn, timeout_turn}
 use Rattle.tool_reports.specs.Reported.{tables_in}
 use Rattle.tool_step.specs.Reports.{judged_turn, text_turn, unreported_turn}
-use Rattle.tool_step.specs.Sampling.{notes_untraced}
+use Rattle.tool_step.specs.Sampling.{notes_data_unsent}
 use Rattle.tool_step.specs.Sent as sent
 use Rattle.tool_step.specs.Spooling.{Stores, is_spooled, lines_commands, stored_turn, stores_all, stores_commands, unloaded_own}
 use Rattle.tool_spool.specs.SpoolKept.{policy_of}
@@ -175,7 +175,7 @@ ending-leaves control stored kind.UnloadGrant header =
     leaves-both (notes_failed header) states.notes_unsent (failed-leaves header) unsent-leaves
 ending-leaves control stored kind.Trace header = failed-leaves header
 ending-leaves control stored kind.TraceGrant header =
-    leaves-both (notes_failed header) notes_untraced (failed-leaves header) (λ step. refl)
+    leaves-both (notes_failed header) notes_data_unsent (failed-leaves header) (λ step. refl)
 
 same-number : (n : ℕ) → (n == n) ≡ true
 same-number n = grind (arith, nat_tests)
@@ -504,7 +504,8 @@ module _ (plan : EquipmentPlan) (slots : ℕ) (list : List Put) (base before : L
   loss-keeps now kind.Trace system own e step none holds = holds.shelves
   loss-keeps now kind.TraceGrant system own e step none holds =
       calm-turn own (loss_turn now kind.TraceGrant system own e) step
-      (untraced-calm own (without_traced system own) (like-as own (without_traced system own) refl refl)) holds.shelves
+      (untraced-calm own (without_waiting_data system own) (like-as own (without_waiting_data system own) refl refl))
+      holds.shelves
 
   pub before-keeps :
       (turn : ToolTurn) (duties : List ToolDuty) (step : CoreStep) → AreCalmDuties false duties → TurnEnds turn step

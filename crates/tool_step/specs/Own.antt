@@ -121,16 +121,16 @@ without_grant system own =
     with_for_grant (remove own.for_grant (position_or_len (is_granted_by system) own.for_grant)) own
 
 -- so for an S6F1
-abbrev pub with_traced : List GrantView → OwnView → OwnView
-with_traced for_grant own = with_tracing (record own.tracing { for_grant = for_grant }) own
+abbrev pub with_waiting_data : List GrantView → OwnView → OwnView
+with_waiting_data for_grant own = with_tracing (record own.tracing { for_grant = for_grant }) own
 
-abbrev pub without_traced : ℕ → OwnView → OwnView
-without_traced system own =
-    with_traced (remove own.tracing.for_grant (position_or_len (is_granted_by system) own.tracing.for_grant)) own
+abbrev pub without_waiting_data : ℕ → OwnView → OwnView
+without_waiting_data system own =
+    with_waiting_data (remove own.tracing.for_grant (position_or_len (is_granted_by system) own.tracing.for_grant)) own
 
 -- the text of the one that waits so
-abbrev pub waiting_trace : ℕ → OwnView → Option (List ℕ)
-waiting_trace system own =
+abbrev pub waiting_data : ℕ → OwnView → Option (List ℕ)
+waiting_data system own =
     option_map (λ waiting. waiting.body) (find (is_granted_by system) own.tracing.for_grant)
 
 -- a report was sent; and its transaction has ended

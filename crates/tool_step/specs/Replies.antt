@@ -17,8 +17,8 @@ use Rattle.message_end.specs.Parts.{fixed_turn, leads}
 use Rattle.tool_step.specs.declared.kind.Kind.{Kind}
 use Rattle.tool_step.specs.declared.kind.Kind.TheVariants as kind
 use Rattle.tool_step.specs.Codes.{is_accepted_in, is_granted_in}
-use Rattle.tool_step.specs.Own.{OwnView, ToolPart, ToolTurn, quiet_turn, turn_before, waiting_report, waiting_trace, without_grant, without_report, without_traced}
-use Rattle.tool_step.specs.Sampling.{granted_trace_turn, untraced_turn}
+use Rattle.tool_step.specs.Own.{OwnView, ToolPart, ToolTurn, quiet_turn, turn_before, waiting_report, waiting_data, without_grant, without_report, without_waiting_data}
+use Rattle.tool_step.specs.Sampling.{granted_trace_turn, denied_data_turn}
 use Rattle.tool_step.specs.Sent.{error_duty, going_turn}
 use Rattle.tool_step.specs.Spooling.{confirmed_turn, grant_given_turn, unloaded_own}
 use Rattle.tool_step.specs.States.{comms_turn, control_turn, event_name, end_of_talk}
@@ -39,7 +39,7 @@ loss_turn now kind.Report system own e = quiet_turn (without_report system own)
 loss_turn now kind.Unload system own e = quiet_turn (unloaded_own own)
 loss_turn now kind.UnloadGrant system own e = denied_turn (unloaded_own own)
 loss_turn now kind.Trace system own e = quiet_turn own
-loss_turn now kind.TraceGrant system own e = untraced_turn (without_traced system own)
+loss_turn now kind.TraceGrant system own e = denied_data_turn (without_waiting_data system own)
 
 -- no reply comes: the host is told so by S9F9 with the header of the primary's last block (SEMI E5, S9F9)
 abbrev pub told_turn : Header → ToolTurn → ToolTurn
@@ -88,7 +88,7 @@ reply_turn now kind.UnloadGrant system body own e =
     if is_granted_in body then grant_given_turn own e else loss_turn now kind.UnloadGrant system own e
 reply_turn now kind.Trace system body own e = quiet_turn own
 reply_turn now kind.TraceGrant system body own e =
-    if is_granted_in body then granted_trace_turn (waiting_trace system own) (without_traced system own)
+    if is_granted_in body then granted_trace_turn (waiting_data system own) (without_waiting_data system own)
     else loss_turn now kind.TraceGrant system own e
 
 abbrev pub matched_turn : ℕ → Match Kind → Message → OwnView → EndView Kind → ToolTurn

@@ -20,7 +20,7 @@ use Rattle.equipment_tables.specs.declared.answers.Answer.{Answer}
 use Rattle.equipment_tables.specs.declared.answers.Answer.TheVariants as answer
 use Rattle.tool_step.specs.declared.kind.Kind.{Kind}
 use Rattle.tool_step.specs.declared.kind.Kind.TheVariants as kind
-use Rattle.tool_step.specs.Own.{OwnView, ToolCommands, ToolPart, ToolTurn, TracingView, is_communicating, is_online, quiet_turn, turn_of, with_traced, with_tracing}
+use Rattle.tool_step.specs.Own.{OwnView, ToolCommands, ToolPart, ToolTurn, TracingView, is_communicating, is_online, quiet_turn, turn_of, with_waiting_data, with_tracing}
 use Rattle.tool_step.specs.Reports.{unreported_turn}
 use Rattle.tool_step.specs.Sent.{answer_duties, grant_item, primary_of, text_of}
 use Rattle.tool_step.specs.Spooling.{dataid_in}
@@ -55,14 +55,14 @@ trace_turn request now message own =
 -- ---- samples
 
 -- a sample of each trace that is due, and the S6F1 that are due with them (SEMI E30, trace data collection)
-abbrev pub sampled : VarsTable → ℕ → TracingView → TracingView
-sampled vars now tracing = record tracing {
+abbrev pub with_samples_taken : VarsTable → ℕ → TracingView → TracingView
+with_samples_taken vars now tracing = record tracing {
   running = after_samples vars now tracing.running;
   made = bodies_due vars now tracing.running;
 }
 
 abbrev pub sampling : ℕ → ToolPart
-sampling now own e = quiet_turn (with_tracing (sampled own.tables.vars now own.tracing) own)
+sampling now own e = quiet_turn (with_tracing (with_samples_taken own.tables.vars now own.tracing) own)
 
 -- ---- S6F1
 
@@ -82,21 +82,22 @@ trace_sent_turn body own = fixed_turn own (Primary (trace_data body) ∷ [])
 
 -- one of several blocks waits for S6F6, under the number of its S6F5; where that isn't sent it is dropped with it
 -- (SEMI E5, S6F5; the latter is this profile's)
-abbrev pub with_inquired : Option ℕ → List ℕ → OwnView → OwnView
-with_inquired None body own = own
-with_inquired (Some system) body own =
-    with_traced (own.tracing.for_grant ++ record { system = system; body = body } ∷ []) own
+abbrev pub with_data_inquiry : Option ℕ → List ℕ → OwnView → OwnView
+with_data_inquiry None body own = own
+with_data_inquiry (Some system) body own =
+    with_waiting_data (own.tracing.for_grant ++ record { system = system; body = body } ∷ []) own
 
-abbrev pub inquired_own : List ℕ → OwnView → EndView Kind → OwnView
-inquired_own body own e = if is_crowded_out true e then own else with_inquired (next_number e.numbers) body own
+abbrev pub data_inquiry_own : List ℕ → OwnView → EndView Kind → OwnView
+data_inquiry_own body own e = if is_crowded_out true e then own else with_data_inquiry (next_number e.numbers) body own
 
-abbrev pub inquired_turn : Answer → List ℕ → OwnView → EndView Kind → ToolTurn
-inquired_turn (answer.Body text) body own e = fixed_turn (inquired_own body own e) (Primary (trace_inquiry text) ∷ [])
-inquired_turn _ body own e = quiet_turn own
+abbrev pub data_inquiry_turn : Answer → List ℕ → OwnView → EndView Kind → ToolTurn
+data_inquiry_turn (answer.Body text) body own e =
+    fixed_turn (data_inquiry_own body own e) (Primary (trace_inquiry text) ∷ [])
+data_inquiry_turn _ body own e = quiet_turn own
 
 -- DATAID is the TRID, the first value of its text (this profile)
 abbrev pub trace_grant_turn : List ℕ → OwnView → EndView Kind → ToolTurn
-trace_grant_turn body own e = inquired_turn (text_of own (grant_item (dataid_in body) (length body))) body own e
+trace_grant_turn body own e = data_inquiry_turn (text_of own (grant_item (dataid_in body) (length body))) body own e
 
 -- alone or behind S6F6, as an S6F11 (SEMI E4, block; SEMI E5, S6F5)
 abbrev pub trace_data_turn : List ℕ → OwnView → EndView Kind → ToolTurn
@@ -133,8 +134,8 @@ sample_parts now = sampling now ∷ replicate 16 made_part
 -- ---- what becomes of an S6F1 that waits for S6F6
 
 -- without a grant it isn't sent (SEMI E5, GRANT6)
-abbrev pub untraced_turn : OwnView → ToolTurn
-untraced_turn own = fixed_turn own (Note (Happening.Denied trace_name) ∷ [])
+abbrev pub denied_data_turn : OwnView → ToolTurn
+denied_data_turn own = fixed_turn own (Note (Happening.Denied trace_name) ∷ [])
 
 -- with a grant it goes, whatever has become of its trace; its system bytes are drawn now (SEMI E5, GRANT6)
 abbrev pub granted_trace_turn : Option (List ℕ) → OwnView → ToolTurn
@@ -142,5 +143,5 @@ granted_trace_turn None own = quiet_turn own
 granted_trace_turn (Some body) own = trace_sent_turn body own
 
 -- where the open messages end it is dropped, behind its S6F5
-abbrev pub notes_untraced : ToolCommands
-notes_untraced = Note (Happening.Dropped trace_name) ∷ []
+abbrev pub notes_data_unsent : ToolCommands
+notes_data_unsent = Note (Happening.Dropped trace_name) ∷ []

@@ -29,7 +29,7 @@ use Rattle.message_end.specs.Parts.{fixed_turn}
 use Rattle.tool_step.specs.declared.kind.Kind.{Kind}
 use Rattle.tool_step.specs.declared.kind.Kind.TheVariants as kind
 use Rattle.tool_step.specs.Own.{OwnView, ToolCommands, ToolTurn, quiet_turn, sent_report, turn_of, waiting_report, with_comms, with_control, with_ledger}
-use Rattle.tool_step.specs.Sampling.{notes_untraced}
+use Rattle.tool_step.specs.Sampling.{notes_data_unsent}
 use Rattle.tool_step.specs.Sent.{establish_commands}
 use Rattle.tool_step.specs.Spooling.{Stores, is_spooled, lines_commands, stores_all, stores_commands}
 use Rattle.spool_ledger.specs.Activity.{activated}
@@ -151,7 +151,7 @@ ending_commands control stored kind.Grant header = notes_failed header ++ unless
 ending_commands control stored kind.Unload header = notes_failed header
 ending_commands control stored kind.UnloadGrant header = notes_failed header ++ notes_unsent
 ending_commands control stored kind.Trace header = notes_failed header
-ending_commands control stored kind.TraceGrant header = notes_failed header ++ notes_untraced
+ending_commands control stored kind.TraceGrant header = notes_failed header ++ notes_data_unsent
 
 abbrev pub ends_report : Bool → OwnView → Begun Kind → ToolCommands
 ends_report spools own begun = ending_commands own.control (stored_of spools own begun) begun.kind begun.header

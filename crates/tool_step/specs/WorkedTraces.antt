@@ -13,8 +13,8 @@ use Rattle.message_end.specs.Parts.{after_turn}
 use Rattle.equipment_tables.specs.declared.answers.Answer.TheVariants as answer
 use Rattle.equipment_tables.specs.Tables.{set_by}
 use Rattle.tool_step.specs.Equipment.{EquipmentView}
-use Rattle.tool_step.specs.Own.{OwnView, ToolTurn, waiting_trace, with_comms, with_control, with_tables, without_traced}
-use Rattle.tool_step.specs.Sampling.{granted_trace_turn, inquired_turn, running_by, sampled, sampled_text_turn, sampled_turn, tiaack_code, tiaack_in, trace_name, untraced_turn, with_running}
+use Rattle.tool_step.specs.Own.{OwnView, ToolTurn, waiting_data, with_comms, with_control, with_tables, without_waiting_data}
+use Rattle.tool_step.specs.Sampling.{granted_trace_turn, data_inquiry_turn, running_by, with_samples_taken, sampled_text_turn, sampled_turn, tiaack_code, tiaack_in, trace_name, denied_data_turn, with_running}
 use Rattle.tool_step.specs.Step.{deadline_of}
 use Rattle.tool_step.specs.WorkedSpool.{on_spool, plan_with, with_host}
 
@@ -63,7 +63,7 @@ running_with due taken values = record {
 -- the first sample is taken, the variable is set to 9, which isn't refused, and the second is taken
 abbrev pub own_first : OwnView
 own_first = record (own_after two_of_one) {
-  tracing = sampled host_own.tables.vars 1000 (own_after two_of_one).tracing;
+  tracing = with_samples_taken host_own.tables.vars 1000 (own_after two_of_one).tracing;
 }
 
 abbrev pub own_set : OwnView
@@ -90,11 +90,12 @@ pub record TracesAreWorked : Type 0 where
   pub none : (own_after (asks_for each_second 2 99)).tracing.running ≡ []
   pub runs : (own_after two_of_one).tracing.running ≡ running_with 1000 0 [] ∷ []
   pub due : deadline_of (record at_host.node { own = own_after two_of_one }) ≡ Some 1000
-  pub early : sampled host_own.tables.vars 999 (own_after two_of_one).tracing ≡ (own_after two_of_one).tracing
+  pub early :
+      with_samples_taken host_own.tables.vars 999 (own_after two_of_one).tracing ≡ (own_after two_of_one).tracing
   pub first : own_first.tracing.running ≡ running_with 2000 1 (item.U4 (7 ∷ []) ∷ []) ∷ []
   pub no_data : own_first.tracing.made ≡ []
-  pub both : (sampled own_set.tables.vars 2000 own_set.tracing).made ≡ seven_and_nine ∷ []
-  pub over : (sampled own_set.tables.vars 2000 own_set.tracing).running ≡ []
+  pub both : (with_samples_taken own_set.tables.vars 2000 own_set.tracing).made ≡ seven_and_nine ∷ []
+  pub over : (with_samples_taken own_set.tables.vars 2000 own_set.tracing).running ≡ []
 
 -- ---- what becomes of an S6F1
 
@@ -114,7 +115,7 @@ primary function body = record { stream = 6; function = function; wait = true; s
 
 -- one that waits for S6F6
 abbrev pub own_waiting : OwnView
-own_waiting = (inquired_turn (answer.Body (5 ∷ [])) (7 ∷ []) host_own at_host.node.core).own
+own_waiting = (data_inquiry_turn (answer.Body (5 ∷ [])) (7 ∷ []) host_own at_host.node.core).own
 
 -- it goes where the host is there, alone or behind S6F5; else it is dropped; and so is one without a grant
 pub record TraceDataGoes : Type 0 where
@@ -127,10 +128,10 @@ pub record TraceDataGoes : Type 0 where
   pub off_line :
       (body : Item) → noted (sampled_turn body own_off_line at_host.node.core) ≡ Happening.Dropped trace_name ∷ []
   pub inquires :
-      noted (inquired_turn (answer.Body (5 ∷ [])) (7 ∷ []) host_own at_host.node.core)
+      noted (data_inquiry_turn (answer.Body (5 ∷ [])) (7 ∷ []) host_own at_host.node.core)
       ≡ Happening.Sent (primary 5 (5 ∷ [])) ∷ []
   pub waits : own_waiting.tracing.for_grant ≡ record { system = 0; body = 7 ∷ [] } ∷ []
   pub granted :
-      noted (granted_trace_turn (waiting_trace 0 own_waiting) (without_traced 0 own_waiting))
+      noted (granted_trace_turn (waiting_data 0 own_waiting) (without_waiting_data 0 own_waiting))
       ≡ Happening.Sent (primary 1 (7 ∷ [])) ∷ []
-  pub denied : noted (untraced_turn (without_traced 0 own_waiting)) ≡ Happening.Denied trace_name ∷ []
+  pub denied : noted (denied_data_turn (without_waiting_data 0 own_waiting)) ≡ Happening.Denied trace_name ∷ []

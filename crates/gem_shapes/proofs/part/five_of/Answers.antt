@@ -14,23 +14,23 @@ front_of-first-requires c =
 pub front_of-second-requires : goal.front_of-second-requires
 front_of-second-requires c =
     let all =
-    five_before (list_of (out-Item c.args.part.now.item)) c.in_ok-count.count c.in_ok-count.bytes.now c.in_ok-count.ensures
-    c.if-count-ne5.false in
+    five_before (list_of (out-Item c.args.part.now.item)) c.in_ok-count.count c.in_ok-count.bytes.now
+    c.in_ok-count.ensures c.if-count-ne5.false in
     begins_behind _ _ 4 _ (one_more _ _ 4 _ _ _ all c.front_of-first.ensures) (omega (arith))
 
 pub front_of-third-requires : goal.front_of-third-requires
 front_of-third-requires c =
     let all =
-    five_before (list_of (out-Item c.args.part.now.item)) c.in_ok-count.count c.in_ok-count.bytes.now c.in_ok-count.ensures
-    c.if-count-ne5.false in
+    five_before (list_of (out-Item c.args.part.now.item)) c.in_ok-count.count c.in_ok-count.bytes.now
+    c.in_ok-count.ensures c.if-count-ne5.false in
     let one = one_more _ _ 4 _ _ _ all c.front_of-first.ensures in
     begins_behind _ _ 3 _ (one_more _ _ 3 _ _ _ one c.front_of-second.ensures) (omega (arith))
 
 pub front_of-fourth-requires : goal.front_of-fourth-requires
 front_of-fourth-requires c =
     let all =
-    five_before (list_of (out-Item c.args.part.now.item)) c.in_ok-count.count c.in_ok-count.bytes.now c.in_ok-count.ensures
-    c.if-count-ne5.false in
+    five_before (list_of (out-Item c.args.part.now.item)) c.in_ok-count.count c.in_ok-count.bytes.now
+    c.in_ok-count.ensures c.if-count-ne5.false in
     let one = one_more _ _ 4 _ _ _ all c.front_of-first.ensures in
     let two = one_more _ _ 3 _ _ _ one c.front_of-second.ensures in
     begins_behind _ _ 2 _ (one_more _ _ 2 _ _ _ two c.front_of-third.ensures) (omega (arith))
@@ -38,8 +38,8 @@ front_of-fourth-requires c =
 pub front_of-fifth-requires : goal.front_of-fifth-requires
 front_of-fifth-requires c =
     let all =
-    five_before (list_of (out-Item c.args.part.now.item)) c.in_ok-count.count c.in_ok-count.bytes.now c.in_ok-count.ensures
-    c.if-count-ne5.false in
+    five_before (list_of (out-Item c.args.part.now.item)) c.in_ok-count.count c.in_ok-count.bytes.now
+    c.in_ok-count.ensures c.if-count-ne5.false in
     let one = one_more _ _ 4 _ _ _ all c.front_of-first.ensures in
     let two = one_more _ _ 3 _ _ _ one c.front_of-second.ensures in
     let three = one_more _ _ 2 _ _ _ two c.front_of-third.ensures in
@@ -48,8 +48,8 @@ front_of-fifth-requires c =
 pub returns : goal.returns
 returns c =
     let all =
-    five_before (list_of (out-Item c.args.part.now.item)) c.in_ok-count.count c.in_ok-count.bytes.now c.in_ok-count.ensures
-    c.if-count-ne5.false in
+    five_before (list_of (out-Item c.args.part.now.item)) c.in_ok-count.count c.in_ok-count.bytes.now
+    c.in_ok-count.ensures c.if-count-ne5.false in
     let one = one_more _ _ 4 _ _ _ all c.front_of-first.ensures in
     let two = one_more _ _ 3 _ _ _ one c.front_of-second.ensures in
     let three = one_more _ _ 2 _ _ _ two c.front_of-third.ensures in

@@ -6,7 +6,7 @@ use Rattle.message_end.specs.Endings.{notes_failed}
 use Rattle.message_end.specs.Parts.{AreCarried}
 use Rattle.tool_step.specs.declared.kind.Kind.{Kind}
 use Rattle.tool_step.specs.Own.{ToolCommands}
-use Rattle.tool_step.specs.Sampling.{notes_untraced}
+use Rattle.tool_step.specs.Sampling.{notes_data_unsent}
 use Rattle.tool_step.specs.States.{control_commands, ending_commands, notes_unsent, unless_stored}
 use Rattle.tool_core.proofs.Lost.{noted_alike, noted_then}
 use Rattle.tool_core.proofs.own.Own.end_one.Goals as goal
@@ -86,10 +86,11 @@ returns-in-Trace-clause-notes c =
 
 pub returns-in_ok-note_failed-in-TraceGrant-clause-notes : goal.returns-in_ok-note_failed-in-TraceGrant-clause-notes
 returns-in_ok-note_failed-in-TraceGrant-clause-notes c =
-    noted_then c.note_untraced.result c.args.first c.args.self.now.control (notes_failed c.args.header.now)
-    (λ was. notes_untraced) (λ was. ending_commands was c.args.stored.now c.args.kind c.args.header.now) c.args.out.now
-    c.note_failed-in-TraceGrant.new.out c.note_untraced.new.out
+    noted_then c.note_data_unsent.result c.args.first c.args.self.now.control (notes_failed c.args.header.now)
+    (λ was. notes_data_unsent) (λ was. ending_commands was c.args.stored.now c.args.kind c.args.header.now)
+    c.args.out.now c.note_failed-in-TraceGrant.new.out c.note_data_unsent.new.out
     (λ was. ap (λ (k : Kind). ending_commands was c.args.stored.now k c.args.header.now) c.in-TraceGrant.is)
     c.in_ok-note_failed-in-TraceGrant.ensures.notes
-    (noted_alike c.note_untraced.result c.args.first c.args.self.now.control notes_untraced (λ was. notes_untraced)
-    c.note_failed-in-TraceGrant.new.out c.note_untraced.new.out (λ was. refl) c.note_untraced.ensures.notes)
+    (noted_alike c.note_data_unsent.result c.args.first c.args.self.now.control notes_data_unsent
+    (λ was. notes_data_unsent) c.note_failed-in-TraceGrant.new.out c.note_data_unsent.new.out (λ was. refl)
+    c.note_data_unsent.ensures.notes)
