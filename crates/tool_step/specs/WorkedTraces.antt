@@ -8,13 +8,17 @@ use Rattle.message_flow.specs.declared.message.Message.{Message}
 use Rattle.secs_items.specs.declared.item.Item.{Item}
 use Rattle.secs_items.specs.declared.item.Item.TheVariants as item
 use Rattle.trace_log.specs.Log.{Happening}
-use Rattle.message_end.specs.Core.{at_first, step_in}
+use Rattle.trace_log.specs.Names.{Spooled}
+use Rattle.message_end.specs.Core.{EndView, at_first, step_in}
 use Rattle.message_end.specs.Parts.{after_turn}
 use Rattle.equipment_tables.specs.declared.answers.Answer.TheVariants as answer
 use Rattle.equipment_tables.specs.Tables.{set_by}
+use Rattle.tool_step.specs.declared.kind.Kind.{Kind}
 use Rattle.tool_step.specs.Equipment.{EquipmentView}
 use Rattle.tool_step.specs.Own.{OwnView, ToolTurn, waiting_data, with_comms, with_control, with_tables, without_waiting_data}
-use Rattle.tool_step.specs.Sampling.{granted_trace_turn, data_inquiry_turn, running_by, with_samples_taken, sampled_text_turn, sampled_turn, tiaack_code, tiaack_in, trace_name, denied_data_turn, with_running}
+use Rattle.tool_step.specs.Sampling.{granted_trace_turn, data_inquiry_turn, running_by, with_samples_taken, sampled_text_turn, sampled_turn, tiaack_code, tiaack_in, trace_data_turn, trace_name, denied_data_turn, with_running}
+use Rattle.tool_step.specs.Reports.{judged_turn}
+use Rattle.tool_step.specs.Sent.{text_of}
 use Rattle.tool_step.specs.Step.{deadline_of}
 use Rattle.tool_step.specs.WorkedSpool.{on_spool, plan_with, with_host}
 
@@ -117,8 +121,17 @@ primary function body = record { stream = 6; function = function; wait = true; s
 abbrev pub own_waiting : OwnView
 own_waiting = (data_inquiry_turn (answer.Body (5 ∷ [])) (7 ∷ []) host_own at_host.node.core).own
 
--- it goes where the host is there, alone or behind S6F5; else it is dropped; and so is one without a grant
+-- an S6F1 as a report, which no rule covers
+abbrev pub trace_report : List ℕ → Spooled
+trace_report body = record { stream = 6; function = 1; body = body }
+
+-- it goes the way of such a report: where the host is there, alone or behind S6F5; else it is dropped; and so is one
+-- without a grant
 pub record TraceDataGoes : Type 0 where
+  pub as_a_report :
+      (sample : Item) (own : OwnView) (e : EndView Kind)
+      → sampled_turn sample own e
+      ≡ judged_turn trace_report (λ message. trace_data_turn message.body own e) (text_of own sample) own
   pub goes :
       noted (sampled_text_turn (answer.Body (7 ∷ [])) host_own at_host.node.core)
       ≡ Happening.Sent (primary 1 (7 ∷ [])) ∷ []

@@ -27,7 +27,7 @@ pub fn worked_spool_runs()
 {}
 
 /// A trace of two samples of one variable, from what the host asks for to its S6F1, and requests that are refused; and
-/// what becomes of an S6F1: it goes, asks for a grant, or is dropped.
+/// what becomes of an S6F1: it goes, asks for a grant, or is dropped, as a report that no rule covers.
 pub fn worked_traces()
     ensures traces { TracesAreWorked }
     ensures data { TraceDataGoes }
