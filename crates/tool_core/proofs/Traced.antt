@@ -1,7 +1,7 @@
 -- S2F23 as the code carries it out; the S6F1 that a sample brought, by how many of them have had their turn; and the
 -- one that waits for S6F6.
-use Rattle.std.proofs.Common.{◌≡◌, ◌≢◌, refl, sym, ap, subst, ◌∙◌, ℕ, zero, suc, ◌+◌, List, [], ◌∷◌, Option, Some, None, if◌then◌else◌}
-use Rattle.std.specs.Prelude.{drop, Result}
+use Rattle.std.proofs.Common.{◌≡◌, ◌≢◌, refl, sym, ap, subst, ◌∙◌, arith, Bool, false, ℕ, zero, suc, ◌+◌, List, [], ◌∷◌, Option, Some, None, if◌then◌else◌}
+use Rattle.std.specs.Prelude.{IfOk, drop, Result, Ok, Err}
 use Rattle.std.specs.List.{find, slice_get}
 use Rattle.std.specs.Option.{option_map}
 use Rattle.gem_shapes.specs.Answers.{code_item}
@@ -16,14 +16,17 @@ use Rattle.trace_log.specs.Names.{Spooled}
 use Rattle.trace_log.specs.Text.{printed_note}
 use Rattle.message_end.specs.declared.end.Stop.{Stop}
 use Rattle.message_end.specs.Core.{EndView}
+use Rattle.message_end.specs.Core.Command.{Primary}
 use Rattle.message_end.specs.Core.Went.{Goes}
-use Rattle.message_end.specs.Parts.{Takes, after_turn, on_the_way}
+use Rattle.message_end.specs.declared.unsent.Unsent.{Unsent}
+use Rattle.message_end.specs.Parts.{Takes, fixed_turn, after_turn, on_the_way}
 use Rattle.equipment_tables.specs.declared.answers.Answer.{Answer}
+use Rattle.equipment_tables.specs.declared.answers.Answer.TheVariants as answer
 use Rattle.tool_step.specs.declared.kind.Kind.{Kind}
 use Rattle.tool_step.specs.Grants.{GrantView}
-use Rattle.tool_step.specs.Own.{OwnView, event_report, is_granted_by, is_online, turn_of, waiting_data, without_waiting_data}
+use Rattle.tool_step.specs.Own.{OwnView, event_report, is_communicating, is_granted_by, is_online, turn_of, waiting_data, without_waiting_data}
 use Rattle.tool_step.specs.Reports.{unreported_turn}
-use Rattle.tool_step.specs.Sampling.{first_turn, granted_trace_turn, running_by, sampled_text_turn, tiaack_code, tiaack_in, trace_name, trace_sent_turn, trace_turn, with_made, with_running}
+use Rattle.tool_step.specs.Sampling.{first_turn, granted_trace_turn, running_by, sampled_text_turn, tiaack_code, tiaack_in, trace_data, trace_data_turn, trace_name, trace_sent_turn, trace_turn, with_made, with_running}
 use Rattle.tool_step.specs.Sent.{answer_duties, text_of}
 use Rattle.tool_core.proofs.Turned.{HasTaken, ToolNode}
 
@@ -39,6 +42,15 @@ set_so tiaack.NoMore request now old new taken refused = refused (λ is. cc)
 set_so tiaack.BadPeriod request now old new taken refused = refused (λ is. cc)
 set_so (tiaack.Unknown svid) request now old new taken refused = refused (λ is. cc)
 set_so tiaack.BadGroup request now old new taken refused = refused (λ is. cc)
+
+pub set_kept :
+    {E : Type 0} (result : Result Tiaack E) (request : TraceRequest) (now : ℕ) (old new : List Running) (own : OwnView)
+    → IfOk result (λ (answer : Tiaack). answer ≡ tiaack.Done → new ≡ after_setting request now old)
+    → IfOk result (λ (answer : Tiaack). answer ≢ tiaack.Done → new ≡ old)
+    → IfOk result (λ (answer : Tiaack). with_running new own ≡ with_running (running_by answer request now old) own)
+set_kept (Ok answer) request now old new own taken refused =
+    ap (λ (running : List Running). with_running running own) (set_so answer request now old new taken refused)
+set_kept (Err error) request now old new own taken refused = tt
 
 -- the answer to it goes, with this kept beside the core
 abbrev Answered :
@@ -73,15 +85,28 @@ set_and_answered {A} request now message own to core core_to answer text new out
 
 -- ---- S6F1
 
+-- one without communication is dropped
+pub dropped_here : (text : Answer) (body : List ℕ) (own : OwnView) (core : EndView Kind) → text ≡ answer.Body body
+    → is_communicating own ≡ false → sampled_text_turn text own core ≡ unreported_turn trace_name own
+dropped_here text body own core is none =
+    ap (λ (t : Answer). sampled_text_turn t own core) is
+    ∙ ap (λ (b : Bool). if b then trace_data_turn body own core else unreported_turn trace_name own) none
+
 -- which one is the next, and that none is left
-one_left : (made : List Item) (routed : ℕ) (item : Item) → slice_get made routed ≡ Some item
-    → drop routed made ≡ item ∷ drop (routed + 1) made
-one_left [] zero item is = absurd cc
-one_left [] (suc n) item is = absurd cc
-one_left (one ∷ made) zero item is =
+left_behind : (made : List Item) (routed : ℕ) (item : Item) → slice_get made routed ≡ Some item
+    → drop routed made ≡ item ∷ drop (suc routed) made
+left_behind [] zero item is = absurd cc
+left_behind [] (suc n) item is = absurd cc
+left_behind (one ∷ made) zero item is =
     let same : one ≡ item = cc in
     ap (λ (i : Item). i ∷ made) same
-one_left (one ∷ made) (suc n) item is = one_left made n item is
+left_behind (one ∷ made) (suc n) item is = left_behind made n item is
+
+one_left : (made : List Item) (routed : ℕ) (item : Item) → slice_get made routed ≡ Some item
+    → drop routed made ≡ item ∷ drop (routed + 1) made
+one_left made routed item is =
+    let next : suc routed ≡ routed + 1 = omega arith in
+    left_behind made routed item is ∙ ap (λ (n : ℕ). item ∷ drop n made) next
 
 none_left : (read : Item → Answer) (made : List Item) (routed : ℕ) → None ≡ option_map read (slice_get made routed)
     → drop routed made ≡ []
@@ -146,12 +171,13 @@ waits_so system own waiting is =
 -- it goes
 pub granted_sent :
     {A : Type 0} (system : ℕ) (own left : OwnView) (core : EndView Kind) (waiting : Spooled) (body : List ℕ)
-    (new : ToolNode) (out out_new : StepOut) (result : Result A Stop)
+    (unsent : Unsent Kind) (new : ToolNode) (out out_new : StepOut) (result : Result A Stop)
     → left ≡ without_waiting_data system own → Some waiting ≡ waiting_as system own → body ≡ waiting.body
-    → Takes (trace_sent_turn body left) (record { own = left; core = core }) out new out_new result
+    → unsent ≡ trace_data body
+    → Takes (fixed_turn left (Primary unsent ∷ [])) (record { own = left; core = core }) out new out_new result
     → Takes (granted_trace_turn (waiting_data system own) (without_waiting_data system own))
     (record { own = own; core = core }) out new out_new result
-granted_sent {A} system own left core waiting body new out out_new result left_is is text taken =
+granted_sent {A} system own left core waiting body unsent new out out_new result left_is is text data_is taken =
     subst
     (λ (one : Option (List ℕ)). Takes (granted_trace_turn one (without_waiting_data system own))
     (record { own = own; core = core }) out new out_new result) (sym (waits_so system own (Some waiting) is))

@@ -15,7 +15,7 @@ returns-clause-does c =
     c.in_ok-answer.answer (node_of c.answer_by.new.self) c.args.out.now c.answer_by.new.out c.answer_by.result
     c.in_ok-tiaack.ensures.answer c.in_ok-tiaack.ensures.own c.in_ok-tiaack.ensures.core
     (c.in_ok-answer.ensures.body
-    ∙ ap (λ (most : ℕ). spelled_body most c.in_ok-item.item) c.max_body-max_body.ensures.value
+    ∙ ap (λ (most : ℕ). spelled_body most c.in_ok-item.item) c.max_body.ensures.value
     ∙ ap (λ (own : OwnView). spelled_body own.plan.line.max_body c.in_ok-item.item) c.in_ok-tiaack.ensures.own
     ∙ ap (λ (item : Item). spelled_body (own_of c.args.self.now.own).plan.line.max_body item) c.in_ok-item.ensures
     ∙ ap (λ (code : ℕ). spelled_body (own_of c.args.self.now.own).plan.line.max_body (code_item code))
