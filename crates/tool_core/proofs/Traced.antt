@@ -186,7 +186,9 @@ granted_sent {A} system own left core waiting body unsent new out out_new result
     result) left_is
     (subst
     (λ (b : List ℕ). Takes (trace_sent_turn b left) (record { own = own; core = core }) out new out_new result) text
-    taken))
+    (subst
+    (λ (u : Unsent Kind). Takes (fixed_turn left (Primary u ∷ [])) (record { own = own; core = core }) out new out_new
+    result) data_is taken)))
 
 -- there is none
 pub granted_nothing :

@@ -1,6 +1,6 @@
 //! S2F23, the samples of a step, and what becomes of the S6F1 that they bring.
 
-ghost use Rattle.std.specs.Prelude.{◌≡◌, ◌<◌, ◌≤◌, ◌^◌, ◌∷◌, [], length, replicate, if◌then◌else◌, IfOk, IfSome};
+ghost use Rattle.std.specs.Prelude.{◌≡◌, ◌<◌, ◌≤◌, ◌+◌, ◌^◌, ◌∷◌, [], length, replicate, if◌then◌else◌, IfOk, IfSome};
 ghost use Rattle.std.specs.List.{slice_get};
 ghost use Rattle.std.specs.Option.{option_map};
 ghost use Rattle.block_codec.specs.Protocol.{longest_text};
@@ -134,7 +134,7 @@ impl Tool {
         ensures text { IfOk result (λ text. text
             ≡ option_map (text_of (own_of self.now.own)) (slice_get self.now.own.tracing.made place)) }
         ensures short { IfOk result (λ text. IfSome text IsShort) }
-        ensures within { IfOk result (λ text. IfSome text (λ one. place < length self.now.own.tracing.made)) }
+        ensures within { IfOk result (λ text. IfSome text (λ one. place + 1 < 2 ^ 64)) }
     {
         match self.own.tracing.made.as_slice().get(place) {
             Some(item) => Ok(Some(bounded(alloc, item, self.own.max_body())?)),
