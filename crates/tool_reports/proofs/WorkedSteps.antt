@@ -80,7 +80,8 @@ abbrev refused_by : Option Request → Option Setting
 refused_by asks = refusal_of (vars_by the_plan (asked_by asks)) 1 (item.U4 (9 ∷ []))
 
 abbrev one_step : Option Request → List TraceEntry
-one_step asks = Step first_look ∷ cons_option (setting_of asks first_look (traces_at (Step first_look ∷ []))) []
+one_step asks =
+    Step first_look ∷ (cons_option (setting_of asks first_look (traces_at (Step first_look ∷ []))) [] ++ [])
 
 abbrev two_steps : Option Request → List TraceEntry
 two_steps asks = one_step asks ++ Step (looks (asked_by asks) 1000) ∷ []

@@ -1,7 +1,7 @@
 -- What is said of the S6F1 of the equipment: each holds what its variables held at its samples, and comes of a trace
 -- that the host has asked for and that ran (SEMI E30, trace data collection). When a sample is due, moments tell, which
 -- no note has; so it is said over the steps of a start. The newest comes first.
-use Rattle.std.specs.Prelude.{◌≡◌, ◌≤◌, ◌&&◌, ℕ, Bool, not, nat_eq, bytes_eq, is_some, true, List, [], ◌∷◌, ◌++◌, filter, length, Option, Some, None, if◌then◌else◌}
+use Rattle.std.specs.Prelude.{◌≡◌, ◌≤◌, ◌&&◌, ℕ, Bool, not, nat_eq, bytes_eq, is_some, true, List, [], ◌∷◌, ◌++◌, filter, flat_map, length, Option, Some, None, if◌then◌else◌}
 use Rattle.std.specs.List.{cons_option, list_any}
 use Rattle.gem_shapes.specs.declared.request.Request.{Request}
 use Rattle.gem_shapes.specs.declared.request.Request.TheVariants as request
@@ -47,12 +47,13 @@ setting_of (Some (request.Trace trid dsper total group svids)) look running =
 setting_of _ look running = None
 
 -- what the host has asked for, and it counts; a step has one at most
+abbrev pub setting_in : Look → List Running → Happening → List TraceEntry
+setting_in look running (Happening.Recorded (Past.Asked message)) =
+    cons_option (setting_of (request_of message.stream message.function message.body) look running) []
+setting_in look running _ = []
+
 abbrev pub settings_in : List Happening → Look → List Running → List TraceEntry
-settings_in [] look running = []
-settings_in (Happening.Recorded (Past.Asked message) ∷ notes) look running =
-    cons_option (setting_of (request_of message.stream message.function message.body) look running)
-    (settings_in notes look running)
-settings_in (_ ∷ notes) look running = settings_in notes look running
+settings_in notes look running = flat_map (setting_in look running) notes
 
 -- a step more: its samples, and behind them what the host asks for in it
 abbrev pub with_entries : Look → List Happening → List TraceEntry → List TraceEntry

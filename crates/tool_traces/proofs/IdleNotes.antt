@@ -1,0 +1,276 @@
+-- Notes of which nothing is said where S6F1 are spoken of, and what is read off the notes of a step.
+use Rattle.std.proofs.Common.{◌≡◌, refl, ap, ◌∙◌, arith, ◌+◌, ◌≤◌, Bool, true, false, ℕ, List, [], ◌∷◌, ◌++◌, append-nil, if◌then◌else◌}
+use Rattle.std.specs.Prelude.{bytes_eq}
+use Rattle.std.proofs.lemmas.List.Concat.{flat_map-append}
+use Rattle.gem_trace.specs.History.{Look, TraceEntry}
+use Rattle.gem_trace.specs.Traces.{Running}
+use Rattle.message_flow.specs.declared.message.Message.{Message}
+use Rattle.trace_log.specs.Log.{Happening, Past}
+use Rattle.message_end.specs.Course.{noted_behind}
+use Rattle.tool_reports.specs.Reported.{count_of}
+use Rattle.tool_reports.specs.Sampled.{datas_in, is_data, setting_in, settings_in}
+use Rattle.tool_reports.proofs.QuietNotes.{counted, one, one-behind}
+
+-- no S6F1 W
+abbrev pub IsNoData : Message → Type 0
+IsNoData message = (before : List Happening) → is_data message before ≡ false
+
+-- nothing is read off it: it is no S6F1, no start, and nothing that the host has asked for
+abbrev pub IsIdleNote : Happening → Type 0
+IsIdleNote (Happening.EquipmentStarted found base) = ⊥
+IsIdleNote (Happening.Sent message) = IsNoData message
+IsIdleNote (Happening.Recorded (Past.Asked message)) = ⊥
+IsIdleNote _ = Unit {0}
+
+abbrev pub IsNoStart : Happening → Type 0
+IsNoStart (Happening.EquipmentStarted found base) = ⊥
+IsNoStart _ = Unit {0}
+
+abbrev pub AreNoStarts : List Happening → Type 0
+AreNoStarts [] = Unit {0}
+AreNoStarts (what ∷ notes) = IsNoStart what × AreNoStarts notes
+
+pub record IsIdle (what : Happening) : Type 0 where
+  pub datas : (before : List Happening) → datas_in (what ∷ before) ≡ datas_in before
+  pub asks : (look : Look) (running : List Running) → setting_in look running what ≡ []
+  pub no_start : IsNoStart what
+
+idle-sent : (message : Message) → IsNoData message → IsIdle (Happening.Sent message)
+idle-sent message none = record {
+  datas = λ before.
+      ap (λ (b : Bool). if b then message.body ∷ datas_in before else datas_in before) (none before);
+  asks = λ look running. refl;
+  no_start = tt;
+}
+
+pub idle-note : (what : Happening) → IsIdleNote what → IsIdle what
+idle-note (Happening.EquipmentStarted found base) idle = absurd idle
+idle-note (Happening.Sent message) idle = idle-sent message idle
+idle-note (Happening.Recorded (Past.Asked message)) idle = absurd idle
+idle-note (Happening.Recorded (Past.Commanded command)) idle =
+    record { datas = λ before. refl; asks = λ look running. refl; no_start = tt }
+idle-note Happening.HostStarted idle =
+    record { datas = λ before. refl; asks = λ look running. refl; no_start = tt }
+idle-note Happening.Power idle =
+    record { datas = λ before. refl; asks = λ look running. refl; no_start = tt }
+idle-note Happening.Closed idle =
+    record { datas = λ before. refl; asks = λ look running. refl; no_start = tt }
+idle-note (Happening.Received message) idle =
+    record { datas = λ before. refl; asks = λ look running. refl; no_start = tt }
+idle-note (Happening.Wrote characters) idle =
+    record { datas = λ before. refl; asks = λ look running. refl; no_start = tt }
+idle-note (Happening.Comms state) idle =
+    record { datas = λ before. refl; asks = λ look running. refl; no_start = tt }
+idle-note (Happening.Control state) idle =
+    record { datas = λ before. refl; asks = λ look running. refl; no_start = tt }
+idle-note (Happening.Spool active) idle =
+    record { datas = λ before. refl; asks = λ look running. refl; no_start = tt }
+idle-note (Happening.Set vid) idle =
+    record { datas = λ before. refl; asks = λ look running. refl; no_start = tt }
+idle-note (Happening.Event ceid dataid) idle =
+    record { datas = λ before. refl; asks = λ look running. refl; no_start = tt }
+idle-note (Happening.Alarm alid set) idle =
+    record { datas = λ before. refl; asks = λ look running. refl; no_start = tt }
+idle-note (Happening.Carried rcmd) idle =
+    record { datas = λ before. refl; asks = λ look running. refl; no_start = tt }
+idle-note (Happening.Display tid text) idle =
+    record { datas = λ before. refl; asks = λ look running. refl; no_start = tt }
+idle-note Happening.Refused idle =
+    record { datas = λ before. refl; asks = λ look running. refl; no_start = tt }
+idle-note (Happening.Storing number message) idle =
+    record { datas = λ before. refl; asks = λ look running. refl; no_start = tt }
+idle-note (Happening.Stored number) idle =
+    record { datas = λ before. refl; asks = λ look running. refl; no_start = tt }
+idle-note (Happening.Leaving number cause) idle =
+    record { datas = λ before. refl; asks = λ look running. refl; no_start = tt }
+idle-note (Happening.Gone number) idle =
+    record { datas = λ before. refl; asks = λ look running. refl; no_start = tt }
+idle-note (Happening.Try number system) idle =
+    record { datas = λ before. refl; asks = λ look running. refl; no_start = tt }
+idle-note (Happening.Duplicate header) idle =
+    record { datas = λ before. refl; asks = λ look running. refl; no_start = tt }
+idle-note (Happening.Unexpected header) idle =
+    record { datas = λ before. refl; asks = λ look running. refl; no_start = tt }
+idle-note (Happening.Foreign header) idle =
+    record { datas = λ before. refl; asks = λ look running. refl; no_start = tt }
+idle-note (Happening.TooLongBlock header) idle =
+    record { datas = λ before. refl; asks = λ look running. refl; no_start = tt }
+idle-note (Happening.Crowded header) idle =
+    record { datas = λ before. refl; asks = λ look running. refl; no_start = tt }
+idle-note (Happening.DroppedByT4 header) idle =
+    record { datas = λ before. refl; asks = λ look running. refl; no_start = tt }
+idle-note (Happening.Failed title) idle =
+    record { datas = λ before. refl; asks = λ look running. refl; no_start = tt }
+idle-note (Happening.TimedOut title) idle =
+    record { datas = λ before. refl; asks = λ look running. refl; no_start = tt }
+idle-note (Happening.Stranger title) idle =
+    record { datas = λ before. refl; asks = λ look running. refl; no_start = tt }
+idle-note (Happening.Dropped name) idle =
+    record { datas = λ before. refl; asks = λ look running. refl; no_start = tt }
+idle-note (Happening.Denied name) idle =
+    record { datas = λ before. refl; asks = λ look running. refl; no_start = tt }
+idle-note (Happening.Discarded name) idle =
+    record { datas = λ before. refl; asks = λ look running. refl; no_start = tt }
+idle-note (Happening.TooLong name) idle =
+    record { datas = λ before. refl; asks = λ look running. refl; no_start = tt }
+idle-note (Happening.Full name) idle =
+    record { datas = λ before. refl; asks = λ look running. refl; no_start = tt }
+idle-note Happening.StepEnded idle =
+    record { datas = λ before. refl; asks = λ look running. refl; no_start = tt }
+
+pub no-starts-more : (notes more : List Happening) → AreNoStarts notes → AreNoStarts more → AreNoStarts (notes ++ more)
+no-starts-more [] more one two = two
+no-starts-more (what ∷ notes) more one two = (one.0, no-starts-more notes more one.1 two)
+
+-- ---- what is read off the notes of a step
+
+module _ (before : List Happening) (look : Look) (running : List Running) where
+  -- the texts of the S6F1 that were sent by then, and what the host has asked for in the step
+  pub record Reads (sent : List (List ℕ)) (asked : List TraceEntry) (notes : List Happening) : Type 0 where
+    pub datas : datas_in (noted_behind notes before) ≡ sent
+    pub asks : settings_in notes look running ≡ asked
+    pub no_start : AreNoStarts notes
+
+  pub reads-none : Reads (datas_in before) [] []
+  reads-none = record { datas = refl; asks = refl; no_start = tt }
+
+  asks-more : (notes : List Happening) (what : Happening)
+      → settings_in (notes ++ what ∷ []) look running ≡ settings_in notes look running ++ setting_in look running what
+  asks-more notes what =
+      flat_map-append (setting_in look running) notes (what ∷ [])
+      ∙ ap (λ (l : List TraceEntry). settings_in notes look running ++ l)
+      (append-nil (setting_in look running what))
+
+  -- a note more
+  pub reads-idle :
+      (sent : List (List ℕ)) (asked : List TraceEntry) (notes : List Happening) (what : Happening) → IsIdle what
+      → Reads sent asked notes → Reads sent asked (notes ++ what ∷ [])
+  reads-idle sent asked notes what idle so = record {
+    datas = ap datas_in (one-behind notes what before) ∙ idle.datas (noted_behind notes before) ∙ so.datas;
+    asks =
+        asks-more notes what
+        ∙ ap (λ (l : List TraceEntry). settings_in notes look running ++ l) (idle.asks look running)
+        ∙ append-nil (settings_in notes look running) ∙ so.asks;
+    no_start = no-starts-more notes (what ∷ []) so.no_start (idle.no_start, tt);
+  }
+
+  -- what the host has asked for
+  pub reads-asked :
+      (sent : List (List ℕ)) (notes : List Happening) (message : Message) → Reads sent [] notes
+      → Reads sent (setting_in look running (Happening.Recorded (Past.Asked message)))
+      (notes ++ Happening.Recorded (Past.Asked message) ∷ [])
+  reads-asked sent notes message so = record {
+    datas = ap datas_in (one-behind notes (Happening.Recorded (Past.Asked message)) before) ∙ so.datas;
+    asks =
+        asks-more notes (Happening.Recorded (Past.Asked message))
+        ∙ ap
+        (λ (l : List TraceEntry). l ++ setting_in look running (Happening.Recorded (Past.Asked message))) so.asks;
+    no_start = no-starts-more notes (Happening.Recorded (Past.Asked message) ∷ []) so.no_start (tt, tt);
+  }
+
+  -- an S6F1
+  pub record SentData (message : Message) (sent : List (List ℕ)) (asked : List TraceEntry) (notes : List Happening)
+      : Type 0 where
+    pub more : List (List ℕ)
+    pub reads : Reads more asked (notes ++ Happening.Sent message ∷ [])
+    pub few : (body : List ℕ) → count_of body more ≤ one (bytes_eq body message.body) + count_of body sent
+
+  pub reads-sent :
+      (message : Message) (sent : List (List ℕ)) (asked : List TraceEntry) (notes : List Happening)
+      → Reads sent asked notes → SentData message sent asked notes
+  reads-sent message sent asked notes so = go (is_data message (noted_behind notes before)) refl
+    where
+      go : (is : Bool) → is_data message (noted_behind notes before) ≡ is → SentData message sent asked notes
+      go true is = record {
+        more = message.body ∷ sent;
+        reads = record {
+          datas =
+              ap datas_in (one-behind notes (Happening.Sent message) before)
+              ∙ ap
+              (λ (b : Bool). if b then message.body ∷ datas_in (noted_behind notes before)
+              else datas_in (noted_behind notes before)) is
+              ∙ ap (λ (all : List (List ℕ)). message.body ∷ all) so.datas;
+          asks =
+              asks-more notes (Happening.Sent message) ∙ append-nil (settings_in notes look running) ∙ so.asks;
+          no_start = no-starts-more notes (Happening.Sent message ∷ []) so.no_start (tt, tt);
+        };
+        few = λ body. let e = counted (bytes_eq body) message.body sent in omega (arith, e);
+      }
+      go false is = record {
+        more = sent;
+        reads = record {
+          datas =
+              ap datas_in (one-behind notes (Happening.Sent message) before)
+              ∙ ap
+              (λ (b : Bool). if b then message.body ∷ datas_in (noted_behind notes before)
+              else datas_in (noted_behind notes before)) is
+              ∙ so.datas;
+          asks =
+              asks-more notes (Happening.Sent message) ∙ append-nil (settings_in notes look running) ∙ so.asks;
+          no_start = no-starts-more notes (Happening.Sent message ∷ []) so.no_start (tt, tt);
+        };
+        few = λ body. omega (arith);
+      }
+
+-- ---- fewer notes
+
+-- notes without a start bring no fewer S6F1
+pub datas-grow :
+    (body : List ℕ) (rest before : List Happening) → AreNoStarts rest
+    → count_of body (datas_in before) ≤ count_of body (datas_in (noted_behind rest before))
+datas-grow body [] before none = omega (arith)
+datas-grow body (what ∷ rest) before none =
+    let first = one_more what before none.0 in
+    let more = datas-grow body rest (what ∷ before) none.1 in
+    omega (arith, first, more)
+  where
+    same : (all : List (List ℕ)) → count_of body all ≤ count_of body all
+    same all = omega (arith)
+
+    sent : (message : Message) (past : List Happening) (is : Bool)
+        → count_of body (datas_in past)
+        ≤ count_of body (if is then message.body ∷ datas_in past else datas_in past)
+    sent message past true =
+        let e = counted (bytes_eq body) message.body (datas_in past) in
+        omega (arith, e)
+    sent message past false = same (datas_in past)
+
+    one_more : (what : Happening) (past : List Happening) → IsNoStart what
+        → count_of body (datas_in past) ≤ count_of body (datas_in (what ∷ past))
+    one_more (Happening.EquipmentStarted found base) past none = absurd none
+    one_more (Happening.Sent message) past none = sent message past (is_data message past)
+    one_more (Happening.Recorded entry) past none = same (datas_in past)
+    one_more Happening.HostStarted past none = same (datas_in past)
+    one_more Happening.Power past none = same (datas_in past)
+    one_more Happening.Closed past none = same (datas_in past)
+    one_more (Happening.Received message) past none = same (datas_in past)
+    one_more (Happening.Wrote characters) past none = same (datas_in past)
+    one_more (Happening.Comms state) past none = same (datas_in past)
+    one_more (Happening.Control state) past none = same (datas_in past)
+    one_more (Happening.Spool active) past none = same (datas_in past)
+    one_more (Happening.Set vid) past none = same (datas_in past)
+    one_more (Happening.Event ceid dataid) past none = same (datas_in past)
+    one_more (Happening.Alarm alid set) past none = same (datas_in past)
+    one_more (Happening.Carried rcmd) past none = same (datas_in past)
+    one_more (Happening.Display tid text) past none = same (datas_in past)
+    one_more Happening.Refused past none = same (datas_in past)
+    one_more (Happening.Storing number message) past none = same (datas_in past)
+    one_more (Happening.Stored number) past none = same (datas_in past)
+    one_more (Happening.Leaving number cause) past none = same (datas_in past)
+    one_more (Happening.Gone number) past none = same (datas_in past)
+    one_more (Happening.Try number system) past none = same (datas_in past)
+    one_more (Happening.Duplicate header) past none = same (datas_in past)
+    one_more (Happening.Unexpected header) past none = same (datas_in past)
+    one_more (Happening.Foreign header) past none = same (datas_in past)
+    one_more (Happening.TooLongBlock header) past none = same (datas_in past)
+    one_more (Happening.Crowded header) past none = same (datas_in past)
+    one_more (Happening.DroppedByT4 header) past none = same (datas_in past)
+    one_more (Happening.Failed title) past none = same (datas_in past)
+    one_more (Happening.TimedOut title) past none = same (datas_in past)
+    one_more (Happening.Stranger title) past none = same (datas_in past)
+    one_more (Happening.Dropped name) past none = same (datas_in past)
+    one_more (Happening.Denied name) past none = same (datas_in past)
+    one_more (Happening.Discarded name) past none = same (datas_in past)
+    one_more (Happening.TooLong name) past none = same (datas_in past)
+    one_more (Happening.Full name) past none = same (datas_in past)
+    one_more Happening.StepEnded past none = same (datas_in past)

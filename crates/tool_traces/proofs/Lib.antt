@@ -1,0 +1,5 @@
+pub mod IdleCommands
+pub mod IdleMessages
+pub mod IdleNotes
+pub mod IdleTurns
+pub mod TracedTurns
