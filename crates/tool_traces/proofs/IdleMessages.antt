@@ -1,5 +1,5 @@
 -- Turns of replies, requests and the tool's commands that send no S6F1 and leave the traces as they are.
-use Rattle.std.proofs.Common.{◌≡◌, refl, ◌∙◌, arith, ◌==◌, Bool, true, false, ℕ, List, [], ◌∷◌, Option, Some, None, if◌then◌else◌}
+use Rattle.std.proofs.Common.{refl, ◌∙◌, arith, ◌==◌, Bool, true, false, ℕ, List, [], ◌∷◌, Option, Some, None, if◌then◌else◌}
 use Rattle.std.specs.List.{find}
 use Rattle.std.specs.Option.{option_map}
 use Rattle.std.specs.Prelude.{flat_map}

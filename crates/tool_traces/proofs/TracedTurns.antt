@@ -52,7 +52,7 @@ text-counts max item text body is =
     (ap (λ (fault : Option EncodeFault). one (not (is_some fault) && bytes_eq body (shortest_spelling item)))
     so.spelled)
 
-counted-both : {X : Type 0} (test : X → Bool) (xs ys : List X)
+pub counted-both : {X : Type 0} (test : X → Bool) (xs ys : List X)
     → length (filter test (xs ++ ys)) ≡ length (filter test xs) + length (filter test ys)
 counted-both test [] ys = refl
 counted-both test (x ∷ xs) ys =
@@ -60,6 +60,14 @@ counted-both test (x ∷ xs) ys =
     let again = counted test x xs in
     let rest = counted-both test xs ys in
     omega (arith, first, again, rest)
+
+module _ (before : List Happening) (look : Look) (run : List Running) (due : List Item) where
+  -- where the numbers are spent, or a step is stopped: no more were sent than were due
+  pub record FewSent (step : CoreStep) : Type 0 where
+    pub sent : List (List ℕ)
+    pub asked : List TraceEntry
+    pub reads : Reads before look run sent asked step.notes
+    pub few : (body : List ℕ) → count_of body sent ≤ count_items body due
 
 module _ (before : List Happening) (look : Look) (run : List Running)
     (Runs : List Running → List TraceEntry → Type 0) (due : List Item) where
@@ -74,20 +82,13 @@ module _ (before : List Happening) (look : Look) (run : List Running)
         → count_of body sent
         + (count_waiting body own.tracing.for_grant + count_items body own.tracing.made) ≤ count_items body due
 
-  -- and where the numbers are spent
-  pub record FewSent (step : CoreStep) : Type 0 where
-    pub sent : List (List ℕ)
-    pub asked : List TraceEntry
-    pub reads : Reads before look run sent asked step.notes
-    pub few : (body : List ℕ) → count_of body sent ≤ count_items body due
-
   abbrev pub Ends : OwnView → Went (EndView Kind) Happening → Type 0
-  Ends own went = OnEither (Traced own) FewSent went
+  Ends own went = OnEither (Traced own) (FewSent before look run due) went
 
   abbrev pub Keeps : OwnView → ToolTurn → Type 0
   Keeps own turn = (step : CoreStep) → Traced own step → Ends turn.own (all_done Some turn.duties step)
 
-  pub few-of : (own : OwnView) (step : CoreStep) → Traced own step → FewSent step
+  pub few-of : (own : OwnView) (step : CoreStep) → Traced own step → FewSent before look run due step
   few-of own step so = record {
     sent = so.sent;
     asked = so.asked;
@@ -96,7 +97,7 @@ module _ (before : List Happening) (look : Look) (run : List Running)
   }
 
   -- an own that keeps them, with as much read
-  still : (own other : OwnView) (step next : CoreStep) → KeepsTraces own other → (so : Traced own step)
+  pub still : (own other : OwnView) (step next : CoreStep) → KeepsTraces own other → (so : Traced own step)
       → ReadsStep before look run so.sent so.asked next → Traced other next
   still own other step next keeps so reads = record {
     sent = so.sent;
@@ -113,7 +114,7 @@ module _ (before : List Happening) (look : Look) (run : List Running)
   pub idle-keeps : (own : OwnView) (turn : ToolTurn) → IsIdleTurn own turn → Keeps own turn
   idle-keeps own turn idle step so =
       either-less (ReadsStep before look run so.sent so.asked) (ReadsStep before look run so.sent so.asked)
-      (Traced turn.own) FewSent (all_done Some turn.duties step)
+      (Traced turn.own) (FewSent before look run due) (all_done Some turn.duties step)
       (done-idle before look run so.sent so.asked turn.duties step idle.duties so.reads)
       (λ next reads. still own turn.own step next idle.keeps so reads)
       (λ next reads. few-of turn.own next (still own turn.own step next idle.keeps so reads))
@@ -122,9 +123,9 @@ module _ (before : List Happening) (look : Look) (run : List Running)
   pub led-keeps : (own : OwnView) (lead : Command Kind) (turn : ToolTurn) → IsIdleCommand lead → Keeps own turn
       → Keeps own (led_turn lead turn)
   led-keeps own lead turn idle keeps step so =
-      either-then (Traced own) FewSent (Traced turn.own) (carried Some (lead ∷ []) step) (all_done Some turn.duties)
+      either-then (Traced own) (FewSent before look run due) (Traced turn.own) (carried Some (lead ∷ []) step) (all_done Some turn.duties)
       (either-less (ReadsStep before look run so.sent so.asked) (ReadsStep before look run so.sent so.asked)
-      (Traced own) FewSent (carried Some (lead ∷ []) step)
+      (Traced own) (FewSent before look run due) (carried Some (lead ∷ []) step)
       (carried-idle before look run so.sent so.asked (lead ∷ []) step (idle, tt) so.reads)
       (λ next reads. still own own step next (itself own) so reads)
       (λ next reads. few-of own next (still own own step next (itself own) so reads)))
@@ -156,8 +157,8 @@ module _ (before : List Happening) (look : Look) (run : List Running)
   alone : (own : OwnView) (command : Command Kind) (step : CoreStep) → Ends own (carry Some command step)
       → Ends own (all_done Some ((λ (e : EndView Kind). command ∷ []) ∷ []) step)
   alone own command step so =
-      either-then (Traced own) FewSent (Traced own) (carried Some (command ∷ []) step) (all_done Some [])
-      (either-then (Traced own) FewSent (Traced own) (carry Some command step) (carried Some []) so
+      either-then (Traced own) (FewSent before look run due) (Traced own) (carried Some (command ∷ []) step) (all_done Some [])
+      (either-then (Traced own) (FewSent before look run due) (Traced own) (carry Some command step) (carried Some []) so
       (λ next now_so. now_so)) (λ next now_so. now_so)
 
   sent-keeps : (text : List ℕ) (own : OwnView) (step : CoreStep) → HasSpare own step text

@@ -3,7 +3,7 @@
 ghost use Rattle.tool_traces.specs.Laws.{TracesAreSampled};
 
 use equipment_tables::tables_are_looked_back_for;
-use gem_trace::{few_traces_run, what_runs_is_looked_back_for};
+use gem_trace::what_runs_is_looked_back_for;
 
 /// Each S6F1 that is sent, unless it comes out of the spool, holds what its variables held at its samples, of a trace
 /// that the host has asked for and that ran then; and no more are sent with one text than were due with it. So of all
@@ -14,5 +14,4 @@ pub fn traces_are_sampled()
 {
     tables_are_looked_back_for();
     what_runs_is_looked_back_for();
-    few_traces_run();
 }

@@ -1,0 +1,342 @@
+-- What was sent of the traces over all starts, and which run.
+use Rattle.std.proofs.Common.{◌≡◌, refl, sym, ap, subst, ◌∙◌, inl, inr, arith, ◌+◌, ◌≤◌, ◌<◌, Bool, true, false, not, ◌&&◌, ℕ, List, [], ◌∷◌, ◌++◌, length, Option, Some, None, if◌then◌else◌}
+use Rattle.std.specs.Prelude.{bytes_eq, filter, is_some}
+use Rattle.std.proofs.lemmas.Slice.Eq.{bytes_eq-Decides}
+use Rattle.disk_base.specs.declared.cut.CutChoice.{CutChoice}
+use Rattle.gem_trace.specs.History.{Look, TraceEntry, bodies_at, traces_at}
+use Rattle.gem_trace.specs.History.TraceEntry.{Step as Sample}
+use Rattle.gem_trace.specs.Laws.{WhatRunsIsLookedBackFor}
+use Rattle.secs_items.specs.declared.encode_fault.EncodeFault.{EncodeFault}
+use Rattle.secs_items.specs.declared.item.Item.{Item}
+use Rattle.secs_items.specs.Encoding.{encode_fault}
+use Rattle.secs_items.specs.Spelling.{shortest_spelling}
+use Rattle.spool_slots.specs.Slot.{Message as Kept}
+use Rattle.trace_log.specs.declared.commands.ToolCommand.{ToolCommand}
+use Rattle.trace_log.specs.Log.{Happening}
+use Rattle.message_end.specs.Core.{Step, Went, and_then, at_first, step_in}
+use Rattle.message_end.specs.Core.Went.{Goes, Spent}
+use Rattle.message_end.specs.Course.{Course, Meeting, broken_at, course_of, filled_at, noted_behind, went_on, with_meeting}
+use Rattle.message_end.specs.Course.Course.{Reached, Stopped}
+use Rattle.message_end.specs.Course.Meeting.{Acts, Breaks, Fills, LosesPower, Restarts, Writes}
+use Rattle.message_end.specs.Ends.{Input, IsFront, Loss, call_of}
+use Rattle.message_end.specs.Own.{Has}
+use Rattle.message_end.specs.Parts.{Node, after_parts}
+use Rattle.message_end.proofs.Growing.{behind-both}
+use Rattle.message_end.proofs.Parts.{OnEither}
+use Rattle.equipment_tables.specs.declared.plan.EquipmentPlan.{EquipmentPlan}
+use Rattle.equipment_tables.specs.Laws.{TablesAreLookedBackFor}
+use Rattle.equipment_tables.specs.Plan.{EquipmentPlanFits}
+use Rattle.equipment_tables.specs.Tables.{TablesState}
+use Rattle.spool_works.proofs.LossCounts.{has-call}
+use Rattle.tool_step.specs.declared.kind.Kind.{Kind}
+use Rattle.tool_step.specs.Own.{OwnView}
+use Rattle.tool_step.specs.Disk.{stops, works_of}
+use Rattle.tool_step.specs.End.{machine}
+use Rattle.tool_step.specs.Equipment.{EquipmentView, act, begun_step, ended_step, is_marked_out, needs_numbers, node_step, oldest_of, parts_done, reserved, restarts, settled, settled_step, settled_went, started_on, starts, went_with_file}
+use Rattle.tool_step.specs.Losses.{losses}
+use Rattle.tool_step.specs.Step.{first_parts, last_parts}
+use Rattle.tool_step.proofs.LossCalls.{losses-counted}
+use Rattle.tool_law.specs.Sound.{AllCanBeSent}
+use Rattle.tool_law.proofs.Lawful.{fronts-are}
+use Rattle.tool_reports.specs.LookedBack.{HasWhatWasSet}
+use Rattle.tool_reports.specs.Reported.{IsTextOf, count_of, tables_in}
+use Rattle.tool_reports.specs.Sampled.{AreSampled, Stepped, datas_in, due_in, history_of, is_text_of, look_of}
+use Rattle.tool_reports.proofs.PlainTurns.{count_waiting}
+use Rattle.tool_reports.proofs.QuietNotes.{counted, one, some-passes}
+use Rattle.tool_reports.proofs.QuietReports.{equal-bytes}
+use Rattle.tool_reports.proofs.Reporting.{tables-so}
+use Rattle.tool_traces.specs.Laws.{TracesHold}
+use Rattle.tool_traces.specs.Steps.{stepped, steps_behind, steps_broken, steps_filled, steps_met, steps_started}
+use Rattle.tool_traces.proofs.IdleNotes.{AreNoStarts, datas-grow, reads-none}
+use Rattle.tool_traces.proofs.TracedMessages.{run}
+use Rattle.tool_traces.proofs.TracedParts.{AtEnd, AtFirst, AtSpent, all_due, first-keeps, last-keeps}
+use Rattle.tool_traces.proofs.TracedTurns.{count_items, counted-both}
+
+abbrev FileStep : Type 0
+FileStep = Step EquipmentView Happening
+
+abbrev FileWent : Type 0
+FileWent = Went EquipmentView Happening
+
+counted-more : {X : Type 0} (test : X → Bool) (xs ys : List X)
+    → length (filter test ys) ≤ length (filter test (xs ++ ys))
+counted-more test xs ys = let both = counted-both test xs ys in omega (arith, both)
+
+rest-no-starts : (front rest : List Happening) → AreNoStarts (front ++ rest) → AreNoStarts rest
+rest-no-starts [] rest none = none
+rest-no-starts (what ∷ front) rest none = rest-no-starts front rest none.1
+
+-- ---- where it has come to
+
+module _ (plan : EquipmentPlan) where
+  -- the traces that run are those of the history; and no more S6F1 were sent, or wait, than were due
+  pub record IsReachedSo (steps : List Stepped) (own : OwnView) (notes : List Happening) : Type 0 where
+    pub runs : own.tracing.running ≡ traces_at (history_of plan steps)
+    pub few :
+        (body : List ℕ)
+        → count_of body (datas_in notes)
+        + (count_waiting body own.tracing.for_grant + count_items body own.tracing.made)
+        ≤ count_items body (due_in plan steps)
+
+  abbrev AreFew : List Stepped → List Happening → Type 0
+  AreFew steps notes = (body : List ℕ) → count_of body (datas_in notes) ≤ count_items body (due_in plan steps)
+
+  abbrev IsCourseSo : List Stepped → Course EquipmentView → Type 0
+  IsCourseSo steps (Reached s notes) = IsReachedSo steps s.node.own notes
+  IsCourseSo steps (Stopped notes) = AreFew steps notes
+
+  few-so : (steps : List Stepped) (own : OwnView) (notes : List Happening) → IsReachedSo steps own notes
+      → AreFew steps notes
+  few-so steps own notes so body = let all = so.few body in omega (arith, all)
+
+  -- ---- one step
+
+  module _ (looked : WhatRunsIsLookedBackFor) (steps : List Stepped) (notes : List Happening) (now : ℕ) where
+    abbrev look : Look
+    look = look_of plan (stepped now notes [])
+
+    abbrev past : List TraceEntry
+    past = history_of plan steps
+
+    abbrev due : List Item
+    due = due_in plan steps
+
+    abbrev WellEnds : FileStep → Type 0
+    WellEnds step = AtEnd notes look past due looked (node_step step)
+
+    abbrev FewEnds : FileStep → Type 0
+    FewEnds step = AtSpent notes look past due looked (node_step step)
+
+    at-start : (s : EquipmentView) → s.node.own.tables ≡ tables_in plan notes → IsReachedSo steps s.node.own notes
+        → AtFirst notes look past due looked (at_first s.node)
+    at-start s tables so = record {
+      so = record {
+        sent = datas_in notes;
+        asked = [];
+        reads = reads-none notes look (run notes look past (all_due notes look past due looked) looked);
+        runs = record { none = refl; runs = so.runs };
+        few = so.few;
+      };
+      vars = ap (λ (t : TablesState). t.vars) tables;
+    }
+
+    none-sent : (s : EquipmentView) → IsReachedSo steps s.node.own notes → FewEnds (at_first s)
+    none-sent s so = record {
+      sent = datas_in notes;
+      asked = [];
+      reads = reads-none notes look (run notes look past (all_due notes look past due looked) looked);
+      few = λ body.
+          let few = few-so steps s.node.own notes so body in
+          let more = counted-more (is_text_of body) (bodies_at past look) due in
+          omega (arith, few, more);
+    }
+
+    with-file : (s : EquipmentView) (went : Went (Node OwnView Kind) Happening)
+        → OnEither (AtEnd notes look past due looked) (AtSpent notes look past due looked) went
+        → OnEither WellEnds FewEnds (went_with_file s went)
+    with-file s (Goes step) at = at
+    with-file s (Spent step) at = at
+
+    begun-keeps : (input : Input ToolCommand) (s : EquipmentView) → s.node.own.tables ≡ tables_in plan notes
+        → IsReachedSo steps s.node.own notes → OnEither WellEnds FewEnds (begun_step s input now)
+    begun-keeps input s tables so = go (needs_numbers s) (is_marked_out s.mark)
+      where
+        go : (needs spent : Bool)
+            → OnEither WellEnds FewEnds
+            (and_then
+            (if needs then if spent then Spent (at_first s) else Goes (at_first (reserved s)) else Goes (at_first s))
+            (parts_done (first_parts input now)))
+        go true true = none-sent s so
+        go true false =
+            with-file (reserved s) (after_parts Some (first_parts input now) (at_first (reserved s).node))
+            (first-keeps notes look past due looked input (at_first (reserved s).node)
+            (at-start (reserved s) tables so))
+        go false spent =
+            with-file s (after_parts Some (first_parts input now) (at_first s.node))
+            (first-keeps notes look past due looked input (at_first s.node) (at-start s tables so))
+
+    act-keeps : (input : Input ToolCommand) (s : EquipmentView) → s.node.own.tables ≡ tables_in plan notes
+        → IsReachedSo steps s.node.own notes → OnEither WellEnds FewEnds (act s input now)
+    act-keeps input s tables so = go (begun_step s input now) (begun-keeps input s tables so)
+      where
+        go : (went : FileWent) → OnEither WellEnds FewEnds went
+            → OnEither WellEnds FewEnds (and_then (settled_went went) (ended_step now))
+        go (Spent step) at = at
+        go (Goes step) at =
+            with-file (settled step.next)
+            (after_parts Some (last_parts (oldest_of (settled step.next)) now) (node_step (settled_step step)))
+            (last-keeps notes look past due looked (oldest_of (settled step.next)) now
+            (node_step (settled_step step))
+            (record { sent = at.sent; asked = at.asked; reads = at.reads; runs = at.runs; few = at.few }))
+
+    -- what is read off the notes of the step, as of all
+    few-behind : (step : FileStep) → FewEnds step → AreFew (stepped now notes step.notes ∷ steps)
+        (noted_behind step.notes notes)
+    few-behind step few body =
+        let all = few.few body in
+        let same = ap (λ (sent : List (List ℕ)). count_of body sent) few.reads.datas in
+        omega (arith, all, same)
+
+    well-behind : (step : FileStep) → WellEnds step
+        → IsReachedSo (stepped now notes step.notes ∷ steps) step.next.node.own (noted_behind step.notes notes)
+    well-behind step at = record {
+      runs =
+          at.runs
+          ∙ ap (λ (asked : List TraceEntry). traces_at (past ++ Sample look ∷ asked)) (sym at.reads.asks);
+      few = λ body.
+          let all = at.few body in
+          let same = ap (λ (sent : List (List ℕ)). count_of body sent) at.reads.datas in
+          omega (arith, all, same);
+    }
+
+    step-so : (went : FileWent) → OnEither WellEnds FewEnds went
+        → IsCourseSo (stepped now notes (step_in went).notes ∷ steps) (went_on went notes)
+    step-so (Goes step) at = well-behind step at
+    step-so (Spent step) at = few-behind step at
+
+    spent-of : (went : FileWent) → OnEither WellEnds FewEnds went → FewEnds (step_in went)
+    spent-of (Goes step) at = record {
+      sent = at.sent;
+      asked = at.asked;
+      reads = at.reads;
+      few = λ body. let all = at.few body in omega (arith, all);
+    }
+    spent-of (Spent step) at = at
+
+    -- what is noted where a call of the disk stops the step
+    front-so : (input : Input ToolCommand) (s : EquipmentView) (front : List Happening)
+        → s.node.own.tables ≡ tables_in plan notes → IsReachedSo steps s.node.own notes
+        → Has (stops s input now) front → AreFew (stepped now notes front ∷ steps) (noted_behind front notes)
+    front-so input s front tables so has body =
+        let few = spent-of (begun_step s input now) (begun-keeps input s tables so) in
+        let first : IsFront front (step_in (begun_step s input now)).notes =
+        fronts-are (works_of s input now) [] (step_in (begun_step s input now)).notes front has in
+        let all = few-behind (step_in (begun_step s input now)) few body in
+        let none = rest-no-starts front first.rest (subst AreNoStarts first.whole few.reads.no_start) in
+        let grow = datas-grow body first.rest (noted_behind front notes) none in
+        let same =
+        ap (λ (l : List Happening). count_of body (datas_in l))
+        (ap (λ (l : List Happening). noted_behind l notes) first.whole ∙ behind-both front first.rest notes) in
+        omega (arith, all, grow, same)
+
+  -- ---- over all starts
+
+  started-so : (other : EquipmentPlan) (slots : ℕ) (list : List Kept) (mark : ℕ) (steps : List Stepped)
+      (notes : List Happening) → AreFew steps notes
+      → IsCourseSo (steps_started (starts other slots list mark) steps) (went_on (starts other slots list mark) notes)
+  started-so other slots list mark steps notes few = go (is_marked_out mark)
+    where
+      went : Bool → FileWent
+      went spent =
+          if spent then Spent (at_first (record (started_on other slots list mark).next { mark = mark }))
+          else Goes (started_on other slots list mark)
+
+      go : (spent : Bool) → IsCourseSo (steps_started (went spent) steps) (went_on (went spent) notes)
+      go true = few
+      go false = record { runs = refl; few = λ body. omega (arith) }
+
+  module _ (looked : WhatRunsIsLookedBackFor) where
+    broken-so :
+        (input : Input ToolCommand) (now call : ℕ) (choice : CutChoice) (steps : List Stepped) (s : EquipmentView)
+        (notes : List Happening) (found : Option (Loss EquipmentView)) → call_of call (losses s input now) ≡ found
+        → s.node.own.tables ≡ tables_in plan notes → IsReachedSo steps s.node.own notes
+        → IsCourseSo (steps_broken (λ (loss : Loss EquipmentView). restarts (loss.left choice) now) now notes found steps)
+        (broken_at machine now choice s notes found)
+    broken-so input now call choice steps s notes None is tables so = so
+    broken-so input now call choice steps s notes (Some loss) is tables so =
+        started-so (loss.left choice).node.own.plan (loss.left choice).node.own.ledger.slots (loss.left choice).list
+        (loss.left choice).mark (stepped now notes loss.front ∷ steps)
+        (Happening.Power ∷ noted_behind loss.front notes)
+        (front-so looked steps notes now input s loss.front tables so
+        ((losses-counted s input now).1 loss (has-call call (losses s input now) loss is)))
+
+    filled-so :
+        (input : Input ToolCommand) (now call : ℕ) (steps : List Stepped) (s : EquipmentView) (notes : List Happening)
+        (found : Option (Loss EquipmentView)) → call_of call (losses s input now) ≡ found
+        → s.node.own.tables ≡ tables_in plan notes → IsReachedSo steps s.node.own notes
+        → IsCourseSo (steps_filled now notes found steps) (filled_at s notes found)
+    filled-so input now call steps s notes None is tables so = so
+    filled-so input now call steps s notes (Some loss) is tables so =
+        front-so looked steps notes now input s loss.front tables so
+        ((losses-counted s input now).1 loss (has-call call (losses s input now) loss is))
+
+    meeting-so :
+        (meeting : Meeting ToolCommand) (steps : List Stepped) (course : Course EquipmentView)
+        → HasWhatWasSet plan course → IsCourseSo steps course
+        → IsCourseSo (steps_behind meeting course steps) (with_meeting machine meeting course)
+    meeting-so meeting steps (Stopped notes) tables so = so
+    meeting-so (Acts input now) steps (Reached s notes) tables so =
+        step-so looked steps notes now (act s input now) (act-keeps looked steps notes now input s tables so)
+    meeting-so (Restarts now) steps (Reached s notes) tables so =
+        started-so s.node.own.plan s.node.own.ledger.slots s.list s.mark steps notes
+        (few-so steps s.node.own notes so)
+    meeting-so (Writes characters) steps (Reached s notes) tables so = record { runs = so.runs; few = so.few }
+    meeting-so LosesPower steps (Reached s notes) tables so = record { runs = so.runs; few = so.few }
+    meeting-so (Breaks input now call choice) steps (Reached s notes) tables so =
+        broken-so input now call choice steps s notes (call_of call (losses s input now)) refl tables so
+    meeting-so (Fills input now call) steps (Reached s notes) tables so =
+        filled-so input now call steps s notes (call_of call (losses s input now)) refl tables so
+
+    course-so :
+        (fits : EquipmentPlanFits plan) (tables : TablesAreLookedBackFor) (slots : ℕ) (list : List Kept) (mark : ℕ)
+        → AllCanBeSent list → (meetings : List (Meeting ToolCommand))
+        → IsCourseSo (steps_met (started_on plan slots list mark) meetings)
+        (course_of (started_on plan slots list mark) machine meetings)
+    course-so fits tables slots list mark can [] = record { runs = refl; few = λ body. omega (arith) }
+    course-so fits tables slots list mark can (meeting ∷ meetings) =
+        meeting-so meeting (steps_met (started_on plan slots list mark) meetings)
+        (course_of (started_on plan slots list mark) machine meetings)
+        (tables-so plan fits tables slots list mark can meetings)
+        (course-so fits tables slots list mark can meetings)
+
+-- ---- what is said of them
+
+has-counts : (body : List ℕ) (all : List (List ℕ)) → Has all body → 0 < count_of body all
+has-counts body [] has = absurd has
+has-counts body (first ∷ all) (inl same) =
+    let more = counted (bytes_eq body) first all in
+    let is = ap one (ap (bytes_eq body) (sym same) ∙ equal-bytes body) in
+    omega (arith, more, is)
+has-counts body (first ∷ all) (inr has) =
+    let more = counted (bytes_eq body) first all in
+    let rest = has-counts body all has in
+    omega (arith, more, rest)
+
+text-so : (item : Item) (body : List ℕ) → is_text_of body item ≡ true → IsTextOf item body
+text-so item body is = go (encode_fault item) (bytes_eq body (shortest_spelling item)) refl refl is
+  where
+    go : (fault : Option EncodeFault) (same : Bool) → encode_fault item ≡ fault
+        → bytes_eq body (shortest_spelling item) ≡ same → (not (is_some fault) && same) ≡ true → IsTextOf item body
+    go None true none equal all =
+        record { spelled = none; shortest = (bytes_eq-Decides body (shortest_spelling item)).0 equal }
+    go None false none equal all = absurd (cc)
+    go (Some fault) same none equal all = absurd (cc)
+
+sampled-so : (plan : EquipmentPlan) (steps : List Stepped) (notes : List Happening)
+    → ((body : List ℕ) → count_of body (datas_in notes) ≤ count_items body (due_in plan steps))
+    → AreSampled plan notes steps
+sampled-so plan steps notes few = record {
+  each = λ body has.
+      let some = has-counts body (datas_in notes) has in
+      let most = few body in
+      let found = some-passes (is_text_of body) (due_in plan steps) (omega (arith, some, most)) in
+      record { item = found.0; due = found.1; text = text-so found.0 body found.2 };
+  once = few;
+}
+
+pub traces-so :
+    (plan : EquipmentPlan) → EquipmentPlanFits plan → TablesAreLookedBackFor → WhatRunsIsLookedBackFor → (slots : ℕ)
+    (list : List Kept) (mark : ℕ) → AllCanBeSent list → (meetings : List (Meeting ToolCommand))
+    → TracesHold plan (course_of (started_on plan slots list mark) machine meetings)
+    (steps_met (started_on plan slots list mark) meetings)
+traces-so plan fits tables looked slots list mark can meetings =
+    go (course_of (started_on plan slots list mark) machine meetings)
+    (course-so plan looked fits tables slots list mark can meetings)
+  where
+    steps : List Stepped
+    steps = steps_met (started_on plan slots list mark) meetings
+
+    go : (course : Course EquipmentView) → IsCourseSo plan steps course → TracesHold plan course steps
+    go (Reached s notes) so =
+        record { sampled = sampled-so plan steps notes (few-so plan steps s.node.own notes so); runs = so.runs }
+    go (Stopped notes) so = record { sampled = sampled-so plan steps notes so; runs = tt }
