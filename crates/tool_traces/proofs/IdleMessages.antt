@@ -40,7 +40,7 @@ use Rattle.tool_step.specs.declared.kind.Kind.{Kind}
 use Rattle.tool_step.specs.declared.kind.Kind.TheVariants as kind
 use Rattle.tool_step.specs.Grants.{GrantView}
 use Rattle.tool_step.specs.Messages.{answer_turn, control_answer_duties, control_request_turn, dropped_turn, error_turn, established_duties, established_turn, offline_turn, own_request_commands, own_request_of, stray_turn}
-use Rattle.tool_step.specs.Own.{OwnView, ToolTurn, event_report, is_communicating, is_granted_by, is_local, turn_before, turn_of, waiting_report, with_control, with_ledger, with_tables, without_grant, without_report, without_traced}
+use Rattle.tool_step.specs.Own.{OwnView, ToolTurn, event_report, is_communicating, is_granted_by, is_local, turn_before, turn_of, waiting_report, with_control, with_ledger, with_tables, without_grant, without_report, without_waiting_data}
 use Rattle.tool_step.specs.Replies.{block_timer, given_up_by_t4, given_up_turn, granted_turn, loss_turn, reply_timer, timeout_turn}
 use Rattle.tool_step.specs.Sampling.{trace_name}
 use Rattle.tool_step.specs.Sent as sent
@@ -78,7 +78,7 @@ loss-idle now kind.UnloadGrant system own e =
     note-idle own (unloaded_own own) (Happening.Denied states.event_name) (kept own (unloaded_own own) refl) tt
 loss-idle now kind.Trace system own e = nothing-idle own own (itself own)
 loss-idle now kind.TraceGrant system own e =
-    note-idle own (without_traced system own) (Happening.Denied trace_name) (untraced-kept own system) tt
+    note-idle own (without_waiting_data system own) (Happening.Denied trace_name) (untraced-kept own system) tt
 
 timeout-idle : (now : ℕ) (found : Option (Header × Kind)) (own : OwnView) (e : EndView Kind)
     → IsIdleTurn own (timeout_turn now found own e)

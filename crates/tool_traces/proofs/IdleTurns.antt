@@ -41,7 +41,7 @@ use Rattle.spool_ledger.specs.Unloading.{confirmed, counted, is_oldest_tried, se
 use Rattle.tool_step.specs.declared.kind.Kind.{Kind}
 use Rattle.tool_step.specs.declared.kind.Kind.TheVariants as kind
 use Rattle.tool_step.specs.Grants.{GrantView}
-use Rattle.tool_step.specs.Own.{OwnView, ToolCommands, ToolDuty, ToolTurn, TracingView, event_report, is_communicating, is_granted_by, is_online, quiet_turn, turn_before, turn_behind, with_comms, with_ledger, without_traced}
+use Rattle.tool_step.specs.Own.{OwnView, ToolCommands, ToolDuty, ToolTurn, TracingView, event_report, is_communicating, is_granted_by, is_online, quiet_turn, turn_before, turn_behind, with_comms, with_ledger, without_waiting_data}
 use Rattle.tool_step.specs.Reports.{judged_turn, report_turn, text_turn, unreported_turn}
 use Rattle.tool_step.specs.Sent as sent
 use Rattle.tool_step.specs.Spooling.{Stores, booked_turn, is_spooled, lines_commands, stored_turn, stores_all, stores_behind, stores_commands, stores_none}
@@ -70,7 +70,7 @@ kept own other same = record {
 pub itself : (own : OwnView) → KeepsTraces own own
 itself own = kept own own refl
 
-pub untraced-kept : (own : OwnView) (system : ℕ) → KeepsTraces own (without_traced system own)
+pub untraced-kept : (own : OwnView) (system : ℕ) → KeepsTraces own (without_waiting_data system own)
 untraced-kept own system = record {
   running = refl;
   made = refl;

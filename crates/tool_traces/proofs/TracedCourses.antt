@@ -40,14 +40,15 @@ use Rattle.tool_law.specs.Sound.{AllCanBeSent}
 use Rattle.tool_law.proofs.Lawful.{fronts-are}
 use Rattle.tool_reports.specs.LookedBack.{HasWhatWasSet}
 use Rattle.tool_reports.specs.Reported.{IsTextOf, count_of, tables_in}
-use Rattle.tool_reports.specs.Sampled.{AreSampled, Stepped, datas_in, due_in, history_of, is_text_of, look_of}
+use Rattle.tool_reports.specs.Sampled.{AreSampled, HaveWait, Stepped, datas_in, due_in, history_of, is_text_of, look_at_step}
 use Rattle.tool_reports.proofs.PlainTurns.{count_waiting}
 use Rattle.tool_reports.proofs.QuietNotes.{counted, one, some-passes}
 use Rattle.tool_reports.proofs.QuietReports.{equal-bytes}
 use Rattle.tool_reports.proofs.Reporting.{tables-so}
 use Rattle.tool_traces.specs.Laws.{TracesHold}
 use Rattle.tool_traces.specs.Steps.{stepped, steps_behind, steps_broken, steps_filled, steps_met, steps_started}
-use Rattle.tool_traces.proofs.IdleNotes.{AreNoStarts, datas-grow, reads-none}
+use Rattle.tool_traces.proofs.IdleCommands.{IsOdd}
+use Rattle.tool_traces.proofs.IdleNotes.{AreNoStarts, datas-grow, reads-none, waits-before}
 use Rattle.tool_traces.proofs.TracedMessages.{run}
 use Rattle.tool_traces.proofs.TracedParts.{AtEnd, AtFirst, AtSpent, all_due, first-keeps, last-keeps}
 use Rattle.tool_traces.proofs.TracedTurns.{count_items, counted-both}
@@ -70,30 +71,34 @@ rest-no-starts (what ∷ front) rest none = rest-no-starts front rest none.1
 
 module _ (plan : EquipmentPlan) where
   -- the traces that run are those of the history; and no more S6F1 were sent, or wait, than were due
-  pub record IsReachedSo (steps : List Stepped) (own : OwnView) (notes : List Happening) : Type 0 where
-    pub runs : own.tracing.running ≡ traces_at (history_of plan steps)
+  pub record IsReachedSo (steps : List Stepped) (s : EquipmentView) (notes : List Happening) : Type 0 where
+    pub runs : s.node.own.tracing.running ≡ traces_at (history_of plan steps)
+    pub odd : IsOdd s.node.core.asked
+    pub wait : HaveWait notes
     pub few :
         (body : List ℕ)
         → count_of body (datas_in notes)
-        + (count_waiting body own.tracing.for_grant + count_items body own.tracing.made)
+        + (count_waiting body s.node.own.tracing.for_grant + count_items body s.node.own.tracing.made)
         ≤ count_items body (due_in plan steps)
 
-  abbrev AreFew : List Stepped → List Happening → Type 0
-  AreFew steps notes = (body : List ℕ) → count_of body (datas_in notes) ≤ count_items body (due_in plan steps)
+  pub record AreFew (steps : List Stepped) (notes : List Happening) : Type 0 where
+    pub wait : HaveWait notes
+    pub few : (body : List ℕ) → count_of body (datas_in notes) ≤ count_items body (due_in plan steps)
 
   abbrev IsCourseSo : List Stepped → Course EquipmentView → Type 0
-  IsCourseSo steps (Reached s notes) = IsReachedSo steps s.node.own notes
+  IsCourseSo steps (Reached s notes) = IsReachedSo steps s notes
   IsCourseSo steps (Stopped notes) = AreFew steps notes
 
-  few-so : (steps : List Stepped) (own : OwnView) (notes : List Happening) → IsReachedSo steps own notes
+  few-so : (steps : List Stepped) (s : EquipmentView) (notes : List Happening) → IsReachedSo steps s notes
       → AreFew steps notes
-  few-so steps own notes so body = let all = so.few body in omega (arith, all)
+  few-so steps s notes so =
+      record { wait = so.wait; few = λ body. let all = so.few body in omega (arith, all) }
 
   -- ---- one step
 
   module _ (looked : WhatRunsIsLookedBackFor) (steps : List Stepped) (notes : List Happening) (now : ℕ) where
     abbrev look : Look
-    look = look_of plan (stepped now notes [])
+    look = look_at_step plan (stepped now notes [])
 
     abbrev past : List TraceEntry
     past = history_of plan steps
@@ -107,26 +112,27 @@ module _ (plan : EquipmentPlan) where
     abbrev FewEnds : FileStep → Type 0
     FewEnds step = AtSpent notes look past due looked (node_step step)
 
-    at-start : (s : EquipmentView) → s.node.own.tables ≡ tables_in plan notes → IsReachedSo steps s.node.own notes
+    at-start : (s : EquipmentView) → s.node.own.tables ≡ tables_in plan notes → IsReachedSo steps s notes
         → AtFirst notes look past due looked (at_first s.node)
     at-start s tables so = record {
       so = record {
         sent = datas_in notes;
         asked = [];
-        reads = reads-none notes look (run notes look past (all_due notes look past due looked) looked);
+        reads = reads-none notes look (run notes look past (all_due notes look past due looked) looked) so.wait;
         runs = record { none = refl; runs = so.runs };
+        odd = so.odd;
         few = so.few;
       };
       vars = ap (λ (t : TablesState). t.vars) tables;
     }
 
-    none-sent : (s : EquipmentView) → IsReachedSo steps s.node.own notes → FewEnds (at_first s)
+    none-sent : (s : EquipmentView) → IsReachedSo steps s notes → FewEnds (at_first s)
     none-sent s so = record {
       sent = datas_in notes;
       asked = [];
-      reads = reads-none notes look (run notes look past (all_due notes look past due looked) looked);
+      reads = reads-none notes look (run notes look past (all_due notes look past due looked) looked) so.wait;
       few = λ body.
-          let few = few-so steps s.node.own notes so body in
+          let few = (few-so steps s notes so).few body in
           let more = counted-more (is_text_of body) (bodies_at past look) due in
           omega (arith, few, more);
     }
@@ -138,7 +144,7 @@ module _ (plan : EquipmentPlan) where
     with-file s (Spent step) at = at
 
     begun-keeps : (input : Input ToolCommand) (s : EquipmentView) → s.node.own.tables ≡ tables_in plan notes
-        → IsReachedSo steps s.node.own notes → OnEither WellEnds FewEnds (begun_step s input now)
+        → IsReachedSo steps s notes → OnEither WellEnds FewEnds (begun_step s input now)
     begun-keeps input s tables so = go (needs_numbers s) (is_marked_out s.mark)
       where
         go : (needs spent : Bool)
@@ -156,7 +162,7 @@ module _ (plan : EquipmentPlan) where
             (first-keeps notes look past due looked input (at_first s.node) (at-start s tables so))
 
     act-keeps : (input : Input ToolCommand) (s : EquipmentView) → s.node.own.tables ≡ tables_in plan notes
-        → IsReachedSo steps s.node.own notes → OnEither WellEnds FewEnds (act s input now)
+        → IsReachedSo steps s notes → OnEither WellEnds FewEnds (act s input now)
     act-keeps input s tables so = go (begun_step s input now) (begun-keeps input s tables so)
       where
         go : (went : FileWent) → OnEither WellEnds FewEnds went
@@ -167,22 +173,34 @@ module _ (plan : EquipmentPlan) where
             (after_parts Some (last_parts (oldest_of (settled step.next)) now) (node_step (settled_step step)))
             (last-keeps notes look past due looked (oldest_of (settled step.next)) now
             (node_step (settled_step step))
-            (record { sent = at.sent; asked = at.asked; reads = at.reads; runs = at.runs; few = at.few }))
+            (record {
+              sent = at.sent;
+              asked = at.asked;
+              reads = at.reads;
+              runs = at.runs;
+              odd = at.odd;
+              few = at.few;
+            }))
 
     -- what is read off the notes of the step, as of all
     few-behind : (step : FileStep) → FewEnds step → AreFew (stepped now notes step.notes ∷ steps)
         (noted_behind step.notes notes)
-    few-behind step few body =
-        let all = few.few body in
-        let same = ap (λ (sent : List (List ℕ)). count_of body sent) few.reads.datas in
-        omega (arith, all, same)
+    few-behind step few = record {
+      wait = few.reads.wait;
+      few = λ body.
+          let all = few.few body in
+          let same = ap (λ (sent : List (List ℕ)). count_of body sent) few.reads.datas in
+          omega (arith, all, same);
+    }
 
     well-behind : (step : FileStep) → WellEnds step
-        → IsReachedSo (stepped now notes step.notes ∷ steps) step.next.node.own (noted_behind step.notes notes)
+        → IsReachedSo (stepped now notes step.notes ∷ steps) step.next (noted_behind step.notes notes)
     well-behind step at = record {
       runs =
           at.runs
           ∙ ap (λ (asked : List TraceEntry). traces_at (past ++ Sample look ∷ asked)) (sym at.reads.asks);
+      odd = at.odd;
+      wait = at.reads.wait;
       few = λ body.
           let all = at.few body in
           let same = ap (λ (sent : List (List ℕ)). count_of body sent) at.reads.datas in
@@ -205,19 +223,24 @@ module _ (plan : EquipmentPlan) where
 
     -- what is noted where a call of the disk stops the step
     front-so : (input : Input ToolCommand) (s : EquipmentView) (front : List Happening)
-        → s.node.own.tables ≡ tables_in plan notes → IsReachedSo steps s.node.own notes
+        → s.node.own.tables ≡ tables_in plan notes → IsReachedSo steps s notes
         → Has (stops s input now) front → AreFew (stepped now notes front ∷ steps) (noted_behind front notes)
-    front-so input s front tables so has body =
+    front-so input s front tables so has =
         let few = spent-of (begun_step s input now) (begun-keeps input s tables so) in
         let first : IsFront front (step_in (begun_step s input now)).notes =
         fronts-are (works_of s input now) [] (step_in (begun_step s input now)).notes front has in
-        let all = few-behind (step_in (begun_step s input now)) few body in
+        let whole : noted_behind (step_in (begun_step s input now)).notes notes
+        ≡ noted_behind first.rest (noted_behind front notes) =
+        ap (λ (l : List Happening). noted_behind l notes) first.whole ∙ behind-both front first.rest notes in
         let none = rest-no-starts front first.rest (subst AreNoStarts first.whole few.reads.no_start) in
-        let grow = datas-grow body first.rest (noted_behind front notes) none in
-        let same =
-        ap (λ (l : List Happening). count_of body (datas_in l))
-        (ap (λ (l : List Happening). noted_behind l notes) first.whole ∙ behind-both front first.rest notes) in
-        omega (arith, all, grow, same)
+        record {
+          wait = waits-before first.rest (noted_behind front notes) (subst HaveWait whole few.reads.wait);
+          few = λ body.
+              let all = (few-behind (step_in (begun_step s input now)) few).few body in
+              let grow = datas-grow body first.rest (noted_behind front notes) none in
+              let same = ap (λ (l : List Happening). count_of body (datas_in l)) whole in
+              omega (arith, all, grow, same);
+        }
 
   -- ---- over all starts
 
@@ -233,13 +256,17 @@ module _ (plan : EquipmentPlan) where
 
       go : (spent : Bool) → IsCourseSo (steps_started (went spent) steps) (went_on (went spent) notes)
       go true = few
-      go false = record { runs = refl; few = λ body. omega (arith) }
+      go false = record { runs = refl; odd = tt; wait = few.wait; few = λ body. omega (arith) }
+
+  power-so : (steps : List Stepped) (notes : List Happening) → AreFew steps notes
+      → AreFew steps (Happening.Power ∷ notes)
+  power-so steps notes so = record { wait = so.wait; few = so.few }
 
   module _ (looked : WhatRunsIsLookedBackFor) where
     broken-so :
         (input : Input ToolCommand) (now call : ℕ) (choice : CutChoice) (steps : List Stepped) (s : EquipmentView)
         (notes : List Happening) (found : Option (Loss EquipmentView)) → call_of call (losses s input now) ≡ found
-        → s.node.own.tables ≡ tables_in plan notes → IsReachedSo steps s.node.own notes
+        → s.node.own.tables ≡ tables_in plan notes → IsReachedSo steps s notes
         → IsCourseSo (steps_broken (λ (loss : Loss EquipmentView). restarts (loss.left choice) now) now notes found steps)
         (broken_at machine now choice s notes found)
     broken-so input now call choice steps s notes None is tables so = so
@@ -247,13 +274,14 @@ module _ (plan : EquipmentPlan) where
         started-so (loss.left choice).node.own.plan (loss.left choice).node.own.ledger.slots (loss.left choice).list
         (loss.left choice).mark (stepped now notes loss.front ∷ steps)
         (Happening.Power ∷ noted_behind loss.front notes)
+        (power-so (stepped now notes loss.front ∷ steps) (noted_behind loss.front notes)
         (front-so looked steps notes now input s loss.front tables so
-        ((losses-counted s input now).1 loss (has-call call (losses s input now) loss is)))
+        ((losses-counted s input now).1 loss (has-call call (losses s input now) loss is))))
 
     filled-so :
         (input : Input ToolCommand) (now call : ℕ) (steps : List Stepped) (s : EquipmentView) (notes : List Happening)
         (found : Option (Loss EquipmentView)) → call_of call (losses s input now) ≡ found
-        → s.node.own.tables ≡ tables_in plan notes → IsReachedSo steps s.node.own notes
+        → s.node.own.tables ≡ tables_in plan notes → IsReachedSo steps s notes
         → IsCourseSo (steps_filled now notes found steps) (filled_at s notes found)
     filled-so input now call steps s notes None is tables so = so
     filled-so input now call steps s notes (Some loss) is tables so =
@@ -269,9 +297,9 @@ module _ (plan : EquipmentPlan) where
         step-so looked steps notes now (act s input now) (act-keeps looked steps notes now input s tables so)
     meeting-so (Restarts now) steps (Reached s notes) tables so =
         started-so s.node.own.plan s.node.own.ledger.slots s.list s.mark steps notes
-        (few-so steps s.node.own notes so)
-    meeting-so (Writes characters) steps (Reached s notes) tables so = record { runs = so.runs; few = so.few }
-    meeting-so LosesPower steps (Reached s notes) tables so = record { runs = so.runs; few = so.few }
+        (few-so steps s notes so)
+    meeting-so (Writes characters) steps (Reached s notes) tables so = record { runs = so.runs; odd = so.odd; wait = so.wait; few = so.few }
+    meeting-so LosesPower steps (Reached s notes) tables so = record { runs = so.runs; odd = so.odd; wait = so.wait; few = so.few }
     meeting-so (Breaks input now call choice) steps (Reached s notes) tables so =
         broken-so input now call choice steps s notes (call_of call (losses s input now)) refl tables so
     meeting-so (Fills input now call) steps (Reached s notes) tables so =
@@ -282,7 +310,8 @@ module _ (plan : EquipmentPlan) where
         → AllCanBeSent list → (meetings : List (Meeting ToolCommand))
         → IsCourseSo (steps_met (started_on plan slots list mark) meetings)
         (course_of (started_on plan slots list mark) machine meetings)
-    course-so fits tables slots list mark can [] = record { runs = refl; few = λ body. omega (arith) }
+    course-so fits tables slots list mark can [] =
+        record { runs = refl; odd = tt; wait = tt; few = λ body. omega (arith) }
     course-so fits tables slots list mark can (meeting ∷ meetings) =
         meeting-so meeting (steps_met (started_on plan slots list mark) meetings)
         (course_of (started_on plan slots list mark) machine meetings)
@@ -313,15 +342,15 @@ text-so item body is = go (encode_fault item) (bytes_eq body (shortest_spelling 
     go (Some fault) same none equal all = absurd (cc)
 
 sampled-so : (plan : EquipmentPlan) (steps : List Stepped) (notes : List Happening)
-    → ((body : List ℕ) → count_of body (datas_in notes) ≤ count_items body (due_in plan steps))
-    → AreSampled plan notes steps
-sampled-so plan steps notes few = record {
+    → AreFew plan steps notes → AreSampled plan notes steps
+sampled-so plan steps notes so = record {
+  wait = so.wait;
   each = λ body has.
       let some = has-counts body (datas_in notes) has in
-      let most = few body in
+      let most = so.few body in
       let found = some-passes (is_text_of body) (due_in plan steps) (omega (arith, some, most)) in
       record { item = found.0; due = found.1; text = text-so found.0 body found.2 };
-  once = few;
+  once = so.few;
 }
 
 pub traces-so :
@@ -338,5 +367,5 @@ traces-so plan fits tables looked slots list mark can meetings =
 
     go : (course : Course EquipmentView) → IsCourseSo plan steps course → TracesHold plan course steps
     go (Reached s notes) so =
-        record { sampled = sampled-so plan steps notes (few-so plan steps s.node.own notes so); runs = so.runs }
+        record { sampled = sampled-so plan steps notes (few-so plan steps s notes so); runs = so.runs }
     go (Stopped notes) so = record { sampled = sampled-so plan steps notes so; runs = tt }

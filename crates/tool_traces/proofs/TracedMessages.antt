@@ -42,7 +42,7 @@ use Rattle.tool_step.specs.declared.kind.Kind.{Kind}
 use Rattle.tool_step.specs.declared.kind.Kind.TheVariants as kind
 use Rattle.tool_step.specs.Codes.{is_accepted_in, is_granted_in}
 use Rattle.tool_step.specs.Messages.{dropped_turn, error_turn, established_turn, is_establish_request, is_online_request, known_turn, message_turn, offline_turn, primary_turn, read_turn, request_turn, stray_turn}
-use Rattle.tool_step.specs.Own.{OwnView, ToolTurn, is_communicating, is_enabled_in, is_online, quiet_turn, turn_of, waiting_report, waiting_trace, without_grant, without_report, without_traced}
+use Rattle.tool_step.specs.Own.{OwnView, ToolTurn, is_communicating, is_enabled_in, is_online, quiet_turn, turn_of, waiting_report, waiting_data, without_grant, without_report, without_waiting_data}
 use Rattle.tool_step.specs.Replies.{granted_turn, given_up_turn, loss_turn, matched_turn, reply_turn, secondary_turn}
 use Rattle.tool_step.specs.Sampling.{granted_trace_turn, running_by, tiaack_code, tiaack_in, trace_turn}
 use Rattle.tool_step.specs.Sent as sent
@@ -93,6 +93,7 @@ module _ (before : List Happening) (look : Look) (past : List TraceEntry) (due :
     runs =
         so.runs.runs
         ∙ ap (λ (asked : List TraceEntry). traces_at (past ++ Step look ∷ asked)) (sym so.runs.none);
+    odd = so.odd;
     few = so.few;
   }
 
@@ -143,6 +144,7 @@ module _ (before : List Happening) (look : Look) (past : List TraceEntry) (due :
             (ap (λ (f : Option Request). cons_option (setting_of f look run) []) is ∙ none)
             (noted message own step so);
         runs = record { none = refl; runs = so.runs.runs };
+        odd = so.odd;
         few = so.few;
       })
 
@@ -172,6 +174,7 @@ module _ (before : List Happening) (look : Look) (past : List TraceEntry) (due :
             ap (λ (r : List Running). running_by (tiaack_of own.tables.vars r asked) asked look.now r) so.runs.runs
             ∙ ap (λ (v : VarsTable). running_by (tiaack_of v run asked) asked look.now run) vars
             ∙ sets asked (tiaack_of look.vars run asked) refl;
+        odd = so.odd;
         few = so.few;
       })
 
@@ -292,7 +295,7 @@ module _ (before : List Happening) (look : Look) (past : List TraceEntry) (due :
     where
       go : (granted : Bool)
           → Keeps before look run Fresh due own
-          (if granted then granted_trace_turn (waiting_trace system own) (without_traced system own)
+          (if granted then granted_trace_turn (waiting_data system own) (without_waiting_data system own)
           else loss_turn look.now kind.TraceGrant system own e)
       go true = granted-keeps before look run Fresh due system own
       go false =

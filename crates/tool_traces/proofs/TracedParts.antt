@@ -37,7 +37,7 @@ use Rattle.tool_step.specs.declared.kind.Kind.TheVariants as kind
 use Rattle.tool_step.specs.Own.{OwnView, ToolPart, ToolTurn, is_communicating, is_online, quiet_turn, with_ledger, with_tried}
 use Rattle.tool_step.specs.Replies.{block_timer, given_up_by_t4, loss_turn, reply_timer, timeout_turn}
 use Rattle.tool_step.specs.Reports.{unreported_turn}
-use Rattle.tool_step.specs.Sampling.{first_turn, inquired_turn, made_part, sample_parts, sampled_text_turn, sampling, trace_data_turn, trace_grant_turn, trace_name, trace_sent_turn, with_inquired, with_made}
+use Rattle.tool_step.specs.Sampling.{first_turn, data_inquiry_turn, made_part, sample_parts, sampled_text_turn, sampling, trace_data_turn, trace_grant_turn, trace_name, trace_sent_turn, with_data_inquiry, with_made}
 use Rattle.tool_step.specs.Sent as sent
 use Rattle.tool_step.specs.Spooling.{dataid_in, end_of_spooling, inquiry_turn, needs_grant, sent_turn, stopped_turn, taking_turn, tried_turn, unload_part, unloaded, unloaded_own, unloading_turn, waiting_text}
 use Rattle.tool_step.specs.States as states
@@ -46,8 +46,9 @@ use Rattle.equipment_tables.specs.declared.answers.Answer.{Answer as Text}
 use Rattle.equipment_tables.specs.declared.answers.Answer.TheVariants as answer
 use Rattle.tool_law.proofs.CoreSteps.{CoreStep}
 use Rattle.tool_reports.specs.Reported.{is_of, tries_in}
-use Rattle.tool_reports.specs.Sampled.{datas_in, is_data, is_text_of, setting_in, settings_in}
+use Rattle.tool_reports.specs.Sampled.{HaveWait, datas_in, is_data, is_text_of, setting_in, settings_in}
 use Rattle.tool_reports.proofs.QuietNotes.{one-behind}
+use Rattle.tool_traces.proofs.IdleCommands.{ReadsStep}
 use Rattle.tool_traces.proofs.IdleMessages.{after-idle, block-timer-idle, reply-timer-idle}
 use Rattle.tool_traces.proofs.IdleNotes.{Reads, idle-note, no-starts-more, reads-idle}
 use Rattle.tool_traces.proofs.IdleTurns.{IsIdleTurn, KeepsTraces, booked-idle, comms-idle, fixed-idle, itself, kept, leaving-idle, led-idle, nothing-idle, rested-lines}
@@ -121,12 +122,12 @@ begin-tables now own e = go (own.has_begun || not own.plan.enable)
     go false = refl
 
 inquired-tables : (asked : Text) (body : List ℕ) (own : OwnView) (e : EndView Kind)
-    → (inquired_turn asked body own e).own.tables ≡ own.tables
+    → (data_inquiry_turn asked body own e).own.tables ≡ own.tables
 inquired-tables answer.TooLong body own e = refl
 inquired-tables (answer.Body text) body own e = go (is_crowded_out true e) (next_number e.numbers)
   where
     go : (crowded : Bool) (next : Option ℕ)
-        → (if crowded then own else with_inquired next body own).tables ≡ own.tables
+        → (if crowded then own else with_data_inquiry next body own).tables ≡ own.tables
     go true next = refl
     go false None = refl
     go false (Some system) = refl
@@ -426,15 +427,12 @@ module _ (before : List Happening) (look : Look) (past : List TraceEntry) (due :
       → has_tried system (tries_in (noted_behind notes before)) ≡ true
       → is_data (primary_of (unloaded message) system) (noted_behind notes before) ≡ false
   tried-none message system notes tried =
-      ap
-      (λ (b : Bool). is_of 6 1 (primary_of (unloaded message) system)
-      && ((primary_of (unloaded message) system).wait && not b)) tried
-      ∙ never (is_of 6 1 (primary_of (unloaded message) system)) (primary_of (unloaded message) system).wait
+      ap (λ (b : Bool). is_of 6 1 (primary_of (unloaded message) system) && not b) tried
+      ∙ never (is_of 6 1 (primary_of (unloaded message) system))
     where
-      never : (a b : Bool) → (a && (b && false)) ≡ false
-      never true true = refl
-      never true false = refl
-      never false b = refl
+      never : (a : Bool) → (a && false) ≡ false
+      never true = refl
+      never false = refl
 
   reads-tried :
       (message : Spooled) (system : ℕ) (sent_now : List (List ℕ)) (asked : List TraceEntry) (notes : List Happening)
@@ -455,6 +453,9 @@ module _ (before : List Happening) (look : Look) (past : List TraceEntry) (due :
             flat_map-append (setting_in look the_run) notes (Happening.Sent out ∷ [])
             ∙ append-nil (settings_in notes look the_run) ∙ so.asks;
         no_start = no-starts-more notes (Happening.Sent out ∷ []) so.no_start (tt, tt);
+        wait =
+            subst HaveWait (sym (one-behind notes (Happening.Sent out) before))
+            ((λ one_is. let none = tried-none message system notes tried in absurd (cc)), so.wait);
       }
 
   -- it goes under the number that was drawn for it
@@ -480,7 +481,7 @@ module _ (before : List Happening) (look : Look) (past : List TraceEntry) (due :
       keeps true = kept own (unloaded_own own) refl
       keeps false = itself own
 
-      with_notes : (next : CoreStep) → Reads before look the_run so.sent so.asked next.notes → IsWell left next
+      with_notes : (next : CoreStep) → ReadsStep before look the_run so.sent so.asked next → IsWell left next
       with_notes next reads =
           still before look the_run (Follows before look past all_due looked) all_due own left step next
           (keeps (is_crowded_out true e)) so reads
@@ -491,12 +492,15 @@ module _ (before : List Happening) (look : Look) (past : List TraceEntry) (due :
           else sends Some (unloaded message) system (with_end (record step.next { drawn = None }) step))
       go true =
           with_notes (noted Some (Happening.Full (unsent_name (unloaded message))) step)
-          (reads-idle before look the_run so.sent so.asked step.notes
-          (Happening.Full (unsent_name (unloaded message)))
-          (idle-note (Happening.Full (unsent_name (unloaded message))) tt) so.reads)
+          (
+            reads-idle before look the_run so.sent so.asked step.notes
+                (Happening.Full (unsent_name (unloaded message)))
+                (idle-note (Happening.Full (unsent_name (unloaded message))) tt) so.reads,
+            so.odd,
+          )
       go false =
           with_notes (sends Some (unloaded message) system (with_end (record step.next { drawn = None }) step))
-          (reads-tried message system so.sent so.asked step.notes tried so.reads)
+          (reads-tried message system so.sent so.asked step.notes tried so.reads, so.odd)
 
   out-well :
       (message : Spooled) (system : ℕ) (own : OwnView) (e : EndView Kind) (step : CoreStep)
@@ -536,8 +540,11 @@ module _ (before : List Happening) (look : Look) (past : List TraceEntry) (due :
       ∙ first-tried system (tries_in (noted_behind step.notes before)))
       (still before look the_run (Follows before look past all_due looked) all_due own tried_own step
       (noted Some (Happening.Try number system) next) (kept own tried_own refl) so
-      (reads-idle before look the_run so.sent so.asked step.notes (Happening.Try number system)
-      (idle-note (Happening.Try number system) tt) so.reads))
+      (
+        reads-idle before look the_run so.sent so.asked step.notes (Happening.Try number system)
+            (idle-note (Happening.Try number system) tt) so.reads,
+        so.odd,
+      ))
     where
       tried_own : OwnView
       tried_own = with_tried system (with_ledger (taken_up number system (waiting_text message) own.ledger).next own)
@@ -559,7 +566,7 @@ module _ (before : List Happening) (look : Look) (past : List TraceEntry) (due :
       held : IsWell on step
       held =
           still before look the_run (Follows before look past all_due looked) all_due own on step step
-          (kept own on refl) so so.reads
+          (kept own on refl) so (so.reads, so.odd)
 
       go : (number : Option ℕ) (oldest : Option Spooled)
           → EndsWell (taking_turn number oldest on step.next).own
@@ -579,7 +586,7 @@ module _ (before : List Happening) (look : Look) (past : List TraceEntry) (due :
               (with_waiting step.next.outgoing (without_first (is_named true last) step.next.outgoing.waiting)) step in
               taken-well number message on (core_after Draw removed.next) removed (next_number removed.next.numbers)
               (still before look the_run (Follows before look past all_due looked) all_due on on step removed
-              (itself on) held held.reads)
+              (itself on) held (held.reads, held.odd))
 
   -- ---- the last parts
 

@@ -23,9 +23,9 @@ use Rattle.equipment_tables.specs.declared.answers.Answer.TheVariants as answer
 use Rattle.equipment_tables.specs.Answers.{spelled_body}
 use Rattle.tool_step.specs.declared.kind.Kind.{Kind}
 use Rattle.tool_step.specs.Grants.{GrantView}
-use Rattle.tool_step.specs.Own.{OwnView, ToolTurn, is_communicating, is_granted_by, is_online, waiting_trace, without_traced}
+use Rattle.tool_step.specs.Own.{OwnView, ToolTurn, is_communicating, is_granted_by, is_online, waiting_data, without_waiting_data}
 use Rattle.tool_step.specs.Reports.{unreported_turn}
-use Rattle.tool_step.specs.Sampling.{first_turn, granted_trace_turn, inquired_own, inquired_turn, made_part, sampled_text_turn, sampled_turn, trace_data, trace_data_turn, trace_grant_turn, trace_inquiry, trace_name, trace_sent_turn, with_inquired, with_made}
+use Rattle.tool_step.specs.Sampling.{first_turn, granted_trace_turn, data_inquiry_own, data_inquiry_turn, made_part, sampled_text_turn, sampled_turn, trace_data, trace_data_turn, trace_grant_turn, trace_inquiry, trace_name, trace_sent_turn, with_data_inquiry, with_made}
 use Rattle.tool_step.specs.Sent as sent
 use Rattle.tool_step.specs.Spooling.{dataid_in}
 use Rattle.tool_law.proofs.CoreSteps.{CoreStep}
@@ -34,7 +34,7 @@ use Rattle.tool_reports.specs.Sampled.{is_text_of}
 use Rattle.tool_reports.proofs.PlainTurns.{count_waiting}
 use Rattle.tool_reports.proofs.QuietNotes.{counted, counted-last, one}
 use Rattle.tool_reports.proofs.QuietReports.{IsSpelledSo, found-waiting, spelled-so}
-use Rattle.tool_traces.proofs.IdleCommands.{IsIdleCommand, ReadsStep, carried-idle, done-idle}
+use Rattle.tool_traces.proofs.IdleCommands.{IsIdleCommand, IsOdd, ReadsStep, carried-idle, done-idle}
 use Rattle.tool_traces.proofs.IdleNotes.{IsIdleNote, Reads, idle-note, reads-idle, reads-sent}
 use Rattle.tool_traces.proofs.IdleTurns.{IsIdleTurn, KeepsTraces, fixed-idle, itself, note-idle, untraced-kept}
 
@@ -77,6 +77,7 @@ module _ (before : List Happening) (look : Look) (run : List Running)
     pub asked : List TraceEntry
     pub reads : Reads before look run sent asked step.notes
     pub runs : Runs own.tracing.running asked
+    pub odd : IsOdd step.next.asked
     pub few :
         (body : List ℕ)
         → count_of body sent
@@ -102,8 +103,9 @@ module _ (before : List Happening) (look : Look) (run : List Running)
   still own other step next keeps so reads = record {
     sent = so.sent;
     asked = so.asked;
-    reads = reads;
+    reads = reads.0;
     runs = subst (λ (r : List Running). Runs r so.asked) (sym keeps.running) so.runs;
+    odd = reads.1;
     few = λ body.
         let all = so.few body in
         let fewer = keeps.fewer body in
@@ -115,7 +117,7 @@ module _ (before : List Happening) (look : Look) (run : List Running)
   idle-keeps own turn idle step so =
       either-less (ReadsStep before look run so.sent so.asked) (ReadsStep before look run so.sent so.asked)
       (Traced turn.own) (FewSent before look run due) (all_done Some turn.duties step)
-      (done-idle before look run so.sent so.asked turn.duties step idle.duties so.reads)
+      (done-idle before look run so.sent so.asked turn.duties step idle.duties (so.reads, so.odd))
       (λ next reads. still own turn.own step next idle.keeps so reads)
       (λ next reads. few-of turn.own next (still own turn.own step next idle.keeps so reads))
 
@@ -126,7 +128,7 @@ module _ (before : List Happening) (look : Look) (run : List Running)
       either-then (Traced own) (FewSent before look run due) (Traced turn.own) (carried Some (lead ∷ []) step) (all_done Some turn.duties)
       (either-less (ReadsStep before look run so.sent so.asked) (ReadsStep before look run so.sent so.asked)
       (Traced own) (FewSent before look run due) (carried Some (lead ∷ []) step)
-      (carried-idle before look run so.sent so.asked (lead ∷ []) step (idle, tt) so.reads)
+      (carried-idle before look run so.sent so.asked (lead ∷ []) step (idle, tt) (so.reads, so.odd))
       (λ next reads. still own own step next (itself own) so reads)
       (λ next reads. few-of own next (still own own step next (itself own) so reads)))
       (λ next now_so. keeps next now_so)
@@ -134,23 +136,26 @@ module _ (before : List Happening) (look : Look) (run : List Running)
   -- ---- an S6F1 goes
 
   -- one with this text less waits, or is to be routed
-  abbrev HasSpare : OwnView → CoreStep → List ℕ → Type 0
-  HasSpare own step text =
-      (sent_now : List (List ℕ)) × (asked_now : List TraceEntry)
-      × Reads before look run sent_now asked_now step.notes
-      × Runs own.tracing.running asked_now
-      × ((body : List ℕ)
-      → count_of body sent_now
-      + (count_waiting body own.tracing.for_grant + (count_items body own.tracing.made + one (bytes_eq body text)))
-      ≤ count_items body due)
+  record HasSpare (own : OwnView) (step : CoreStep) (text : List ℕ) : Type 0 where
+    pub sent : List (List ℕ)
+    pub asked : List TraceEntry
+    pub reads : Reads before look run sent asked step.notes
+    pub runs : Runs own.tracing.running asked
+    pub odd : IsOdd step.next.asked
+    pub few :
+        (body : List ℕ)
+        → count_of body sent
+        + (count_waiting body own.tracing.for_grant + (count_items body own.tracing.made + one (bytes_eq body text)))
+        ≤ count_items body due
 
   without-spare : (own : OwnView) (step : CoreStep) (text : List ℕ) → HasSpare own step text → Traced own step
   without-spare own step text spare = record {
-    sent = spare.0;
-    asked = spare.1;
-    reads = spare.2;
-    runs = spare.3;
-    few = λ body. let all = spare.4 body in omega (arith, all);
+    sent = spare.sent;
+    asked = spare.asked;
+    reads = spare.reads;
+    runs = spare.runs;
+    odd = spare.odd;
+    few = λ body. let all = spare.few body in omega (arith, all);
   }
 
   -- a turn of one command
@@ -172,25 +177,28 @@ module _ (before : List Happening) (look : Look) (run : List Running)
           (if crowded then Goes (noted Some (Happening.Full (unsent_name (trace_data text))) step)
           else draws next (sends Some (trace_data text)) step)
       go true next = record {
-        sent = spare.0;
-        asked = spare.1;
+        sent = spare.sent;
+        asked = spare.asked;
         reads =
-            reads-idle before look run spare.0 spare.1 step.notes (Happening.Full (unsent_name (trace_data text)))
-            (idle-note (Happening.Full (unsent_name (trace_data text))) tt) spare.2;
-        runs = spare.3;
-        few = λ body. let all = spare.4 body in omega (arith, all);
+            reads-idle before look run spare.sent spare.asked step.notes (Happening.Full (unsent_name (trace_data text)))
+            (idle-note (Happening.Full (unsent_name (trace_data text))) tt) spare.reads;
+        runs = spare.runs;
+        odd = spare.odd;
+        few = λ body. let all = spare.few body in omega (arith, all);
       }
       go false None = few-of own step (without-spare own step text spare)
       go false (Some number) =
           let more =
-          reads-sent before look run (primary_of (trace_data text) number) spare.0 spare.1 step.notes spare.2 in
+          reads-sent before look run (primary_of (trace_data text) number) spare.sent spare.asked step.notes refl
+          spare.reads in
           record {
             sent = more.more;
-            asked = spare.1;
+            asked = spare.asked;
             reads = more.reads;
-            runs = spare.3;
+            runs = spare.runs;
+            odd = spare.odd;
             few = λ body.
-                let all = spare.4 body in
+                let all = spare.few body in
                 let few = more.few body in
                 omega (arith, all, few);
           }
@@ -198,24 +206,25 @@ module _ (before : List Happening) (look : Look) (run : List Running)
   -- or it waits for a grant
   inquired-keeps : (asked : Text) (text : List ℕ) (own : OwnView) (e : EndView Kind) (step : CoreStep)
       → HasSpare own step text
-      → Ends (inquired_turn asked text own e).own (all_done Some (inquired_turn asked text own e).duties step)
+      → Ends (data_inquiry_turn asked text own e).own (all_done Some (data_inquiry_turn asked text own e).duties step)
   inquired-keeps answer.TooLong text own e step spare = without-spare own step text spare
   inquired-keeps (answer.Body inquiry) text own e step spare =
-      idle-keeps (inquired_own text own e) (fixed_turn (inquired_own text own e) (Primary (trace_inquiry inquiry) ∷ []))
-      (fixed-idle (inquired_own text own e) (inquired_own text own e) (Primary (trace_inquiry inquiry) ∷ [])
-      (itself (inquired_own text own e)) (refl, tt)) step
+      idle-keeps (data_inquiry_own text own e) (fixed_turn (data_inquiry_own text own e) (Primary (trace_inquiry inquiry) ∷ []))
+      (fixed-idle (data_inquiry_own text own e) (data_inquiry_own text own e) (Primary (trace_inquiry inquiry) ∷ [])
+      (itself (data_inquiry_own text own e)) (refl, tt)) step
       (go (is_crowded_out true e) (next_number e.numbers))
     where
-      go : (crowded : Bool) (next : Option ℕ) → Traced (if crowded then own else with_inquired next text own) step
+      go : (crowded : Bool) (next : Option ℕ) → Traced (if crowded then own else with_data_inquiry next text own) step
       go true next = without-spare own step text spare
       go false None = without-spare own step text spare
       go false (Some system) = record {
-        sent = spare.0;
-        asked = spare.1;
-        reads = spare.2;
-        runs = spare.3;
+        sent = spare.sent;
+        asked = spare.asked;
+        reads = spare.reads;
+        runs = spare.runs;
+        odd = spare.odd;
         few = λ body.
-            let all = spare.4 body in
+            let all = spare.few body in
             let more =
             counted-last (λ (one : GrantView). bytes_eq body one.body) own.tracing.for_grant
             (record { system = system; body = text }) in
@@ -272,23 +281,25 @@ module _ (before : List Happening) (look : Look) (run : List Running)
   first-keeps [] own e step is so = so
   first-keeps (item ∷ items) own e step is so =
       sampled-keeps item (with_made items own) e step
-      (λ text spelled. (
-        so.sent,
-        so.asked,
-        so.reads,
-        so.runs,
-        λ body.
+      (λ text spelled. record {
+        sent = so.sent;
+        asked = so.asked;
+        reads = so.reads;
+        runs = so.runs;
+        odd = so.odd;
+        few = λ body.
             let all = so.few body in
             let first = ap (λ (made : List Item). count_items body made) is in
             let counts = counted (is_text_of body) item items in
             let same = text-counts own.plan.line.max_body item text body spelled in
-            omega (arith, all, first, counts, same),
-      ))
+            omega (arith, all, first, counts, same);
+      })
       (record {
         sent = so.sent;
         asked = so.asked;
         reads = so.reads;
         runs = so.runs;
+        odd = so.odd;
         few = λ body.
             let all = so.few body in
             let first = ap (λ (made : List Item). count_items body made) is in
@@ -302,29 +313,31 @@ module _ (before : List Happening) (look : Look) (run : List Running)
   -- ---- one that has waited goes
 
   pub granted-keeps : (system : ℕ) (own : OwnView)
-      → Keeps own (granted_trace_turn (waiting_trace system own) (without_traced system own))
+      → Keeps own (granted_trace_turn (waiting_data system own) (without_waiting_data system own))
   granted-keeps system own step so = go (find (is_granted_by system) own.tracing.for_grant) refl
     where
       go : (found : Option GrantView) → find (is_granted_by system) own.tracing.for_grant ≡ found
-          → Ends (granted_trace_turn (option_map (λ (one : GrantView). one.body) found) (without_traced system own)).own
+          → Ends (granted_trace_turn (option_map (λ (one : GrantView). one.body) found) (without_waiting_data system own)).own
           (all_done Some
-          (granted_trace_turn (option_map (λ (one : GrantView). one.body) found) (without_traced system own)).duties
+          (granted_trace_turn (option_map (λ (one : GrantView). one.body) found) (without_waiting_data system own)).duties
           step)
-      go None is = still own (without_traced system own) step step (untraced-kept own system) so so.reads
+      go None is = still own (without_waiting_data system own) step step (untraced-kept own system) so (so.reads, so.odd)
       go (Some waiting) is =
-          sent-keeps waiting.body (without_traced system own) step (
-            so.sent,
-            so.asked,
-            so.reads,
-            so.runs,
-            λ body.
+          sent-keeps waiting.body (without_waiting_data system own) step
+          (record {
+            sent = so.sent;
+            asked = so.asked;
+            reads = so.reads;
+            runs = so.runs;
+            odd = so.odd;
+            few = λ body.
                 let all = so.few body in
                 let left =
                 ap (λ (rest : List GrantView). count_waiting body rest)
                 (removed (is_granted_by system) own.tracing.for_grant) in
                 let found_one = found-waiting (is_granted_by system) own.tracing.for_grant waiting body is in
-                omega (arith, all, left, found_one),
-          )
+                omega (arith, all, left, found_one);
+          })
 
 -- ---- a sample
 
@@ -340,6 +353,7 @@ sampled-so before look run Runs Later due more own other step so waiting made ru
   asked = so.asked;
   reads = so.reads;
   runs = runs so.asked so.runs;
+  odd = so.odd;
   few = λ body.
       let all = so.few body in
       let same = ap (λ (w : List GrantView). count_waiting body w) waiting in
