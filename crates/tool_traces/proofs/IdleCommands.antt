@@ -141,7 +141,8 @@ module _ (before : List Happening) (look : Look) (running : List Running) (sent 
   primary-idle :
       (unsent : Unsent Kind) (step : CoreStep) → IsOther unsent → ReadsStep step
       → OnEither ReadsStep ReadsStep (carry Some (Command.Primary unsent) step)
-  primary-idle unsent step other so = go (is_crowded_out (is_some unsent.kind) step.next) (next_number step.next.numbers)
+  primary-idle unsent step other so =
+      go (is_crowded_out (is_some unsent.kind) step.next) (next_number step.next.numbers)
     where
       go : (crowded : Bool) (next : Option ℕ)
           → OnEither ReadsStep ReadsStep
@@ -240,7 +241,8 @@ module _ (before : List Happening) (look : Look) (running : List Running) (sent 
       (test : Begun Kind → Bool) (found : Option (Begun Kind)) (step : CoreStep) → ReadsStep step
       → ReadsStep (times_out Some test found step)
   time-idle test None step so = so
-  time-idle test (Some begun) step so = (one-idle (Happening.TimedOut (header_title begun.header)) step.notes tt so.0, so.1)
+  time-idle test (Some begun) step so =
+      (one-idle (Happening.TimedOut (header_title begun.header)) step.notes tt so.0, so.1)
 
   answer-idle :
       (header : Header) (found : Option (Begun Kind)) (step : CoreStep) → ReadsStep step

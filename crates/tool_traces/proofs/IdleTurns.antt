@@ -289,7 +289,8 @@ error-commands function header own e = go (is_communicating own) (sent.has_room 
   where
     go : (communicating room : Bool)
         → AreIdle
-        (if communicating then (if room then sent.primary_commands (sent.error_primary function) (sent.text_of own (sent.error_item header))
+        (if communicating then (if room
+        then sent.primary_commands (sent.error_primary function) (sent.text_of own (sent.error_item header))
         else Note (Happening.Full (sent.error_name function)) ∷ []) else [])
     go true true =
         sent-idle (sent.error_primary function) (λ body. refl) (sent.text_of own (sent.error_item header))

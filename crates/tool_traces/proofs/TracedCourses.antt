@@ -267,7 +267,8 @@ module _ (plan : EquipmentPlan) where
         (input : Input ToolCommand) (now call : ℕ) (choice : CutChoice) (steps : List Stepped) (s : EquipmentView)
         (notes : List Happening) (found : Option (Loss EquipmentView)) → call_of call (losses s input now) ≡ found
         → s.node.own.tables ≡ tables_in plan notes → IsReachedSo steps s notes
-        → IsCourseSo (steps_broken (λ (loss : Loss EquipmentView). restarts (loss.left choice) now) now notes found steps)
+        → IsCourseSo
+        (steps_broken (λ (loss : Loss EquipmentView). restarts (loss.left choice) now) now notes found steps)
         (broken_at machine now choice s notes found)
     broken-so input now call choice steps s notes None is tables so = so
     broken-so input now call choice steps s notes (Some loss) is tables so =
@@ -298,8 +299,10 @@ module _ (plan : EquipmentPlan) where
     meeting-so (Restarts now) steps (Reached s notes) tables so =
         started-so s.node.own.plan s.node.own.ledger.slots s.list s.mark steps notes
         (few-so steps s notes so)
-    meeting-so (Writes characters) steps (Reached s notes) tables so = record { runs = so.runs; odd = so.odd; wait = so.wait; few = so.few }
-    meeting-so LosesPower steps (Reached s notes) tables so = record { runs = so.runs; odd = so.odd; wait = so.wait; few = so.few }
+    meeting-so (Writes characters) steps (Reached s notes) tables so =
+        record { runs = so.runs; odd = so.odd; wait = so.wait; few = so.few }
+    meeting-so LosesPower steps (Reached s notes) tables so =
+        record { runs = so.runs; odd = so.odd; wait = so.wait; few = so.few }
     meeting-so (Breaks input now call choice) steps (Reached s notes) tables so =
         broken-so input now call choice steps s notes (call_of call (losses s input now)) refl tables so
     meeting-so (Fills input now call) steps (Reached s notes) tables so =

@@ -1,5 +1,5 @@
--- What is kept of the traces from turn to turn: which run, and that no more S6F1 were sent, wait or are still to be routed
--- than were due.
+-- What is kept of the traces from turn to turn: which run, and that no more S6F1 were sent, wait or are still to be
+-- routed than were due.
 use Rattle.std.proofs.Common.{◌≡◌, refl, sym, ap, subst, ◌∙◌, arith, ◌+◌, ◌≤◌, ◌&&◌, Bool, true, false, not, ℕ, List, [], ◌∷◌, ◌++◌, length, nat_le, Option, Some, None, if◌then◌else◌}
 use Rattle.std.specs.List.{find}
 use Rattle.std.specs.Option.{option_map}
@@ -125,7 +125,8 @@ module _ (before : List Happening) (look : Look) (run : List Running)
   pub led-keeps : (own : OwnView) (lead : Command Kind) (turn : ToolTurn) → IsIdleCommand lead → Keeps own turn
       → Keeps own (led_turn lead turn)
   led-keeps own lead turn idle keeps step so =
-      either-then (Traced own) (FewSent before look run due) (Traced turn.own) (carried Some (lead ∷ []) step) (all_done Some turn.duties)
+      either-then (Traced own) (FewSent before look run due) (Traced turn.own) (carried Some (lead ∷ []) step)
+      (all_done Some turn.duties)
       (either-less (ReadsStep before look run so.sent so.asked) (ReadsStep before look run so.sent so.asked)
       (Traced own) (FewSent before look run due) (carried Some (lead ∷ []) step)
       (carried-idle before look run so.sent so.asked (lead ∷ []) step (idle, tt) (so.reads, so.odd))
@@ -162,9 +163,10 @@ module _ (before : List Happening) (look : Look) (run : List Running)
   alone : (own : OwnView) (command : Command Kind) (step : CoreStep) → Ends own (carry Some command step)
       → Ends own (all_done Some ((λ (e : EndView Kind). command ∷ []) ∷ []) step)
   alone own command step so =
-      either-then (Traced own) (FewSent before look run due) (Traced own) (carried Some (command ∷ []) step) (all_done Some [])
-      (either-then (Traced own) (FewSent before look run due) (Traced own) (carry Some command step) (carried Some []) so
-      (λ next now_so. now_so)) (λ next now_so. now_so)
+      either-then (Traced own) (FewSent before look run due) (Traced own) (carried Some (command ∷ []) step)
+      (all_done Some [])
+      (either-then (Traced own) (FewSent before look run due) (Traced own) (carry Some command step)
+      (carried Some []) so (λ next now_so. now_so)) (λ next now_so. now_so)
 
   sent-keeps : (text : List ℕ) (own : OwnView) (step : CoreStep) → HasSpare own step text
       → Ends own (all_done Some (trace_sent_turn text own).duties step)
@@ -180,7 +182,8 @@ module _ (before : List Happening) (look : Look) (run : List Running)
         sent = spare.sent;
         asked = spare.asked;
         reads =
-            reads-idle before look run spare.sent spare.asked step.notes (Happening.Full (unsent_name (trace_data text)))
+            reads-idle before look run spare.sent spare.asked step.notes
+            (Happening.Full (unsent_name (trace_data text)))
             (idle-note (Happening.Full (unsent_name (trace_data text))) tt) spare.reads;
         runs = spare.runs;
         odd = spare.odd;
@@ -209,7 +212,8 @@ module _ (before : List Happening) (look : Look) (run : List Running)
       → Ends (data_inquiry_turn asked text own e).own (all_done Some (data_inquiry_turn asked text own e).duties step)
   inquired-keeps answer.TooLong text own e step spare = without-spare own step text spare
   inquired-keeps (answer.Body inquiry) text own e step spare =
-      idle-keeps (data_inquiry_own text own e) (fixed_turn (data_inquiry_own text own e) (Primary (trace_inquiry inquiry) ∷ []))
+      idle-keeps (data_inquiry_own text own e)
+      (fixed_turn (data_inquiry_own text own e) (Primary (trace_inquiry inquiry) ∷ []))
       (fixed-idle (data_inquiry_own text own e) (data_inquiry_own text own e) (Primary (trace_inquiry inquiry) ∷ [])
       (itself (data_inquiry_own text own e)) (refl, tt)) step
       (go (is_crowded_out true e) (next_number e.numbers))
@@ -317,11 +321,15 @@ module _ (before : List Happening) (look : Look) (run : List Running)
   granted-keeps system own step so = go (find (is_granted_by system) own.tracing.for_grant) refl
     where
       go : (found : Option GrantView) → find (is_granted_by system) own.tracing.for_grant ≡ found
-          → Ends (granted_trace_turn (option_map (λ (one : GrantView). one.body) found) (without_waiting_data system own)).own
+          → Ends
+          (granted_trace_turn (option_map (λ (one : GrantView). one.body) found)
+          (without_waiting_data system own)).own
           (all_done Some
-          (granted_trace_turn (option_map (λ (one : GrantView). one.body) found) (without_waiting_data system own)).duties
+          (granted_trace_turn (option_map (λ (one : GrantView). one.body) found)
+          (without_waiting_data system own)).duties
           step)
-      go None is = still own (without_waiting_data system own) step step (untraced-kept own system) so (so.reads, so.odd)
+      go None is =
+          still own (without_waiting_data system own) step step (untraced-kept own system) so (so.reads, so.odd)
       go (Some waiting) is =
           sent-keeps waiting.body (without_waiting_data system own) step
           (record {
