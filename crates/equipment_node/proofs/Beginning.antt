@@ -51,10 +51,10 @@ use Rattle.equipment_node.proofs.OnDisk.{kept-of}
 
 module _ {D : Type 0} (plan : EquipmentPlan) (fits : EquipmentPlanFits plan) where
   new-ready :
-      (g : GemSpool D) (base : ℕ)
+      (g : GemSpool D) (base : ℕ) → g.spool.next ≡ g.spool.first + g.spool.len
       → IsReady g.spool (new_node plan (new_ledger g.spool.slots g.spool.first g.spool.len) base)
-  new-ready g base = record {
-    count = refl;
+  new-ready g base even = record {
+    count = ap (λ (n : ℕ). record { slots = g.spool.slots; next = n; len = g.spool.len }) even;
     sound = record {
       plan = plan;
       fits = fits;
@@ -70,12 +70,12 @@ module _ {D : Type 0} (plan : EquipmentPlan) (fits : EquipmentPlanFits plan) whe
 
   pub start-ready :
       (g : GemSpool D) (base : ℕ) (out_old out_new : StepOut) (result : Result (Seat D) (Ended D))
-      → StartsWith plan g base out_old out_new result
+      → g.spool.next ≡ g.spool.first + g.spool.len → StartsWith plan g base out_old out_new result
       → IfOk result (λ e. IsReady e.spool.spool (node_of e.tool.value))
-  start-ready g base out_old out_new (Err end) is = tt
-  start-ready g base out_old out_new (Ok e) is =
+  start-ready g base out_old out_new (Err end) even is = tt
+  start-ready g base out_old out_new (Ok e) even is =
       subst (λ (h : GemSpool D). IsReady h.spool (node_of e.tool.value)) (sym is.0)
-      (subst (λ (n : Node OwnView Kind). IsReady g.spool n) (sym is.1) (new-ready g base))
+      (subst (λ (n : Node OwnView Kind). IsReady g.spool n) (sym is.1) (new-ready g base even))
 
 -- ---- what it comes to
 
@@ -95,9 +95,9 @@ module _ {D : Type 0} (members : disk.Ghosts D) (plan : EquipmentPlan) (g : GemS
     len-is : g.spool.len ≡ length st.list
     len-is = ap (λ (c : Count). c.len) stands.count
 
-    next-is : g.spool.first + g.spool.len ≡ first_in st.list + length st.list
+    next-is : g.spool.next ≡ first_in st.list + length st.list
     next-is =
-        ap (λ (n : ℕ). n + g.spool.len) fresh.first ∙ ap (λ (n : ℕ). first_in st.list + n) len-is
+        stands.even ∙ ap (λ (n : ℕ). n + g.spool.len) fresh.first ∙ ap (λ (n : ℕ). first_in st.list + n) len-is
 
     -- no system bytes are left
     pub none-left :

@@ -11,8 +11,8 @@ use Rattle.gem_spool.specs.declared.works.Work.TheVariants as work
 use Rattle.gem_spool.specs.Standing.{Standing}
 use Rattle.gem_spool.specs.Works.{reserved as marked, standing_after, standings_after}
 use Rattle.message_flow.specs.declared.step.Note.{Note}
-use Rattle.spool_slots.specs.Area.{area_break, or_else}
-use Rattle.spool_slots.specs.File.{StandsFor, slots_in, spool_break}
+use Rattle.spool_slots.specs.Area.{or_else}
+use Rattle.spool_slots.specs.File.{StandsFor, area_break, slots_in, spool_break}
 use Rattle.spool_slots.specs.Front.{front_break, front_in, magic_break, mark_break, slots_break}
 use Rattle.spool_slots.specs.Losses.{gate_counts}
 use Rattle.spool_slots.specs.Slot.{slot_in, slot_place}

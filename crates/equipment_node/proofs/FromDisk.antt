@@ -50,7 +50,8 @@ armed-power plan slots node g call is = record {
       stands = record {
         count = is.on.clear.stands.count;
         mark = is.on.clear.stands.mark;
-        run = is.on.clear.stands.run;
+        chain = is.on.clear.stands.chain;
+        even = is.on.clear.stands.even;
         file = λ s told. is.on.clear.stands.file s told;
       };
       owes = is.on.clear.owes;

@@ -40,7 +40,8 @@ use Rattle.tool_step.specs.Spooling.{end_of_spooling, taking_turn, unload_part}
 use Rattle.tool_step.specs.Step.{last_parts, offer}
 use Rattle.equipment_node.specs.Stepping.{IsClear, IsTold}
 use Rattle.tool_step.specs.Taking.{taking}
-use Rattle.equipment_node.proofs.Found.{IsGood, oldest-good}
+use Rattle.spool_slots.proofs.Contents.{IsHeld}
+use Rattle.equipment_node.proofs.Found.{oldest-good}
 use Rattle.equipment_node.proofs.OnDisk.{kept-of}
 use Rattle.equipment_node.proofs.Staying.{HasRested, last-rested}
 
@@ -218,7 +219,7 @@ module _ {D : Type 0} (members : disk.Ghosts D) where
       first : slice_get (file_in told.0.now.bytes).list 0 ≡ Some (message_in v.first kept)
       first = reads.2 told.0 told.1
 
-      good : IsGood (message_in v.first kept)
+      good : IsHeld (message_in v.first kept)
       good =
           oldest-good told.0.now.bytes (file_of (standing_in t.next)) (message_in v.first kept)
           (clear.stands.file told.0 told.1).stands first

@@ -8,7 +8,7 @@ use Rattle.gem_spool.specs.Standing.{count_of}
 use Rattle.gem_spool.specs.Works.{counts_after}
 use Rattle.message_flow.specs.declared.step.Note.{Note}
 use Rattle.message_flow.specs.declared.step.StepOut.{StepOut}
-use Rattle.spool_slots.specs.Spool.{SpoolView}
+use Rattle.spool_slots.specs.Spool.{SpoolView, in_hand, known_of}
 use Rattle.trace_log.specs.Names.{Spooled}
 use Rattle.trace_log.specs.Text.{printed_note}
 use Rattle.message_end.specs.Core.{EndView, Went, step_in}
@@ -50,7 +50,7 @@ on-ready members v node s same on = record {
 
 pub same-ready :
     {D : Type 0} (v w : SpoolView D) (mark : ℕ) (old new : Node OwnView Kind) → IsReady v old → new.own ≡ old.own
-    → w ≡ record { disk = w.disk; slots = v.slots; first = v.first; len = v.len; mark = mark } → IsReady w new
+    → w ≡ in_hand w.disk (record (known_of v) { mark = mark }) → IsReady w new
 same-ready {D} v w mark old new ready own same = record {
   count =
       ap (λ (x : SpoolView D). count_of x) same ∙ ready.count

@@ -12,7 +12,7 @@ use Rattle.spool_slots.specs.Area.{first_of}
 use Rattle.spool_slots.specs.Changes.{Recovers}
 use Rattle.spool_slots.specs.File.{SpoolFile, StandsFor, file_in, spool_break}
 use Rattle.spool_slots.specs.Slot.{Message}
-use Rattle.spool_slots.specs.Spool.{Rests, SpoolView}
+use Rattle.spool_slots.specs.Spool.{Rests, SpoolView, known_of}
 use Rattle.spool_slots.specs.declared.reading.NotSpool.{NotSpool}
 use Rattle.spool_slots.specs.declared.states.Raw.{Raw}
 use Rattle.spool_slots.specs.declared.states.Recovering.{Recovering}
@@ -99,7 +99,7 @@ module _ {D : Type 0} (members : disk.Ghosts D) (old : D) (s : Story) (told : me
     list-is : st.list ≡ file.list
     list-is = ap (λ (tells : Option Story). list_told tells g.spool.first g.spool.len) now-told
 
-    rests : Rests (with_sync s) v.slots v.first v.len v.mark
+    rests : Rests (with_sync s) (known_of v)
     rests = (is.1 s told).0
 
     pub slots-are : g.spool.slots ≡ file.slots

@@ -1,16 +1,13 @@
 -- That a work which is due is answered as done by the call that does it.
-use Rattle.std.proofs.Common.{◌≡◌, ⊎_elim, Bool, true, false, ℕ, ◌<◌, List, length, Ok, refl, sym, subst, ◌∙◌, arith}
-use Rattle.std.proofs.lemmas.Bool.Decides.{nat_tests}
+use Rattle.std.proofs.Common.{◌≡◌, ⊎_elim, Bool, true, false, ℕ, ◌<◌, List, length, Ok, refl, sym, ◌∙◌, arith}
 use Rattle.disk_base.specs.declared.disk.Disk as disk
 use Rattle.gem_spool.specs.Spool.{ConfirmsIn, PutsInto, room_for}
 use Rattle.gem_spool.specs.Works.{Does}
 use Rattle.gem_spool.specs.declared.spool.GemSpool.{GemSpool}
 use Rattle.gem_spool.specs.declared.spool.PutAnswer.{PutAnswer}
 use Rattle.gem_spool.specs.declared.spool.PutAnswer.TheVariants as answer
-use Rattle.gem_spool.specs.declared.spool.Room.{Room}
 use Rattle.gem_spool.specs.declared.spool.Room.TheVariants as room
 use Rattle.gem_spool.specs.declared.works.Work.TheVariants as work
-use Rattle.spool_slots.specs.Spool.{next_of}
 
 module _ {D : Type 0} (members : disk.Ghosts D) (g h : GemSpool D) where
   -- a message for which there is room is stored

@@ -1,5 +1,6 @@
 -- That works done in turn make what they say.
-use Rattle.std.proofs.Common.{◌≡◌, ⊎_elim, inl, inr, ℕ, suc, ◌+◌, ◌-◌, ◌<◌, List, [], ◌∷◌, ◌++◌, drop, length, Option, Some, Ok, Err, refl, sym, ap, subst, take, get_or, length-append, ◌∙◌, arith}
+use Rattle.std.proofs.Common.{◌≡◌, ⊎_elim, inl, inr, ℕ, suc, ◌+◌, ◌-◌, ◌^◌, ◌<◌, ◌≤◌, ◌==◌, nat_le, nat_lt, Bool, true, false, if◌then◌else◌, List, [], ◌∷◌, ◌++◌, drop, length, Option, Some, Ok, Err, refl, sym, ap, subst, take, get_or, length-append, ◌∙◌, arith}
+use Rattle.std.proofs.lemmas.Bool.Decides.{nat_tests}
 use Rattle.std.proofs.Math.Seq.{drop-cons, take-suc}
 use Rattle.std.proofs.lemmas.List.{take-append-drop}
 use Rattle.std.proofs.lemmas.Option.{slice_get-get_or}
@@ -11,7 +12,8 @@ use Rattle.disk_base.specs.declared.disk.Disk as disk
 use Rattle.disk_base.specs.declared.disk.DiskAnswer.TheVariants.{Failed}
 use Rattle.disk_base.proofs.Moments.{only_now, starts, through_both, through_more}
 use Rattle.disk_base.proofs.Stretches.{fault_behind, used_behind, used_none}
-use Rattle.gem_spool.specs.Spool.{HasList, IsRest, numbered, put_in, without_some}
+use Rattle.gem_spool.specs.Spool.{HasList, IsRest, numbered, put_in, room_for, without_some}
+use Rattle.gem_spool.specs.declared.spool.Room.TheVariants.{Fits, Full, NumbersSpent, TooLong}
 use Rattle.gem_spool.specs.declared.count.Count.{Count}
 use Rattle.gem_spool.specs.Standing.{Standing, Stands, count_in, count_of, file_of}
 use Rattle.gem_spool.specs.Works.{AreDue, Does, DoesAll, IsAmid, IsDue, IsOnWay, GoesOn, HasCarried, HasUndone}
@@ -19,12 +21,14 @@ use Rattle.gem_spool.specs.Works.{all_bytes, all_calls, bytes_of, calls_of, coun
 use Rattle.gem_spool.specs.declared.spool.GemSpool.{GemSpool}
 use Rattle.gem_spool.specs.declared.works.Work.{Work}
 use Rattle.gem_spool.specs.declared.works.Work.TheVariants as work
+use Rattle.spool_slots.proofs.Evens.{even_rest, one_slot}
+use Rattle.spool_slots.proofs.Runs.{chain_last}
 use Rattle.gem_spool.proofs.Lists.{drop_list, drop_told, purge_list, put_list, put_told, some_told}
 use Rattle.spool_slots.specs.Changes.{Ends, HoldsThrough, IsSameOr, dropped_in, with_message, without_first}
 use Rattle.spool_slots.specs.File.{SpoolFile, StandsFor, file_in}
-use Rattle.spool_slots.specs.Run.{IsRunFrom}
+use Rattle.spool_slots.specs.Run.{IsChainFrom, slots_for}
 use Rattle.spool_slots.specs.Slot.{Message}
-use Rattle.spool_slots.specs.Spool.{SpoolView, next_of}
+use Rattle.spool_slots.specs.Spool.{SpoolView}
 use Rattle.spool_slots.specs.declared.states.Spent.{Spent}
 
 -- ---- numbers
@@ -93,20 +97,20 @@ way_behind st (x ∷ xs) ys image is = inr (way_behind (standing_after st x) xs 
 
 -- ---- one work
 
-run_last : (n : ℕ) (list : List Message) (m : Message) → IsRunFrom n list → m.number ≡ n + length list →
-    IsRunFrom n (list ++ m ∷ [])
-run_last n [] m run is = (omega (arith, is), tt)
-run_last n (x ∷ list) m run is = (run.0, run_last (n + 1) list m run.1 (omega (arith, is)))
-
-run_rest : (n : ℕ) (list : List Message) → IsRunFrom n list → IsRunFrom (n + 1) (drop 1 list)
-run_rest n [] run = tt
-run_rest n (message ∷ list) run = run.1
+-- a body for which there is room takes one slot
+room_slot : {D : Type 0} (v : SpoolView D) (long : ℕ) → room_for v long ≡ Fits → slots_for long ≡ 1
+room_slot v long fits = one_slot long (short (nat_lt 4081 long) refl fits) where
+  short : (too : Bool) → nat_lt 4081 long ≡ too → (if too then TooLong
+      else (if nat_le (2 ^ 63) v.next then NumbersSpent else (if v.len == v.slots then Full else Fits))) ≡ Fits →
+      long ≤ 4081
+  short false is fits = grind (arith, nat_tests, is)
+  short true is fits = absurd (cc)
 
 module _ {D : Type 0} (members : disk.Ghosts D) where
-  pub count_is : (v : SpoolView D) (slots next len : ℕ) → v.slots ≡ slots → next_of v ≡ next → v.len ≡ len →
+  pub count_is : (v : SpoolView D) (slots next len : ℕ) → v.slots ≡ slots → v.next ≡ next → v.len ≡ len →
       count_of v ≡ record { slots = slots; next = next; len = len }
   count_is v slots next len a b c =
-      ap (λ (n : ℕ). record { slots = n; next = next_of v; len = v.len }) a
+      ap (λ (n : ℕ). record { slots = n; next = v.next; len = v.len }) a
       ∙ ap (λ (n : ℕ). record { slots = slots; next = n; len = v.len }) b
       ∙ ap (λ (n : ℕ). record { slots = slots; next = next; len = n }) c
 
@@ -114,22 +118,16 @@ module _ {D : Type 0} (members : disk.Ghosts D) where
       count_of h.spool ≡ count_after (count_of g.spool) one
   does_count g h (work.Put stream function body) done =
       let view = ap (λ (x : GemSpool D). x.spool) done.3 in
-      let first : h.spool.first ≡ g.spool.first = ap (λ (x : SpoolView D). x.first) view in
-      let len : h.spool.len ≡ g.spool.len + 1 = ap (λ (x : SpoolView D). x.len) view in
-      count_is h.spool g.spool.slots (next_of g.spool + 1) (g.spool.len + 1) (ap (λ (x : SpoolView D). x.slots) view)
-      (omega (arith, first, len)) len
+      count_is h.spool g.spool.slots (g.spool.next + 1) (g.spool.len + 1) (ap (λ (x : SpoolView D). x.slots) view)
+      (ap (λ (x : SpoolView D). x.next) view) (ap (λ (x : SpoolView D). x.len) view)
   does_count g h work.DropOldest done =
       let view = done.0.1 in
-      let first : h.spool.first ≡ g.spool.first + 1 = ap (λ (x : SpoolView D). x.first) view in
-      let len : h.spool.len ≡ g.spool.len - 1 = ap (λ (x : SpoolView D). x.len) view in
-      count_is h.spool g.spool.slots (next_of g.spool) (g.spool.len - 1) (ap (λ (x : SpoolView D). x.slots) view)
-      (omega (arith, first, len, done.0.0.some)) len
+      count_is h.spool g.spool.slots g.spool.next (g.spool.len - 1) (ap (λ (x : SpoolView D). x.slots) view)
+      (ap (λ (x : SpoolView D). x.next) view) (ap (λ (x : SpoolView D). x.len) view)
   does_count g h work.Purge done =
       let view = done.0.2 in
-      let first : h.spool.first ≡ g.spool.first + g.spool.len = ap (λ (x : SpoolView D). x.first) view in
-      let len : h.spool.len ≡ 0 = ap (λ (x : SpoolView D). x.len) view in
-      count_is h.spool g.spool.slots (next_of g.spool) 0 (ap (λ (x : SpoolView D). x.slots) view)
-      (omega (arith, first, len)) len
+      count_is h.spool g.spool.slots g.spool.next 0 (ap (λ (x : SpoolView D). x.slots) view)
+      (ap (λ (x : SpoolView D). x.next) view) (ap (λ (x : SpoolView D). x.len) view)
 
   pub does_mark : (g h : GemSpool D) (one : Work) → Does members g one (Ok h) → h.spool.mark ≡ g.spool.mark
   does_mark g h (work.Put stream function body) done = ap (λ (x : GemSpool D). x.spool.mark) done.3
@@ -151,7 +149,7 @@ module _ {D : Type 0} (members : disk.Ghosts D) where
   does_told g h work.Purge done t told = some_told members g.spool.len g.spool h.spool done.0.1 t told
 
   does_list : (g h : GemSpool D) (one : Work) → Does members g one (Ok h) → (list : List Message) →
-      HasList members g.spool list → HasList members h.spool (list_after (next_of g.spool) list one)
+      HasList members g.spool list → HasList members h.spool (list_after g.spool.next list one)
   does_list g h (work.Put stream function body) done list has =
       let mid = done.1 in
       put_list members g.spool stream function body done.0.fits mid.0 h.spool mid.1 mid.2 list has
@@ -178,7 +176,7 @@ module _ {D : Type 0} (members : disk.Ghosts D) where
       file_of st ≡ file_in s.now.bytes
   same_file v st stands s told = (stands.file s told).stands.is
 
-  next_is : (v : SpoolView D) (st : Standing) → Stands members v st → next_of v ≡ st.next
+  next_is : (v : SpoolView D) (st : Standing) → Stands members v st → v.next ≡ st.next
   next_is v st stands = ap (λ (c : Count). c.next) stands.count
 
   len_is : (v : SpoolView D) (st : Standing) → Stands members v st → v.len ≡ length st.list
@@ -217,20 +215,50 @@ module _ {D : Type 0} (members : disk.Ghosts D) where
       subst (λ (f : SpoolFile). Ends t (record { slots = f.slots; mark = f.mark; list = [] }))
       (sym (same_file g.spool st stands old.0 old.1)) (done.0.3 old.0 t old.1 told)
 
-  does_run : (g h : GemSpool D) (one : Work) (st : Standing) → Stands members g.spool st →
-      Does members g one (Ok h) → IsRunFrom h.spool.first (list_after st.next st.list one)
-  does_run g h (work.Put stream function body) st stands done =
-      let first : h.spool.first ≡ g.spool.first = ap (λ (x : GemSpool D). x.spool.first) done.3 in
-      let next : next_of g.spool ≡ st.next = next_is g.spool st stands in
-      let len : g.spool.len ≡ length st.list = len_is g.spool st stands in
-      subst (λ (n : ℕ). IsRunFrom n (list_after st.next st.list (work.Put stream function body))) (sym first)
-      (run_last g.spool.first st.list
-      (record { number = st.next; stream = stream; function = function; body = body }) stands.run
-      (omega (arith, next, len)))
-  does_run g h work.DropOldest st stands done =
-      let first : h.spool.first ≡ g.spool.first + 1 = ap (λ (x : SpoolView D). x.first) done.0.1 in
-      subst (λ (n : ℕ). IsRunFrom n (drop 1 st.list)) (sym first) (run_rest g.spool.first st.list stands.run)
-  does_run g h work.Purge st stands done = tt
+  does_chain : (g h : GemSpool D) (one : Work) (st : Standing) → Stands members g.spool st →
+      Does members g one (Ok h) → IsChainFrom h.spool.first h.spool.next (list_after st.next st.list one)
+  does_chain g h (work.Put stream function body) st stands done =
+      let view = ap (λ (x : GemSpool D). x.spool) done.3 in
+      let message : Message = record { number = st.next; stream = stream; function = function; body = body } in
+      let width_is : slots_for (length body) ≡ 1 = room_slot g.spool (length body) done.0.fits in
+      let first : h.spool.first ≡ g.spool.first = ap (λ (x : SpoolView D). x.first) view in
+      let next : h.spool.next ≡ g.spool.next + 1 = ap (λ (x : SpoolView D). x.next) view in
+      subst (λ (n : ℕ). IsChainFrom n h.spool.next (st.list ++ message ∷ [])) (sym first)
+      (subst (λ (n : ℕ). IsChainFrom g.spool.first n (st.list ++ message ∷ [])) (sym next)
+      (subst (λ (n : ℕ). IsChainFrom g.spool.first (g.spool.next + n) (st.list ++ message ∷ [])) width_is
+      (chain_last g.spool.first g.spool.next st.list message stands.chain (sym (next_is g.spool st stands)))))
+  does_chain g h work.DropOldest st stands done =
+      let view = done.0.1 in
+      let first : h.spool.first ≡ g.spool.first + 1 = ap (λ (x : SpoolView D). x.first) view in
+      let next : h.spool.next ≡ g.spool.next = ap (λ (x : SpoolView D). x.next) view in
+      subst (λ (n : ℕ). IsChainFrom n h.spool.next (drop 1 st.list)) (sym first)
+      (subst (λ (n : ℕ). IsChainFrom (g.spool.first + 1) n (drop 1 st.list)) (sym next)
+      (even_rest g.spool.first g.spool.next st.list
+      (stands.even ∙ ap (λ (n : ℕ). g.spool.first + n) (len_is g.spool st stands)) stands.chain
+      (subst (λ (n : ℕ). 0 < n) (len_is g.spool st stands) done.0.0.some)))
+  does_chain g h work.Purge st stands done =
+      ap (λ (x : SpoolView D). x.first) done.0.2 ∙ sym (ap (λ (x : SpoolView D). x.next) done.0.2)
+
+  does_even : (g h : GemSpool D) (one : Work) → g.spool.next ≡ g.spool.first + g.spool.len →
+      Does members g one (Ok h) → h.spool.next ≡ h.spool.first + h.spool.len
+  does_even g h (work.Put stream function body) even done =
+      let view = ap (λ (x : GemSpool D). x.spool) done.3 in
+      let first : h.spool.first ≡ g.spool.first = ap (λ (x : SpoolView D). x.first) view in
+      let next : h.spool.next ≡ g.spool.next + 1 = ap (λ (x : SpoolView D). x.next) view in
+      let len : h.spool.len ≡ g.spool.len + 1 = ap (λ (x : SpoolView D). x.len) view in
+      omega (arith, first, next, len, even)
+  does_even g h work.DropOldest even done =
+      let view = done.0.1 in
+      let first : h.spool.first ≡ g.spool.first + 1 = ap (λ (x : SpoolView D). x.first) view in
+      let next : h.spool.next ≡ g.spool.next = ap (λ (x : SpoolView D). x.next) view in
+      let len : h.spool.len ≡ g.spool.len - 1 = ap (λ (x : SpoolView D). x.len) view in
+      omega (arith, first, next, len, even, done.0.0.some)
+  does_even g h work.Purge even done =
+      let view = done.0.2 in
+      let first : h.spool.first ≡ g.spool.next = ap (λ (x : SpoolView D). x.first) view in
+      let next : h.spool.next ≡ g.spool.next = ap (λ (x : SpoolView D). x.next) view in
+      let len : h.spool.len ≡ 0 = ap (λ (x : SpoolView D). x.len) view in
+      omega (arith, first, next, len)
 
   pub does_stands : (g h : GemSpool D) (one : Work) (st : Standing) → Stands members g.spool st →
       Does members g one (Ok h) → Stands members h.spool (standing_after st one)
@@ -238,7 +266,8 @@ module _ {D : Type 0} (members : disk.Ghosts D) where
     count = does_count g h one done ∙ ap (λ (c : Count). count_after c one) stands.count
         ∙ count_keeps st one;
     mark = does_mark g h one done ∙ stands.mark;
-    run = does_run g h one st stands done;
+    chain = does_chain g h one st stands done;
+    even = does_even g h one stands.even done;
     file = λ t told. does_file g h one st stands done t told;
   }
 
@@ -338,13 +367,13 @@ module _ {D : Type 0} (members : disk.Ghosts D) where
 
   pub all_list : (g : GemSpool D) (works : List Work) (h : GemSpool D) → DoesAll members g works h →
       (list : List Message) → HasList members g.spool list →
-      HasList members h.spool (lists_after (next_of g.spool) list works)
+      HasList members h.spool (lists_after g.spool.next list works)
   all_list g [] h is list has = subst (λ (x : GemSpool D). HasList members x.spool list) (sym is) has
   all_list g (one ∷ works) h (u, done, rest) list has =
-      let next : next_of u.spool ≡ next_after (next_of g.spool) one =
+      let next : u.spool.next ≡ next_after g.spool.next one =
       ap (λ (c : Count). c.next) (does_count g u one done) in
-      subst (λ (n : ℕ). HasList members h.spool (lists_after n (list_after (next_of g.spool) list one) works)) next
-      (all_list u works h rest (list_after (next_of g.spool) list one) (does_list g u one done list has))
+      subst (λ (n : ℕ). HasList members h.spool (lists_after n (list_after g.spool.next list one) works)) next
+      (all_list u works h rest (list_after g.spool.next list one) (does_list g u one done list has))
 
   pub all_stands : (g : GemSpool D) (works : List Work) (h : GemSpool D) → DoesAll members g works h →
       (st : Standing) → Stands members g.spool st → Stands members h.spool (standings_after st works)

@@ -11,12 +11,13 @@ use Rattle.gem_spool.specs.declared.kept.Kept.{Kept}
 use Rattle.gem_spool.specs.declared.kept.Unread.{Unread}
 use Rattle.spool_slots.specs.Changes.{IsFound, Looks}
 use Rattle.spool_slots.specs.File.{file_in}
-use Rattle.spool_slots.specs.Run.{IsRunFrom}
+use Rattle.spool_slots.specs.Run.{IsChainFrom}
 use Rattle.spool_slots.specs.Slot.{Message, message_of, slot_in, slot_place}
-use Rattle.spool_slots.specs.Spool.{Rests, SpoolView}
+use Rattle.spool_slots.specs.Spool.{Rests, SpoolView, in_hand, known_of}
 use Rattle.spool_slots.specs.declared.slot.SlotHead.{SlotHead}
 use Rattle.spool_slots.specs.declared.states.OldestAnswer.{OldestAnswer}
 use Rattle.spool_slots.specs.declared.states.OldestAnswer.TheVariants as oldest
+use Rattle.gem_spool.proofs.Stays.{same_chain, same_even}
 
 -- the body stands behind the head
 body_of : (bytes : List ℕ) (place : ℕ) → drop 15 (bytes_at bytes place 4096) ≡ bytes_at bytes (place + 15) 4081
@@ -24,23 +25,24 @@ body_of bytes place =
     drop-take 15 4081 (drop place bytes) ∙ ap (λ (all : List ℕ). take 4081 all) (drop-drop 15 place bytes)
 
 -- the first of a list without gaps has its number
-first_number : (first : ℕ) (list : List Message) (message : Message) → IsRunFrom first list →
+first_number : (first next : ℕ) (list : List Message) (message : Message) → IsChainFrom first next list →
     slice_get list 0 ≡ Some message → message.number ≡ first
-first_number first [] message run is = absurd (grind (arith, is))
-first_number first (x ∷ list) message run is =
+first_number first next [] message chain is = absurd (grind (arith, is))
+first_number first next (x ∷ list) message chain is =
     let same : x ≡ message = cc in
-    ap (λ (m : Message). m.number) (sym same) ∙ run.0
+    ap (λ (m : Message). m.number) (sym same) ∙ chain.0
 
-pub first_is : (s : Story) (slots first : ℕ) (into : List ℕ) (head : SlotHead) → IsFound s slots first first into head →
-    IsRunFrom first (file_in s.now.bytes).list →
+pub first_is : (s : Story) (slots first next : ℕ) (into : List ℕ) (head : SlotHead) →
+    IsFound s slots first first into head →
+    IsChainFrom first next (file_in s.now.bytes).list →
     slice_get (file_in s.now.bytes).list 0 ≡ Some (message_in first (kept_in head into))
-first_is s slots first into head found run =
+first_is s slots first next into head found chain =
     let slot = slot_in s.now.bytes (first % slots) in
     let none : first - first ≡ 0 = omega arith in
     let listed : slice_get (file_in s.now.bytes).list 0 ≡ Some (message_of slot) =
     ap (λ (n : ℕ). slice_get (file_in s.now.bytes).list n) (sym none) ∙ found.listed in
     let number : slot.head.number ≡ first =
-    first_number first (file_in s.now.bytes).list (message_of slot) run listed in
+    first_number first next (file_in s.now.bytes).list (message_of slot) chain listed in
     let area : drop 15 into ≡ slot.area =
     ap (λ (all : List ℕ). drop 15 all) found.bytes ∙ body_of s.now.bytes (slot_place (first % slots)) in
     listed
@@ -67,12 +69,12 @@ first_of_list list message rest read is same =
 module _ {D : Type 0} (members : disk.Ghosts D) (v w : SpoolView D) where
   pub reads_oldest : (before into : List ℕ) (head : SlotHead) →
       Looks members v w v.first before into (oldest.Found head) → 0 < v.len →
-      ((s : Story) → members.told v.disk ≡ Some s → Rests s v.slots v.first v.len v.mark) →
+      ((s : Story) → members.told v.disk ≡ Some s → Rests s (known_of v)) →
       (read : Result Kept Unread) → KeepsOf head into read → ReadsOldest members v w read
   reads_oldest before into head looks some rests (Ok kept) is = (
     looks.0,
     some,
-    λ s told. first_is s v.slots v.first into head (looks.3 s told) (rests s told).run
+    λ s told. first_is s v.slots v.first v.next into head (looks.3 s told) (rests s told).chain
         ∙ ap (λ (k : Kept). Some (message_in v.first k)) (sym is),
   )
   reads_oldest before into head looks some rests (Err why) is =
@@ -87,12 +89,13 @@ module _ {D : Type 0} (members : disk.Ghosts D) (v w : SpoolView D) where
 
 module _ {D : Type 0} (members : disk.Ghosts D) (v w : SpoolView D) (st : Standing) (stands : Stands members v st) where
   -- a look leaves all as it is
-  pub same_stands : (w ≡ record { disk = w.disk; slots = v.slots; first = v.first; len = v.len; mark = v.mark }) →
+  pub same_stands : (w ≡ in_hand w.disk (known_of v)) →
       members.told w.disk ≡ members.told v.disk → Stands members w st
   same_stands same told = record {
     count = ap (λ (x : SpoolView D). count_of x) same ∙ stands.count;
     mark = ap (λ (x : SpoolView D). x.mark) same ∙ stands.mark;
-    run = subst (λ (n : ℕ). IsRunFrom n st.list) (sym (ap (λ (x : SpoolView D). x.first) same)) stands.run;
+    chain = same_chain members v w v.mark same st stands;
+    even = same_even members v w v.mark same st stands;
     file = λ t is. stands.file t (sym told ∙ is);
   }
 

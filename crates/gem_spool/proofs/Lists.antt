@@ -12,7 +12,7 @@ use Rattle.gem_spool.proofs.Putting.{put_ends}
 use Rattle.spool_slots.specs.Changes.{Drops, HasReserved, Looks, Reserves, Seals, Stages, parts_of}
 use Rattle.spool_slots.specs.File.{SpoolFile}
 use Rattle.spool_slots.specs.Slot.{Message, slot_place}
-use Rattle.spool_slots.specs.Spool.{SpoolView, first_slot, next_of, next_slot}
+use Rattle.spool_slots.specs.Spool.{SpoolView, first_slot, next_slot}
 use Rattle.spool_slots.specs.declared.states.OldestAnswer.{OldestAnswer}
 use Rattle.spool_slots.specs.declared.states.OldestAnswer.TheVariants as oldest
 
@@ -69,7 +69,7 @@ module _ {D : Type 0} (members : disk.Ghosts D) where
       members.told w.disk ≡ Some t → (s : Story) × (members.told v.disk ≡ Some s)
   put_told v stream function body u w staged sealed t told =
       let mid = settled_before members u w (slot_place (next_slot u)) (90 ∷ []) sealed.0.disk.told t told in
-      settled_before members v u (slot_place (next_slot v) + 1) (parts_of (next_of v) stream function body)
+      settled_before members v u (slot_place (next_slot v) + 1) (parts_of v.next stream function body)
       staged.0.disk.told mid.0 mid.1
 
   pub put_list : (v : SpoolView D) (stream function : ℕ) (body : List ℕ) → room_for v (length body) ≡ Fits →

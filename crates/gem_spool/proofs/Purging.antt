@@ -15,7 +15,7 @@ use Rattle.spool_slots.specs.Changes.{Drops, Ends, HasDropped, HoldsThrough, IsS
 use Rattle.spool_slots.specs.File.{SpoolFile, StandsFor, file_in}
 use Rattle.spool_slots.specs.Losses.{IsSure, file_left, gate_counts}
 use Rattle.spool_slots.specs.Slot.{Message}
-use Rattle.spool_slots.specs.Spool.{Rests, SpoolView}
+use Rattle.spool_slots.specs.Spool.{Rests, SpoolView, in_hand, known_of}
 use Rattle.spool_slots.specs.declared.states.Dropping.TheVariants as dropping
 use Rattle.spool_slots.specs.declared.states.Spent.{Spent}
 
@@ -30,6 +30,7 @@ one_less n f =
 pub record IsLess {D : Type 0} (v w : SpoolView D) (n : ℕ) : Type 0 where
   pub slots : w.slots ≡ v.slots
   pub first : w.first ≡ v.first + n
+  pub next : w.next ≡ v.next
   pub len : w.len ≡ v.len - n
   pub mark : w.mark ≡ v.mark
 
@@ -38,6 +39,7 @@ module _ {D : Type 0} (members : disk.Ghosts D) where
   is_less zero v w is = record {
     slots = ap (λ (x : SpoolView D). x.slots) is;
     first = ap (λ (x : SpoolView D). x.first) is ∙ omega arith;
+    next = ap (λ (x : SpoolView D). x.next) is;
     len = ap (λ (x : SpoolView D). x.len) is ∙ omega arith;
     mark = ap (λ (x : SpoolView D). x.mark) is;
   }
@@ -48,6 +50,7 @@ module _ {D : Type 0} (members : disk.Ghosts D) where
       record {
         slots = ap (λ (x : SpoolView D). x.slots) drops.1 ∙ so_far.slots;
         first = omega (arith, first, so_far.first);
+        next = ap (λ (x : SpoolView D). x.next) drops.1 ∙ so_far.next;
         len = omega (arith, len, so_far.len);
         mark = ap (λ (x : SpoolView D). x.mark) drops.1 ∙ so_far.mark;
       }
@@ -93,8 +96,8 @@ module _ {D : Type 0} (members : disk.Ghosts D) where
             two.2),
       )
 
-  module _ (v : SpoolView D) (rests : (s : Story) → members.told v.disk ≡ Some s →
-      Rests s v.slots v.first v.len v.mark) where
+  module _ (v : SpoolView D) (even : v.next ≡ v.first + v.len) (rests : (s : Story) → members.told v.disk ≡ Some s →
+      Rests s (known_of v)) where
     lost_some : (n : ℕ) (w : SpoolView D) → DropsSome members n v w → HasLost n v w
     lost_some zero w is =
         let told : members.told w.disk ≡ members.told v.disk = ap (λ (x : SpoolView D). members.told x.disk) is in
@@ -143,33 +146,22 @@ module _ {D : Type 0} (members : disk.Ghosts D) where
         )
 
     view_same : (w : SpoolView D) → IsLess v w v.len →
-        w ≡ record { disk = w.disk; slots = v.slots; first = v.first + v.len; len = 0; mark = v.mark }
+        w ≡ in_hand w.disk (record (known_of v) { first = v.next; len = 0 })
     view_same w less =
         let none : w.len ≡ 0 = omega (arith, less.len) in
-        ap (λ (k : ℕ). record { disk = w.disk; slots = k; first = w.first; len = w.len; mark = w.mark }) less.slots
-        ∙ ap (λ (k : ℕ). record { disk = w.disk; slots = v.slots; first = k; len = w.len; mark = w.mark }) less.first
-        ∙ ap (λ (k : ℕ). record {
-          disk = w.disk;
-          slots = v.slots;
-          first = v.first + v.len;
-          len = k;
-          mark =
-              w.mark;
-        }) none
-        ∙ ap (λ (k : ℕ). record {
-          disk = w.disk;
-          slots = v.slots;
-          first = v.first + v.len;
-          len = 0;
-          mark =
-              k;
-        }) less.mark
+        let first : w.first ≡ v.next = less.first ∙ sym even in
+        ap (λ (k : ℕ). in_hand w.disk (record (known_of w) { slots = k })) less.slots
+        ∙ ap (λ (k : ℕ). in_hand w.disk (record (known_of w) { slots = v.slots; first = k })) first
+        ∙ ap (λ (k : ℕ). in_hand w.disk (record (known_of w) { slots = v.slots; first = v.next; next = k })) less.next
+        ∙ ap (λ (k : ℕ). in_hand w.disk
+        (record (known_of w) { slots = v.slots; first = v.next; next = v.next; len = k })) none
+        ∙ ap (λ (k : ℕ). in_hand w.disk (record (known_of v) { first = v.next; len = 0; mark = k })) less.mark
 
     -- all were dropped
     pub purged : (w : SpoolView D) → DropsSome members v.len v w → Purges members v (Ok w)
     purged w some =
         let lost = lost_some v.len w some in (
-          record { images = lost.images; cause = used_some v.len v w some },
+          record { even = even; images = lost.images; cause = used_some v.len v w some },
           some,
           view_same w (is_less v.len v w some),
           λ s t told_s told_t.
@@ -223,6 +215,7 @@ module _ {D : Type 0} (members : disk.Ghosts D) where
         let lost = lost_some n u some in
         let left : suc n ≤ v.len = omega (arith, less.len, failed.0.some) in (
           record {
+            even = even;
             images = wider (suc n) (members.told spent.disk) left (lost_more n v u spent.disk Failed lost failed.0);
             cause = fault_behind (members.health v.disk) (members.health u.disk) (2 * n) n used
                 (members.health spent.disk) 2 (2 * v.len)

@@ -15,7 +15,7 @@ use Rattle.spool_slots.specs.Changes.{Ends, HoldsThrough, IsSame, IsSameOr, Seal
 use Rattle.spool_slots.specs.File.{SpoolFile, StandsFor, file_in}
 use Rattle.spool_slots.specs.Losses.{IsSure, file_left, gate_counts}
 use Rattle.spool_slots.specs.Slot.{Message}
-use Rattle.spool_slots.specs.Spool.{SpoolView, next_of, next_slot}
+use Rattle.spool_slots.specs.Spool.{SpoolView, in_hand, known_of, next_slot}
 use Rattle.spool_slots.specs.declared.states.Spent.{Spent}
 use Rattle.spool_slots.specs.declared.states.Staging.TheVariants as staging
 
@@ -31,8 +31,8 @@ module _ {D : Type 0} (members : disk.Ghosts D) (v : SpoolView D) (stream functi
   abbrev put : List ℕ → SpoolFile
   put = put_in (numbered v stream function body)
 
-  long : length (parts_of (next_of v) stream function body) ≡ 14 + length body
-  long = length-parts (next_of v) stream function body
+  long : length (parts_of v.next stream function body) ≡ 14 + length body
+  long = length-parts v.next stream function body
 
   module _ (u : SpoolView D) (staged : Stages members v stream function body (Ok u)) where
     -- the staged message stands in the next slot, beside the same list
@@ -69,7 +69,7 @@ module _ {D : Type 0} (members : disk.Ghosts D) (v : SpoolView D) (stream functi
         let one = staged.0.images s told in
         subst (λ (f : SpoolFile). Ends t f) (sealed_is s one.0 one.1 one.2).1 (sealed.2 one.0 t one.1 told')
 
-    used : IsUsed (members.health v.disk) (members.health u.disk) 2 (length (parts_of (next_of v) stream function body))
+    used : IsUsed (members.health v.disk) (members.health u.disk) 2 (length (parts_of v.next stream function body))
     used = staged.0.disk.cause
 
     pub has_put : (w : SpoolView D) → Seals members u (Ok w) → HasPut members v stream function body w.disk Done
@@ -114,19 +114,14 @@ module _ {D : Type 0} (members : disk.Ghosts D) (v : SpoolView D) (stream functi
     -- the message is the last one of the list
     pub put_done : (w : SpoolView D) → Seals members u (Ok w) → HasPut members v stream function body w.disk Done
         × StagesAndSeals members v stream function body (Ok w)
-        × (w ≡ record { disk = w.disk; slots = v.slots; first = v.first; len = v.len + 1; mark = v.mark })
+        × (w ≡ in_hand w.disk (record (known_of v) { next = v.next + 1; len = v.len + 1 }))
         × ((s t : Story) → members.told v.disk ≡ Some s → members.told w.disk ≡ Some t → Ends t (put s.now.bytes))
     put_done w sealed = (
       has_put w sealed,
       (u, staged, sealed),
-      sealed.1 ∙ ap (λ (x : SpoolView D). record {
-        disk = w.disk;
-        slots = x.slots;
-        first = x.first;
-        len =
-            x.len + 1;
-        mark = x.mark;
-      }) staged.1,
+      sealed.1
+          ∙ ap (λ (x : SpoolView D). in_hand w.disk (record (known_of x) { next = x.next + 1; len = x.len + 1 }))
+          staged.1,
       put_ends w sealed,
     )
 
@@ -142,7 +137,7 @@ module _ {D : Type 0} (members : disk.Ghosts D) (v : SpoolView D) (stream functi
           (λ image left. inl left) one.2,
     );
     cause = fault_wider (members.health v.disk) (members.health spent.disk) 2 4
-        ((members.health v.disk).room < length (parts_of (next_of v) stream function body))
+        ((members.health v.disk).room < length (parts_of v.next stream function body))
         ((members.health v.disk).room < length body + 15) (omega arith)
         (λ less. omega (arith, less, long)) staged.disk.cause;
   }

@@ -11,41 +11,50 @@ use Rattle.gem_spool.specs.Works.{IsMarked, reserved}
 use Rattle.gem_spool.proofs.Lists.{reserve_told}
 use Rattle.spool_slots.specs.Changes.{Ends, HasReserved, IsSameOr, Reserves, reserved_in, with_mark}
 use Rattle.spool_slots.specs.File.{SpoolFile, StandsFor, file_in}
-use Rattle.spool_slots.specs.Run.{IsRunFrom}
-use Rattle.spool_slots.specs.Spool.{Rests, SpoolView, next_of}
+use Rattle.spool_slots.specs.Run.{IsChainFrom, slots_for}
+use Rattle.spool_slots.specs.Spool.{Rests, SpoolView, in_hand, known_of}
+use Rattle.spool_slots.specs.declared.recovery.Known.{Known}
+use Rattle.spool_slots.proofs.Evens.{one_slot}
 use Rattle.spool_slots.specs.declared.states.Reserving.TheVariants as reserving
 use Rattle.spool_slots.specs.declared.states.Spent.{Spent}
 
-blanks_run : (first n : ℕ) → IsRunFrom first (blanks first n)
-blanks_run first zero = tt
-blanks_run first (suc n) = (refl, blanks_run (first + 1) n)
+blanks_chain : (first n : ℕ) → IsChainFrom first (first + n) (blanks first n)
+blanks_chain first zero = let none : first ≡ first + 0 = omega arith in none
+blanks_chain first (suc n) =
+    let one : slots_for 0 ≡ 1 = one_slot 0 (omega arith) in
+    let next : first + 1 + n ≡ first + suc n = omega arith in (
+      refl,
+      subst (λ (k : ℕ). IsChainFrom (first + k) (first + suc n) (blanks (first + 1) n)) (sym one)
+          (subst (λ (k : ℕ). IsChainFrom (first + 1) k (blanks (first + 1) n)) next (blanks_chain (first + 1) n)),
+    )
 
 blanks_len : (first n : ℕ) → length (blanks first n) ≡ n
 blanks_len first zero = refl
 blanks_len first (suc n) = ap suc (blanks_len (first + 1) n)
 
-told_run : (told : Option Story) (slots first len mark : ℕ) →
-    ((s : Story) → told ≡ Some s → Rests s slots first len mark) → IsRunFrom first (list_told told first len)
-told_run None slots first len mark rests = blanks_run first len
-told_run (Some s) slots first len mark rests = (rests s refl).run
+told_chain : (told : Option Story) (k : Known) → k.next ≡ k.first + k.len →
+    ((s : Story) → told ≡ Some s → Rests s k) → IsChainFrom k.first k.next (list_told told k.first k.len)
+told_chain None k even rests =
+    subst (λ (n : ℕ). IsChainFrom k.first n (blanks k.first k.len)) (sym even) (blanks_chain k.first k.len)
+told_chain (Some s) k even rests = (rests s refl).chain
 
-told_len : (told : Option Story) (slots first len mark : ℕ) →
-    ((s : Story) → told ≡ Some s → Rests s slots first len mark) → len ≡ length (list_told told first len)
-told_len None slots first len mark rests = sym (blanks_len first len)
-told_len (Some s) slots first len mark rests = (rests s refl).count
+told_len : (told : Option Story) (k : Known) →
+    ((s : Story) → told ≡ Some s → Rests s k) → k.len ≡ length (list_told told k.first k.len)
+told_len None k rests = sym (blanks_len k.first k.len)
+told_len (Some s) k rests = (rests s refl).count
 
-told_file : (told : Option Story) (slots first len mark : ℕ) (s : Story) → told ≡ Some s →
-    Rests s slots first len mark →
-    Ends s (record { slots = slots; mark = mark; list = list_told told first len })
-told_file None slots first len mark s is rests = absurd (grind (arith, is))
-told_file (Some r) slots first len mark s is rests =
+told_file : (told : Option Story) (k : Known) (s : Story) → told ≡ Some s → Rests s k →
+    Ends s (record { slots = k.slots; mark = k.mark; list = list_told told k.first k.len })
+told_file None k s is rests = absurd (grind (arith, is))
+told_file (Some r) k s is rests =
     let same : r ≡ s = cc in
-    subst (λ (q : Story). Ends s (record { slots = slots; mark = mark; list = (file_in q.now.bytes).list })) (sym same)
+    subst
+    (λ (q : Story). Ends s (record { slots = k.slots; mark = k.mark; list = (file_in q.now.bytes).list })) (sym same)
     (record {
       settled = rests.settled;
       stands = record {
         sound = rests.sound;
-        is = ap (λ (n : ℕ). record { slots = n; mark = mark; list = (file_in s.now.bytes).list }) rests.slots_are
+        is = ap (λ (n : ℕ). record { slots = n; mark = k.mark; list = (file_in s.now.bytes).list }) rests.slots_are
             ∙ ap (λ (n : ℕ). record {
               slots = (file_in s.now.bytes).slots;
               mark = n;
@@ -55,15 +64,31 @@ told_file (Some r) slots first len mark s is rests =
     })
 
 module _ {D : Type 0} (members : disk.Ghosts D) (v : SpoolView D) where
-  pub stands_so : ((s : Story) → members.told v.disk ≡ Some s → Rests s v.slots v.first v.len v.mark) →
+  pub stands_so : v.next ≡ v.first + v.len → ((s : Story) → members.told v.disk ≡ Some s → Rests s (known_of v)) →
       Stands members v (standing_of members v)
-  stands_so rests = record {
-    count = ap (λ (n : ℕ). record { slots = v.slots; next = next_of v; len = n })
-        (told_len (members.told v.disk) v.slots v.first v.len v.mark rests);
+  stands_so even rests = record {
+    count = ap (λ (n : ℕ). record { slots = v.slots; next = v.next; len = n })
+        (told_len (members.told v.disk) (known_of v) rests);
     mark = refl;
-    run = told_run (members.told v.disk) v.slots v.first v.len v.mark rests;
-    file = λ s told. told_file (members.told v.disk) v.slots v.first v.len v.mark s told (rests s told);
+    chain = told_chain (members.told v.disk) (known_of v) even rests;
+    even = even;
+    file = λ s told. told_file (members.told v.disk) (known_of v) s told (rests s told);
   }
+
+  -- another mark leaves the numbers
+  pub same_chain : (w : SpoolView D) (mark : ℕ) → w ≡ in_hand w.disk (record (known_of v) { mark = mark }) →
+      (st : Standing) → Stands members v st → IsChainFrom w.first w.next st.list
+  same_chain w mark view st stands =
+      subst (λ (n : ℕ). IsChainFrom n w.next st.list) (sym (ap (λ (x : SpoolView D). x.first) view))
+      (subst (λ (n : ℕ). IsChainFrom v.first n st.list) (sym (ap (λ (x : SpoolView D). x.next) view)) stands.chain)
+
+  pub same_even : (w : SpoolView D) (mark : ℕ) → w ≡ in_hand w.disk (record (known_of v) { mark = mark }) →
+      (st : Standing) → Stands members v st → w.next ≡ w.first + w.len
+  same_even w mark view st stands =
+      let first : w.first ≡ v.first = ap (λ (x : SpoolView D). x.first) view in
+      let next : w.next ≡ v.next = ap (λ (x : SpoolView D). x.next) view in
+      let len : w.len ≡ v.len = ap (λ (x : SpoolView D). x.len) view in
+      omega (arith, first, next, len, stands.even)
 
   pub reserve_stands : (w : SpoolView D) (base : ℕ) → Reserves members v (Ok (w, base)) → (st : Standing) →
       Stands members v st → Stands members w (reserved st)
@@ -71,7 +96,8 @@ module _ {D : Type 0} (members : disk.Ghosts D) (v : SpoolView D) where
       let view = done.2 in record {
         count = ap (λ (x : SpoolView D). count_of x) view ∙ stands.count;
         mark = ap (λ (x : SpoolView D). x.mark) view ∙ ap (λ (n : ℕ). n + 4096) stands.mark;
-        run = subst (λ (n : ℕ). IsRunFrom n st.list) (sym (ap (λ (x : SpoolView D). x.first) view)) stands.run;
+        chain = same_chain w (v.mark + 4096) view st stands;
+        even = same_even w (v.mark + 4096) view st stands;
         file = λ t told. let old = reserve_told members v w.disk done.0 t told in
             subst (λ (f : SpoolFile). Ends t (with_mark (f.mark + 4096) f)) (sym (stands.file old.0 old.1).stands.is)
             (done.3 old.0 t old.1 told);

@@ -19,7 +19,7 @@ use Rattle.spool_slots.specs.Changes.{Drops, Ends, HoldsThrough, IsSame, IsSameO
 use Rattle.spool_slots.specs.File.{SpoolFile, StandsFor, file_in}
 use Rattle.spool_slots.specs.Losses.{IsSure, LeavesByGate, file_left, gate_counts}
 use Rattle.spool_slots.specs.Slot.{Message}
-use Rattle.spool_slots.specs.Spool.{SpoolView, next_of}
+use Rattle.spool_slots.specs.Spool.{SpoolView, in_hand, known_of}
 use Rattle.spool_slots.specs.declared.states.Dropping.TheVariants as dropping
 use Rattle.spool_slots.specs.declared.states.Reserving.TheVariants as reserving
 use Rattle.spool_slots.specs.declared.states.Spent.{Spent}
@@ -45,7 +45,7 @@ pub record HasList {D : Type 0} (members : disk.Ghosts D) (v : SpoolView D) (lis
 -- the message that is put, with its number
 abbrev pub numbered : {D : Type 0} → SpoolView D → ℕ → ℕ → List ℕ → Message
 numbered v stream function body =
-    record { number = next_of v; stream = stream; function = function; body = body }
+    record { number = v.next; stream = stream; function = function; body = body }
 
 -- the file with a message more
 abbrev pub put_in : Message → List ℕ → SpoolFile
@@ -81,15 +81,9 @@ pub record HasLostPut {D : Type 0} (members : disk.Ghosts D) (v : SpoolView D) (
 abbrev pub PutsInto : {D : Type 0} → disk.Ghosts D → GemSpool D → ℕ → ℕ → List ℕ → GemSpool D → PutAnswer → Type 0
 PutsInto members g stream function body h (answer.Stored number) =
     HasPut members g.spool stream function body h.spool.disk Done
-    × StagesAndSeals members g.spool stream function body (Ok h.spool) × (number ≡ next_of g.spool)
+    × StagesAndSeals members g.spool stream function body (Ok h.spool) × (number ≡ g.spool.next)
     × (h ≡ record {
-      spool = record {
-        disk = h.spool.disk;
-        slots = g.spool.slots;
-        first = g.spool.first;
-        len = g.spool.len + 1;
-        mark = g.spool.mark;
-      };
+      spool = in_hand h.spool.disk (record (known_of g.spool) { next = g.spool.next + 1; len = g.spool.len + 1 });
       active = g.active;
     })
     × ((s t : Story) → members.told g.spool.disk ≡ Some s → members.told h.spool.disk ≡ Some t →
@@ -121,7 +115,7 @@ Puts members g stream function body (Err spent) =
 -- a message that fits was put, and has the next number; or the disk failed
 abbrev pub Stores : {D : Type 0} → disk.Ghosts D → GemSpool D → ℕ → ℕ → List ℕ → Result (GemSpool D) (Spent D) → Type 0
 Stores members g stream function body (Ok h) =
-    PutsInto members g stream function body h (answer.Stored (next_of g.spool))
+    PutsInto members g stream function body h (answer.Stored g.spool.next)
 Stores members g stream function body (Err spent) = Puts members g stream function body (Err spent)
 
 -- ---- confirm
@@ -157,9 +151,11 @@ without_some n file = record { slots = file.slots; mark = file.mark; list = drop
 abbrev pub IsRest : ℕ → List ℕ → List ℕ → Type 0
 IsRest most bytes image = (n : ℕ) × (n ≤ most) × StandsFor image (without_some n (file_in bytes))
 
--- a crash leaves the list with some first messages gone; two calls a message were made, if none failed
+-- a crash leaves the list with some first messages gone; two calls a message were made, if none failed, and each
+-- message takes one number
 pub record HasPurged {D : Type 0} (members : disk.Ghosts D) (v : SpoolView D) (after : D) (answer : DiskAnswer) :
     Type 0 where
+  pub even : v.next ≡ v.first + v.len
   pub images : HoldsThrough (members.told v.disk) (members.told after) (IsRest v.len)
   pub cause : HasCause (members.health v.disk) (members.health after) (2 * v.len) v.len
       ((members.health v.disk).room < v.len) answer
@@ -177,7 +173,7 @@ abbrev pub Purges : {D : Type 0} → disk.Ghosts D → SpoolView D → Result (S
 Purges {D} members v (Ok w) =
     HasPurged members v w.disk Done
     × DropsSome members v.len v w
-    × (w ≡ record { disk = w.disk; slots = v.slots; first = v.first + v.len; len = 0; mark = v.mark })
+    × (w ≡ in_hand w.disk (record (known_of v) { first = v.next; len = 0 }))
     × ((s t : Story) → members.told v.disk ≡ Some s → members.told w.disk ≡ Some t →
     Ends t (record { slots = (file_in s.now.bytes).slots; mark = (file_in s.now.bytes).mark; list = [] }))
 Purges {D} members v (Err spent) =

@@ -5,13 +5,13 @@ use Rattle.disk_base.specs.declared.disk.Disk as disk
 use Rattle.gem_spool.specs.declared.count.Count.{Count}
 use Rattle.spool_slots.specs.Changes.{Ends}
 use Rattle.spool_slots.specs.File.{SpoolFile, file_in}
-use Rattle.spool_slots.specs.Run.{IsRunFrom}
+use Rattle.spool_slots.specs.Run.{IsChainFrom}
 use Rattle.spool_slots.specs.Slot.{Message}
-use Rattle.spool_slots.specs.Spool.{SpoolView, next_of}
+use Rattle.spool_slots.specs.Spool.{SpoolView}
 
 -- the numbers that decide what can be done
 abbrev pub count_of : {D : Type 0} → SpoolView D → Count
-count_of v = record { slots = v.slots; next = next_of v; len = v.len }
+count_of v = record { slots = v.slots; next = v.next; len = v.len }
 
 -- the list, the slots that it has, the number of the next message, and the mark
 pub record Standing : Type 0 where
@@ -31,7 +31,9 @@ file_of st = record { slots = st.slots; mark = st.mark; list = st.list }
 pub record Stands {D : Type 0} (members : disk.Ghosts D) (v : SpoolView D) (st : Standing) : Type 0 where
   pub count : count_of v ≡ count_in st
   pub mark : v.mark ≡ st.mark
-  pub run : IsRunFrom v.first st.list
+  pub chain : IsChainFrom v.first v.next st.list
+  -- each message takes one slot, and so one number
+  pub even : v.next ≡ v.first + v.len
   pub file : (s : Story) → members.told v.disk ≡ Some s → Ends s (file_of st)
 
 -- messages of these numbers, in place of those that a disk doesn't tell
@@ -47,7 +49,7 @@ list_told (Some s) first len = (file_in s.now.bytes).list
 abbrev pub standing_of : {D : Type 0} → disk.Ghosts D → SpoolView D → Standing
 standing_of members v = record {
   slots = v.slots;
-  next = next_of v;
+  next = v.next;
   mark = v.mark;
   list = list_told (members.told v.disk) v.first v.len;
 }

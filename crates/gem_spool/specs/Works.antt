@@ -21,7 +21,6 @@ use Rattle.gem_spool.specs.declared.works.Work.TheVariants as work
 use Rattle.spool_slots.specs.Changes.{Drops}
 use Rattle.spool_slots.specs.File.{StandsFor}
 use Rattle.spool_slots.specs.Slot.{Message}
-use Rattle.spool_slots.specs.Spool.{next_of}
 use Rattle.spool_slots.specs.declared.states.Dropping.TheVariants as dropping
 use Rattle.spool_slots.specs.declared.states.Spent.{Spent}
 
@@ -174,7 +173,7 @@ pub record HasCarried {D : Type 0} (members : disk.Ghosts D) (g : GemSpool D) (w
   pub active : h.active ≡ g.active
   pub goes_on : GoesOn members g works h.spool.disk Done
   pub list : (list : List Message) → HasList members g.spool list →
-      HasList members h.spool (lists_after (next_of g.spool) list works)
+      HasList members h.spool (lists_after g.spool.next list works)
   pub stands : (st : Standing) → Stands members g.spool st → Stands members h.spool (standings_after st works)
 
 -- those before it were done, this one failed, and none behind it was begun

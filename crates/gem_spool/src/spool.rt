@@ -12,7 +12,7 @@ ghost use Rattle.gem_spool.specs.declared.works.Work.TheVariants.{Purge};
 ghost use Rattle.gem_spool.specs.declared.spool.Room.TheVariants.{Fits};
 ghost use Rattle.spool_slots.specs.Changes.{Looks};
 ghost use Rattle.spool_slots.specs.Slot.{Message};
-ghost use Rattle.spool_slots.specs.Spool.{Rests, next_of};
+ghost use Rattle.spool_slots.specs.Spool.{Rests, known_of};
 
 use crate::count::Count;
 use disk_base::{Disk, MemDisk};
@@ -74,9 +74,9 @@ impl<D: Disk> GemSpool<D> {
 
     /// The number that the next message gets.
     pub fn next(&self) -> u64
-        ensures { result ≡ next_of self.now.spool }
+        ensures { result ≡ self.now.spool.next }
     {
-        self.spool.first() + u64::from(self.spool.len())
+        self.spool.next()
     }
 
     /// Whether there is room for a body of this length. It asks nothing of the disk.
@@ -93,11 +93,10 @@ impl<D: Disk> GemSpool<D> {
         ensures range { result.len ≤ result.slots }
         ensures bound { result.next ≤ 2 ^ 63 + 65535 }
     {
-        let len = self.spool.len();
         Count {
             slots: self.spool.slots(),
-            next: self.spool.first() + u64::from(len),
-            len,
+            next: self.spool.next(),
+            len: self.spool.len(),
         }
     }
 
@@ -192,8 +191,7 @@ impl<D: Disk> GemSpool<D> {
     pub fn len(&self) -> u32
         ensures len { result ≡ self.now.spool.len }
         ensures range { result ≤ self.now.spool.slots }
-        ensures rests { (s : Story) → D.told self.now.spool.disk ≡ Some s →
-            Rests s self.now.spool.slots self.now.spool.first self.now.spool.len self.now.spool.mark }
+        ensures rests { (s : Story) → D.told self.now.spool.disk ≡ Some s → Rests s (known_of self.now.spool) }
         ensures stands { Stands D.Disk self.now.spool (standing_of D.Disk self.now.spool) }
     {
         self.spool.len()
@@ -210,8 +208,7 @@ impl<D: Disk> GemSpool<D> {
     /// Gives the device back as it is.
     pub fn retire(self) -> Spent<D>
         ensures disk { result.disk ≡ self.spool.disk }
-        ensures rests { (s : Story) → D.told self.spool.disk ≡ Some s →
-            Rests s self.spool.slots self.spool.first self.spool.len self.spool.mark }
+        ensures rests { (s : Story) → D.told self.spool.disk ≡ Some s → Rests s (known_of self.spool) }
     {
         self.spool.retire()
     }

@@ -34,7 +34,7 @@ starts_over plan spool = starts plan spool.spool.slots (list_in spool) spool.spo
 -- an empty spool, for laws that speak of no value
 abbrev pub blank_spool : ℕ → GemSpool DiskState
 blank_spool slots = record {
-  spool = record { disk = disk_with [] 0 0; slots = slots; first = 0; len = 0; mark = 0 };
+  spool = record { disk = disk_with [] 0 0; slots = slots; first = 0; next = 0; len = 0; mark = 0 };
   active = false;
 }
 

@@ -21,7 +21,7 @@ use Rattle.spool_show.specs.Text.{line_of, message_line, message_lines}
 use Rattle.spool_slots.specs.Changes.{IsFound}
 use Rattle.spool_slots.specs.File.{file_in}
 use Rattle.spool_slots.specs.Slot.{message_of, slot_in, slot_place}
-use Rattle.spool_slots.specs.Spool.{SpoolView}
+use Rattle.spool_slots.specs.Spool.{SpoolView, in_hand, known_of}
 use Rattle.spool_slots.specs.declared.slot.SlotHead.{SlotHead}
 
 -- the area of a slot's body is what stands behind its first fifteen bytes
@@ -111,8 +111,7 @@ pub shown_on :
     → HasShown members w x e → HasShown members v x e
 shown_on {D} {members} v w x e one two = record {
   same = two.same
-      ∙ ap (λ (u : SpoolView D). record { disk = x.disk; slots = u.slots; first = u.first; len = u.len; mark = u.mark })
-      one.same;
+      ∙ ap (λ (u : SpoolView D). in_hand x.disk (known_of u)) one.same;
   told = two.told ∙ one.told;
   same_disk = same_then one.same_disk two.same_disk;
   count = count_on (members.health v.disk).faults (members.health w.disk).faults (members.health x.disk).faults e

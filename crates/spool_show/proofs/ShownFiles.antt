@@ -14,6 +14,7 @@ use Rattle.spool_show.specs.declared.spool_end.SpoolEnd.{SpoolEnd}
 use Rattle.spool_show.specs.declared.spool_end.SpoolEnd.TheVariants as end
 use Rattle.spool_slots.specs.File.{file_in}
 use Rattle.spool_slots.specs.Spool.{Rests}
+use Rattle.spool_slots.specs.declared.recovery.Known.{Known}
 
 -- the head that was put into an empty page
 pub head_put : {slots mark len slots' mark' len' : ℕ} (items empty : List ℕ) → items ≡ empty ++ head_line slots mark len
@@ -23,35 +24,36 @@ head_put {slots} {mark} {len} {slots'} {mark'} {len'} items empty put none one t
     ∙ ap (λ m. head_line slots' m len) two ∙ ap (λ n. head_line slots' mark' n) three
 
 -- the spool in hand, where its disk tells its bytes
-abbrev pub AreInHand : Option Story → ℕ → ℕ → ℕ → ℕ → Type 0
-AreInHand told slots first len mark = (s : Story) → told ≡ Some s → Rests s slots first len mark
+abbrev pub AreInHand : Option Story → Known → Type 0
+AreInHand told k = (s : Story) → told ≡ Some s → Rests s k
 
-module _ (before : Option Story) (slots first len mark : ℕ) (rests : AreInHand before slots first len mark) where
+module _ (before : Option Story) (k : Known) (rests : AreInHand before k) where
   -- its head is the file's
   head_is : (s : Story) → before ≡ Some s → (lines : List ℕ)
-      → head_line slots mark len ++ lines
+      → head_line k.slots k.mark k.len ++ lines
       ≡ head_line (file_in s.now.bytes).slots (file_in s.now.bytes).mark (length (file_in s.now.bytes).list) ++ lines
   head_is s is lines =
       let here = rests s is in
-      ap (λ n. head_line n mark len ++ lines) here.slots_are
-      ∙ ap (λ m. head_line (file_in s.now.bytes).slots m len ++ lines) here.mark_is
+      ap (λ n. head_line n k.mark k.len ++ lines) here.slots_are
+      ∙ ap (λ m. head_line (file_in s.now.bytes).slots m k.len ++ lines) here.mark_is
       ∙ ap (λ n. head_line (file_in s.now.bytes).slots (file_in s.now.bytes).mark n ++ lines) here.count
 
   -- with all lines it is the whole text
-  whole_text : (lines : List ℕ) → AreLines before 0 len lines → IsWhole before (head_line slots mark len ++ lines)
+  whole_text : (lines : List ℕ) → AreLines before 0 k.len lines
+      → IsWhole before (head_line k.slots k.mark k.len ++ lines)
   whole_text lines are s is =
       let list = (file_in s.now.bytes).list in
-      let all : take len list ≡ list = take_all len list (omega (arith, (rests s is).count)) in
+      let all : take k.len list ≡ list = take_all k.len list (omega (arith, (rests s is).count)) in
       head_is s is lines
       ∙ ap (λ t. head_line (file_in s.now.bytes).slots (file_in s.now.bytes).mark (length list) ++ t)
       (are s is ∙ ap message_lines all)
 
   -- with some of them it is the front
   front_text : (count : ℕ) (lines : List ℕ) → AreLines before 0 count lines
-      → IsFront before (head_line slots mark len ++ lines)
+      → IsFront before (head_line k.slots k.mark k.len ++ lines)
   front_text count lines are s is =
       let list = (file_in s.now.bytes).list in
-      let head = head_line slots mark len in
+      let head = head_line k.slots k.mark k.len in
       let rest = message_lines (drop count list) in
       let all : message_lines list ≡ lines ++ rest =
       ap message_lines (sym (take-append-drop count list))
@@ -59,8 +61,8 @@ module _ (before : Option Story) (slots first len mark : ℕ) (rests : AreInHand
       (rest, sym (head_is s is (message_lines list)) ∙ ap (λ t. head ++ t) all ∙ sym (append_assoc head lines rest))
 
   -- the list stops in the middle
-  pub list_stops : (out : SinkTold) (old new : List ℕ) (e : SpoolEnd) → old ≡ head_line slots mark len → e ≢ end.Done
-      → PutsLines before 0 len out old new e → ShowsList before out e
+  pub list_stops : (out : SinkTold) (old new : List ℕ) (e : SpoolEnd) → old ≡ head_line k.slots k.mark k.len
+      → e ≢ end.Done → PutsLines before 0 k.len out old new e → ShowsList before out e
   list_stops out old new end.Done is stopped puts = absurd (stopped refl)
   list_stops out old new (end.NotSpool place) is stopped puts = absurd puts
   list_stops out old new end.WriteFailed is stopped (count, few, lines, short, are) =
@@ -77,18 +79,19 @@ module _ (before : Option Story) (slots first len mark : ℕ) (rests : AreInHand
           )
 
   module _ {was mid : Option (List ℕ)} {a b : SinkHealth} (now : Option (List ℕ)) (c : SinkHealth) (old new : List ℕ)
-      (is : old ≡ head_line slots mark len) (puts : PutsLines before 0 len (told was mid a b) old new end.Done) where
-    all_whole : IsWhole before (old ++ puts.0)
-    all_whole = subst (λ h. IsWhole before (h ++ puts.0)) (sym is) (whole_text puts.0 puts.2)
+      (is : old ≡ head_line k.slots k.mark k.len) (puts : PutsLines before 0 k.len (told was mid a b) old new end.Done)
+    where
+      all_whole : IsWhole before (old ++ puts.0)
+      all_whole = subst (λ h. IsWhole before (h ++ puts.0)) (sym is) (whole_text puts.0 puts.2)
 
-    -- all of it was put, and went out
-    pub list_sent : WroteText (told mid now b c) new → ShowsList before (told was now a c) end.Done
-    list_sent wrote = (old ++ puts.0, finished now c (old ++ puts.0) new sent.Done puts.1 wrote, all_whole)
+      -- all of it was put, and went out
+      pub list_sent : WroteText (told mid now b c) new → ShowsList before (told was now a c) end.Done
+      list_sent wrote = (old ++ puts.0, finished now c (old ++ puts.0) new sent.Done puts.1 wrote, all_whole)
 
-    -- or not all of it went out
-    pub list_cut : WroteShort (told mid now b c) new → ShowsList before (told was now a c) end.WriteFailed
-    list_cut short = (
-      old ++ puts.0,
-      finished now c (old ++ puts.0) new sent.Failed puts.1 short,
-      λ s told_is. ([], sym (all_whole s told_is) ∙ sym (append-nil (old ++ puts.0))),
-    )
+      -- or not all of it went out
+      pub list_cut : WroteShort (told mid now b c) new → ShowsList before (told was now a c) end.WriteFailed
+      list_cut short = (
+        old ++ puts.0,
+        finished now c (old ++ puts.0) new sent.Failed puts.1 short,
+        λ s told_is. ([], sym (all_whole s told_is) ∙ sym (append-nil (old ++ puts.0))),
+      )

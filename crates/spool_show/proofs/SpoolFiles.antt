@@ -22,7 +22,8 @@ use Rattle.spool_slots.specs.Added.{OnlyAdds, WritesOrSyncs}
 use Rattle.spool_slots.specs.Changes.{HasRecovered, Recovers, most_reads}
 use Rattle.spool_slots.specs.File.{file_in}
 use Rattle.spool_slots.specs.Slot.{slot_place}
-use Rattle.spool_slots.specs.Spool.{Rests, SpoolView}
+use Rattle.spool_slots.specs.Spool.{Rests, SpoolView, known_of}
+use Rattle.spool_slots.specs.declared.recovery.Known.{Known}
 use Rattle.spool_slots.specs.declared.states.Recovering.{Recovering}
 use Rattle.spool_slots.specs.declared.states.Recovering.TheVariants as recovering
 use Rattle.spool_slots.proofs.Added.{adds_as, adds_behind, adds_done, adds_failed}
@@ -66,11 +67,11 @@ tells before out end.WriteFailed sound shows = (sound, shows)
 tells before out (end.NotSpool place) sound shows = absurd shows
 
 -- and of the file
-pub recovered_text : (before here : Option Story) (slots first len mark : ℕ) (out : SinkTold) (e : SpoolEnd)
+pub recovered_text : (before here : Option Story) (k : Known) (out : SinkTold) (e : SpoolEnd)
     → here ≡ option_map with_sync before
-    → ((s : Story) → before ≡ Some s → Rests (with_sync s) slots first len mark) → ShowsList here out e
+    → ((s : Story) → before ≡ Some s → Rests (with_sync s) k) → ShowsList here out e
     → TellsSpool before out e
-recovered_text before here slots first len mark out e is rests shows =
+recovered_text before here k out e is rests shows =
     tells before out e (λ s told_is. (rests s told_is).sound)
     (recovered_list before out e (subst (λ t. ShowsList t out e) is shows))
 
@@ -121,7 +122,7 @@ pub shows_recovered : {D : Type 0} {members : trait.Ghosts D} {f g : Option (Lis
     (disk_parts f g k l (members.told old) (members.told w.disk) (members.size_is old) (members.health old)
     (members.health w.disk)) out e
 shows_recovered {D} {members} {out = out} old v w e (read, stands) shown shows = record {
-  written = recovered_text (members.told old) (members.told v.disk) v.slots v.first v.len v.mark out e read.told
+  written = recovered_text (members.told old) (members.told v.disk) (known_of v) out e read.told
       (λ s told_is. (stands s told_is).0) shows;
   kept = inr (shown.told ∙ read.told);
   count = subst (λ n. IsCounted n (members.health w.disk).faults e) (recovered_count read) shown.count;

@@ -13,7 +13,7 @@ use Rattle.spool_show.specs.declared.spool_end.SpoolEnd.{SpoolEnd}
 use Rattle.spool_show.specs.declared.spool_end.SpoolEnd.TheVariants.{Done, NotSpool, DiskFailed, WriteFailed}
 use Rattle.spool_slots.specs.File.{file_in, spool_break}
 use Rattle.spool_slots.specs.Reading.{IsBreak}
-use Rattle.spool_slots.specs.Spool.{SpoolView}
+use Rattle.spool_slots.specs.Spool.{SpoolView, in_hand, known_of}
 use Rattle.spool_slots.specs.declared.reading.NotSpool.{NotSpool as Place}
 use Rattle.spool_slots.specs.declared.states.Recovering.{Recovering}
 use Rattle.spool_slots.specs.declared.states.Recovering.TheVariants as recovering
@@ -89,7 +89,7 @@ pub record ShowsSpool (name : List ℕ) (disk : DiskTold) (out : SinkTold) (end 
 
 -- slots were read, and the spool is as it was
 pub record HasShown {D : Type 0} (members : trait.Ghosts D) (v w : SpoolView D) (end : SpoolEnd) : Type 0 where
-  pub same : w ≡ record { disk = w.disk; slots = v.slots; first = v.first; len = v.len; mark = v.mark }
+  pub same : w ≡ in_hand w.disk (known_of v)
   pub told : members.told w.disk ≡ members.told v.disk
   pub same_disk : IsSameDisk members v.disk w.disk
   pub count : IsCounted (members.health v.disk).faults (members.health w.disk).faults end

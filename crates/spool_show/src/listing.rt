@@ -110,7 +110,7 @@ fn put_message<D: Disk, W: Sink>(
     slot: &mut [u8; SLOT_SIZE],
 ) -> SpoolEnd
     requires first { spool.old.first ≤ number }
-    requires last { number < spool.old.first + spool.old.len }
+    requires last { number < spool.old.next }
     ensures read { HasShown D.Disk spool.old spool.new result }
     ensures lines { PutsLines (D.told spool.old.disk) (number - spool.old.first) 1
         (sink_told W.Sink out.old out.new)

@@ -3,19 +3,19 @@ use Rattle.std.proofs.Common.{◌≡◌, ℕ, ◌≤◌, List, [], length, Optio
 use Rattle.std.specs.Option.{option_map}
 use Rattle.disk_base.specs.Story.{Story, with_sync}
 use Rattle.disk_base.specs.declared.disk.Disk as disk
-use Rattle.spool_slots.specs.Area.{area_break}
-use Rattle.spool_slots.specs.File.{file_in, slots_in}
+use Rattle.spool_slots.specs.Area.{first_of}
+use Rattle.spool_slots.specs.File.{area_break, file_in, slots_in}
 use Rattle.spool_slots.specs.Front.{front_break, front_in}
 use Rattle.spool_slots.specs.Reading.{KnownFits, KnownIs}
-use Rattle.spool_slots.specs.Run.{IsRunFrom}
+use Rattle.spool_slots.specs.Run.{IsChainFrom}
 use Rattle.spool_slots.specs.Slot.{slot_in, slot_place}
 use Rattle.spool_slots.specs.Spool.{IsSpool, Rests, in_hand}
 use Rattle.spool_slots.specs.declared.recovery.Known.{Known}
 use Rattle.spool_slots.proofs.Firsts.{both_none}
-use Rattle.spool_slots.proofs.Runs.{sound_kept}
+use Rattle.spool_slots.proofs.Gapless.{sound_kept}
 
 pub rests_of : (s : Story) (known : Known) → s.now.loose ≡ [] → slot_place known.slots ≤ length s.now.bytes → KnownIs s.now.bytes known →
-    Rests s known.slots known.first known.len known.mark
+    Rests s known
 rests_of s known settled inside is =
     let both = both_none (front_break (front_in s.now.bytes) (length s.now.bytes)) (area_break (slot_in s.now.bytes) (slots_in s.now.bytes)) is.0 in
     record {
@@ -24,8 +24,11 @@ rests_of s known settled inside is =
       inside = inside;
       slots_are = is.1;
       mark_is = is.2;
-      run = subst (λ n. IsRunFrom n (file_in s.now.bytes).list) (sym is.3) (sound_kept (slot_in s.now.bytes) (slots_in s.now.bytes) both.1).run;
-      count = is.4;
+      chain =
+          subst (λ n. IsChainFrom n known.next (file_in s.now.bytes).list) (sym is.3)
+          (subst (λ n. IsChainFrom (first_of (file_in s.now.bytes).list) n (file_in s.now.bytes).list) (sym is.4)
+          (sound_kept (slot_in s.now.bytes) (slots_in s.now.bytes) both.1).kept.chain);
+      count = is.5;
     }
 
 abbrev loose_of : Option Story → List (ℕ × ℕ)
@@ -41,13 +44,14 @@ pub synced : (before after : Option Story) (s : Story) → after ≡ option_map 
 synced before after s is here = ap loose_of (sym here ∙ is) ∙ loose_synced before
 
 pub spool_of : {D : Type 0} (members : disk.Ghosts D) (here : D) (known : Known) → KnownFits (members.size_is here) known →
-    ((s : Story) → members.told here ≡ Some s → Rests s known.slots known.first known.len known.mark) → IsSpool members (in_hand here known)
+    ((s : Story) → members.told here ≡ Some s → Rests s known) → IsSpool members (in_hand here known)
 spool_of members here known fits rests = record {
   some = fits.0;
   most = fits.1;
   fits = fits.2;
   room = fits.4;
-  numbers = omega (arith, fits.5, fits.4, fits.1);
+  even = fits.6;
+  numbers = omega (arith, fits.6, fits.5, fits.4, fits.1);
   mark_most = fits.3;
   rests = rests;
 }

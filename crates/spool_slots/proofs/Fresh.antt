@@ -1,5 +1,5 @@
 -- What a new file stands for.
-use Rattle.std.proofs.Common.{◌≡◌, ◌⊎◌, inl, inr, ℕ, zero, suc, ◌+◌, ◌%◌, ◌^◌, ◌<◌, ◌≤◌, ◌==◌, ◌&&◌, nat_le, nat_lt, Bool, false, if◌then◌else◌, List, [], ◌∷◌, ◌++◌, length, length-append, take, drop, replicate, get_or, slice_index, Option, Some, None, Result, Ok, refl, sym, ap, subst, ◌∙◌, arith}
+use Rattle.std.proofs.Common.{◌≡◌, ◌⊎◌, inl, inr, ℕ, ◌+◌, ◌%◌, ◌^◌, ◌<◌, ◌≤◌, ◌==◌, ◌&&◌, nat_le, nat_lt, Bool, false, if◌then◌else◌, List, [], ◌∷◌, ◌++◌, length, length-append, take, drop, replicate, get_or, slice_index, Option, Some, None, Result, Ok, refl, sym, ap, subst, ◌∙◌, arith}
 use Rattle.std.proofs.lemmas.Bool.{cases_eq}
 use Rattle.std.proofs.lemmas.Bool.Decides.{nat_tests}
 use Rattle.std.proofs.lemmas.List.{drop-append-le, drop-take, drop_all, get_or-drop, get_or-take, length-replicate, take-append-le, take-take, take_all}
@@ -12,32 +12,30 @@ use Rattle.disk_base.specs.declared.disk.Disk as disk
 use Rattle.disk_base.specs.declared.disk.DiskAnswer.TheVariants.{Done}
 use Rattle.disk_base.proofs.Marks.{length-part}
 use Rattle.gate_cell.specs.Cell.{names_second}
-use Rattle.spool_slots.specs.Area.{area_break, end_of, messages_below, or_else, put_if}
+use Rattle.spool_slots.specs.Area.{or_else}
 use Rattle.spool_slots.specs.Changes.{Ends}
-use Rattle.spool_slots.specs.File.{SpoolFile, StandsFor, slots_in}
+use Rattle.spool_slots.specs.File.{SpoolFile, StandsFor, area_break, end_of, list_below, slot_message, slot_stands, slots_in}
 use Rattle.spool_slots.specs.Format.{ClosesTo, CountsFirst, IsClosedTo, empty_file, first_page}
-use Rattle.spool_slots.specs.Front.{front_break, front_in, magic, magic_break, mark_break, mark_of, mark_place, slots_break, slots_of, unlike_at}
+use Rattle.spool_slots.specs.Front.{front_break, front_in, magic, magic_break, copy_at, mark_break, mark_cell, mark_of, slots_break, slots_of, unlike_at}
 use Rattle.spool_slots.specs.Losses.{marks_second}
-use Rattle.spool_slots.specs.Run.{IsRunFrom}
+use Rattle.spool_slots.specs.Run.{IsChainFrom}
 use Rattle.spool_slots.specs.Spool.{IsSpool, in_hand}
-use Rattle.spool_slots.specs.Slot.{Message, Slot, head_break, is_open, message_of, slot_in, slot_place}
-use Rattle.spool_slots.proofs.Firsts.{of_sound}
+use Rattle.spool_slots.specs.Slot.{Message, Slot, head_break, is_open, slot_in, slot_place}
+use Rattle.spool_slots.proofs.Areas.{none_there}
+use Rattle.spool_slots.proofs.Fronts.{unlike_front}
+use Rattle.spool_slots.proofs.Gapless.{of_sound}
 use Rattle.spool_slots.proofs.Gates.{gate_at}
-use Rattle.spool_slots.proofs.NewMarks.{unlike_front}
 use Rattle.spool_slots.proofs.Written.{bytes_inside, front_beside, gate_written, others_stay}
 
 -- closed slots hold no messages, and don't break
 module _ (slot : ℕ → Slot) where
-  pub none_below : (n : ℕ) → ((k : ℕ) → k < n → is_open (slot k) ≡ false) → messages_below slot n ≡ []
-  none_below zero closed = refl
-  none_below (suc k) closed =
-      ap (λ (b : Bool). put_if b (message_of (slot k)) (messages_below slot k)) (closed k (omega arith))
-      ∙ none_below k (λ j below. closed j (omega (arith, below)))
+  pub none_held : (n : ℕ) → ((k : ℕ) → k < n → is_open (slot k) ≡ false) → list_below slot n ≡ []
+  none_held n closed = none_there (slot_stands slot) (slot_message slot) n closed
 
   pub none_break : (n : ℕ) → ((k : ℕ) → k < n → is_open (slot k) ≡ false) → area_break slot n ≡ None
   none_break n closed = of_sound slot n (record {
     fields = λ k below. ap (λ (b : Bool). if b then head_break n k (slot k).head else None) (closed k below);
-    ahead = λ k below. ap (λ (b : Bool). if b && nat_le (end_of (messages_below slot n)) (slot k).head.number then Some 1 else None) (closed k below);
+    ahead = λ k below. ap (λ (b : Bool). if b && nat_le (end_of (list_below slot n)) (slot k).head.number then Some 1 else None) (closed k below);
   })
 
 -- the first page
@@ -92,7 +90,7 @@ module _ (slots : ℕ) where
   gate_zero : slice_index front 28 ≡ 0
   gate_zero = sym (get_or-drop 12 front 16 0) ∙ ap (λ (xs : List ℕ). get_or xs 16 0) seventeen
 
-  place_is : mark_place front ≡ 12
+  place_is : copy_at mark_cell front ≡ 12
   place_is = ap (λ (g : ℕ). if g % 2 == 0 then 12 else 20) gate_zero
 
   pub mark_zero : mark_of front ≡ 0
@@ -105,7 +103,7 @@ module _ (slots : ℕ) where
   front_none size some most fits =
       ap (λ (o : Option ℕ). or_else o (or_else (slots_break front size) (mark_break front))) magic_none
       ∙ ap (λ (o : Option ℕ). or_else o (mark_break front)) (slots_none (slots_of front) (slots_are (omega (arith, most))))
-      ∙ ap (λ (m : ℕ). if nat_lt (2 ^ 32) m then Some (mark_place front) else None) mark_zero where
+      ∙ ap (λ (m : ℕ). if nat_lt (2 ^ 32) m then Some (copy_at mark_cell front) else None) mark_zero where
         slots_none : (n : ℕ) → n ≡ slots →
             (if nat_lt size 12 then Some size else (if n == 0 then Some 8 else (if nat_lt 65535 n then Some 8 else (if nat_lt size (slot_place n) then Some size else None)))) ≡ None
         slots_none n is = grind (arith, nat_tests, is, some, most, fits)
@@ -123,9 +121,9 @@ empty_stands bytes slots is some most fits closed =
           (ap (λ (f : List ℕ). front_break f (length bytes)) front ∙ front_none slots (length bytes) some most fits)
           ∙ area;
       is =
-          sym (ap (λ (n : ℕ). made n (mark_of (front_in bytes)) (messages_below (slot_in bytes) n)) count
-          ∙ ap (λ (m : ℕ). made slots m (messages_below (slot_in bytes) slots)) (ap mark_of front ∙ mark_zero slots)
-          ∙ ap (λ (list : List Message). made slots 0 list) (none_below (slot_in bytes) slots closed));
+          sym (ap (λ (n : ℕ). made n (mark_of (front_in bytes)) (list_below (slot_in bytes) n)) count
+          ∙ ap (λ (m : ℕ). made slots m (list_below (slot_in bytes) slots)) (ap mark_of front ∙ mark_zero slots)
+          ∙ ap (λ (list : List Message). made slots 0 list) (none_held (slot_in bytes) slots closed));
     } where
       made : ℕ → ℕ → List Message → SpoolFile
       made slots mark list = record { slots = slots; mark = mark; list = list }
@@ -134,12 +132,13 @@ empty_stands bytes slots is some most fits closed =
 pub empty_spool : {D : Type 0} (members : disk.Ghosts D) (d : D) (slots : ℕ) → 1 ≤ slots → slots ≤ 65535 → slot_place slots ≤ members.size_is d →
     ((t : Story) → members.told d ≡ Some t → Ends t (empty_file slots)) →
     ((t : Story) → members.told d ≡ Some t → length t.now.bytes ≡ members.size_is d) →
-    IsSpool members (in_hand d (record { slots = slots; first = 0; len = 0; mark = 0 }))
+    IsSpool members (in_hand d (record { slots = slots; first = 0; next = 0; len = 0; mark = 0 }))
 empty_spool members d slots some most fits ends sized = record {
   some = some;
   most = most;
   fits = fits;
   room = omega arith;
+  even = omega arith;
   numbers = omega arith;
   mark_most = omega arith;
   rests = λ t told. let is = (ends t told).stands.is in
@@ -149,7 +148,7 @@ empty_spool members d slots some most fits ends sized = record {
         inside = omega (arith, fits, sized t told);
         slots_are = ap (λ (f : SpoolFile). f.slots) is;
         mark_is = ap (λ (f : SpoolFile). f.mark) is;
-        run = subst (λ (f : SpoolFile). IsRunFrom 0 f.list) is tt;
+        chain = subst (λ (f : SpoolFile). IsChainFrom 0 0 f.list) is refl;
         count = ap (λ (f : SpoolFile). length f.list) is;
       };
 }
@@ -225,7 +224,7 @@ stands_empty o p q r slots size sized some most fits page closes synced t told =
 first_gate : (slots : ℕ) (bytes : List ℕ) → front_in bytes ≡ take 29 (first_page slots) → marks_second bytes ≡ false
 first_gate slots bytes is =
     ap names_second
-    (gate_at bytes
+    (gate_at mark_cell bytes
     ∙ sym (get_or-take 29 bytes 28 0 (omega arith))
     ∙ ap (λ (f : List ℕ). slice_index f 28) (is ∙ ap (λ (xs : List ℕ). take 29 xs) (page_is slots))
     ∙ gate_zero slots)

@@ -1,19 +1,24 @@
 pub mod Added
-mod Areas
+pub mod Areas
+mod CellWrites
 mod Changes
+pub mod Contents
+pub mod Evens
 mod Firsts
 mod Found
 mod Fresh
+mod Fronts
+mod Gapless
 pub mod Gates
 mod Lasting
 mod Lists
 mod Looking
 mod Lost
-mod LostMarks
-mod NewMarks
+mod LostCells
+mod Marks
 mod Moves
 mod Parts
-mod Runs
+pub mod Runs
 mod Starts
 mod Stretches
 mod Written

@@ -1,6 +1,6 @@
 -- What a crash leaves of a gate that was written and not synced.
 use Rattle.std.proofs.lemmas.Nat.{mod_below}
-use Rattle.std.proofs.Common.{◌≡◌, ℕ, if◌then◌else◌, ◌+◌, ◌%◌, ◌<◌, ◌==◌, Bool, true, false, not, List, [], ◌∷◌, length, slice_index, Option, Some, None, refl, sym, ap, subst, ◌∙◌, arith, ⊎_elim}
+use Rattle.std.proofs.Common.{◌≡◌, ℕ, if◌then◌else◌, ◌%◌, ◌<◌, ◌==◌, Bool, true, false, not, List, [], ◌∷◌, length, slice_index, Option, Some, None, refl, sym, ap, subst, ◌∙◌, arith, ⊎_elim}
 use Rattle.disk_base.specs.Calls.{DiskCall}
 use Rattle.disk_base.specs.Cut.{chosen_byte, image_of}
 use Rattle.disk_base.specs.Faults.{DiskHealth, IsCrowded}
@@ -12,14 +12,13 @@ use Rattle.disk_base.specs.declared.cut.CutChoice.TheVariants.{Old, New, Fill, F
 use Rattle.disk_base.specs.declared.disk.Disk as disk
 use Rattle.disk_base.specs.declared.disk.DiskAnswer.TheVariants.{Failed}
 use Rattle.disk_base.proofs.Stretches.{both_wider}
-use Rattle.spool_slots.specs.Area.{messages_below}
 use Rattle.spool_slots.specs.Changes.{HasSettled, dropped_in, sealed_in}
 use Rattle.spool_slots.specs.File.{SpoolFile, StandsFor, file_in}
 use Rattle.spool_slots.specs.Losses.{IsSure, LeavesByGate, file_left, gate_counts}
 use Rattle.spool_slots.specs.Slot.{is_open, slot_in, slot_place}
 use Rattle.spool_slots.specs.Spool.{IsSpool, IsStagedSpool, Rests, in_hand}
 use Rattle.spool_slots.specs.declared.recovery.Known.{Known}
-use Rattle.spool_slots.proofs.Lasting.{count_is, first_there, next_closed}
+use Rattle.spool_slots.proofs.Lasting.{first_there, next_closed}
 use Rattle.spool_slots.proofs.Moves.{close_less, open_more, shut_same, still_same}
 
 pub not_crowded : (h : DiskHealth) (calls n : ℕ) → IsSure h calls n → IsCrowded h calls n → ⊥
@@ -81,25 +80,23 @@ module _ (written : HasWrittenLaw) (left : ChosenLaw) {D : Type 0} (members : di
     (called : (s : Story) → members.told d ≡ Some s → (all : List DiskCall) × (members.calls d ≡ Some all)) where
   module _ (is : IsStagedSpool members (in_hand d k)) where
     abbrev slot : ℕ
-    slot = (k.first + k.len) % k.slots
+    slot = k.next % k.slots
 
     below : slot < k.slots
-    below = mod_below (k.first + k.len) k.slots (omega (arith, is.spool.some))
+    below = mod_below k.next k.slots (omega (arith, is.spool.some))
 
     module _ (s : Story) (told : members.told d ≡ Some s) where
-      r : Rests s k.slots k.first k.len k.mark
+      r : Rests s k
       r = is.spool.rests s told
 
       shut : is_open (slot_in s.now.bytes slot) ≡ false
-      shut = next_closed s k.slots k.first k.len k.mark r is.spool.some is.free
-
-      next_is : (slot_in s.now.bytes slot).head.number ≡ k.first + length (messages_below (slot_in s.now.bytes) k.slots)
-      next_is = (is.parts s told).number ∙ ap (λ (n : ℕ). k.first + n) (count_is s k.slots k.first k.len k.mark r is.spool.some)
+      shut = next_closed s k r is.spool.some (omega (arith, is.free, is.spool.even))
 
       by_gate : (gate : ℕ) (b : Bool) → (gate == 90) ≡ b →
           StandsFor (with_part s.now.bytes (slot_place slot) (gate ∷ [])) (file_left b (sealed_in slot s.now.bytes) (file_in s.now.bytes))
-      by_gate gate true test = open_more s.now.bytes k.slots k.first r.sound r.inside r.slots_are r.run slot below gate shut test (is.parts s told).fields next_is
-      by_gate gate false test = shut_same s.now.bytes k.slots k.first r.sound r.inside r.slots_are r.run slot below gate shut test
+      by_gate gate true test =
+          open_more s.now.bytes k.slots k.first k.next r.sound r.inside r.slots_are r.chain slot below gate shut test (is.parts s told).fields (is.parts s told).number
+      by_gate gate false test = shut_same s.now.bytes k.slots k.first k.next r.sound r.inside r.slots_are r.chain slot below gate shut test
 
     pub seal_loss : HasSettled members d d' (slot_place slot) (90 ∷ []) Failed → IsSure (members.health d) 2 1 →
         LeavesByGate (members.told d) (members.told d') (λ gate. gate == 90) (sealed_in slot)
@@ -113,18 +110,18 @@ module _ (written : HasWrittenLaw) (left : ChosenLaw) {D : Type 0} (members : di
     oldest_slot = k.first % k.slots
 
     module _ (s : Story) (told : members.told d ≡ Some s) where
-      rests : Rests s k.slots k.first k.len k.mark
+      rests : Rests s k
       rests = is.rests s told
 
       there : (oldest_slot < k.slots) × (is_open (slot_in s.now.bytes oldest_slot) ≡ true) × ((slot_in s.now.bytes oldest_slot).head.number ≡ k.first)
-      there = first_there s k.slots k.first k.len k.mark rests is.some one
+      there = first_there s k rests is.some one
 
       drop_by_gate : (gate : ℕ) (b : Bool) → (gate == 90) ≡ b →
           StandsFor (with_part s.now.bytes (slot_place oldest_slot) (gate ∷ [])) (file_left (not b) (dropped_in s.now.bytes) (file_in s.now.bytes))
       drop_by_gate gate true test =
-          still_same s.now.bytes k.slots k.first rests.sound rests.inside rests.slots_are rests.run oldest_slot there.0 gate there.1 there.2 test
+          still_same s.now.bytes k.slots k.first k.next rests.sound rests.inside rests.slots_are rests.chain oldest_slot there.0 gate there.1 there.2 test
       drop_by_gate gate false test =
-          close_less s.now.bytes k.slots k.first rests.sound rests.inside rests.slots_are rests.run oldest_slot there.0 gate there.1 there.2 test
+          close_less s.now.bytes k.slots k.first k.next rests.sound rests.inside rests.slots_are rests.chain oldest_slot there.0 gate there.1 there.2 test
 
     pub drop_loss : HasSettled members d d' (slot_place oldest_slot) (0 ∷ []) Failed → IsSure (members.health d) 2 1 →
         LeavesByGate (members.told d) (members.told d') (λ gate. not (gate == 90)) dropped_in

@@ -1,17 +1,20 @@
 -- What the bytes stand for where one slot of a sound file is written.
-use Rattle.std.proofs.Common.{◌≡◌, ℕ, ◌+◌, ◌<◌, ◌≤◌, ◌==◌, true, false, List, [], ◌∷◌, ◌++◌, length, drop, None, refl, sym, ap, subst, ◌∙◌, arith}
+use Rattle.std.proofs.Common.{◌≡◌, ℕ, ◌+◌, ◌%◌, ◌<◌, ◌≤◌, ◌⊎◌, ◌==◌, true, false, List, [], ◌∷◌, ◌++◌, length, drop, None, refl, sym, ap, subst, ◌∙◌, arith, inl, inr}
+use Rattle.std.proofs.lemmas.Bool.{cases_eq}
 use Rattle.std.proofs.lemmas.Bool.Decides.{nat_tests}
 use Rattle.disk_base.specs.Story.{with_part}
 use Rattle.disk_base.proofs.Marks.{length-part}
-use Rattle.spool_slots.specs.Area.{area_break, messages_below, or_else}
+use Rattle.spool_slots.specs.Area.{or_else}
 use Rattle.spool_slots.specs.Changes.{dropped_in, sealed_in}
-use Rattle.spool_slots.specs.File.{SpoolFile, StandsFor, file_in, slots_in, spool_break}
+use Rattle.spool_slots.specs.File.{SpoolFile, StandsFor, area_break, file_in, list_below, slot_message, slot_stands, slots_in, spool_break}
 use Rattle.spool_slots.specs.Front.{front_break, front_in, mark_of, slots_of}
-use Rattle.spool_slots.specs.Run.{IsRunFrom}
-use Rattle.spool_slots.specs.Slot.{Message, Slot, head_break, is_open, message_of, slot_in, slot_place}
-use Rattle.spool_slots.proofs.Changes.{closes, closes_kept, opens, opens_kept, same_kept, same_list, stays, stays_kept}
-use Rattle.spool_slots.proofs.Firsts.{both_none, sound_of}
-use Rattle.spool_slots.proofs.Runs.{IsKept, kept_sound}
+use Rattle.spool_slots.specs.Run.{IsChainFrom, width}
+use Rattle.spool_slots.specs.Slot.{Message, Slot, head_break, is_open, message_of, slot_break, slot_in, slot_place}
+use Rattle.spool_slots.proofs.Areas.{IsSameAt}
+use Rattle.spool_slots.proofs.Changes.{closes, closes_kept, opens, opens_kept, same_kept, same_list}
+use Rattle.spool_slots.proofs.Firsts.{both_none}
+use Rattle.spool_slots.proofs.Gapless.{IsWhole, closed_none, good_is, good_none, good_width, kept_sound, open_good, sound_of}
+use Rattle.spool_slots.proofs.Runs.{IsKept}
 use Rattle.spool_slots.proofs.Written.{front_beside, gate_stays, gate_written, others_stay}
 
 abbrev made_file : ℕ → ℕ → List Message → SpoolFile
@@ -20,7 +23,7 @@ made_file slots mark list = record { slots = slots; mark = mark; list = list }
 -- bytes with the same front and sound slots
 pub stands_now : (bytes image : List ℕ) (slots : ℕ) (list : List Message) → front_in image ≡ front_in bytes → length image ≡ length bytes →
     front_break (front_in bytes) (length bytes) ≡ None → slots ≡ slots_in bytes → area_break (slot_in image) slots ≡ None →
-    messages_below (slot_in image) slots ≡ list → StandsFor image (made_file (slots_in bytes) (mark_of (front_in bytes)) list)
+    list_below (slot_in image) slots ≡ list → StandsFor image (made_file (slots_in bytes) (mark_of (front_in bytes)) list)
 stands_now bytes image slots list same long front slots_are area is =
     let slots_now : slots ≡ slots_in image = slots_are ∙ ap slots_of (sym same) in
     record {
@@ -31,53 +34,96 @@ stands_now bytes image slots list same long front slots_are area is =
       is =
           ap (λ (f : List ℕ). made_file (slots_of f) (mark_of f) list) (sym same)
           ∙ ap (λ (l : List Message). made_file (slots_in image) (mark_of (front_in image)) l)
-          (sym is ∙ ap (λ (n : ℕ). messages_below (slot_in image) n) slots_now);
+          (sym is ∙ ap (λ (n : ℕ). list_below (slot_in image) n) slots_now);
     }
 
+-- a slot that is the same holds the same
+pub slot_same : (f g : ℕ → Slot) (k : ℕ) → g k ≡ f k → IsSameAt (slot_stands f) (slot_stands g) (slot_message f) (slot_message g) k
+slot_same f g k same = record { stays = ap is_open same; same = λ there. ap message_of same }
+
+-- one that is closed both times holds nothing
+pub slot_closed : (f g : ℕ → Slot) (k : ℕ) → is_open (f k) ≡ false → is_open (g k) ≡ false → IsSameAt (slot_stands f) (slot_stands g) (slot_message f) (slot_message g) k
+slot_closed f g k was now = record { stays = now ∙ sym was; same = λ there. let opened : is_open (f k) ≡ true = there in absurd (grind (arith, opened, was)) }
+
 -- a sound file in which one slot is written
-module _ (bytes : List ℕ) (slots first : ℕ) (sound : spool_break bytes ≡ None) (inside : slot_place slots ≤ length bytes)
-    (slots_are : slots ≡ slots_in bytes) (run : IsRunFrom first (file_in bytes).list) where
-  both : (front_break (front_in bytes) (length bytes) ≡ None) × (area_break (slot_in bytes) (slots_in bytes) ≡ None)
-  both = both_none (front_break (front_in bytes) (length bytes)) (area_break (slot_in bytes) (slots_in bytes)) sound
+module _ (bytes : List ℕ) (slots first next : ℕ) (sound : spool_break bytes ≡ None) (inside : slot_place slots ≤ length bytes)
+    (slots_are : slots ≡ slots_in bytes) (chain : IsChainFrom first next (file_in bytes).list) where
+  abbrev old : ℕ → Slot
+  old = slot_in bytes
 
-  pub listed : (file_in bytes).list ≡ messages_below (slot_in bytes) slots
-  listed = ap (λ (n : ℕ). messages_below (slot_in bytes) n) (sym slots_are)
+  both : (front_break (front_in bytes) (length bytes) ≡ None) × (area_break old (slots_in bytes) ≡ None)
+  both = both_none (front_break (front_in bytes) (length bytes)) (area_break old (slots_in bytes)) sound
 
-  pub kept : IsKept (slot_in bytes) slots first
+  pub listed : (file_in bytes).list ≡ list_below old slots
+  listed = ap (λ (n : ℕ). list_below old n) (sym slots_are)
+
+  fields : (k : ℕ) → k < slots → slot_break slots k (old k) ≡ None
+  fields = (sound_of old slots (subst (λ n. area_break old n ≡ None) (sym slots_are) both.1)).fields
+
+  pub kept : IsKept (slot_stands old) (slot_message old) slots first next
   kept = record {
-    fields = (sound_of (slot_in bytes) slots (subst (λ n. area_break (slot_in bytes) n ≡ None) (sym slots_are) both.1)).fields;
-    run = subst (IsRunFrom first) listed run;
+    places = λ k below there. (open_good slots k (old k) (fields k below) there).place;
+    chain = subst (IsChainFrom first next) listed chain;
   }
 
   fits : (j at p long : ℕ) → at ≡ slot_place j + p → j < slots → p + long ≤ 4096 → at + long ≤ length bytes
   fits j at p long is below short = omega (arith, is, below, short, inside)
 
-  stands : (j at p : ℕ) (part : List ℕ) (list : List Message) (first' : ℕ) → at ≡ slot_place j + p → j < slots → p + length part ≤ 4096 →
-      IsKept (slot_in (with_part bytes at part)) slots first' → messages_below (slot_in (with_part bytes at part)) slots ≡ list →
-      StandsFor (with_part bytes at part) (made_file (slots_in bytes) (mark_of (front_in bytes)) list)
-  stands j at p part list first' at_is below short is same =
-      let within = fits j at p (length part) at_is below short in
-      stands_now bytes (with_part bytes at part) slots list
-      (front_beside bytes part at within (omega (arith, at_is)))
-      (length-part bytes part at within) both.0 slots_are (kept_sound (slot_in (with_part bytes at part)) slots first' is) same
+  -- a part was written into slot j
+  module _ (j at p : ℕ) (part : List ℕ) (at_is : at ≡ slot_place j + p) (below : j < slots) (short : p + length part ≤ 4096) where
+    abbrev image : List ℕ
+    image = with_part bytes at part
+
+    within : at + length part ≤ length bytes
+    within = fits j at p (length part) at_is below short
+
+    beside : (k : ℕ) → k < slots → (k ≡ j → ⊥) → slot_in image k ≡ old k
+    beside k less other = others_stay bytes part j k at p at_is within short other
+
+    pub same_beside : (k : ℕ) → k < slots → (k ≡ j → ⊥) →
+        IsSameAt (slot_stands old) (slot_stands (slot_in image)) (slot_message old) (slot_message (slot_in image)) k
+    same_beside k less other = slot_same old (slot_in image) k (beside k less other)
+
+    field_at : (k : ℕ) → (k ≡ j) ⊎ (k ≡ j → ⊥) → k < slots → slot_break slots j (slot_in image j) ≡ None → slot_break slots k (slot_in image k) ≡ None
+    field_at k (inl here) less good = subst (λ i. slot_break slots i (slot_in image i) ≡ None) (sym here) good
+    field_at k (inr other) less good = ap (λ s. slot_break slots k s) (beside k less other) ∙ fields k less
+
+    -- which passes the tests still
+    module _ (good : slot_break slots j (slot_in image j) ≡ None) where
+      pub whole : (first' next' : ℕ) → IsKept (slot_stands (slot_in image)) (slot_message (slot_in image)) slots first' next' →
+          IsWhole (slot_in image) slots first' next'
+      whole first' next' is = record { fields = λ k less. field_at k (cases_eq k j) less good; kept = is }
+
+      pub stands : (first' next' : ℕ) (list : List Message) → IsKept (slot_stands (slot_in image)) (slot_message (slot_in image)) slots first' next' →
+          list_below (slot_in image) slots ≡ list → StandsFor image (made_file (slots_in bytes) (mark_of (front_in bytes)) list)
+      stands first' next' list is same =
+          stands_now bytes image slots list (front_beside bytes part at within (omega (arith, at_is))) (length-part bytes part at within) both.0 slots_are
+          (kept_sound (slot_in image) slots first' next' (whole first' next' is)) same
+
+    -- a closed slot that is so still
+    module _ (was : is_open (old j) ≡ false) (still : is_open (slot_in image j) ≡ false) where
+      same_at : (k : ℕ) → (k ≡ j) ⊎ (k ≡ j → ⊥) → k < slots →
+          IsSameAt (slot_stands old) (slot_stands (slot_in image)) (slot_message old) (slot_message (slot_in image)) k
+      same_at k (inl here) less = subst (λ i. IsSameAt (slot_stands old) (slot_stands (slot_in image)) (slot_message old) (slot_message (slot_in image)) i) (sym here)
+          (slot_closed old (slot_in image) j was still)
+      same_at k (inr other) less = same_beside k less other
+
+      pub shut_kept : IsKept (slot_stands (slot_in image)) (slot_message (slot_in image)) slots first next
+      shut_kept = same_kept (slot_stands old) (slot_stands (slot_in image)) (slot_message old) (slot_message (slot_in image)) slots first next kept
+          (λ k less. same_at k (cases_eq k j) less)
+
+      pub shut_stands : StandsFor image (file_in bytes)
+      shut_stands =
+          stands (closed_none slots j (slot_in image j) still) first next (file_in bytes).list shut_kept
+          (same_list (slot_stands old) (slot_stands (slot_in image)) (slot_message old) (slot_message (slot_in image)) slots first next kept
+          (λ k less. same_at k (cases_eq k j) less) ∙ sym listed)
 
   -- the parts of a closed slot
-  module _ (j : ℕ) (below : j < slots) (closed : is_open (slot_in bytes j) ≡ false) (part : List ℕ) (short : 1 + length part ≤ 4096) where
-    still : is_open (slot_in (with_part bytes (slot_place j + 1) part) j) ≡ false
-    still = ap (λ (gate : ℕ). gate == 90) (gate_stays bytes part j (fits j (slot_place j + 1) 1 (length part) refl below short)) ∙ closed
-
-    others : (k : ℕ) → k < slots → (k ≡ j → ⊥) → slot_in (with_part bytes (slot_place j + 1) part) k ≡ slot_in bytes k
-    others k less other =
-        others_stay bytes part j k (slot_place j + 1) 1 refl (fits j (slot_place j + 1) 1 (length part) refl below short) short other
-
-    pub parts_list : messages_below (slot_in (with_part bytes (slot_place j + 1) part)) slots ≡ messages_below (slot_in bytes) slots
-    parts_list = stays (slot_in bytes) (slot_in (with_part bytes (slot_place j + 1) part)) slots first j kept below others closed still
-
-    pub parts_kept : IsKept (slot_in (with_part bytes (slot_place j + 1) part)) slots first
-    parts_kept = stays_kept (slot_in bytes) (slot_in (with_part bytes (slot_place j + 1) part)) slots first j kept below others closed still
-
-    pub parts_same : StandsFor (with_part bytes (slot_place j + 1) part) (file_in bytes)
-    parts_same = stands j (slot_place j + 1) 1 part (file_in bytes).list first refl below short parts_kept (parts_list ∙ sym listed)
+  pub parts_same : (j : ℕ) → j < slots → is_open (old j) ≡ false → (part : List ℕ) → 1 + length part ≤ 4096 →
+      StandsFor (with_part bytes (slot_place j + 1) part) (file_in bytes)
+  parts_same j below closed part short =
+      shut_stands j (slot_place j + 1) 1 part refl below short closed
+      (ap (λ (gate : ℕ). gate == 90) (gate_stays bytes part j (fits j (slot_place j + 1) 1 (length part) refl below short)) ∙ closed)
 
   -- the gate of a slot
   module _ (j : ℕ) (below : j < slots) (gate : ℕ) where
@@ -87,75 +133,102 @@ module _ (bytes : List ℕ) (slots first : ℕ) (sound : spool_break bytes ≡ N
     at_is : slot_place j ≡ slot_place j + 0
     at_is = omega arith
 
-    within : slot_place j + 4096 ≤ length bytes
-    within = omega (arith, below, inside)
+    room : slot_place j + 4096 ≤ length bytes
+    room = omega (arith, below, inside)
 
-    beside : (k : ℕ) → k < slots → (k ≡ j → ⊥) → slot_in now k ≡ slot_in bytes k
-    beside k less other = others_stay bytes (gate ∷ []) j k (slot_place j) 0 at_is (omega (arith, within)) (omega arith) other
+    slot_now : slot_in now j ≡ record { gate = gate; head = (old j).head; area = (old j).area }
+    slot_now = gate_written bytes j gate room
 
     gate_is : is_open (slot_in now j) ≡ (gate == 90)
-    gate_is = ap is_open (gate_written bytes j gate within)
+    gate_is = ap is_open slot_now
 
-    message_is : message_of (slot_in now j) ≡ message_of (slot_in bytes j)
-    message_is = ap message_of (gate_written bytes j gate within)
+    message_is : message_of (slot_in now j) ≡ message_of (old j)
+    message_is = ap message_of slot_now
 
-    stands_gate : (list : List Message) (first' : ℕ) → IsKept (slot_in now) slots first' → messages_below (slot_in now) slots ≡ list →
-        StandsFor now (made_file (slots_in bytes) (mark_of (front_in bytes)) list)
-    stands_gate list first' is same = stands j (slot_place j) 0 (gate ∷ []) list first' at_is below (omega arith) is same
+    short : 0 + length (gate ∷ []) ≤ 4096
+    short = omega arith
+
+    others : (k : ℕ) → k < slots → (k ≡ j → ⊥) →
+        IsSameAt (slot_stands old) (slot_stands (slot_in now)) (slot_message old) (slot_message (slot_in now)) k
+    others = same_beside j (slot_place j) 0 (gate ∷ []) at_is below short
 
     -- of a closed one
-    module _ (closed : is_open (slot_in bytes j) ≡ false) where
-      pub shut_kept : (gate == 90) ≡ false → IsKept (slot_in now) slots first
-      shut_kept shut = stays_kept (slot_in bytes) (slot_in now) slots first j kept below beside closed (gate_is ∙ shut)
-
+    module _ (closed : is_open (old j) ≡ false) where
       pub shut_same : (gate == 90) ≡ false → StandsFor now (file_in bytes)
-      shut_same shut =
-          stands_gate (file_in bytes).list first (shut_kept shut)
-          (stays (slot_in bytes) (slot_in now) slots first j kept below beside closed (gate_is ∙ shut) ∙ sym listed)
+      shut_same shut = shut_stands j (slot_place j) 0 (gate ∷ []) at_is below short closed (gate_is ∙ shut)
 
-      module _ (opened : (gate == 90) ≡ true) (good : head_break slots j (slot_in bytes j).head ≡ None)
-          (next : (slot_in bytes j).head.number ≡ first + length (messages_below (slot_in bytes) slots)) where
-        good_now : head_break slots j (slot_in now j).head ≡ None
-        good_now = ap (λ (s : Slot). head_break slots j s.head) (gate_written bytes j gate within) ∙ good
+      module _ (opened : (gate == 90) ≡ true) (good : head_break slots j (old j).head ≡ None) (number : (old j).head.number ≡ next) where
+        number_now : (slot_in now j).head.number ≡ next
+        number_now = ap (λ (s : Slot). s.head.number) slot_now ∙ number
 
-        next_now : (slot_in now j).head.number ≡ first + length (messages_below (slot_in bytes) slots)
-        next_now = ap (λ (s : Slot). s.head.number) (gate_written bytes j gate within) ∙ next
+        place_now : (slot_in now j).head.number % slots ≡ j
+        place_now = ap (λ (s : Slot). s.head.number % slots) slot_now ∙ (good_is slots j (old j).head good).place
 
-        pub open_kept : IsKept (slot_in now) slots first
-        open_kept = opens_kept (slot_in bytes) (slot_in now) slots first j kept below beside closed (gate_is ∙ opened) good_now next_now
+        good_now : slot_break slots j (slot_in now j) ≡ None
+        good_now = good_none slots j (slot_in now j) (ap (λ (s : Slot). head_break slots j s.head) slot_now ∙ good)
 
-        pub open_list : messages_below (slot_in now) slots ≡ (file_in bytes).list ++ message_of (slot_in bytes j) ∷ []
+        pub open_kept : IsKept (slot_stands (slot_in now)) (slot_message (slot_in now)) slots first (next + width (message_of (slot_in now j)))
+        open_kept = opens_kept (slot_stands old) (slot_stands (slot_in now)) (slot_message old) (slot_message (slot_in now)) slots first next kept j below others
+            closed (gate_is ∙ opened) place_now number_now
+
+        open_list : list_below (slot_in now) slots ≡ (file_in bytes).list ++ message_of (old j) ∷ []
         open_list =
-            opens (slot_in bytes) (slot_in now) slots first j kept below beside closed (gate_is ∙ opened) good_now next_now
-            ∙ ap (λ m. messages_below (slot_in bytes) slots ++ m ∷ []) message_is
-            ∙ ap (λ list. list ++ message_of (slot_in bytes j) ∷ []) (sym listed)
+            opens (slot_stands old) (slot_stands (slot_in now)) (slot_message old) (slot_message (slot_in now)) slots first next kept j below others
+            closed (gate_is ∙ opened) place_now number_now
+            ∙ ap (λ m. list_below old slots ++ m ∷ []) message_is
+            ∙ ap (λ list. list ++ message_of (old j) ∷ []) (sym listed)
 
         pub open_more : StandsFor now (sealed_in j bytes)
-        open_more = stands_gate ((file_in bytes).list ++ message_of (slot_in bytes j) ∷ []) first open_kept open_list
+        open_more = stands j (slot_place j) 0 (gate ∷ []) at_is below short good_now first (next + width (message_of (slot_in now j)))
+            ((file_in bytes).list ++ message_of (old j) ∷ []) open_kept open_list
+
+        pub open_chain : IsChainFrom first (next + width (message_of (old j))) (sealed_in j bytes).list
+        open_chain =
+            subst (λ (m : Message). IsChainFrom first (next + width m) (sealed_in j bytes).list) message_is
+            (subst (IsChainFrom first (next + width (message_of (slot_in now j)))) open_list open_kept.chain)
 
     -- of an open one
-    module _ (opened : is_open (slot_in bytes j) ≡ true) (first_is : (slot_in bytes j).head.number ≡ first) where
-      same_slot : (gate == 90) ≡ true → slot_in now j ≡ slot_in bytes j
+    module _ (opened : is_open (old j) ≡ true) (number : (old j).head.number ≡ first) where
+      same_slot : (gate == 90) ≡ true → slot_in now j ≡ old j
       same_slot again =
-          let gates : gate ≡ (slot_in bytes j).gate = grind (arith, nat_tests, again, opened) in
-          gate_written bytes j gate within
+          let gates : gate ≡ (old j).gate = grind (arith, nat_tests, again, opened) in
+          slot_now
           ∙ ap (λ (g : ℕ). record_with g) gates where
             record_with : ℕ → Slot
-            record_with g = record { gate = g; head = (slot_in bytes j).head; area = (slot_in bytes j).area }
+            record_with g = record { gate = g; head = (old j).head; area = (old j).area }
+
+      all_at : (gate == 90) ≡ true → (k : ℕ) → (k ≡ j) ⊎ (k ≡ j → ⊥) → k < slots →
+          IsSameAt (slot_stands old) (slot_stands (slot_in now)) (slot_message old) (slot_message (slot_in now)) k
+      all_at again k (inl here) less = subst (λ i. IsSameAt (slot_stands old) (slot_stands (slot_in now)) (slot_message old) (slot_message (slot_in now)) i) (sym here)
+          (slot_same old (slot_in now) j (same_slot again))
+      all_at again k (inr other) less = others k less other
 
       pub still_same : (gate == 90) ≡ true → StandsFor now (file_in bytes)
       still_same again =
-          stands_gate (file_in bytes).list first
-          (same_kept (slot_in bytes) (slot_in now) slots first j kept below beside (same_slot again))
-          (same_list (slot_in bytes) (slot_in now) slots first j kept below beside (same_slot again) ∙ sym listed)
+          stands j (slot_place j) 0 (gate ∷ []) at_is below short (ap (λ s. slot_break slots j s) (same_slot again) ∙ fields j below) first next
+          (file_in bytes).list
+          (same_kept (slot_stands old) (slot_stands (slot_in now)) (slot_message old) (slot_message (slot_in now)) slots first next kept
+          (λ k less. all_at again k (cases_eq k j) less))
+          (same_list (slot_stands old) (slot_stands (slot_in now)) (slot_message old) (slot_message (slot_in now)) slots first next kept
+          (λ k less. all_at again k (cases_eq k j) less) ∙ sym listed)
 
-      pub close_kept : (gate == 90) ≡ false → IsKept (slot_in now) slots (first + 1)
-      close_kept shut = closes_kept (slot_in bytes) (slot_in now) slots first j kept below beside opened (gate_is ∙ shut) first_is
+      close_kept : (gate == 90) ≡ false → IsKept (slot_stands (slot_in now)) (slot_message (slot_in now)) slots (first + width (message_of (old j))) next
+      close_kept shut = closes_kept (slot_stands old) (slot_stands (slot_in now)) (slot_message old) (slot_message (slot_in now)) slots first next kept j below others
+          opened (gate_is ∙ shut) number
 
-      pub close_list : (gate == 90) ≡ false → messages_below (slot_in now) slots ≡ drop 1 (file_in bytes).list
+      close_list : (gate == 90) ≡ false → list_below (slot_in now) slots ≡ drop 1 (file_in bytes).list
       close_list shut =
           sym (ap (λ (list : List Message). drop 1 list)
-          (listed ∙ closes (slot_in bytes) (slot_in now) slots first j kept below beside opened (gate_is ∙ shut) first_is))
+          (listed ∙ closes (slot_stands old) (slot_stands (slot_in now)) (slot_message old) (slot_message (slot_in now)) slots first next kept j below others
+          opened (gate_is ∙ shut) number))
 
       pub close_less : (gate == 90) ≡ false → StandsFor now (dropped_in bytes)
-      close_less shut = stands_gate (drop 1 (file_in bytes).list) (first + 1) (close_kept shut) (close_list shut)
+      close_less shut = stands j (slot_place j) 0 (gate ∷ []) at_is below short (closed_none slots j (slot_in now j) (gate_is ∙ shut))
+          (first + width (message_of (old j))) next (drop 1 (file_in bytes).list) (close_kept shut) (close_list shut)
+
+      pub close_chain : (gate == 90) ≡ false → IsChainFrom (first + width (message_of (old j))) next (dropped_in bytes).list
+      close_chain shut = subst (IsChainFrom (first + width (message_of (old j))) next) (close_list shut) (close_kept shut).chain
+
+  -- the message of an open slot takes one slot
+  pub width_there : (j : ℕ) → j < slots → is_open (old j) ≡ true → width (message_of (old j)) ≡ 1
+  width_there j below opened = good_width slots j (old j) (open_good slots j (old j) (fields j below) opened)

@@ -15,7 +15,7 @@ use Rattle.spool_slots.specs.Spool.{HasParts, IsSpool, IsStagedSpool, Rests, in_
 use Rattle.spool_slots.specs.declared.recovery.Known.{Known}
 use Rattle.spool_slots.specs.declared.slot.SlotHead.{SlotHead}
 use Rattle.spool_slots.proofs.Lasting.{after_settle, lasts, parts_leave, rests_now}
-use Rattle.spool_slots.proofs.Runs.{is_good}
+use Rattle.spool_slots.proofs.Gapless.{is_good}
 use Rattle.spool_slots.proofs.Written.{parts_there}
 
 abbrev head_with : ℕ → ℕ → ℕ → ℕ → SlotHead
@@ -65,23 +65,23 @@ module _ (bytes : List ℕ) (j n s f : ℕ) (b : List ℕ) (number : n < 2 ^ 64)
 
 -- the parts of the next message were written
 module _ {D : Type 0} (members : disk.Ghosts D) (d d' : D) (k : Known) (is : IsSpool members (in_hand d k)) (s f : ℕ) (b : List ℕ)
-    (free : k.len < k.slots) (short : length b ≤ 4081) (low : s < 128) (odd : f % 2 ≡ 1) (number : k.first + k.len < 2 ^ 63) where
+    (free : k.len < k.slots) (short : length b ≤ 4081) (low : s < 128) (odd : f % 2 ≡ 1) (number : k.next < 2 ^ 63) where
   abbrev slot : ℕ
-  slot = (k.first + k.len) % k.slots
+  slot = k.next % k.slots
 
   abbrev part : List ℕ
-  part = parts_of (k.first + k.len) s f b
+  part = parts_of k.next s f b
 
   below : slot < k.slots
-  below = mod_below (k.first + k.len) k.slots (omega (arith, is.some))
+  below = mod_below k.next k.slots (omega (arith, is.some))
 
   within : (t : Story) → members.told d ≡ Some t → slot_place slot + 1 + length part ≤ length t.now.bytes
-  within t told = omega (arith, (is.rests t told).inside, below, length-parts (k.first + k.len) s f b, short)
+  within t told = omega (arith, (is.rests t told).inside, below, length-parts k.next s f b, short)
 
   same_now : (t : Story) → members.told d ≡ Some t → (other : List ℕ) → length other ≡ length part →
       IsSame t.now.bytes (with_part t.now.bytes (slot_place slot + 1) other)
   same_now t told other long =
-      parts_leave t k.slots k.first k.len k.mark (is.rests t told) is.some free other (omega (arith, long, length-parts (k.first + k.len) s f b, short))
+      parts_leave t k (is.rests t told) is.some (omega (arith, free, is.even)) other (omega (arith, long, length-parts k.next s f b, short))
 
   pub stage_does : (answer : DiskAnswer) → HasSettled members d d' (slot_place slot + 1) part answer → HasStaged members (in_hand d k) s f b d' answer
   stage_does answer done = record {
@@ -94,16 +94,16 @@ module _ {D : Type 0} (members : disk.Ghosts D) (d d' : D) (k : Known) (is : IsS
   }
 
   module _ (done : HasSettled members d d' (slot_place slot + 1) part Done) where
-    rests : (t : Story) → members.told d' ≡ Some t → Rests t k.slots k.first k.len k.mark
-    rests = after_settle (members.told d) (members.told d') (slot_place slot + 1) part (λ t. Rests t k.slots k.first k.len k.mark)
+    rests : (t : Story) → members.told d' ≡ Some t → Rests t k
+    rests = after_settle (members.told d) (members.told d') (slot_place slot + 1) part (λ t. Rests t k)
         (λ t told. let r = is.rests t told in
-        rests_now t (slot_place slot + 1) part (file_in t.now.bytes) k.slots k.first k.len k.mark (within t told) r.inside
-        (same_now t told part refl) r.slots_are r.mark_is r.run r.count) done.told
+        rests_now t (slot_place slot + 1) part (file_in t.now.bytes) k (within t told) r.inside
+        (same_now t told part refl) r.slots_are r.mark_is r.chain r.count) done.told
 
     fields : (t : Story) → members.told d ≡ Some t → head_break k.slots slot (slot_in (with_part t.now.bytes (slot_place slot + 1) part) slot).head ≡ None
     fields t told =
-        ap (λ (h : SlotHead). head_break k.slots slot h) (head_now t.now.bytes slot (k.first + k.len) s f b (omega (arith, number)) low short (within t told))
-        ∙ is_good k.slots slot (head_with (k.first + k.len) s f (length b))
+        ap (λ (h : SlotHead). head_break k.slots slot h) (head_now t.now.bytes slot k.next s f b (omega (arith, number)) low short (within t told))
+        ∙ is_good k.slots slot (head_with k.next s f (length b))
         (record { len = short; place = refl; number = number; function = grind (arith, nat_tests, odd) })
 
     pub stage_spool : IsStagedSpool members (in_hand d' k)
@@ -113,17 +113,18 @@ module _ {D : Type 0} (members : disk.Ghosts D) (d d' : D) (k : Known) (is : IsS
         most = is.most;
         fits = subst (λ n. slot_place k.slots ≤ n) (sym done.size) is.fits;
         room = is.room;
+        even = is.even;
         numbers = is.numbers;
         mark_most = is.mark_most;
         rests = rests;
       };
       free = free;
       number = number;
-      parts = after_settle (members.told d) (members.told d') (slot_place slot + 1) part (λ t. HasParts t k.slots (k.first + k.len))
+      parts = after_settle (members.told d) (members.told d') (slot_place slot + 1) part (λ t. HasParts t k.slots k.next)
           (λ t told. record {
             fields = fields t told;
             number = ap (λ (h : SlotHead). h.number)
-                (head_now t.now.bytes slot (k.first + k.len) s f b (omega (arith, number)) low short (within t told));
+                (head_now t.now.bytes slot k.next s f b (omega (arith, number)) low short (within t told));
           }) done.told;
     }
 
@@ -132,6 +133,6 @@ module _ {D : Type 0} (members : disk.Ghosts D) (d d' : D) (k : Known) (is : IsS
       stage_does Done done,
       refl,
       after_settle (members.told d) (members.told d') (slot_place slot + 1) part
-          (λ t. message_of (slot_in t.now.bytes slot) ≡ message_with (k.first + k.len) s f b)
-          (λ t told. message_now t.now.bytes slot (k.first + k.len) s f b (omega (arith, number)) low short (within t told)) done.told,
+          (λ t. message_of (slot_in t.now.bytes slot) ≡ message_with k.next s f b)
+          (λ t told. message_now t.now.bytes slot k.next s f b (omega (arith, number)) low short (within t told)) done.told,
     )

@@ -6,6 +6,7 @@ use Rattle.std.specs.List.{slice_get}
 use Rattle.disk_base.specs.Story.{Story, bytes_at}
 use Rattle.spool_slots.specs.Area.{put_if}
 use Rattle.spool_slots.specs.Front.{front_break, front_in, mark_of, slots_of}
+use Rattle.spool_slots.specs.File.{slot_message, slot_stands}
 use Rattle.spool_slots.specs.Reading.{FrontIs, FrontSays, IsBreak, IsScan, slot_from}
 use Rattle.spool_slots.specs.Slot.{Message, ahead_break, head_break, head_of, in_slot, is_open, message_of, slot_break, slot_in, slot_place}
 use Rattle.spool_slots.specs.declared.front.Front.{Front}
@@ -68,7 +69,7 @@ pub scanned_on : (bytes start : List ℕ) (k slots : ℕ) (scan found : Scan) �
     ((message : Message) (list : List Message) → message.number ≡ (head_of (drop 1 start)).number → IsScan scan list →
     IsScan found (put_if (is_open (slot_from start)) message list)) →
     (slot_break slots k (slot_in bytes k) ≡ None)
-    × ((list : List Message) → IsScan scan list → IsScan found (put_if (is_open (slot_in bytes k)) (message_of (slot_in bytes k)) list))
+    × ((list : List Message) → IsScan scan list → IsScan found (put_if (slot_stands (slot_in bytes) k) (slot_message (slot_in bytes) k) list))
 scanned_on bytes start k slots scan found long is none counts = (
   sym (same_break bytes start k long is slots) ∙ none,
   λ list scanned. subst (λ b. IsScan found (put_if b (message_of (slot_in bytes k)) list)) (same_open bytes start k long is)

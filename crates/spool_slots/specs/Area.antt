@@ -1,7 +1,7 @@
--- The slots of a spool file, and the list that they stand for (this profile).
-use Rattle.std.specs.Prelude.{ℕ, zero, suc, ◌+◌, Bool, true, false, nat_lt, if◌then◌else◌}
-use Rattle.std.specs.Prelude.{List, [], ◌∷◌, length, Option, Some, None}
-use Rattle.spool_slots.specs.Slot.{Message, Slot, ahead_break, in_slot, is_open, message_of, slot_break}
+-- Slots that hold messages: the list of these, and the first break that a test of slots finds (this profile).
+use Rattle.std.specs.Prelude.{ℕ, zero, suc, Bool, true, false, nat_lt, if◌then◌else◌}
+use Rattle.std.specs.Prelude.{List, [], ◌∷◌, Option, Some, None}
+use Rattle.spool_slots.specs.Slot.{Message}
 
 -- what the first test that finds something finds, of two
 abbrev pub or_else : Option ℕ → Option ℕ → Option ℕ
@@ -23,22 +23,12 @@ abbrev pub put_if : Bool → Message → List Message → List Message
 put_if true message list = put_by_number message list
 put_if false message list = list
 
--- the messages of the open ones of the first n slots, by number
-abbrev pub messages_below : (ℕ → Slot) → ℕ → List Message
-messages_below slot zero = []
-messages_below slot (suc k) = put_if (is_open (slot k)) (message_of (slot k)) (messages_below slot k)
+-- the messages that the first n slots hold, by number: which slots hold one, and which one each of these holds
+abbrev pub messages_below : (ℕ → Bool) → (ℕ → Message) → ℕ → List Message
+messages_below stands message zero = []
+messages_below stands message (suc k) = put_if (stands k) (message k) (messages_below stands message k)
 
 -- the number of the first message
 abbrev pub first_of : List Message → ℕ
 first_of [] = 0
 first_of (message ∷ list) = message.number
-
--- the number behind those of a list without gaps
-abbrev pub end_of : List Message → ℕ
-end_of list = first_of list + length list
-
--- where the first n slots break
-abbrev pub area_break : (ℕ → Slot) → ℕ → Option ℕ
-area_break slot n =
-    or_else (first_at (λ k. in_slot k (slot_break n k (slot k))) n)
-    (first_at (λ k. in_slot k (ahead_break (end_of (messages_below slot n)) (slot k))) n)

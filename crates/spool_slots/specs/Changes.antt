@@ -1,5 +1,5 @@
 -- What each call does to the spool on the disk (this profile).
-use Rattle.std.specs.Prelude.{◌≡◌, ◌⊎◌, ◌==◌, not, false, ℕ, ◌+◌, ◌*◌, ◌/◌, ◌^◌, ◌%◌, ◌-◌, ◌<◌, ◌≤◌, List, [], ◌∷◌, ◌++◌, length, drop}
+use Rattle.std.specs.Prelude.{◌≡◌, ◌⊎◌, ◌==◌, not, ℕ, ◌+◌, ◌*◌, ◌/◌, ◌^◌, ◌%◌, ◌-◌, ◌<◌, ◌≤◌, List, [], ◌∷◌, ◌++◌, length, drop}
 use Rattle.std.specs.Prelude.{Option, Some, Result, Ok, Err}
 use Rattle.std.specs.Int.{w32, w64, to_be_bytes}
 use Rattle.std.specs.List.{slice_get}
@@ -20,12 +20,13 @@ use Rattle.gate_cell.specs.Calls.{LogsPreparing}
 use Rattle.gate_cell.specs.Cell.{cell_in, gate_byte, spare_is_second}
 use Rattle.gate_cell.specs.Holds.{Holds}
 use Rattle.spool_slots.specs.Area.{first_of}
-use Rattle.spool_slots.specs.File.{SpoolFile, StandsFor, file_in, spool_break}
+use Rattle.spool_slots.specs.File.{SpoolFile, StandsFor, file_in, slot_message, spool_break}
+use Rattle.spool_slots.specs.Front.{mark_cell}
 use Rattle.spool_slots.specs.Losses.{IsSure, KeepsGate, LeavesByGate, LeavesGate, TurnsGate, file_left, gate_counts, names_spare}
 use Rattle.spool_slots.specs.Reading.{IsBreak}
 use Rattle.spool_slots.specs.Reads.{HasRead}
-use Rattle.spool_slots.specs.Slot.{Message, message_of, slot_in, slot_place}
-use Rattle.spool_slots.specs.Spool.{Rests, SpoolView, first_slot, next_of, next_slot}
+use Rattle.spool_slots.specs.Slot.{Message, slot_in, slot_place}
+use Rattle.spool_slots.specs.Spool.{Rests, SpoolView, first_slot, in_hand, known_of, next_slot}
 use Rattle.spool_slots.specs.declared.states.Dropping.{Dropping}
 use Rattle.spool_slots.specs.declared.states.Dropping.TheVariants as dropping
 use Rattle.spool_slots.specs.declared.slot.SlotHead.{SlotHead}
@@ -74,7 +75,7 @@ IsSameOr changed bytes image = StandsFor image (file_in bytes) ⊎ StandsFor ima
 
 -- the file with the message that stands in a slot
 abbrev pub sealed_in : ℕ → List ℕ → SpoolFile
-sealed_in k bytes = with_message (message_of (slot_in bytes k)) (file_in bytes)
+sealed_in k bytes = with_message (slot_message (slot_in bytes) k) (file_in bytes)
 
 abbrev pub dropped_in : List ℕ → SpoolFile
 dropped_in bytes = without_first (file_in bytes)
@@ -124,7 +125,7 @@ most_reads size = 2 * (size / 4096) + 1
 abbrev pub Recovers : {D : Type 0} → disk.Ghosts D → D → Result (SpoolView D) (Recovering D) → Type 0
 Recovers members old (Ok v) =
     HasRecovered members old v.disk (2 * v.slots + 1) Done
-    × ((s : Story) → members.told old ≡ Some s → Rests (with_sync s) v.slots v.first v.len v.mark
+    × ((s : Story) → members.told old ≡ Some s → Rests (with_sync s) (known_of v)
     × (v.first ≡ first_of (file_in s.now.bytes).list))
 Recovers members old (Err (recovering.NotSpool raw break)) =
     HasRecovered members old raw.disk (most_reads (members.size_is old)) Done
@@ -137,26 +138,26 @@ pub record HasStaged {D : Type 0} (members : disk.Ghosts D) (v : SpoolView D) (s
     (after : D) (answer : DiskAnswer) : Type 0 where
   pub short : length body ≤ 4081
   pub free : v.len < v.slots
-  pub number : next_of v < 2 ^ 63
+  pub number : v.next < 2 ^ 63
   pub images : HoldsThrough (members.told v.disk) (members.told after) IsSame
   pub disk : HasSettled members v.disk after (slot_place (next_slot v) + 1)
-      (parts_of (next_of v) stream function body) answer
+      (parts_of v.next stream function body) answer
 
 -- the message that was staged
 abbrev pub IsNext : {D : Type 0} → disk.Ghosts D → SpoolView D → Message → Type 0
 IsNext members w message =
-    (t : Story) → members.told w.disk ≡ Some t → message_of (slot_in t.now.bytes (next_slot w)) ≡ message
+    (t : Story) → members.told w.disk ≡ Some t → slot_message (slot_in t.now.bytes) (next_slot w) ≡ message
 
 abbrev pub Stages : {D : Type 0} → disk.Ghosts D → SpoolView D → ℕ → ℕ → List ℕ → Result (SpoolView D) (Staging D) →
     Type 0
 Stages members v stream function body (Ok w) =
     HasStaged members v stream function body w.disk Done
-    × (w ≡ record { disk = w.disk; slots = v.slots; first = v.first; len = v.len; mark = v.mark })
-    × IsNext members w (record { number = next_of v; stream = stream; function = function; body = body })
+    × (w ≡ in_hand w.disk (known_of v))
+    × IsNext members w (record { number = v.next; stream = stream; function = function; body = body })
 Stages members v stream function body (Err (staging.TooLong w)) = (w ≡ v) × (4081 < length body)
 Stages members v stream function body (Err (staging.Full w)) = (w ≡ v) × (length body ≤ 4081) × (v.len ≡ v.slots)
 Stages members v stream function body (Err (staging.NumbersSpent w)) =
-    (w ≡ v) × (length body ≤ 4081) × (v.len < v.slots) × (2 ^ 63 ≤ next_of v)
+    (w ≡ v) × (length body ≤ 4081) × (v.len < v.slots) × (2 ^ 63 ≤ v.next)
 Stages members v stream function body (Err (staging.Failed spent)) =
     HasStaged members v stream function body spent.disk Failed
 
@@ -169,7 +170,7 @@ pub record HasSealed {D : Type 0} (members : disk.Ghosts D) (v : SpoolView D) (a
 abbrev pub Seals : {D : Type 0} → disk.Ghosts D → SpoolView D → Result (SpoolView D) (Spent D) → Type 0
 Seals members v (Ok w) =
     HasSealed members v w.disk Done
-    × (w ≡ record { disk = w.disk; slots = v.slots; first = v.first; len = v.len + 1; mark = v.mark })
+    × (w ≡ in_hand w.disk (record (known_of v) { next = v.next + 1; len = v.len + 1 }))
     × ((s t : Story) → members.told v.disk ≡ Some s → members.told w.disk ≡ Some t →
     Ends t (sealed_in (next_slot v) s.now.bytes))
 Seals members v (Err spent) =
@@ -177,17 +178,18 @@ Seals members v (Err spent) =
     × (IsSure (members.health v.disk) 2 1 →
     LeavesByGate (members.told v.disk) (members.told spent.disk) (λ gate. gate == 90) (sealed_in (next_slot v)))
 
--- the gate of the oldest message's slot was closed
+-- the gate of the oldest message's slot was closed; each message takes one number
 pub record HasDropped {D : Type 0} (members : disk.Ghosts D) (v : SpoolView D) (after : D) (answer : DiskAnswer) :
     Type 0 where
   pub some : 0 < v.len
+  pub even : v.next ≡ v.first + v.len
   pub images : HoldsThrough (members.told v.disk) (members.told after) (IsSameOr dropped_in)
   pub disk : HasSettled members v.disk after (slot_place (first_slot v)) (0 ∷ []) answer
 
 abbrev pub Drops : {D : Type 0} → disk.Ghosts D → SpoolView D → Result (SpoolView D) (Dropping D) → Type 0
 Drops members v (Ok w) =
     HasDropped members v w.disk Done
-    × (w ≡ record { disk = w.disk; slots = v.slots; first = v.first + 1; len = v.len - 1; mark = v.mark })
+    × (w ≡ in_hand w.disk (record (known_of v) { first = v.first + 1; len = v.len - 1 }))
     × ((s t : Story) → members.told v.disk ≡ Some s → members.told w.disk ≡ Some t → Ends t (dropped_in s.now.bytes))
 Drops members v (Err (dropping.Empty w)) = (w ≡ v) × (v.len ≡ 0)
 Drops members v (Err (dropping.Failed spent)) =
@@ -195,10 +197,11 @@ Drops members v (Err (dropping.Failed spent)) =
     × (IsSure (members.health v.disk) 2 1 →
     LeavesByGate (members.told v.disk) (members.told spent.disk) (λ gate. not (gate == 90)) dropped_in)
 
--- one slot was read, and the rest is as it was
+-- one slot was read, and the rest is as it was; each message takes one number
 pub record HasLooked {D : Type 0} (members : disk.Ghosts D) (v w : SpoolView D) (k : ℕ) (answer : DiskAnswer) :
     Type 0 where
-  pub same : w ≡ record { disk = w.disk; slots = v.slots; first = v.first; len = v.len; mark = v.mark }
+  pub even : v.next ≡ v.first + v.len
+  pub same : w ≡ in_hand w.disk (known_of v)
   pub told : members.told w.disk ≡ members.told v.disk
   pub size : members.size_is w.disk ≡ members.size_is v.disk
   pub calls : Logs (read_call (slot_place k) 4096) (IsCrowded (members.health v.disk) 1 0) (members.calls v.disk)
@@ -211,43 +214,45 @@ pub record IsFound (s : Story) (slots first number : ℕ) (into : List ℕ) (hea
   pub bytes : into ≡ bytes_at s.now.bytes (slot_place (number % slots)) 4096
   pub head_is : head ≡ (slot_in s.now.bytes (number % slots)).head
   pub listed : slice_get (file_in s.now.bytes).list (number - first)
-      ≡ Some (message_of (slot_in s.now.bytes (number % slots)))
+      ≡ Some (slot_message (slot_in s.now.bytes) (number % slots))
 
 abbrev pub Looks : {D : Type 0} → disk.Ghosts D → SpoolView D → SpoolView D → ℕ → List ℕ → List ℕ → OldestAnswer →
     Type 0
 Looks members v w number before into (oldest.Found head) =
-    HasLooked members v w (number % v.slots) Done × (v.first ≤ number) × (number < next_of v)
+    HasLooked members v w (number % v.slots) Done × (v.first ≤ number) × (number < v.next)
     × ((s : Story) → members.told v.disk ≡ Some s → IsFound s v.slots v.first number into head)
 Looks members v w number before into oldest.Empty =
-    (w ≡ v) × (into ≡ before) × ((number < v.first) ⊎ (next_of v ≤ number))
+    (w ≡ v) × (into ≡ before) × ((number < v.first) ⊎ (v.next ≤ number))
 Looks members v w number before into oldest.Failed =
-    HasLooked members v w (number % v.slots) Failed × (v.first ≤ number) × (number < next_of v)
+    HasLooked members v w (number % v.slots) Failed × (v.first ≤ number) × (number < v.next)
 
--- a mark was prepared, and then the cell's gate was written that names its copy, as far as that went
-pub record HasCommitted (s : Story) (mark : ℕ) (Crowded : Type 0) (before after : Option (List DiskCall))
+-- a value was prepared for the cell at a place, and then the cell's gate was written that names its copy, as far as
+-- that went
+pub record HasCommitted (s : Story) (at value : ℕ) (Crowded : Type 0) (before after : Option (List DiskCall))
     (answer : DiskAnswer) : Type 0 where
   pub prepared : Option (List DiskCall)
-  pub first : LogsPreparing s 12 mark Crowded before prepared Done
-  pub last : LogsBoth 28 (gate_byte (spare_is_second (cell_in s.now.bytes 12)) ∷ []) Crowded prepared after answer
+  pub first : LogsPreparing s at value Crowded before prepared Done
+  pub last : LogsBoth (at + 16) (gate_byte (spare_is_second (cell_in s.now.bytes at)) ∷ []) Crowded prepared after
+      answer
 
--- the calls that write another mark
-abbrev pub LogsMark : Story → ℕ → Type 0 → Option (List DiskCall) → Option (List DiskCall) → DiskAnswer → Type 0
-LogsMark s mark Crowded before after Done = HasCommitted s mark Crowded before after Done
-LogsMark s mark Crowded before after Failed =
-    LogsPreparing s 12 mark Crowded before after Failed ⊎ HasCommitted s mark Crowded before after Failed
+-- the calls that write another value of a cell
+abbrev pub LogsValue : Story → ℕ → ℕ → Type 0 → Option (List DiskCall) → Option (List DiskCall) → DiskAnswer → Type 0
+LogsValue s at value Crowded before after Done = HasCommitted s at value Crowded before after Done
+LogsValue s at value Crowded before after Failed =
+    LogsPreparing s at value Crowded before after Failed ⊎ HasCommitted s at value Crowded before after Failed
 
--- the bytes are settled, and have this mark
-abbrev pub HasMark : Story → ℕ → Option Story → Type 0
-HasMark s mark after = (t : Story) → after ≡ Some t → (t.now.loose ≡ []) × Holds s.now 12 mark t.now.bytes
+-- the bytes are settled, and the cell has this value
+abbrev pub HasValue : Story → ℕ → ℕ → Option Story → Type 0
+HasValue s at value after = (t : Story) → after ≡ Some t → (t.now.loose ≡ []) × Holds s.now at value t.now.bytes
 
 -- the mark was moved on, as far as that went
 pub record HasReserved {D : Type 0} (members : disk.Ghosts D) (v : SpoolView D) (after : D) (answer : DiskAnswer) :
     Type 0 where
   pub left : v.mark + 4096 ≤ 2 ^ 32
   pub images : HoldsThrough (members.told v.disk) (members.told after) (IsSameOr reserved_in)
-  pub turns : (s : Story) → members.told v.disk ≡ Some s → TurnsGate s.now.bytes (members.told after) answer
+  pub turns : (s : Story) → members.told v.disk ≡ Some s → TurnsGate mark_cell s.now.bytes (members.told after) answer
   pub size : members.size_is after ≡ members.size_is v.disk
-  pub calls : (s : Story) → members.told v.disk ≡ Some s → LogsMark s (v.mark + 4096)
+  pub calls : (s : Story) → members.told v.disk ≡ Some s → LogsValue s mark_cell (v.mark + 4096)
       (IsCrowded (members.health v.disk) 5 9) (members.calls v.disk) (members.calls after) answer
   pub listed : GoesAsListed (members.health v.disk) →
       AsListed (members.told v.disk) (members.calls v.disk) (members.told after) (members.calls after)
@@ -259,17 +264,19 @@ pub record HasReserved {D : Type 0} (members : disk.Ghosts D) (v : SpoolView D) 
 pub record HasLostReserve {D : Type 0} (members : disk.Ghosts D) (v : SpoolView D) (after : D) : Type 0 where
   pub early : IsPlanned (members.health v.disk) 3 → HoldsThrough (members.told v.disk) (members.told after) IsSame
   pub early_gate :
-      IsPlanned (members.health v.disk) 3 → HoldsThrough (members.told v.disk) (members.told after) KeepsGate
+      IsPlanned (members.health v.disk) 3 →
+      HoldsThrough (members.told v.disk) (members.told after) (KeepsGate mark_cell)
   pub late : (IsPlanned (members.health v.disk) 3 → ⊥) → (s t : Story) → members.told v.disk ≡ Some s →
       members.told after ≡ Some t → (choice : CutChoice) → StandsFor (image_of choice t)
-      (file_left (gate_counts choice (names_spare s.now.bytes)) (reserved_in s.now.bytes) (file_in s.now.bytes))
+      (file_left (gate_counts choice (names_spare mark_cell s.now.bytes))
+      (reserved_in s.now.bytes) (file_in s.now.bytes))
   pub late_gate : (IsPlanned (members.health v.disk) 3 → ⊥) → (s : Story) → members.told v.disk ≡ Some s →
-      LeavesGate s.now.bytes (members.told after)
+      LeavesGate mark_cell s.now.bytes (members.told after)
 
 abbrev pub Reserves : {D : Type 0} → disk.Ghosts D → SpoolView D → Result (SpoolView D × ℕ) (Reserving D) → Type 0
 Reserves members v (Ok r) =
     HasReserved members v r.0.disk Done × (r.1 ≡ v.mark)
-    × (r.0 ≡ record { disk = r.0.disk; slots = v.slots; first = v.first; len = v.len; mark = v.mark + 4096 })
+    × (r.0 ≡ in_hand r.0.disk (record (known_of v) { mark = v.mark + 4096 }))
     × ((s t : Story) → members.told v.disk ≡ Some s → members.told r.0.disk ≡ Some t → Ends t (reserved_in s.now.bytes))
 Reserves members v (Err (reserving.NumbersSpent w)) = (w ≡ v) × (2 ^ 32 < v.mark + 4096)
 Reserves members v (Err (reserving.Failed spent)) =

@@ -1,8 +1,29 @@
 -- A spool file: which bytes stand for which list and mark (this profile).
-use Rattle.std.specs.Prelude.{◌≡◌, ℕ, List, length, Option, None}
-use Rattle.spool_slots.specs.Area.{area_break, messages_below, or_else}
+use Rattle.std.specs.Prelude.{◌≡◌, ℕ, ◌+◌, Bool, List, length, Option, None}
+use Rattle.spool_slots.specs.Area.{first_at, first_of, messages_below, or_else}
 use Rattle.spool_slots.specs.Front.{front_break, front_in, mark_of, slots_of}
-use Rattle.spool_slots.specs.Slot.{Message, slot_in}
+use Rattle.spool_slots.specs.Slot.{Message, Slot, ahead_break, in_slot, is_open, message_of, slot_break, slot_in}
+
+-- a slot holds a message where it is open, and which one it holds
+abbrev pub slot_stands : (ℕ → Slot) → ℕ → Bool
+slot_stands slot k = is_open (slot k)
+
+abbrev pub slot_message : (ℕ → Slot) → ℕ → Message
+slot_message slot k = message_of (slot k)
+
+-- the list that the first n slots stand for
+abbrev pub list_below : (ℕ → Slot) → ℕ → List Message
+list_below slot n = messages_below (slot_stands slot) (slot_message slot) n
+
+-- the number behind those of a list without gaps, whose messages take a slot each
+abbrev pub end_of : List Message → ℕ
+end_of list = first_of list + length list
+
+-- where the first n slots break
+abbrev pub area_break : (ℕ → Slot) → ℕ → Option ℕ
+area_break slot n =
+    or_else (first_at (λ k. in_slot k (slot_break n k (slot k))) n)
+    (first_at (λ k. in_slot k (ahead_break (end_of (list_below slot n)) (slot k))) n)
 
 abbrev pub slots_in : List ℕ → ℕ
 slots_in bytes = slots_of (front_in bytes)
@@ -16,12 +37,12 @@ pub record SpoolFile : Type 0 where
   pub mark : ℕ
   pub list : List Message
 
--- what bytes stand for if they stand for anything: the open slots by number, and the mark
+-- what bytes stand for if they stand for anything: the messages of the slots by number, and the mark
 abbrev pub file_in : List ℕ → SpoolFile
 file_in bytes = record {
   slots = slots_in bytes;
   mark = mark_of (front_in bytes);
-  list = messages_below (slot_in bytes) (slots_in bytes);
+  list = list_below (slot_in bytes) (slots_in bytes);
 }
 
 pub record StandsFor (bytes : List ℕ) (file : SpoolFile) : Type 0 where

@@ -17,20 +17,30 @@ unlike_at place (want ∷ wanted) (byte ∷ bytes) =
 abbrev pub magic : List ℕ
 magic = 71 ∷ 76 ∷ 83 ∷ 80 ∷ 79 ∷ 79 ∷ 76 ∷ 49 ∷ []
 
--- the first 29 bytes of a file
+-- how many bytes are tested in front of the slots, and the first ones of a file
+abbrev pub front_size : ℕ
+front_size = 29
+
 abbrev pub front_in : List ℕ → List ℕ
-front_in bytes = take 29 bytes
+front_in bytes = take front_size bytes
 
 -- how many slots there are
 abbrev pub slots_of : List ℕ → ℕ
 slots_of front = from_be_bytes w32 (bytes_at front 8 4)
 
--- the copy of the mark that its gate names, and the mark
-abbrev pub mark_place : List ℕ → ℕ
-mark_place front = if slice_index front 28 % 2 == 0 then 12 else 20
+-- of the cell that begins at a place, the place of the copy that its gate names, and the number there
+abbrev pub copy_at : ℕ → List ℕ → ℕ
+copy_at at front = if slice_index front (at + 16) % 2 == 0 then at else at + 8
+
+abbrev pub number_at : ℕ → List ℕ → ℕ
+number_at at front = from_be_bytes w64 (bytes_at front (copy_at at front) 8)
+
+-- where the cell of the mark begins, and the mark
+abbrev pub mark_cell : ℕ
+mark_cell = 12
 
 abbrev pub mark_of : List ℕ → ℕ
-mark_of front = from_be_bytes w64 (bytes_at front (mark_place front) 8)
+mark_of front = number_at mark_cell front
 
 unfoldable pub magic_break : List ℕ → Option ℕ
 magic_break front = unlike_at 0 magic front
@@ -44,8 +54,12 @@ slots_break front size =
     else (if nat_lt size (slot_place (slots_of front)) then Some size
     else None)))
 
+-- where a cell has a number above the most that it may have
+abbrev pub cell_break : ℕ → ℕ → List ℕ → Option ℕ
+cell_break at most front = if nat_lt most (number_at at front) then Some (copy_at at front) else None
+
 abbrev pub mark_break : List ℕ → Option ℕ
-mark_break front = if nat_lt (2 ^ 32) (mark_of front) then Some (mark_place front) else None
+mark_break front = cell_break mark_cell (2 ^ 32) front
 
 -- where the front breaks
 unfoldable pub front_break : List ℕ → ℕ → Option ℕ

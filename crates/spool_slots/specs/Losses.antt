@@ -11,6 +11,7 @@ use Rattle.disk_base.specs.declared.disk.DiskAnswer.TheVariants.{Done, Failed}
 use Rattle.gate_cell.specs.Cell.{cell_in, gate_of, names_second, spare_is_second, value_in}
 use Rattle.gate_cell.specs.Holds.{Holds}
 use Rattle.spool_slots.specs.File.{SpoolFile, StandsFor, file_in}
+use Rattle.spool_slots.specs.Front.{mark_cell}
 
 -- a disk goes on, each call comes to what its entry says, and there is sure room for so many calls that write n bytes
 pub record IsSure (health : DiskHealth) (calls n : ℕ) : Type 0 where
@@ -35,50 +36,56 @@ LeavesByGate before after means changed =
     (s t : Story) → before ≡ Some s → after ≡ Some t → (choice : CutChoice) →
     StandsFor (image_of choice t) (file_left (gate_counts choice means) (changed s.now.bytes) (file_in s.now.bytes))
 
--- whether the second copy of the mark is the one that counts in these bytes
+-- whether the second copy of the cell at a place is the one that counts in these bytes
+abbrev pub counts_second : ℕ → List ℕ → Bool
+counts_second at bytes = names_second (gate_of (cell_in bytes at))
+
+-- the same of the mark
 abbrev pub marks_second : List ℕ → Bool
-marks_second bytes = names_second (gate_of (cell_in bytes 12))
+marks_second bytes = counts_second mark_cell bytes
 
 -- a crash leaves the copy that counts in these bytes
-abbrev pub KeepsGate : List ℕ → List ℕ → Type 0
-KeepsGate bytes image = marks_second image ≡ marks_second bytes
+abbrev pub KeepsGate : ℕ → List ℕ → List ℕ → Type 0
+KeepsGate at bytes image = counts_second at image ≡ counts_second at bytes
 
 -- where all was done the other copy counts
-abbrev pub TurnsGate : List ℕ → Option Story → DiskAnswer → Type 0
-TurnsGate bytes after Done = (t : Story) → after ≡ Some t → marks_second t.now.bytes ≡ not (marks_second bytes)
-TurnsGate bytes after Failed = Unit {0}
+abbrev pub TurnsGate : ℕ → List ℕ → Option Story → DiskAnswer → Type 0
+TurnsGate at bytes after Done =
+    (t : Story) → after ≡ Some t → counts_second at t.now.bytes ≡ not (counts_second at bytes)
+TurnsGate at bytes after Failed = Unit {0}
 
 -- which copy counts where the gate was turned, or not
 abbrev pub turned_if : Bool → Bool → Bool
 turned_if true second = not second
 turned_if false second = second
 
--- whether a gate of the mark's cell names the copy that doesn't count in these bytes
-abbrev pub names_spare : List ℕ → ℕ → Bool
-names_spare bytes gate =
-    if spare_is_second (cell_in bytes 12) then names_second gate else not (names_second gate)
+-- whether a gate of a cell names the copy that doesn't count in these bytes
+abbrev pub names_spare : ℕ → List ℕ → ℕ → Bool
+names_spare at bytes gate =
+    if spare_is_second (cell_in bytes at) then names_second gate else not (names_second gate)
 
-abbrev pub mark_left : Bool → ℕ → ℕ → ℕ
-mark_left true new old = new
-mark_left false new old = old
+abbrev pub value_left : Bool → ℕ → ℕ → ℕ
+value_left true new old = new
+value_left false new old = old
 
--- of the write of the cell's gate that the disk stopped at, or at its sync, a crash leaves the new mark or the old one
-abbrev pub LeavesMark : Story → ℕ → Option Story → Type 0
-LeavesMark s mark after =
+-- of the write of the cell's gate that the disk stopped at, or at its sync, a crash leaves the new value or the old one
+abbrev pub LeavesValue : Story → ℕ → ℕ → Option Story → Type 0
+LeavesValue s at value after =
     (t : Story) → after ≡ Some t → (choice : CutChoice) →
-    Holds s.now 12 (mark_left (gate_counts choice (names_spare s.now.bytes)) mark (value_in s.now.bytes 12))
+    Holds s.now at (value_left (gate_counts choice (names_spare at s.now.bytes)) value (value_in s.now.bytes at))
     (image_of choice t)
 
 -- and the copy that counts then goes by the gate alike
-abbrev pub LeavesGate : List ℕ → Option Story → Type 0
-LeavesGate bytes after =
+abbrev pub LeavesGate : ℕ → List ℕ → Option Story → Type 0
+LeavesGate at bytes after =
     (t : Story) → after ≡ Some t → (choice : CutChoice) →
-    marks_second (image_of choice t) ≡ turned_if (gate_counts choice (names_spare bytes)) (marks_second bytes)
+    counts_second at (image_of choice t)
+    ≡ turned_if (gate_counts choice (names_spare at bytes)) (counts_second at bytes)
 
--- where one of the three calls that prepare it was to fail, the old mark is left, in the copy that it is in; elsewhere
+-- where one of the three calls that prepare it was to fail, the old value is left, in the copy that it is in; elsewhere
 -- the gate decides
-pub record HasLostMark (s : Story) (mark : ℕ) (before : DiskHealth) (after : Option Story) : Type 0 where
-  pub early : IsPlanned before 3 → GoesThrough s after (Holds s.now 12 (value_in s.now.bytes 12))
-  pub early_gate : IsPlanned before 3 → GoesThrough s after (KeepsGate s.now.bytes)
-  pub late : (IsPlanned before 3 → ⊥) → LeavesMark s mark after
-  pub late_gate : (IsPlanned before 3 → ⊥) → LeavesGate s.now.bytes after
+pub record HasLostValue (s : Story) (at value : ℕ) (before : DiskHealth) (after : Option Story) : Type 0 where
+  pub early : IsPlanned before 3 → GoesThrough s after (Holds s.now at (value_in s.now.bytes at))
+  pub early_gate : IsPlanned before 3 → GoesThrough s after (KeepsGate at s.now.bytes)
+  pub late : (IsPlanned before 3 → ⊥) → LeavesValue s at value after
+  pub late_gate : (IsPlanned before 3 → ⊥) → LeavesGate at s.now.bytes after

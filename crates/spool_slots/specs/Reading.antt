@@ -1,13 +1,13 @@
 -- What reading parts of a spool file comes to (this profile).
-use Rattle.std.specs.Prelude.{◌≡◌, ℕ, ◌^◌, ◌<◌, ◌≤◌, ◌==◌, nat_lt, if◌then◌else◌, List, [], length, drop, slice_index, Option, Some, None}
+use Rattle.std.specs.Prelude.{◌≡◌, ℕ, ◌+◌, ◌^◌, ◌<◌, ◌≤◌, ◌==◌, nat_lt, if◌then◌else◌, List, [], length, drop, slice_index, Option, Some, None}
 use Rattle.std.specs.List.{All, slice_get}
 use Rattle.disk_base.specs.Story.{Story, bytes_at}
 use Rattle.disk_base.specs.declared.disk.DiskAnswer.{DiskAnswer}
 use Rattle.disk_base.specs.declared.disk.DiskAnswer.TheVariants.{Done, Failed}
-use Rattle.spool_slots.specs.Area.{area_break, first_at, first_of, messages_below, put_if}
+use Rattle.spool_slots.specs.Area.{first_at, first_of, put_if}
 use Rattle.spool_slots.specs.Front.{front_break, front_in, mark_of, slots_of}
-use Rattle.spool_slots.specs.File.{file_in, spool_break}
-use Rattle.spool_slots.specs.Slot.{Message, Slot, ahead_break, head_of, in_slot, is_open, message_of, slot_break, slot_in, slot_place}
+use Rattle.spool_slots.specs.File.{area_break, end_of, file_in, list_below, slot_message, slot_stands, spool_break}
+use Rattle.spool_slots.specs.Slot.{Message, Slot, ahead_break, head_of, in_slot, slot_break, slot_in, slot_place}
 use Rattle.spool_slots.specs.declared.front.Front.{Front}
 use Rattle.spool_slots.specs.declared.reading.NotSpool.{NotSpool}
 use Rattle.spool_slots.specs.declared.reading.Reading.{Reading}
@@ -73,7 +73,7 @@ abbrev pub ScansOn : ℕ → ℕ → Scan → Option Story → Reading Scan → 
 ScansOn slots k scan told (reading.Whole found) = (s : Story) → told ≡ Some s →
     (slot_break slots k (slot_in s.now.bytes k) ≡ None)
     × ((list : List Message) → IsScan scan list →
-    IsScan found (put_if (is_open (slot_in s.now.bytes k)) (message_of (slot_in s.now.bytes k)) list))
+    IsScan found (put_if (slot_stands (slot_in s.now.bytes) k) (slot_message (slot_in s.now.bytes) k) list))
 ScansOn slots k scan told (reading.Broken break) = (s : Story) → told ≡ Some s →
     IsBreak s.now.bytes (in_slot k (slot_break slots k (slot_in s.now.bytes k))) break
 ScansOn slots k scan told reading.Failed = Unit {0}
@@ -82,7 +82,7 @@ ScansOn slots k scan told reading.Failed = Unit {0}
 abbrev pub ScanIs : ℕ → Option Story → Reading Scan → Type 0
 ScanIs slots told (reading.Whole found) = (s : Story) → told ≡ Some s →
     (first_at (λ k. in_slot k (slot_break slots k (slot_in s.now.bytes k))) slots ≡ None)
-    × IsScan found (messages_below (slot_in s.now.bytes) slots)
+    × IsScan found (list_below (slot_in s.now.bytes) slots)
 ScanIs slots told (reading.Broken break) = (s : Story) → told ≡ Some s →
     IsBreak s.now.bytes (first_at (λ k. in_slot k (slot_break slots k (slot_in s.now.bytes k))) slots) break
 ScanIs slots told reading.Failed = Unit {0}
@@ -112,7 +112,7 @@ EndIs slots end told reading.Failed = Unit {0}
 -- the slots aren't broken
 abbrev pub AreaIs : ℕ → Option Story → Reading Scan → Type 0
 AreaIs slots told (reading.Whole found) = (s : Story) → told ≡ Some s →
-    (area_break (slot_in s.now.bytes) slots ≡ None) × IsScan found (messages_below (slot_in s.now.bytes) slots)
+    (area_break (slot_in s.now.bytes) slots ≡ None) × IsScan found (list_below (slot_in s.now.bytes) slots)
 AreaIs slots told (reading.Broken break) = (s : Story) → told ≡ Some s →
     IsBreak s.now.bytes (area_break (slot_in s.now.bytes) slots) break
 AreaIs slots told reading.Failed = Unit {0}
@@ -121,7 +121,8 @@ AreaIs slots told reading.Failed = Unit {0}
 abbrev pub KnownIs : List ℕ → Known → Type 0
 KnownIs bytes found =
     (spool_break bytes ≡ None) × (found.slots ≡ (file_in bytes).slots) × (found.mark ≡ (file_in bytes).mark)
-    × (found.first ≡ first_of (file_in bytes).list) × (found.len ≡ length (file_in bytes).list)
+    × (found.first ≡ first_of (file_in bytes).list) × (found.next ≡ end_of (file_in bytes).list)
+    × (found.len ≡ length (file_in bytes).list)
 
 -- a file was read whole
 abbrev pub FileIs : Option Story → Reading Known → Type 0
@@ -133,7 +134,7 @@ FileIs told reading.Failed = Unit {0}
 abbrev pub KnownFits : ℕ → Known → Type 0
 KnownFits size found =
     (1 ≤ found.slots) × (found.slots ≤ 65535) × (slot_place found.slots ≤ size) × (found.mark ≤ 2 ^ 32)
-    × (found.len ≤ found.slots) × (found.first < 2 ^ 63)
+    × (found.len ≤ found.slots) × (found.first < 2 ^ 63) × (found.next ≡ found.first + found.len)
 
 abbrev pub FileFits : ℕ → Reading Known → Type 0
 FileFits size (reading.Whole found) = KnownFits size found

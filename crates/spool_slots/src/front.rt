@@ -4,8 +4,8 @@ ghost use Rattle.std.specs.Prelude.{◌≡◌, ℕ, ◌+◌, ◌<◌, ◌≤◌,
 ghost use Rattle.std.specs.Int.{w64, from_be_bytes};
 ghost use Rattle.std.specs.List.{slice_get};
 ghost use Rattle.disk_base.specs.SameDisk.{IsSameDisk};
-ghost use Rattle.spool_slots.specs.Front.{front_in, magic_break as wrong_magic, mark_of as mark_in};
-ghost use Rattle.spool_slots.specs.Front.{mark_place as place_in, unlike_at};
+ghost use Rattle.spool_slots.specs.Front.{copy_at as copy_in, front_in, magic_break as wrong_magic};
+ghost use Rattle.spool_slots.specs.Front.{number_at as number_in, unlike_at};
 ghost use Rattle.spool_slots.specs.Reading.{FrontFits, FrontIs, FrontSays, reading_answer};
 ghost use Rattle.spool_slots.specs.Reads.{HasRead};
 
@@ -18,6 +18,9 @@ pub const MAGIC: [u8; 8] = [0x47, 0x4C, 0x53, 0x50, 0x4F, 0x4F, 0x4C, 0x31];
 
 /// The most slots of a file.
 pub const SLOTS_MOST: u32 = 65_535;
+
+/// Where the cell of the mark begins.
+pub const MARK_CELL: u64 = 12;
 
 /// The highest mark.
 pub const MARK_MOST: u64 = 1 << 32;
@@ -50,21 +53,23 @@ fn unlike(wanted: &[u8], bytes: &[u8]) -> Option<usize>
     None
 }
 
-// The copy of the mark that its gate names, as a place.
-fn mark_place(front: &[u8]) -> usize
-    requires { length front.now ≡ 29 }
-    ensures place { result ≡ place_in front.now }
-    ensures bound { result ≤ 20 }
+// The place of the copy that counts, of the cell that begins at a place.
+fn copy_at(front: &[u8], at: u64) -> usize
+    requires { at + 17 ≤ length front.now }
+    ensures place { result ≡ copy_in at front.now }
+    ensures bound { result ≤ at + 8 }
 {
-    if front[28] % 2 == 0 { 12 } else { 20 }
+    let at = at as usize;
+    if front[at + 16] % 2 == 0 { at } else { at + 8 }
 }
 
-fn mark(front: &[u8]) -> u64
-    requires { length front.now ≡ 29 }
-    ensures { result ≡ mark_in front.now }
+// The number of such a cell.
+fn number_at(front: &[u8], at: u64) -> u64
+    requires { at + 17 ≤ length front.now }
+    ensures { result ≡ number_in at front.now }
 {
-    let at = mark_place(front);
-    long_number(&front[at..at + 8])
+    let place = copy_at(front, at);
+    long_number(&front[place..place + 8])
 }
 
 // The number in eight bytes, the high one first.
@@ -140,9 +145,9 @@ fn front_of(front: &[u8], size: u64) -> Reading<Front>
     if size < slot_place(slots) {
         return Reading::Broken(end_break(size));
     }
-    let mark = mark(front);
+    let mark = number_at(front, MARK_CELL);
     if mark > MARK_MOST {
-        return Reading::Broken(break_at(front, mark_place(front)));
+        return Reading::Broken(break_at(front, copy_at(front, MARK_CELL)));
     }
     Reading::Whole(Front { slots, mark })
 }

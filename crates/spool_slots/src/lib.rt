@@ -1,9 +1,9 @@
 //! The spool on a disk that can lose power: a file of slots, a message a slot.
 #![tactic(auto)]
 
+mod cells;
 mod format;
 mod front;
-mod marking;
 mod reading;
 mod recovery;
 mod slot;

@@ -13,11 +13,13 @@ use disk_base::Disk;
 /// How far a mark is moved on.
 pub const MARK_STEP: u64 = 4096;
 
-/// What a spool file holds: how many slots, the first message's number, how many messages, and the mark.
+/// What a spool file holds: how many slots, the numbers of the first message and of the next one, how many messages,
+/// and the mark.
 #[derive(Clone, Copy, Debug)]
 pub struct Known {
     pub slots: u32,
     pub first: u64,
+    pub next: u64,
     pub len: u32,
     pub mark: u64,
 }
@@ -25,22 +27,25 @@ pub struct Known {
 impl Known {
     /// Of an empty list with mark 0.
     pub fn new(slots: u32) -> Known
-        ensures { result ≡ record { slots = slots; first = 0; len = 0; mark = 0 } }
+        ensures { result ≡ record { slots = slots; first = 0; next = 0; len = 0; mark = 0 } }
     {
         Known {
             slots,
             first: 0,
+            next: 0,
             len: 0,
             mark: 0,
         }
     }
 
-    /// With a message more at the end.
-    pub fn with_one_more(self) -> Known
-        requires { self.len < 65535 }
-        ensures { result ≡ record self { len = self.len + 1 } }
+    /// With a message more at the end, which takes so many slots.
+    pub fn with_one_more(self, slots: u32) -> Known
+        requires len { self.len < 65535 }
+        requires next { self.next < 2 ^ 63 }
+        ensures { result ≡ record self { next = self.next + slots; len = self.len + 1 } }
     {
         Known {
+            next: self.next + slots as u64,
             len: self.len + 1,
             ..self
         }
@@ -57,14 +62,14 @@ impl Known {
         }
     }
 
-    /// Without the first message.
-    pub fn without_first(self) -> Known
+    /// Without the first message, which takes so many slots.
+    pub fn without_first(self, slots: u32) -> Known
         requires some { 0 < self.len }
-        requires first { self.first < 2 ^ 64 - 1 }
-        ensures { result ≡ record self { first = self.first + 1; len = self.len - 1 } }
+        requires first { self.first + slots < 2 ^ 64 }
+        ensures { result ≡ record self { first = self.first + slots; len = self.len - 1 } }
     {
         Known {
-            first: self.first + 1,
+            first: self.first + slots as u64,
             len: self.len - 1,
             ..self
         }
@@ -87,6 +92,7 @@ pub fn read_file<D: Disk>(disk: &mut D) -> Reading<Known>
             Reading::Whole(scan) => Reading::Whole(Known {
                 slots: front.slots,
                 first: scan.least,
+                next: scan.least + scan.count as u64,
                 len: scan.count,
                 mark: front.mark,
             }),

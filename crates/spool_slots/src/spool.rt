@@ -3,10 +3,10 @@
 ghost use Rattle.std.specs.Prelude.{◌≡◌, ◌+◌, ◌^◌, ◌<◌, ◌≤◌, ◌%◌, Some};
 ghost use Rattle.disk_base.specs.Story.{Story};
 ghost use Rattle.spool_slots.specs.Changes.{Drops, Looks, Reserves, Stages, parts_of as bytes_of};
-ghost use Rattle.spool_slots.specs.Spool.{IsSpool, Rests, in_hand};
+ghost use Rattle.spool_slots.specs.Spool.{IsSpool, Rests, in_hand, known_of};
 
-use crate::front::MARK_MOST;
-use crate::marking::write_mark;
+use crate::cells::write_cell;
+use crate::front::{MARK_CELL, MARK_MOST};
 use crate::recovery::{Known, MARK_STEP};
 use crate::slot::{BODY_MOST, CLOSED, NUMBERS, SLOT_SIZE, head_in, slot_of};
 use crate::slots::{settle_gate, settle_parts, slot_place};
@@ -48,8 +48,8 @@ impl<D: Disk> Spool<D> {
     pub fn len(&self) -> u32
         ensures len { result ≡ self.now.len }
         ensures range { result ≤ self.now.slots }
-        ensures rests { (s : Story) → D.told self.now.disk ≡ Some s →
-            Rests s self.now.slots self.now.first self.now.len self.now.mark }
+        ensures even { self.now.next ≡ self.now.first + self.now.len }
+        ensures rests { (s : Story) → D.told self.now.disk ≡ Some s → Rests s (known_of self.now) }
     {
         self.known.len
     }
@@ -68,6 +68,14 @@ impl<D: Disk> Spool<D> {
         ensures bound { self.now.first + self.now.len ≤ 2 ^ 63 + 65535 }
     {
         self.known.first
+    }
+
+    /// The number that the next message gets.
+    pub fn next(&self) -> u64
+        ensures next { result ≡ self.now.next }
+        ensures bound { result ≤ 2 ^ 63 + 65535 }
+    {
+        self.known.next
     }
 
     /// The mark.
@@ -94,7 +102,7 @@ impl<D: Disk> Spool<D> {
         if number < self.known.first {
             return OldestAnswer::Empty;
         }
-        if number - self.known.first >= self.known.len as u64 {
+        if number >= self.known.next {
             return OldestAnswer::Empty;
         }
         let at = slot_place(slot_of(number, self.known.slots));
@@ -119,7 +127,7 @@ impl<D: Disk> Spool<D> {
         if self.known.len == self.known.slots {
             return Err(Staging::Full(self));
         }
-        let next = self.known.first + self.known.len as u64;
+        let next = self.known.next;
         if next >= NUMBERS {
             return Err(Staging::NumbersSpent(self));
         }
@@ -144,7 +152,7 @@ impl<D: Disk> Spool<D> {
         let known = self.known;
         let mut disk = self.disk;
         match settle_gate(&mut disk, known.slots, known.first, CLOSED) {
-            DiskAnswer::Done => Ok(taken_up(disk, known.without_first())),
+            DiskAnswer::Done => Ok(taken_up(disk, known.without_first(1))),
             DiskAnswer::Failed => {
                 failed_settle_has_written();
                 cut_leaves_the_chosen_byte();
@@ -162,7 +170,7 @@ impl<D: Disk> Spool<D> {
         if known.mark + MARK_STEP > MARK_MOST {
             return Err(Reserving::NumbersSpent(self));
         }
-        match write_mark(self.disk, known.mark + MARK_STEP) {
+        match write_cell(self.disk, MARK_CELL, known.mark + MARK_STEP) {
             Ok(disk) => Ok((taken_up(disk, known.with_mark_moved()), known.mark as u32)),
             Err(disk) => Err(Reserving::Failed(Spent { disk })),
         }
@@ -171,8 +179,7 @@ impl<D: Disk> Spool<D> {
     /// Gives the device back as it is.
     pub fn retire(self) -> Spent<D>
         ensures disk { result.disk ≡ self.disk }
-        ensures rests { (s : Story) → D.told self.disk ≡ Some s →
-            Rests s self.slots self.first self.len self.mark }
+        ensures rests { (s : Story) → D.told self.disk ≡ Some s → Rests s (known_of self) }
     {
         Spent { disk: self.disk }
     }

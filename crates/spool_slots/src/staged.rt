@@ -3,7 +3,7 @@
 ghost use Rattle.std.specs.Prelude.{◌≡◌, Some};
 ghost use Rattle.spool_slots.specs.Changes.{Seals};
 ghost use Rattle.disk_base.specs.Story.{Story};
-ghost use Rattle.spool_slots.specs.Spool.{IsStagedSpool, Rests, in_hand, next_of};
+ghost use Rattle.spool_slots.specs.Spool.{IsStagedSpool, Rests, in_hand, known_of};
 
 use crate::recovery::Known;
 use crate::slot::OPEN;
@@ -43,11 +43,10 @@ pub fn with_parts<D: Disk>(disk: D, known: Known) -> Staged<D>
 impl<D: Disk> Staged<D> {
     /// The number that the message gets.
     pub fn number(&self) -> u64
-        ensures number { result ≡ next_of self.now }
-        ensures rests { (s : Story) → D.told self.now.disk ≡ Some s →
-            Rests s self.now.slots self.now.first self.now.len self.now.mark }
+        ensures number { result ≡ self.now.next }
+        ensures rests { (s : Story) → D.told self.now.disk ≡ Some s → Rests s (known_of self.now) }
     {
-        self.known.first + self.known.len as u64
+        self.known.next
     }
 
     /// Opens the gate of the slot, and syncs. A crash finds the list without the message or with it at the end. Where
@@ -57,9 +56,8 @@ impl<D: Disk> Staged<D> {
     {
         let known = self.known;
         let mut disk = self.disk;
-        let number = known.first + known.len as u64;
-        match settle_gate(&mut disk, known.slots, number, OPEN) {
-            DiskAnswer::Done => Ok(taken_up(disk, known.with_one_more())),
+        match settle_gate(&mut disk, known.slots, known.next, OPEN) {
+            DiskAnswer::Done => Ok(taken_up(disk, known.with_one_more(1))),
             DiskAnswer::Failed => {
                 failed_settle_has_written();
                 cut_leaves_the_chosen_byte();

@@ -16,7 +16,7 @@ use Rattle.gem_spool.specs.declared.works.Work.{Work}
 use Rattle.gem_spool.specs.declared.works.Work.TheVariants as work
 use Rattle.spool_slots.specs.Changes.{HasLooked, HasReserved, Seals, Stages, parts_of}
 use Rattle.spool_slots.specs.Slot.{Message, slot_place}
-use Rattle.spool_slots.specs.Spool.{SpoolView, next_of, next_slot}
+use Rattle.spool_slots.specs.Spool.{SpoolView, in_hand, known_of, next_slot}
 use Rattle.spool_works.proofs.BrokenWorks.{KeepsFront, length-parts, settle-front, story-inj}
 use Rattle.spool_works.proofs.BrokenPurge.{HasComeTo, IsOver, drop-passes, gone, some-pass, used-passes}
 use Rattle.spool_works.proofs.Parity.{marked-more}
@@ -64,10 +64,10 @@ module _ {D : Type 0} (members : disk.Ghosts D)
       → IsOver members sized v st s
       → Stages members v stream function body (Ok u) → members.told u.disk ≡ Some m → KeepsFront s m
   staged-front v u stream function body st s m is stages told =
-      let below = mod_below (next_of v) v.slots is.some in
-      settle-front s m (slot_place (next_slot v) + 1) (parts_of (next_of v) stream function body)
+      let below = mod_below v.next v.slots is.some in
+      settle-front s m (slot_place (next_slot v) + 1) (parts_of v.next stream function body)
       (members.told v.disk) (members.told u.disk) Done is.told told (is.stands.file s is.told).settled (omega arith)
-      (let long = length-parts (next_of v) stream function body in let short = stages.0.short in
+      (let long = length-parts v.next stream function body in let short = stages.0.short in
       let wide = is.wide in let size = sized v.disk s is.told in omega (arith, long, short, below, wide, size))
       stages.0.disk.told
 
@@ -76,7 +76,7 @@ module _ {D : Type 0} (members : disk.Ghosts D)
       → IsOver members sized v st s → Stages members v stream function body (Ok u) → Seals members u (Ok w)
       → members.told u.disk ≡ Some m → members.told w.disk ≡ Some t → KeepsFront m t
   sealed-front v u w stream function body st s m t is stages seals mid new =
-      let below = mod_below (next_of v) v.slots is.some in
+      let below = mod_below v.next v.slots is.some in
       let slot : next_slot u ≡ next_slot v = ap (λ (x : SpoolView D). next_slot x) stages.1 in
       settle-front m t (slot_place (next_slot u)) (90 ∷ []) (members.told u.disk) (members.told w.disk) Done mid new
       settled (omega arith)
@@ -87,11 +87,11 @@ module _ {D : Type 0} (members : disk.Ghosts D)
       settled =
           ap (λ (x : Story). x.now.loose)
           (story-inj m (with_sync (with_write (slot_place (next_slot v) + 1)
-          (parts_of (next_of v) stream function body) s))
+          (parts_of v.next stream function body) s))
           (sym mid
           ∙ subst
           (λ (o : Option Story). Settles o (slot_place (next_slot v) + 1)
-          (parts_of (next_of v) stream function body) (members.told u.disk) Done) is.told stages.0.disk.told))
+          (parts_of v.next stream function body) (members.told u.disk) Done) is.told stages.0.disk.told))
 
   put-passes :
       (g h : GemSpool D) (stream function : ℕ) (body : List ℕ) (st : Standing) (s : Story)
@@ -100,13 +100,7 @@ module _ {D : Type 0} (members : disk.Ghosts D)
   put-passes g h stream function body st s is does = go does.1
     where
       view : h.spool
-          ≡ record {
-            disk = h.spool.disk;
-            slots = g.spool.slots;
-            first = g.spool.first;
-            len = g.spool.len + 1;
-            mark = g.spool.mark;
-          }
+          ≡ in_hand h.spool.disk (record (known_of g.spool) { next = g.spool.next + 1; len = g.spool.len + 1 })
       view = ap (λ (x : GemSpool D). x.spool) does.3
 
       go : StagesAndSeals members g.spool stream function body (Ok h.spool)
@@ -164,7 +158,7 @@ module _ {D : Type 0} (members : disk.Ghosts D)
 
   pub reserve-passes :
       (v w : SpoolView D) (st : Standing) (s : Story) → IsOver members sized v st s → HasReserved members v w.disk Done
-      → w ≡ record { disk = w.disk; slots = v.slots; first = v.first; len = v.len; mark = v.mark + 4096 }
+      → w ≡ in_hand w.disk (record (known_of v) { mark = v.mark + 4096 })
       → Stands members w (reserved st) → Comes v w 5 (reserved st)
   reserve-passes v w st s is reserves view stands =
       let holds = reserves.images s is.told in

@@ -22,9 +22,10 @@ use Rattle.gem_spool.specs.Works.{reserved, standing_after}
 use Rattle.gem_spool.specs.declared.works.Work.TheVariants as work
 use Rattle.spool_slots.specs.Changes.{Drops, HasLooked, HasStaged, HoldsThrough, IsSame, Reserves, Seals, Stages, dropped_in, parts_of, reserved_in, with_mark, with_message, without_first}
 use Rattle.spool_slots.specs.File.{SpoolFile, StandsFor, file_in}
+use Rattle.spool_slots.specs.Front.{mark_cell}
 use Rattle.spool_slots.specs.Losses.{IsSure, KeepsGate, file_left, gate_counts}
 use Rattle.spool_slots.specs.Slot.{slot_place}
-use Rattle.spool_slots.specs.Spool.{SpoolView, first_slot, next_of, next_slot}
+use Rattle.spool_slots.specs.Spool.{SpoolView, first_slot, next_slot}
 use Rattle.spool_slots.specs.declared.states.Dropping.TheVariants as dropping
 use Rattle.spool_slots.specs.declared.states.Reserving.TheVariants as reserving
 use Rattle.spool_slots.specs.declared.states.Spent.{Spent}
@@ -100,7 +101,7 @@ length-parts n s f b = omega arith
 
 -- it keeps the gate of the mark at every image, and the length
 pub record KeepsFront (s t : Story) : Type 0 where
-  pub gate : EachImage (KeepsGate s.now.bytes) t.now
+  pub gate : EachImage (KeepsGate mark_cell s.now.bytes) t.now
   pub long : length t.now.bytes ≡ length s.now.bytes
 
 pub settle-front :
@@ -110,12 +111,14 @@ pub settle-front :
 settle-front s t at bytes before after answer old new settled behind inside settles =
     let told = subst (λ (o : Option Story). Settles o at bytes after answer) old settles in
     let gate =
-    settle_keeps_gate s at bytes (ap (λ (loose : List (ℕ × ℕ)). is_loose loose 28) settled) (inl behind) after answer
+    settle_keeps_gate mark_cell s at bytes (ap (λ (loose : List (ℕ × ℕ)). is_loose loose 28) settled) (inl behind) after
+    answer
     inside told in
     let others = settle_others s at bytes after answer inside told in
     record {
       gate =
-          subst (λ (u : Story). EachImage (KeepsGate s.now.bytes) u.now) (sym (story-inj t gate.0 (sym new ∙ gate.1)))
+          subst (λ (u : Story). EachImage (KeepsGate mark_cell s.now.bytes) u.now)
+          (sym (story-inj t gate.0 (sym new ∙ gate.1)))
           gate.2.last;
       long =
           (subst (λ (u : Story). IsImageBut s.now at (length bytes) u.now.bytes)
@@ -177,8 +180,8 @@ module _ {D : Type 0} (members : disk.Ghosts D) (v : SpoolView D) (st : Standing
       → Settles (members.told v.disk) at bytes (members.told spent.disk) answer → (choice : CutChoice)
       → IsMarkedBy (image_of choice t) st.mark
   slot-keeps at bytes answer behind inside settles choice =
-      each-left (KeepsGate s.now.bytes)
-      (settle_keeps_gate s at bytes
+      each-left (KeepsGate mark_cell s.now.bytes)
+      (settle_keeps_gate mark_cell s at bytes
       (ap (λ (loose : List (ℕ × ℕ)). is_loose loose 28) (is.file s old).settled) (inl behind)
       (members.told spent.disk) answer inside
       (subst (λ (o : Option Story). Settles o at bytes (members.told spent.disk) answer) old settles)) choice
@@ -269,7 +272,8 @@ module _ {D : Type 0} (members : disk.Ghosts D) (v : SpoolView D) (st : Standing
             at =
                 left-same (lost.early (inr (inl early)))
                 (λ choice.
-                each-left (KeepsGate s.now.bytes) (through-of KeepsGate (lost.early_gate (inr (inl early)))) choice
+                each-left (KeepsGate mark_cell s.now.bytes)
+                (through-of (KeepsGate mark_cell) (lost.early_gate (inr (inl early)))) choice
                 ∙ marked);
           }
       go (inr late) =
@@ -321,7 +325,7 @@ module _ {D : Type 0} (members : disk.Ghosts D) (v : SpoolView D) (st : Standing
 
   module _ (stream function : ℕ) (body : List ℕ) (some : 0 < v.slots) (wide : slot_place v.slots ≤ length s.now.bytes)
     where
-      put-next : next_of v ≡ st.next
+      put-next : v.next ≡ st.next
       put-next = ap (λ (c : Count). c.next) is.count
 
       put-file : (counts : Bool)
@@ -342,15 +346,15 @@ module _ {D : Type 0} (members : disk.Ghosts D) (v : SpoolView D) (st : Standing
           go false = refl
 
       put-below : next_slot v < v.slots
-      put-below = mod_below (next_of v) v.slots some
+      put-below = mod_below v.next v.slots some
 
       -- what was staged keeps the front, and so does its gate
       staged-front : (after : D) (u : Story) (answer : DiskAnswer) → members.told after ≡ Some u
           → HasStaged members v stream function body after answer → KeepsFront s u
       staged-front after u answer told staged =
-          settle-front s u (slot_place (next_slot v) + 1) (parts_of (next_of v) stream function body)
+          settle-front s u (slot_place (next_slot v) + 1) (parts_of v.next stream function body)
           (members.told v.disk) (members.told after) answer old told (is.file s old).settled (omega arith)
-          (let long = length-parts (next_of v) stream function body in let short = staged.short in
+          (let long = length-parts v.next stream function body in let short = staged.short in
           let below = put-below in omega (arith, long, short, below, wide)) staged.disk.told
 
       sealed-keeps :
@@ -373,11 +377,11 @@ module _ {D : Type 0} (members : disk.Ghosts D) (v : SpoolView D) (st : Standing
           mid-settled u stages mid told =
               ap (λ (m : Story). m.now.loose)
               (story-inj mid (with_sync (with_write (slot_place (next_slot v) + 1)
-              (parts_of (next_of v) stream function body) s))
+              (parts_of v.next stream function body) s))
               (sym told
               ∙ subst
               (λ (o : Option Story). Settles o (slot_place (next_slot v) + 1)
-              (parts_of (next_of v) stream function body) (members.told u.disk) Done) old stages.0.disk.told))
+              (parts_of v.next stream function body) (members.told u.disk) Done) old stages.0.disk.told))
 
       put-keeps : StagesAndSeals members v stream function body (Err spent) → (choice : CutChoice)
           → IsMarkedBy (image_of choice t) st.mark

@@ -20,9 +20,10 @@ use Rattle.gem_spool.specs.Standing.{Standing, count_in, count_of}
 use Rattle.gem_spool.specs.Works.{Does, DoesAll, count_after, standing_after}
 use Rattle.gem_spool.proofs.Doing.{count_keeps, does_count}
 use Rattle.gem_spool.proofs.Purging.{is_less}
-use Rattle.spool_slots.specs.Changes.{Drops, HasLooked, HasReserved, HasSettled, LogsMark, Seals, Stages, parts_of}
+use Rattle.spool_slots.specs.Changes.{Drops, HasLooked, HasReserved, HasSettled, LogsValue, Seals, Stages, parts_of}
+use Rattle.spool_slots.specs.Front.{mark_cell}
 use Rattle.spool_slots.specs.Slot.{slot_place}
-use Rattle.spool_slots.specs.Spool.{SpoolView, first_slot, next_of, next_slot}
+use Rattle.spool_slots.specs.Spool.{SpoolView, first_slot, next_slot}
 use Rattle.spool_slots.specs.declared.states.Dropping.TheVariants as dropping
 use Rattle.spool_slots.specs.declared.states.Spent.{Spent as Device}
 use Rattle.spool_works.specs.DiskCalls.{HasFailedIn, HasMade, all_disk_calls, change_calls, drop_calls, failing, mark_calls, oldest_calls, oldest_in, purge_calls, reads, syncs, with_calls, writes, written_by}
@@ -208,7 +209,7 @@ module _ {D : Type 0} (members : disk.Ghosts D) where
 
   module _ (v : SpoolView D) (stream function : ℕ) (body : List ℕ) where
     abbrev parts : List DiskCall
-    parts = writes (slot_place (next_slot v) + 1) (parts_of (next_of v) stream function body) ∷ syncs ∷ []
+    parts = writes (slot_place (next_slot v) + 1) (parts_of v.next stream function body) ∷ syncs ∷ []
 
     abbrev gate : ℕ → List DiskCall
     gate k = writes (slot_place k) (90 ∷ []) ∷ syncs ∷ []
@@ -219,7 +220,7 @@ module _ {D : Type 0} (members : disk.Ghosts D) where
 
       parts-made : HasMade members v.disk u.disk parts
       parts-made =
-          settled-made v.disk u.disk (slot_place (next_slot v) + 1) (parts_of (next_of v) stream function body)
+          settled-made v.disk u.disk (slot_place (next_slot v) + 1) (parts_of v.next stream function body)
           staged.0.disk
 
       put-made : (w : SpoolView D) → Seals members u (Ok w)
@@ -240,7 +241,7 @@ module _ {D : Type 0} (members : disk.Ghosts D) where
         → HasFailedIn members v.disk spent.disk (change_calls (count_of v) (work.Put stream function body))
     put-failed spent (inl staged) =
         failed-before v.disk spent.disk parts (gate (next_slot v))
-        (settled-failed v.disk spent.disk (slot_place (next_slot v) + 1) (parts_of (next_of v) stream function body)
+        (settled-failed v.disk spent.disk (slot_place (next_slot v) + 1) (parts_of v.next stream function body)
         staged.disk)
     put-failed spent (inr (u, staged, sealed)) = seal-failed u staged spent sealed
 
@@ -300,29 +301,31 @@ module _ {D : Type 0} (members : disk.Ghosts D) where
 
   -- ---- a work
 
-  first-is : (v : SpoolView D) → v.first ≡ oldest_in (count_of v)
-  first-is v = omega arith
+  first-is : (v : SpoolView D) → v.next ≡ v.first + v.len → v.first ≡ oldest_in (count_of v)
+  first-is v even = omega (arith, even)
 
   does-made : (g h : GemSpool D) (one : Work) → Does members g one (Ok h)
       → HasMade members g.spool.disk h.spool.disk (change_calls (count_of g.spool) one)
   does-made g h (work.Put stream function body) done =
       let mid = done.1 in put-made g.spool stream function body mid.0 mid.1 h.spool mid.2
   does-made g h work.DropOldest done =
-      subst (λ (n : ℕ). HasMade members g.spool.disk h.spool.disk (drop_calls g.spool.slots n)) (first-is g.spool)
+      subst (λ (n : ℕ). HasMade members g.spool.disk h.spool.disk (drop_calls g.spool.slots n))
+      (first-is g.spool done.0.0.even)
       (drop-made g.spool h.spool done.0)
   does-made g h work.Purge done =
       subst (λ (n : ℕ). HasMade members g.spool.disk h.spool.disk (purge_calls g.spool.slots n g.spool.len))
-      (first-is g.spool) (some-made g.spool.len g.spool h.spool done.0.1)
+      (first-is g.spool done.0.0.even) (some-made g.spool.len g.spool h.spool done.0.1)
 
   does-failed : (g : GemSpool D) (one : Work) (spent : Device D) → Does members g one (Err spent)
       → HasFailedIn members g.spool.disk spent.disk (change_calls (count_of g.spool) one)
   does-failed g (work.Put stream function body) spent failed = put-failed g.spool stream function body spent failed.1
   does-failed g work.DropOldest spent failed =
-      subst (λ (n : ℕ). HasFailedIn members g.spool.disk spent.disk (drop_calls g.spool.slots n)) (first-is g.spool)
+      subst (λ (n : ℕ). HasFailedIn members g.spool.disk spent.disk (drop_calls g.spool.slots n))
+      (first-is g.spool failed.0.even)
       (drop-failed g.spool spent failed)
   does-failed g work.Purge spent (purged, (n, u, some, drops, lost)) =
       subst (λ (first : ℕ). HasFailedIn members g.spool.disk spent.disk (purge_calls g.spool.slots first g.spool.len))
-      (first-is g.spool)
+      (first-is g.spool purged.even)
       (among-more g.spool.disk spent.disk g.spool.slots g.spool.first n g.spool.len
       (let left = drops.0.some in let len = (is_less members n g.spool u some).len in omega (arith, left, len))
       (some-failed n g.spool u spent some drops))
@@ -414,7 +417,7 @@ module _ {D : Type 0} (members : disk.Ghosts D) where
         crowded-wider (members.health v.disk) 5 9 (length (mark_calls s.now.bytes mark))
         (written_by (mark_calls s.now.bytes mark)) (omega arith) (let long = length-copy mark in omega (arith, long))
 
-    logs-failed : LogsMark s mark Crowded (members.calls v.disk) (members.calls after) Failed
+    logs-failed : LogsValue s mark_cell mark Crowded (members.calls v.disk) (members.calls after) Failed
         → HasFailedIn members v.disk after (mark_calls s.now.bytes mark)
     logs-failed (inl (inl read)) =
         stops-at v.disk after (mark_calls s.now.bytes mark) Crowded crowds (members.calls v.disk) []
@@ -434,13 +437,13 @@ module _ {D : Type 0} (members : disk.Ghosts D) where
   -- ---- the oldest message
 
   module _ (v w : SpoolView D) (st : Standing) (count : count_of v ≡ count_in st) where
-    look-is : reads (slot_place (first_slot v)) 4096 ∷ [] ≡ oldest_calls (count_in st)
-    look-is =
-        ap (λ (n : ℕ). reads (slot_place (n % v.slots)) 4096 ∷ []) (first-is v) ∙ ap oldest_calls count
+    look-is : v.next ≡ v.first + v.len → reads (slot_place (first_slot v)) 4096 ∷ [] ≡ oldest_calls (count_in st)
+    look-is even =
+        ap (λ (n : ℕ). reads (slot_place (n % v.slots)) 4096 ∷ []) (first-is v even) ∙ ap oldest_calls count
 
     pub look-made : HasLooked members v w (first_slot v) Done → HasMade members v.disk w.disk (oldest_calls (count_in st))
     look-made looked =
-        subst (λ (calls : List DiskCall). HasMade members v.disk w.disk calls) look-is
+        subst (λ (calls : List DiskCall). HasMade members v.disk w.disk calls) (look-is looked.even)
         (record {
           listed = looked.calls;
           calls_left = looked.cause.calls_left;
@@ -450,7 +453,7 @@ module _ {D : Type 0} (members : disk.Ghosts D) where
     pub look-stops : HasLooked members v w (first_slot v) Failed
         → HasFailedIn members v.disk w.disk (oldest_calls (count_in st))
     look-stops looked =
-        subst (λ (calls : List DiskCall). HasFailedIn members v.disk w.disk calls) look-is
+        subst (λ (calls : List DiskCall). HasFailedIn members v.disk w.disk calls) (look-is looked.even)
         (stops-at v.disk w.disk (reads (slot_place (first_slot v)) 4096 ∷ []) (IsCrowded (members.health v.disk) 1 0)
         (λ crowded. crowded) (members.calls v.disk) [] [] (read_call (slot_place (first_slot v)) 4096) refl refl
         (with-none (members.calls v.disk)) looked.calls)

@@ -6,6 +6,7 @@ use Rattle.disk_base.specs.declared.cut.CutChoice.{CutChoice}
 use Rattle.disk_base.specs.declared.cut.CutChoice.TheVariants.{Fill, First, New, Old}
 use Rattle.gem_spool.specs.Standing.{Standing}
 use Rattle.gem_spool.specs.Works.{reserved}
+use Rattle.spool_slots.specs.Front.{mark_cell}
 use Rattle.spool_slots.specs.Losses.{gate_counts, marks_second, names_spare, turned_if}
 use Rattle.spool_works.specs.Marked.{IsMarkedBy}
 use Rattle.spool_works.specs.SpoolLosses.{by_gate, marks}
@@ -54,11 +55,11 @@ named m byte false is =
     ap (λ (n : ℕ). byte % 2 == n) (let odd = is in let one : 1 ≡ (m + 1) % 2 = grind (arith, nat_tests, odd) in one)
 
 pub names-marks : (bytes : List ℕ) (mark byte : ℕ) → IsMarkedBy bytes mark
-    → names_spare bytes byte ≡ marks mark byte
+    → names_spare mark_cell bytes byte ≡ marks mark byte
 names-marks bytes mark byte is = named (mark / 4096) byte (marks_second bytes) is
 
 pub counts-by-mark : (bytes : List ℕ) (mark : ℕ) (choice : CutChoice) → IsMarkedBy bytes mark
-    → gate_counts choice (names_spare bytes) ≡ gate_counts choice (marks mark)
+    → gate_counts choice (names_spare mark_cell bytes) ≡ gate_counts choice (marks mark)
 counts-by-mark bytes mark Old is = refl
 counts-by-mark bytes mark New is = refl
 counts-by-mark bytes mark (Fill byte) is = names-marks bytes mark byte is
@@ -67,7 +68,7 @@ counts-by-mark bytes mark (First n) is = refl
 -- what is left of a reserve goes together too
 pub left-marked :
     (bytes image : List ℕ) (st : Standing) (choice : CutChoice) → IsMarkedBy bytes st.mark
-    → marks_second image ≡ turned_if (gate_counts choice (names_spare bytes)) (marks_second bytes)
+    → marks_second image ≡ turned_if (gate_counts choice (names_spare mark_cell bytes)) (marks_second bytes)
     → IsMarkedBy image (by_gate (marks st.mark) (reserved st) st choice).mark
 left-marked bytes image st choice is left =
     go (gate_counts choice (marks st.mark))

@@ -21,7 +21,9 @@ start_with-requires g c =
 pub returns-in-Some-clause-ready : goal.returns-in-Some-clause-ready
 returns-in-Some-clause-ready g c =
     start-ready c.args.plan.now c.requires.plan c.in-Ok.spool c.in-Some.base c.args.out.now c.start_with.new.out
-    c.start_with.result c.start_with.ensures.starts
+    c.start_with.result
+    (c.in-Ok.ensures.stands (standing_of g.D.Disk c.args.spool.spool) c.len.ensures.stands).even
+    c.start_with.ensures.starts
 
 pub returns-in-Some-clause-starts : goal.returns-in-Some-clause-starts
 returns-in-Some-clause-starts g c fresh =

@@ -24,7 +24,8 @@ returns-in-Err-Failed g c =
     (Err e)) c.in-Err-Failed.field-0-is c.in-Err-Failed.ensures in
     subst (λ (x : Spent g.row.D.Denot). Purges g.D.Disk c.args.spool (Err x)) (sym c.in-Err-Failed.spent-is)
     (purge_failed g.D.Disk c.args.spool
-    (λ s told. c.len-end.ensures.rests s told) c.drops.counter c.drops.spool c.in-Err-Failed.spent
+    c.len-end.ensures.even (λ s told. c.len-end.ensures.rests s told) c.drops.counter c.drops.spool
+    c.in-Err-Failed.spent
     c.drops.invariant failed)
 
 pub drops-preserved : goal.drops-preserved
@@ -37,5 +38,5 @@ pub returns : goal.returns
 returns g c =
     let all : c.drops.counter ≡ c.args.spool.len =
     omega (arith, c.drops-test.false, c.drops.auto.counter-end, c.len-end.ensures.len) in
-    purged g.D.Disk c.args.spool (λ s told. c.len-end.ensures.rests s told) c.drops.spool
+    purged g.D.Disk c.args.spool c.len-end.ensures.even (λ s told. c.len-end.ensures.rests s told) c.drops.spool
     (subst (λ (n : ℕ). DropsSome g.D.Disk n c.args.spool c.drops.spool) all c.drops.invariant)

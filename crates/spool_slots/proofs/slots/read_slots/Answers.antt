@@ -3,7 +3,7 @@
 use Rattle.std.proofs.Common.{arith, ◌+◌, ◌*◌, ◌∙◌, Some, None}
 use Rattle.disk_base.specs.declared.disk.DiskAnswer.TheVariants.{Done, Failed}
 use Rattle.spool_slots.specs.Slot.{slot_in}
-use Rattle.spool_slots.proofs.Firsts.{area_fields, area_numbers, none_ahead}
+use Rattle.spool_slots.proofs.Gapless.{area_fields, area_numbers, none_ahead}
 use Rattle.spool_slots.proofs.Stretches.{read_behind, read_wider}
 use Rattle.spool_slots.proofs.slots.read_slots.Goals as goal
 

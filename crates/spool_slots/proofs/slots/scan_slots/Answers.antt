@@ -1,7 +1,8 @@
 -- The first slot that breaks is the break; with none left all are counted. The reads are counted, too.
 
 use Rattle.std.proofs.Common.{refl, ◌∙◌, ◌≡◌, ap, subst, arith, None}
-use Rattle.spool_slots.specs.Area.{first_at, messages_below}
+use Rattle.spool_slots.specs.Area.{first_at}
+use Rattle.spool_slots.specs.File.{list_below, slot_message, slot_stands}
 use Rattle.spool_slots.specs.Reading.{IsScan}
 use Rattle.spool_slots.specs.Slot.{in_slot, slot_break, slot_in}
 use Rattle.disk_base.proofs.Stretches.{same_then}
@@ -30,8 +31,8 @@ loop-slot-preserved g c = (
       let before = c.loop-slot.invariant.0 s is in (
         first_next (λ k. in_slot k (slot_break c.args.slots k (slot_in s.now.bytes k))) c.loop-slot.slot before.0
             (ap (in_slot c.loop-slot.slot) scanned.0),
-        subst (IsScan c.in-Whole.next) (messages_next (slot_in s.now.bytes) c.loop-slot.slot)
-            (scanned.1 (messages_below (slot_in s.now.bytes) c.loop-slot.slot) before.1),
+        subst (IsScan c.in-Whole.next) (messages_next (slot_stands (slot_in s.now.bytes)) (slot_message (slot_in s.now.bytes)) c.loop-slot.slot)
+            (scanned.1 (list_below (slot_in s.now.bytes) c.loop-slot.slot) before.1),
       ),
   c.in-Whole.ensures.told ∙ c.loop-slot.invariant.1,
   c.in-Whole.ensures.size ∙ c.loop-slot.invariant.2,
@@ -46,7 +47,7 @@ pub returns-clause-scan : goal.returns-clause-scan
 returns-clause-scan g c s is =
     let end : c.loop-slot.slot ≡ c.args.slots = omega (arith, c.loop-slot-test.false, c.loop-slot.auto.slot-end) in
     subst (λ n. (first_at (λ k. in_slot k (slot_break c.args.slots k (slot_in s.now.bytes k))) n ≡ None)
-    × IsScan c.loop-slot.scan (messages_below (slot_in s.now.bytes) n)) end (c.loop-slot.invariant.0 s is)
+    × IsScan c.loop-slot.scan (list_below (slot_in s.now.bytes) n)) end (c.loop-slot.invariant.0 s is)
 
 pub returns-in-Broken-clause-reads : goal.returns-in-Broken-clause-reads
 returns-in-Broken-clause-reads g c =

@@ -4,7 +4,8 @@ use Rattle.std.proofs.Common.{◌≡◌, ◌≤◌, ◌<◌, ◌^◌, Some, None
 use Rattle.disk_base.specs.declared.disk.DiskAnswer.TheVariants.{Done}
 use Rattle.disk_base.specs.Story.{Story}
 use Rattle.disk_base.specs.SameDisk.{IsSameDisk}
-use Rattle.spool_slots.specs.Area.{first_at, messages_below}
+use Rattle.spool_slots.specs.Area.{first_at}
+use Rattle.spool_slots.specs.File.{list_below}
 use Rattle.spool_slots.specs.Reading.{IsScan}
 use Rattle.spool_slots.specs.Reads.{HasRead}
 use Rattle.spool_slots.specs.Slot.{in_slot, slot_break, slot_in}
@@ -14,7 +15,7 @@ abbrev pub invariant-loop-slot : goal.invariant-loop-slot
 invariant-loop-slot g l =
     ((s : Story) → g.D.Disk.told l.fn.disk ≡ Some s →
     (first_at (λ k. in_slot k (slot_break l.fn.slots k (slot_in s.now.bytes k))) l.slot ≡ None)
-    × IsScan l.scan (messages_below (slot_in s.now.bytes) l.slot))
+    × IsScan l.scan (list_below (slot_in s.now.bytes) l.slot))
     × (g.D.Disk.told l.disk ≡ g.D.Disk.told l.fn.disk)
     × (g.D.Disk.size_is l.disk ≡ g.D.Disk.size_is l.fn.disk)
     × IsSameDisk g.D.Disk l.fn.disk l.disk

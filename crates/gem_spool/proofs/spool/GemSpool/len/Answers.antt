@@ -4,4 +4,5 @@ use Rattle.gem_spool.proofs.Stays.{stands_so}
 use Rattle.gem_spool.proofs.spool.GemSpool.len.Goals as goal
 
 pub returns-clause-stands : goal.returns-clause-stands
-returns-clause-stands g c = stands_so g.D.Disk c.args.self.now.spool (λ s told. c.len.ensures.rests s told)
+returns-clause-stands g c =
+    stands_so g.D.Disk c.args.self.now.spool c.len.ensures.even (λ s told. c.len.ensures.rests s told)

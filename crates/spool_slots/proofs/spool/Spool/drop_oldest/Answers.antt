@@ -19,7 +19,7 @@ taken_up-requires g c =
 pub returns-in-Done : goal.returns-in-Done
 returns-in-Done g c =
     let k = c.self.inside.known in
-    let next : Known = record { slots = k.slots; first = k.first + 1; len = k.len - 1; mark = k.mark } in
+    let next : Known = record { slots = k.slots; first = k.first + 1; next = k.next; len = k.len - 1; mark = k.mark } in
     let one : 0 < k.len = grind (arith, c.if-self-eq0.false) in
     subst (λ (w : SpoolView g.row.D.Denot). Drops g.D.Disk c.args.self (Ok w))
     (sym (c.taken_up.ensures ∙ ap (λ (n : Known). in_hand c.settle_gate.new.disk n) c.without_first.ensures))

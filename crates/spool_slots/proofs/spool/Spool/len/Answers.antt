@@ -1,13 +1,16 @@
 -- What rests on the disk is the list in hand.
 
-use Rattle.std.proofs.Common.{◌≡◌, ◌≤◌, Some, subst}
+use Rattle.std.proofs.Common.{◌≡◌, ◌+◌, ◌≤◌, Some, subst}
 use Rattle.disk_base.specs.Story.{Story}
-use Rattle.spool_slots.specs.Spool.{Rests, SpoolView}
+use Rattle.spool_slots.specs.Spool.{Rests, SpoolView, known_of}
 use Rattle.spool_slots.proofs.spool.Spool.len.Goals as goal
 
 pub returns-clause-rests : goal.returns-clause-rests
 returns-clause-rests g c =
-    subst (λ (v : SpoolView g.row.D.Denot). (s : Story) → g.D.Disk.told v.disk ≡ Some s → Rests s v.slots v.first v.len v.mark) c.self.view_is c.self.invariant.rests
+    subst (λ (v : SpoolView g.row.D.Denot). (s : Story) → g.D.Disk.told v.disk ≡ Some s → Rests s (known_of v)) c.self.view_is c.self.invariant.rests
 
 pub returns-clause-range : goal.returns-clause-range
 returns-clause-range g c = subst (λ (v : SpoolView g.row.D.Denot). c.self.inside.known.len ≤ v.slots) c.self.view_is c.self.invariant.room
+
+pub returns-clause-even : goal.returns-clause-even
+returns-clause-even g c = subst (λ (v : SpoolView g.row.D.Denot). v.next ≡ v.first + v.len) c.self.view_is c.self.invariant.even

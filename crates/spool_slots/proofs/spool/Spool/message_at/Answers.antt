@@ -1,13 +1,13 @@
 -- The slot that was read has the message of this number, and the look keeps the spool.
 
-use Rattle.std.proofs.Common.{◌≡◌, ◌∙◌, ◌+◌, ◌%◌, ◌<◌, ◌≤◌, ℕ, length, Some, refl, ap, subst, arith}
+use Rattle.std.proofs.Common.{◌≡◌, ◌∙◌, ◌%◌, ◌<◌, ◌≤◌, ℕ, length, Some, refl, ap, subst, arith}
 use Rattle.disk_base.specs.Calls.{Logs, read_call}
 use Rattle.disk_base.specs.Faults.{IsCrowded}
 use Rattle.disk_base.specs.Story.{Story, bytes_at}
 use Rattle.disk_base.specs.declared.disk.DiskAnswer.TheVariants.{Done, Failed}
 use Rattle.spool_slots.specs.Changes.{IsFound, HasLooked}
 use Rattle.spool_slots.specs.Slot.{slot_place}
-use Rattle.spool_slots.specs.Spool.{SpoolView, in_hand, next_of}
+use Rattle.spool_slots.specs.Spool.{SpoolView, in_hand}
 use Rattle.spool_slots.proofs.Looking.{found_there, looked_on}
 use Rattle.spool_slots.proofs.spool.Spool.message_at.Goals as goal
 
@@ -15,13 +15,14 @@ pub returns : goal.returns
 returns g c =
     let k = c.self.inside.known in
     let from : k.first ≤ c.args.number = omega (arith, c.if-number-self.false) in
-    let below : c.args.number < k.first + k.len = omega (arith, c.if-number-self.false, c.if-number-self-2.false) in
+    let below : c.args.number < k.next = omega (arith, c.if-number-self-2.false) in
     let place : c.slot_place-at.result ≡ slot_place (c.args.number % k.slots) = c.slot_place-at.ensures ∙ ap slot_place c.slot_of.ensures.slot in
     let long : length c.read.new.into ≡ 4096 = grind (arith, c.read.auto.into, c.told-into) in
     subst (λ (v : SpoolView g.row.D.Denot). HasLooked g.D.Disk v (in_hand c.read.new.self k) (c.args.number % v.slots) Done
-    × (v.first ≤ c.args.number) × (c.args.number < next_of v)
+    × (v.first ≤ c.args.number) × (c.args.number < v.next)
     × ((s : Story) → g.D.Disk.told v.disk ≡ Some s → IsFound s v.slots v.first c.args.number c.read.new.into c.head_in.result)) c.self.view_is (
       record {
+        even = c.self.invariant.even;
         same = refl;
         told = c.in-Done.ensures.told;
         size = c.in-Done.ensures.size;
@@ -33,8 +34,8 @@ returns g c =
       },
       from,
       below,
-      λ s is. found_there s k.slots k.first k.len k.mark c.args.number c.read.new.into c.head_in.result (c.self.invariant.rests s is)
-          c.self.invariant.some from below
+      λ s is. found_there s k c.args.number c.read.new.into c.head_in.result (c.self.invariant.rests s is)
+          c.self.invariant.even from below
           (c.in-Done.ensures.bytes s is ∙ ap (λ (n : ℕ). bytes_at s.now.bytes c.slot_place-at.result n) long
           ∙ ap (λ (at : ℕ). bytes_at s.now.bytes at 4096) place) c.head_in.ensures,
     )
@@ -51,11 +52,12 @@ pub returns-in-Failed : goal.returns-in-Failed
 returns-in-Failed g c =
     let k = c.self.inside.known in
     let from : k.first ≤ c.args.number = omega (arith, c.if-number-self.false) in
-    let below : c.args.number < k.first + k.len = omega (arith, c.if-number-self.false, c.if-number-self-2.false) in
+    let below : c.args.number < k.next = omega (arith, c.if-number-self-2.false) in
     let place : c.slot_place-at.result ≡ slot_place (c.args.number % k.slots) = c.slot_place-at.ensures ∙ ap slot_place c.slot_of.ensures.slot in
     subst (λ (v : SpoolView g.row.D.Denot). HasLooked g.D.Disk v (in_hand c.read.new.self k) (c.args.number % v.slots) Failed
-    × (v.first ≤ c.args.number) × (c.args.number < next_of v)) c.self.view_is (
+    × (v.first ≤ c.args.number) × (c.args.number < v.next)) c.self.view_is (
       record {
+        even = c.self.invariant.even;
         same = refl;
         told = c.in-Failed.ensures.told;
         size = c.in-Failed.ensures.size;

@@ -6,14 +6,13 @@ use Rattle.spool_slots.specs.Changes.{HasLostReserve, HasReserved, Reserves}
 use Rattle.spool_slots.specs.Losses.{IsSure}
 use Rattle.spool_slots.specs.Spool.{IsSpool, SpoolView, in_hand}
 use Rattle.spool_slots.specs.declared.recovery.Known.{Known}
-use Rattle.spool_slots.proofs.LostMarks.{reserve_lost}
-use Rattle.spool_slots.proofs.NewMarks.{cell, reserve_images, reserve_spool, reserves}
+use Rattle.spool_slots.proofs.Marks.{cell, reserve_images, reserve_lost, reserve_spool, reserves}
 use Rattle.spool_slots.proofs.spool.Spool.reserve.Goals as goal
 
-pub write_mark-requires-clause-settled : goal.write_mark-requires-clause-settled
-write_mark-requires-clause-settled g c = λ s told.
+pub write_cell-requires-clause-settled : goal.write_cell-requires-clause-settled
+write_cell-requires-clause-settled g c = λ s told.
     let k = c.self.inside.known in
-    cell s k.slots k.first k.len k.mark (c.self.invariant.rests s told) c.self.invariant.some
+    cell s k (c.self.invariant.rests s told) c.self.invariant.some
 
 pub taken_up-requires : goal.taken_up-requires
 taken_up-requires g c =
@@ -26,7 +25,7 @@ pub returns-in-Ok : goal.returns-in-Ok
 returns-in-Ok g c =
     let k = c.self.inside.known in
     let d = c.self.inside.disk in
-    let next : Known = record { slots = k.slots; first = k.first; len = k.len; mark = k.mark + 4096 } in
+    let next : Known = record { slots = k.slots; first = k.first; next = k.next; len = k.len; mark = k.mark + 4096 } in
     let done : HasReserved g.D.Disk (in_hand d k) c.in-Ok.disk Done = record {
       left = c.if-known-gt-MARK_MOST.false;
       images = reserve_images g.D.Disk d c.in-Ok.disk k c.self.invariant c.if-known-gt-MARK_MOST.false Done (λ s told. c.in-Ok.ensures.images s told);

@@ -13,9 +13,9 @@ with_parts-requires g c =
     let k = c.self.inside.known in
     let m = c.args.message.now in
     let free : k.len < k.slots = grind (arith, c.self.invariant.room, c.if-self.false) in
-    let done : HasSettled g.D.Disk c.self.inside.disk c.settle_parts.new.disk (slot_place ((k.first + k.len) % k.slots) + 1)
-    (parts_of (k.first + k.len) m.stream m.function m.body.now) Done =
-    subst (λ part. HasSettled g.D.Disk c.self.inside.disk c.settle_parts.new.disk (slot_place ((k.first + k.len) % k.slots) + 1) part Done)
+    let done : HasSettled g.D.Disk c.self.inside.disk c.settle_parts.new.disk (slot_place (k.next % k.slots) + 1)
+    (parts_of k.next m.stream m.function m.body.now) Done =
+    subst (λ part. HasSettled g.D.Disk c.self.inside.disk c.settle_parts.new.disk (slot_place (k.next % k.slots) + 1) part Done)
     (c.deref.ensures.0 ∙ c.parts_of-parts.ensures) c.in-Done.ensures in
     stage_spool g.D.Disk c.self.inside.disk c.settle_parts.new.disk k c.self.invariant m.stream m.function m.body.now free c.if-message.false
     c.requires.stream c.requires.function c.if-next-ge-NUMBERS.false done
@@ -25,9 +25,9 @@ returns-in-Done g c =
     let k = c.self.inside.known in
     let m = c.args.message.now in
     let free : k.len < k.slots = grind (arith, c.self.invariant.room, c.if-self.false) in
-    let done : HasSettled g.D.Disk c.self.inside.disk c.settle_parts.new.disk (slot_place ((k.first + k.len) % k.slots) + 1)
-    (parts_of (k.first + k.len) m.stream m.function m.body.now) Done =
-    subst (λ part. HasSettled g.D.Disk c.self.inside.disk c.settle_parts.new.disk (slot_place ((k.first + k.len) % k.slots) + 1) part Done)
+    let done : HasSettled g.D.Disk c.self.inside.disk c.settle_parts.new.disk (slot_place (k.next % k.slots) + 1)
+    (parts_of k.next m.stream m.function m.body.now) Done =
+    subst (λ part. HasSettled g.D.Disk c.self.inside.disk c.settle_parts.new.disk (slot_place (k.next % k.slots) + 1) part Done)
     (c.deref.ensures.0 ∙ c.parts_of-parts.ensures) c.in-Done.ensures in
     subst (λ (w : SpoolView g.row.D.Denot). Stages g.D.Disk c.args.self m.stream m.function m.body.now (Ok w)) (sym c.with_parts.ensures)
     (subst (λ (v : SpoolView g.row.D.Denot). Stages g.D.Disk v m.stream m.function m.body.now (Ok (in_hand c.settle_parts.new.disk k))) c.self.view_is
@@ -39,9 +39,9 @@ returns-in-Failed g c =
     let k = c.self.inside.known in
     let m = c.args.message.now in
     let free : k.len < k.slots = grind (arith, c.self.invariant.room, c.if-self.false) in
-    let done : HasSettled g.D.Disk c.self.inside.disk c.settle_parts.new.disk (slot_place ((k.first + k.len) % k.slots) + 1)
-    (parts_of (k.first + k.len) m.stream m.function m.body.now) Failed =
-    subst (λ part. HasSettled g.D.Disk c.self.inside.disk c.settle_parts.new.disk (slot_place ((k.first + k.len) % k.slots) + 1) part Failed)
+    let done : HasSettled g.D.Disk c.self.inside.disk c.settle_parts.new.disk (slot_place (k.next % k.slots) + 1)
+    (parts_of k.next m.stream m.function m.body.now) Failed =
+    subst (λ part. HasSettled g.D.Disk c.self.inside.disk c.settle_parts.new.disk (slot_place (k.next % k.slots) + 1) part Failed)
     (c.deref.ensures.0 ∙ c.parts_of-parts.ensures) c.in-Failed.ensures in
     subst (λ (v : SpoolView g.row.D.Denot). HasStaged g.D.Disk v m.stream m.function m.body.now c.settle_parts.new.disk Failed) c.self.view_is
     (stage_does g.D.Disk c.self.inside.disk c.settle_parts.new.disk k c.self.invariant m.stream m.function m.body.now free c.if-message.false

@@ -18,7 +18,7 @@ taken_up-requires g c =
 pub returns-in-Done : goal.returns-in-Done
 returns-in-Done g c =
     let k = c.self.inside.known in
-    let next : Known = record { slots = k.slots; first = k.first; len = k.len + 1; mark = k.mark } in
+    let next : Known = record { slots = k.slots; first = k.first; next = k.next + 1; len = k.len + 1; mark = k.mark } in
     subst (λ (w : SpoolView g.row.D.Denot). Seals g.D.Disk c.args.self (Ok w))
     (sym (c.taken_up.ensures ∙ ap (λ (n : Known). in_hand c.settle_gate.new.disk n) c.with_one_more.ensures))
     (subst (λ (v : SpoolView g.row.D.Denot). Seals g.D.Disk v (Ok (in_hand c.settle_gate.new.disk next))) c.self.view_is

@@ -10,7 +10,7 @@ use Rattle.spool_slots.specs.Changes.{HasRecovered}
 use Rattle.spool_slots.specs.File.{file_in}
 use Rattle.spool_slots.specs.Reading.{KnownFits}
 use Rattle.spool_slots.specs.Slot.{slot_place}
-use Rattle.spool_slots.specs.Spool.{Rests, SpoolView}
+use Rattle.spool_slots.specs.Spool.{Rests, SpoolView, known_of}
 use Rattle.spool_slots.proofs.Found.{rests_of, spool_of, synced}
 use Rattle.spool_slots.proofs.Stretches.{most_same, read_from}
 use Rattle.spool_slots.proofs.states.Raw.recover.Goals as goal
@@ -28,7 +28,7 @@ taken_up-requires g c =
 pub returns-in-Whole : goal.returns-in-Whole
 returns-in-Whole g c =
     subst (λ (v : SpoolView g.row.D.Denot). HasRecovered g.D.Disk c.args.self.disk v.disk (2 * v.slots + 1) Done
-    × ((s : Story) → g.D.Disk.told c.args.self.disk ≡ Some s → Rests (with_sync s) v.slots v.first v.len v.mark
+    × ((s : Story) → g.D.Disk.told c.args.self.disk ≡ Some s → Rests (with_sync s) (known_of v)
     × (v.first ≡ first_of (file_in s.now.bytes).list))) (sym c.taken_up.ensures) (
       record {
         told = c.in-Whole.ensures.told ∙ c.in-Done.ensures.told;

@@ -1,6 +1,6 @@
--- The mark by how far its change comes: what a crash leaves, which calls are listed, and what a fault has left.
+-- The value by how far its change comes: what a crash leaves, which calls are listed, and what a fault has left.
 
-use Rattle.std.proofs.Common.{ℕ, ◌<◌, inl, inr, ⊎_elim, subst, arith, ◌∙◌}
+use Rattle.std.proofs.Common.{ℕ, ◌<◌, inl, inr, ⊎_elim, subst, arith}
 use Rattle.disk_base.specs.Faults.{DiskHealth, HasCause, IsPlanned}
 use Rattle.disk_base.specs.declared.disk.DiskAnswer.TheVariants.{Done, Failed}
 use Rattle.disk_base.proofs.Listings.{listed_behind}
@@ -8,16 +8,16 @@ use Rattle.disk_base.proofs.Stretches.{crowded_behind, crowded_wider, fault_behi
 use Rattle.gate_cell.specs.Ready.{Commits}
 use Rattle.spool_slots.specs.Losses.{IsSure}
 use Rattle.spool_slots.proofs.Gates.{commit_turns_gate, prepare_keeps_gate}
-use Rattle.spool_slots.proofs.LostMarks.{lost_late}
-use Rattle.spool_slots.proofs.NewMarks.{commit_images, either_of, gate_calls, has_mark, preparing_wider}
-use Rattle.spool_slots.proofs.marking.write_mark.Goals as goal
+use Rattle.spool_slots.proofs.CellWrites.{commit_images, either_of, gate_calls, has_value, preparing_wider}
+use Rattle.spool_slots.proofs.LostCells.{lost_late}
+use Rattle.spool_slots.proofs.cells.write_cell.Goals as goal
 
 pub returns-in-Err-clause-images : goal.returns-in-Err-clause-images
-returns-in-Err-clause-images g c = λ s told. either_of s _ _ c.args.mark (c.in-Err.ensures.told s told).images
+returns-in-Err-clause-images g c = λ s told. either_of s c.args.at _ _ c.args.value (c.in-Err.ensures.told s told).images
 
 pub returns-in-Err-clause-calls : goal.returns-in-Err-clause-calls
 returns-in-Err-clause-calls g c = λ s told.
-    inl (preparing_wider s c.args.mark _ _ _ _ (λ is. crowded_wider (g.D.Disk.health c.args.disk) 3 8 5 9 (omega arith) (omega arith) is) (c.in-Err.ensures.calls s told))
+    inl (preparing_wider s c.args.at c.args.value _ _ _ _ (λ is. crowded_wider (g.D.Disk.health c.args.disk) 3 8 5 9 (omega arith) (omega arith) is) (c.in-Err.ensures.calls s told))
 
 pub returns-in-Err-clause-cause : goal.returns-in-Err-clause-cause
 returns-in-Err-clause-cause g c =
@@ -26,13 +26,13 @@ returns-in-Err-clause-cause g c =
 pub returns-in-Ok-commit-clause-images : goal.returns-in-Ok-commit-clause-images
 returns-in-Ok-commit-clause-images g c = λ s told.
     let p = c.in-Ok.ensures.told s told in
-    commit_images s p.images.0 c.args.mark _ _ c.in-Ok.ensures.value.0 p.images.1 p c.in-Ok.ensures.value.1 _ _ Done
+    commit_images s p.images.0 c.args.at c.args.value _ _ c.in-Ok.ensures.value.0 p.images.1 p c.in-Ok.ensures.value.1 _ _ Done
     (c.in-Ok-commit.ensures.told p.images.0 p.images.1)
 
 pub returns-in-Ok-commit-clause-value : goal.returns-in-Ok-commit-clause-value
 returns-in-Ok-commit-clause-value g c = λ s told.
     let p = c.in-Ok.ensures.told s told in
-    has_mark s p.images.0 c.args.mark _ _ c.in-Ok.ensures.value.0 p.images.1 p c.in-Ok.ensures.value.1 _ _
+    has_value s p.images.0 c.args.at c.args.value _ _ c.in-Ok.ensures.value.0 p.images.1 p c.in-Ok.ensures.value.1 _ _
     (c.in-Ok-commit.ensures.told p.images.0 p.images.1) (c.in-Ok-commit.ensures.value p.images.0 p.images.1)
 
 pub returns-in-Ok-commit-clause-turns : goal.returns-in-Ok-commit-clause-turns
@@ -41,14 +41,14 @@ returns-in-Ok-commit-clause-turns g c = λ s told.
     let w = c.in-Ok.prepared in
     let commit = c.in-Ok-commit.ensures.told p.images.0 p.images.1 in
     let spare = w.spare p.images.0 p.images.1 in
-    commit_turns_gate s p.images.0 w.second _ (c.in-Ok.ensures.second s told) (omega (arith, spare.within, c.in-Ok.ensures.value.0))
+    commit_turns_gate c.args.at s p.images.0 w.second _ (c.in-Ok.ensures.second s told) (omega (arith, spare.within, c.in-Ok.ensures.value.0))
     (subst (λ (n : ℕ). Commits p.images.0 n w.second (g.D.Disk.told c.in-Ok-commit.disk) Done) c.in-Ok.ensures.value.0 commit)
 
 pub returns-in-Ok-commit-clause-calls : goal.returns-in-Ok-commit-clause-calls
 returns-in-Ok-commit-clause-calls g c = λ s told. record {
   prepared = g.D.Disk.calls c.in-Ok.prepared.disk;
   first = c.in-Ok.ensures.calls s told;
-  last = gate_calls s _ _ _ _ _ _ Done (λ is. crowded_behind _ _ 3 8 c.in-Ok.ensures.cause 2 1 5 9 (omega arith) (omega arith) is)
+  last = gate_calls s c.args.at _ _ _ _ _ _ Done (λ is. crowded_behind _ _ 3 8 c.in-Ok.ensures.cause 2 1 5 9 (omega arith) (omega arith) is)
       c.in-Ok.ensures.value.0 (c.in-Ok.ensures.second s told) c.in-Ok-commit.ensures.calls;
 }
 
@@ -62,14 +62,14 @@ returns-in-Ok-commit-clause-cause g c = used_behind _ _ 3 8 c.in-Ok.ensures.caus
 pub returns-in-Err-commit-clause-images : goal.returns-in-Err-commit-clause-images
 returns-in-Err-commit-clause-images g c = λ s told.
     let p = c.in-Ok.ensures.told s told in
-    commit_images s p.images.0 c.args.mark _ _ c.in-Ok.ensures.value.0 p.images.1 p c.in-Ok.ensures.value.1 _ _ Failed
+    commit_images s p.images.0 c.args.at c.args.value _ _ c.in-Ok.ensures.value.0 p.images.1 p c.in-Ok.ensures.value.1 _ _ Failed
     (c.in-Err-commit.ensures.told p.images.0 p.images.1)
 
 pub returns-in-Err-commit-clause-calls : goal.returns-in-Err-commit-clause-calls
 returns-in-Err-commit-clause-calls g c = λ s told. inr (record {
   prepared = g.D.Disk.calls c.in-Ok.prepared.disk;
   first = c.in-Ok.ensures.calls s told;
-  last = gate_calls s _ _ _ _ _ _ Failed (λ is. crowded_behind _ _ 3 8 c.in-Ok.ensures.cause 2 1 5 9 (omega arith) (omega arith) is)
+  last = gate_calls s c.args.at _ _ _ _ _ _ Failed (λ is. crowded_behind _ _ 3 8 c.in-Ok.ensures.cause 2 1 5 9 (omega arith) (omega arith) is)
       c.in-Ok.ensures.value.0 (c.in-Ok.ensures.second s told) c.in-Err-commit.ensures.calls;
 })
 
@@ -89,7 +89,7 @@ planned_of h k sure cause =
 pub returns-in-Err-clause-loss : goal.returns-in-Err-clause-loss
 returns-in-Err-clause-loss g c = λ s told sure. record {
   early = λ planned. (c.in-Err.ensures.told s told).images;
-  early_gate = λ planned. prepare_keeps_gate s c.args.mark _ Failed (c.requires.settled s told) (c.in-Err.ensures.told s told);
+  early_gate = λ planned. prepare_keeps_gate c.args.at s c.args.value _ Failed (c.requires.settled s told) (c.in-Err.ensures.told s told);
   late = λ none. absurd (none (planned_of _ _ sure c.in-Err.ensures.cause));
   late_gate = λ none. absurd (none (planned_of _ _ sure c.in-Err.ensures.cause));
 }
@@ -99,7 +99,7 @@ returns-in-Err-commit-clause-loss g c = λ s told sure.
     let p = c.in-Ok.ensures.told s told in
     let w = c.in-Ok.prepared in
     let d = c.in-Err-commit.disk in
-    let lost = lost_late c.failed_settle_has_written.ensures c.cut_leaves_the_chosen_byte.ensures s p.images.0 c.args.mark w.at w.second
+    let lost = lost_late c.failed_settle_has_written.ensures c.cut_leaves_the_chosen_byte.ensures s p.images.0 c.args.at c.args.value w.at w.second
     (g.D.Disk.health c.args.disk) (g.D.Disk.health w.disk) (g.D.Disk.told w.disk) (g.D.Disk.told d) (g.D.Disk.calls w.disk) (g.D.Disk.calls d)
     sure c.in-Ok.ensures.cause p.images.1 p c.in-Ok.ensures.value.1 c.in-Ok.ensures.value.0 (w.spare p.images.0 p.images.1)
     (c.in-Ok.ensures.second s told) (g.met.D.Disk.calls_told w.disk p.images.0 p.images.1) c.in-Err-commit.ensures.calls
