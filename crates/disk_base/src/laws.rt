@@ -26,8 +26,8 @@ pub fn settle_keeps_other_bytes()
         GoesThrough s after (IsOverIn s.now.bytes from size at (length bytes)) }
 {}
 
-/// A write with its sync that failed, though nothing was crowded out of the list and the disk hadn't stopped, has
-/// written its bytes, whichever of its two calls failed.
+/// A write with its sync that failed on a disk whose calls come to what is listed, though nothing was crowded out of the
+/// list and the disk hadn't stopped, has written its bytes, whichever of its two calls failed.
 pub fn failed_settle_has_written()
     ensures { (s : Story) (at : ℕ) (bytes : List ℕ) (all : List DiskCall) (after : Option Story)
         (calls : Option (List DiskCall)) → LogsBoth at bytes ⊥ (Some all) calls Failed →
