@@ -479,7 +479,7 @@ impl Host {
     fn close(&mut self, out: &mut StepOut) -> Result<(), Stop>
         ensures { Takes (closes self.old.own self.old.core) self.old out.old self.new out.new result }
     {
-        self.core.end_step(out);
+        self.core.close_step(out);
         Ok(())
     }
 }

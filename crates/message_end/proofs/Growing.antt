@@ -190,7 +190,7 @@ module _ {K : Type 0} where
   carry-grows (Command.Recall header) step = front-same step.notes
   carry-grows (Command.Remove primary system) step = front-same step.notes
   carry-grows Command.DropFront step = front-same step.notes
-  carry-grows Command.EndStep step = front-more step.notes (Happening.StepEnded ∷ [])
+  carry-grows Command.CloseStep step = front-more step.notes (Happening.StepEnded ∷ [])
   carry-grows Command.Halt step = front-same step.notes
 
   pub carried-grow :

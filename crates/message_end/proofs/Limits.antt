@@ -179,7 +179,7 @@ module _ {K : Type 0} where
   carry-limit (Command.Recall header) step none = refl
   carry-limit (Command.Remove primary system) step none = refl
   carry-limit Command.DropFront step none = refl
-  carry-limit Command.EndStep step none = refl
+  carry-limit Command.CloseStep step none = refl
   carry-limit Command.Halt step none = refl
 
   pub carried-limit :

@@ -42,7 +42,7 @@ StaysOff (Command.Take byte now) = ⊥
 StaysOff (Command.Offer now) = ⊥
 StaysOff (Command.DropDue now) = ⊥
 StaysOff (Command.More count) = ⊥
-StaysOff Command.EndStep = ⊥
+StaysOff Command.CloseStep = ⊥
 StaysOff _ = Unit {0}
 
 abbrev pub AllStayOff : {K : Type 0} → List (Command K) → Type 0
@@ -166,7 +166,7 @@ off-calls-none now (Command.End system) off = (tt, tt, tt)
 off-calls-none now (Command.Recall header) off = (tt, tt, tt)
 off-calls-none now (Command.Remove odd system) off = (tt, tt, tt)
 off-calls-none now Command.DropFront off = (tt, tt, tt)
-off-calls-none now Command.EndStep off = absurd off
+off-calls-none now Command.CloseStep off = absurd off
 off-calls-none now Command.Halt off = (tt, tt, tt)
 
 all-off : {K : Type 0} (now : ℕ) (commands : List (Command K)) → AllStayOff commands

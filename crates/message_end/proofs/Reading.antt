@@ -188,7 +188,7 @@ module _ {K N : Type 0} (say : Happening → Option N) where
   read-carry (Command.Recall header) step = refl
   read-carry (Command.Remove primary system) step = refl
   read-carry Command.DropFront step = refl
-  read-carry Command.EndStep step = goes (read-noted Happening.StepEnded (with_end (with_asked None step.next) step))
+  read-carry Command.CloseStep step = goes (read-noted Happening.StepEnded (with_end (with_asked None step.next) step))
   read-carry Command.Halt step = refl
 
   pub read-carried :

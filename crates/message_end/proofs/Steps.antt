@@ -164,7 +164,7 @@ by-call P none tick take offer (Command.End system) = none (Command.End system) 
 by-call P none tick take offer (Command.Recall header) = none (Command.Recall header) tt
 by-call P none tick take offer (Command.Remove odd system) = none (Command.Remove odd system) tt
 by-call P none tick take offer Command.DropFront = none Command.DropFront tt
-by-call P none tick take offer Command.EndStep = none Command.EndStep tt
+by-call P none tick take offer Command.CloseStep = none Command.CloseStep tt
 by-call P none tick take offer Command.Halt = none Command.Halt tt
 
 none-called : {K : Type 0} (one : Command K) → CallsNone one → AreCallsOf one []
@@ -186,7 +186,7 @@ none-called (Command.End system) none = refl
 none-called (Command.Recall header) none = refl
 none-called (Command.Remove odd system) none = refl
 none-called Command.DropFront none = refl
-none-called Command.EndStep none = refl
+none-called Command.CloseStep none = refl
 none-called Command.Halt none = refl
 
 -- ---- when T4 drops
@@ -236,7 +236,7 @@ at-moment all (Command.End system) is = tt
 at-moment all (Command.Recall header) is = tt
 at-moment all (Command.Remove odd system) is = tt
 at-moment all Command.DropFront is = tt
-at-moment all Command.EndStep is = tt
+at-moment all Command.CloseStep is = tt
 at-moment all Command.Halt is = tt
 
 pub all-at-moment :
@@ -872,7 +872,7 @@ module _ {K : Type 0} (laws : Laws) (plan : EndPlan) (base : ℕ) (fits : LinePl
       at-waits step _ is (waiting-less _ _ _ step.next.outgoing.waiting (is_named primary system) is.core.waiting)
   at-carry Command.DropFront step none at may is =
       at-waits step _ is (waiting-cut _ _ _ step.next.outgoing.waiting 0 1 (omega arith) is.core.waiting)
-  at-carry Command.EndStep step none at may is = absurd may
+  at-carry Command.CloseStep step none at may is = absurd may
   at-carry Command.Halt step none at may is = is
 
   pub at-carried :

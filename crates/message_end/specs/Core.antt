@@ -81,7 +81,7 @@ pub data Command (K : Type 0) : Type 0 where
   Remove : (primary : Bool) (system : ℕ) → Command K
   DropFront : Command K
   -- the step has come to its end, and with it the asking of the newest primary (this profile)
-  EndStep : Command K
+  CloseStep : Command K
   -- do nothing more: a number is wanting that isn't drawn from those of the end (this profile)
   Halt : Command K
 
@@ -433,7 +433,7 @@ carry say (Remove primary system) step =
 carry say DropFront step =
     let out = step.next.outgoing in
     Goes (waits (with_waiting out (drop 1 out.waiting)) step)
-carry say EndStep step = Goes (noted say Happening.StepEnded (with_end (with_asked None step.next) step))
+carry say CloseStep step = Goes (noted say Happening.StepEnded (with_end (with_asked None step.next) step))
 carry say Halt step = Spent step
 
 -- one command after the other
@@ -468,7 +468,7 @@ MayCarry (Primary unsent) = IsUnsent unsent
 MayCarry (DrawnPrimary unsent) = IsUnsent unsent
 MayCarry (Reply body) = IsText body
 MayCarry (Take byte now) = byte < 256
-MayCarry EndStep = ⊥
+MayCarry CloseStep = ⊥
 MayCarry _ = Unit {0}
 
 abbrev pub MayCarryAll : {K : Type 0} → List (Command K) → Type 0

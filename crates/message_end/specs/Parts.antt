@@ -8,7 +8,7 @@ use Rattle.trace_log.specs.Text.{printed_note}
 use Rattle.message_end.specs.declared.end.Stop.{Stop}
 use Rattle.message_end.specs.declared.end.Stop.TheVariants.{DiskFailed, NoMemory, NumbersSpent}
 use Rattle.message_end.specs.Core.{Command, EndView, Step, Went, and_then, at_first, carried, carry}
-use Rattle.message_end.specs.Core.Command.{EndStep}
+use Rattle.message_end.specs.Core.Command.{CloseStep}
 use Rattle.message_end.specs.Core.Went.{Goes, Spent}
 use Rattle.message_end.specs.Doings.{Doing}
 use Rattle.message_end.specs.Duties.{Duty, all_done}
@@ -39,7 +39,7 @@ fixed_turn own commands = record { own = own; duties = (λ e. commands) ∷ [] }
 
 -- the step comes to its end: the last part of each step
 abbrev pub closes : {S K : Type 0} → Part S K
-closes own e = fixed_turn own (EndStep ∷ [])
+closes own e = fixed_turn own (CloseStep ∷ [])
 
 -- the core after it has carried out a command
 abbrev pub next_of : {S N : Type 0} → Went S N → S

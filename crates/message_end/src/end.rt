@@ -256,8 +256,8 @@ impl<K: Copy> MessageEnd<K> {
     }
 
     /// The step has come to its end: the newest primary asks no more. That is noted, and has no line.
-    pub fn end_step(&mut self, out: &mut StepOut)
-        ensures carries { IsCarried Command.EndStep self.old out.old self.new out.new }
+    pub fn close_step(&mut self, out: &mut StepOut)
+        ensures carries { IsCarried Command.CloseStep self.old out.old self.new out.new }
     {
         self.parts.asked = None;
     }

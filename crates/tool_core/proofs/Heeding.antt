@@ -23,7 +23,7 @@ use Rattle.equipment_tables.specs.Requests.{request_of}
 use Rattle.equipment_tables.specs.Tables.{TablesState}
 use Rattle.tool_step.specs.declared.kind.Kind.{Kind}
 use Rattle.tool_step.specs.declared.kind.Kind.TheVariants as kind
-use Rattle.tool_step.specs.Messages.{dropped_turn, error_turn, established_duties, established_turn, is_establish_request, is_online_request, known_turn, offline_turn, own_request_commands, own_request_duty, primary_turn, read_turn, request_turn, stray_turn}
+use Rattle.tool_step.specs.Messages.{dropped_turn, error_turn, established_duties, established_turn, is_establish_request, is_online_request, known_turn, offline_turn, own_s1f13_commands, own_s1f13_duty, primary_turn, read_turn, request_turn, stray_turn}
 use Rattle.tool_step.specs.Own.{OwnView, ToolDuty, ToolTurn, is_communicating, is_online, turn_of, with_tables}
 use Rattle.tool_step.specs.Reports.{unreported_turn}
 use Rattle.tool_step.specs.Sent.{answer_duties}
@@ -72,9 +72,9 @@ pub request_ended :
     (what : Kind) (system : ℕ) (old middle new : EndView Kind) (out : StepOut) → what ≡ kind.Establish
     → carry printed_note (End system) (on_the_way old out) ≡ Goes (on_the_way middle out)
     → carry printed_note (Remove true system) (on_the_way middle out) ≡ Goes (on_the_way new out)
-    → carried printed_note (own_request_commands what system) (on_the_way old out) ≡ Goes (on_the_way new out)
+    → carried printed_note (own_s1f13_commands what system) (on_the_way old out) ≡ Goes (on_the_way new out)
 request_ended what system old middle new out is ended removed =
-    ap (λ (k : Kind). carried printed_note (own_request_commands k system) (on_the_way old out)) is
+    ap (λ (k : Kind). carried printed_note (own_s1f13_commands k system) (on_the_way old out)) is
     ∙ ap (λ (w : Went (EndView Kind) Note). and_then w (carried printed_note (Remove true system ∷ []))) ended
     ∙ ap (λ (w : Went (EndView Kind) Note). and_then w (carried printed_note [])) removed
 
@@ -92,35 +92,35 @@ dropped_so message name named s out out_new (Err e) noted = tt
 pub established_ok :
     (A : Type 0) (now : ℕ) (message : Message) (old first second new : ToolNode) (out out_second out_new : StepOut)
     (result : Result A Stop)
-    → HasTaken (turn_of old.own (own_request_duty ∷ [])) old out first out
+    → HasTaken (turn_of old.own (own_s1f13_duty ∷ [])) old out first out
     → HasTaken (comms_turn HostRequest now first.own) first out second out_second
     → Takes (turn_of second.own (established_duties message second.own)) second out_second new out_new result
     → Takes (established_turn now message old.own) old out new out_new result
 established_ok A now message old first second new out out_second out_new result ended met is =
     let turn = comms_turn HostRequest now old.own in
-    behind (turn_of old.own (own_request_duty ∷ []))
+    behind (turn_of old.own (own_s1f13_duty ∷ []))
     (turn_of turn.own (turn.duties ++ established_duties message old.own)) old first new out out out_new result ended
     (subst
     (λ (own : OwnView). let met_turn : ToolTurn = comms_turn HostRequest now own in
     Takes (turn_of met_turn.own (met_turn.duties ++ established_duties message own)) first out new out_new result)
-    (sym (turned (turn_of old.own (own_request_duty ∷ [])) old first out out ended))
+    (sym (turned (turn_of old.own (own_s1f13_duty ∷ [])) old first out out ended))
     (behind_so A (comms_turn HostRequest now first.own) (λ own. established_duties message own) first second new out
     out_second out_new result met is))
 
 pub established_err :
     (A B : Type 0) (now : ℕ) (message : Message) (old first new : ToolNode) (out out_new : StepOut) (end : Stop)
-    → HasTaken (turn_of old.own (own_request_duty ∷ [])) old out first out
+    → HasTaken (turn_of old.own (own_s1f13_duty ∷ [])) old out first out
     → Takes {A = A} (comms_turn HostRequest now first.own) first out new out_new (Err end)
     → Takes {A = B} (established_turn now message old.own) old out new out_new (Err end)
 established_err A B now message old first new out out_new end ended met =
     let turn = comms_turn HostRequest now old.own in
-    behind {A = B} (turn_of old.own (own_request_duty ∷ []))
+    behind {A = B} (turn_of old.own (own_s1f13_duty ∷ []))
     (turn_of turn.own (turn.duties ++ established_duties message old.own)) old first new out out out_new (Err end) ended
     (subst
     (λ (own : OwnView). let met_turn : ToolTurn = comms_turn HostRequest now own in
     Takes {A = B} (turn_of met_turn.own (met_turn.duties ++ established_duties message own))
     first out new out_new (Err end))
-    (sym (turned (turn_of old.own (own_request_duty ∷ [])) old first out out ended))
+    (sym (turned (turn_of old.own (own_s1f13_duty ∷ [])) old first out out ended))
     (let met_turn : ToolTurn = comms_turn HostRequest now first.own in
     duties_end A B met_turn.own met_turn.duties (established_duties message first.own) first new out out_new end met))
 

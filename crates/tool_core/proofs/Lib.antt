@@ -5,7 +5,7 @@ pub mod Heeding
 pub mod Judging
 pub mod Longer
 pub mod Lost
-pub mod OwnRequests
+pub mod OwnS1F13
 pub mod Parting
 pub mod Reading
 pub mod Storing

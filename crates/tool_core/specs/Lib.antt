@@ -4,6 +4,6 @@ pub mod Ending
 pub mod Judged
 pub mod Late
 pub mod Node
-pub mod OwnRequests
+pub mod OwnS1F13
 pub mod Starting
 pub mod Turns

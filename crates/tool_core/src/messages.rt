@@ -7,11 +7,11 @@ ghost use Rattle.message_end.specs.Parts.{AreCarried, after_turn, on_the_way};
 ghost use Rattle.message_end.specs.Core.Went.{Goes};
 ghost use Rattle.trace_log.specs.Text.{printed_note};
 ghost use Rattle.tool_core.specs.Node.{node_of, own_of};
-ghost use Rattle.tool_core.specs.OwnRequests.{place_behind};
+ghost use Rattle.tool_core.specs.OwnS1F13.{place_behind};
 ghost use Rattle.tool_step.specs.Own.{turn_of};
 ghost use Rattle.tool_core.specs.Judged.{IsShort};
 ghost use Rattle.tool_step.specs.Sent.{answer_duties};
-ghost use Rattle.tool_step.specs.Messages.{answer_turn, control_request_turn, dropped_turn, established_duties, established_turn, is_establish_request, is_online_request, known_turn, message_turn, offline_turn, own_request_commands, own_request_duty, primary_turn, request_turn, stray_turn};
+ghost use Rattle.tool_step.specs.Messages.{answer_turn, control_request_turn, dropped_turn, established_duties, established_turn, is_establish_request, is_online_request, known_turn, message_turn, offline_turn, own_s1f13_commands, own_s1f13_duty, primary_turn, request_turn, stray_turn};
 ghost use Rattle.equipment_tables.specs.Requests.{IsAsked, IsAskedOfTables};
 ghost use Rattle.tool_core.specs.Turns.{TakesPart, TakesTurn};
 
@@ -145,7 +145,7 @@ impl Tool {
         ensures does { TakesTurn (established_turn now message.now) self.old out.old self.new out.new result }
         ensures line { out.new.line ≡ out.old.line }
     {
-        self.end_own_requests();
+        self.end_own_s1f13();
         match self.meet(alloc, CommsIn::HostRequest, now, out) {
             Ok(()) => self.accept(alloc, message, out),
             Err(stop) => Err(stop),
@@ -164,8 +164,8 @@ impl Tool {
     }
 
     // The equipment's own S1F13 ends, each that is open.
-    fn end_own_requests(&mut self)
-        ensures { (out : StepOut) → after_turn printed_note (turn_of (own_of self.old.own) (own_request_duty ∷ []))
+    fn end_own_s1f13(&mut self)
+        ensures { (out : StepOut) → after_turn printed_note (turn_of (own_of self.old.own) (own_s1f13_duty ∷ []))
             (on_the_way (node_of self.old) out) ≡ Goes (on_the_way (node_of self.new) out) }
     {
         let mut place = 0;
@@ -179,7 +179,7 @@ impl Tool {
     // A primary of this kind with these system bytes ends, where it is S1F13.
     fn end_request(&mut self, kind: Kind, system: u32)
         ensures own { own_of self.new.own ≡ own_of self.old.own }
-        ensures ended { (out : StepOut) → AreCarried (own_request_commands kind system)
+        ensures ended { (out : StepOut) → AreCarried (own_s1f13_commands kind system)
             self.old.core out self.new.core out }
     {
         match kind {

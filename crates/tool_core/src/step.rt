@@ -298,6 +298,6 @@ impl Tool {
             (closes (own_of self.old.own) self.old.core)
             (on_the_way (node_of self.old) out.old) ≡ Goes (on_the_way (node_of self.new) out.new) }
     {
-        self.core.end_step(out);
+        self.core.close_step(out);
     }
 }

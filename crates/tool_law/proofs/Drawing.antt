@@ -255,7 +255,7 @@ free-costs (Command.End system) step free = costs-none step.next.numbers
 free-costs (Command.Recall header) step free = costs-none step.next.numbers
 free-costs (Command.Remove primary system) step free = costs-none step.next.numbers
 free-costs Command.DropFront step free = costs-none step.next.numbers
-free-costs Command.EndStep step free = costs-none step.next.numbers
+free-costs Command.CloseStep step free = costs-none step.next.numbers
 free-costs Command.Halt step free = absurd free
 
 -- the next number is drawn, if one is left
@@ -461,7 +461,7 @@ one-goes (Command.End system) step free = tt
 one-goes (Command.Recall header) step free = tt
 one-goes (Command.Remove primary system) step free = tt
 one-goes Command.DropFront step free = tt
-one-goes Command.EndStep step free = tt
+one-goes Command.CloseStep step free = tt
 one-goes Command.Halt step free = absurd free
 
 pub free-goes : (commands : ToolCommands) (step : CoreStep) → AreFree commands

@@ -55,7 +55,7 @@ use Rattle.spool_ledger.specs.Unloading.{after_next, confirmed, fresh, next_numb
 use Rattle.tool_step.specs.declared.kind.Kind.{Kind}
 use Rattle.tool_step.specs.declared.kind.Kind.TheVariants as kind
 use Rattle.tool_step.specs.Codes.{is_accepted_in, is_granted_in}
-use Rattle.tool_step.specs.Messages.{answer_turn, control_answer_duties, control_request_turn, dropped_turn, error_turn, established_duties, established_turn, is_establish_request, is_online_request, known_turn, message_turn, offline_turn, own_request_commands, own_request_duty, own_request_of, primary_turn, read_turn, request_turn, stray_turn}
+use Rattle.tool_step.specs.Messages.{answer_turn, control_answer_duties, control_request_turn, dropped_turn, error_turn, established_duties, established_turn, is_establish_request, is_online_request, known_turn, message_turn, offline_turn, own_s1f13_commands, own_s1f13_duty, own_s1f13_of, primary_turn, read_turn, request_turn, stray_turn}
 use Rattle.tool_step.specs.Own.{OwnView, ToolDuty, event_report, is_communicating, is_enabled_in, is_local, is_online, quiet_turn, turn_before, turn_of, waiting_report, waiting_data, with_control, with_ledger, with_tables, with_tried, without_grant, without_waiting_data}
 use Rattle.tool_law.specs.Putting.{alarm_puts, block_timer_puts, changed_puts, character_puts, command_puts, dropped_puts, enabled_puts, event_puts, flow_puts, given_up_puts, lacks_number, line_timer_puts, loss_puts, matched_puts, message_puts, puts_none, reply_puts, reply_timer_puts, timeout_puts, took_puts}
 use Rattle.tool_step.specs.Replies.{block_timer, denied_turn, given_up_by_t4, given_up_turn, granted_turn, loss_turn, matched_turn, reply_timer, reply_turn, secondary_turn, timeout_turn}
@@ -194,7 +194,7 @@ matched-need now Stranger message own e = needs-none 1
 
 -- ---- messages
 
-own-request-free : (asked : Kind) (system : ℕ) → AreFree (own_request_commands asked system)
+own-request-free : (asked : Kind) (system : ℕ) → AreFree (own_s1f13_commands asked system)
 own-request-free kind.Establish system = (tt, (tt, tt))
 own-request-free kind.Attempt system = tt
 own-request-free kind.Grant system = tt
@@ -204,10 +204,10 @@ own-request-free kind.UnloadGrant system = tt
 own-request-free kind.Trace system = tt
 own-request-free kind.TraceGrant system = tt
 
-own-requests-free : (begun : List (Begun Kind)) → AreFree (flat_map own_request_of begun)
+own-requests-free : (begun : List (Begun Kind)) → AreFree (flat_map own_s1f13_of begun)
 own-requests-free [] = tt
 own-requests-free (one ∷ begun) =
-    both-free (own_request_of one) (flat_map own_request_of begun) (own-request-free one.kind (system_of one))
+    both-free (own_s1f13_of one) (flat_map own_s1f13_of begun) (own-request-free one.kind (system_of one))
     (own-requests-free begun)
 
 established-need : (now : ℕ) (message : Message) (own : OwnView)
@@ -215,7 +215,7 @@ established-need : (now : ℕ) (message : Message) (own : OwnView)
 established-need now message own =
     let turn = states.comms_turn comms_in.HostRequest now own in
     let answers = established_duties message own in
-    needs-behind 1 false own_request_duty (turn.duties ++ answers)
+    needs-behind 1 false own_s1f13_duty (turn.duties ++ answers)
     (λ e. own-requests-free e.transactions.begun)
     (needs-as (1 + 0) 1 false false (turn.duties ++ answers) (omega arith) refl
     (needs-both 1 0 false false turn.duties answers (comms-need comms_in.HostRequest now own)

@@ -36,7 +36,7 @@ use Rattle.equipment_tables.specs.declared.plan.EquipmentPlan.{EquipmentPlan}
 use Rattle.equipment_tables.specs.Answers.{answer_of, established_of, lines_of, reply_to}
 use Rattle.tool_step.specs.Codes.{is_accepted_in, is_granted_in}
 use Rattle.tool_step.specs.Own.{OwnView, event_report, is_communicating, is_enabled_in as is_comms_enabled, is_local, is_online, turn_before, turn_of, waiting_report, waiting_data, with_control, with_ledger, with_tables, with_tried, without_grant, without_report, without_waiting_data}
-use Rattle.tool_step.specs.Messages.{answer_turn, control_answer_duties, control_request_turn, dropped_turn, error_turn, established_duties, established_turn, is_establish_request, is_online_request, known_turn, message_turn, offline_turn, own_request_commands, own_request_of, primary_turn, read_turn, request_turn, stray_turn}
+use Rattle.tool_step.specs.Messages.{answer_turn, control_answer_duties, control_request_turn, dropped_turn, error_turn, established_duties, established_turn, is_establish_request, is_online_request, known_turn, message_turn, offline_turn, own_s1f13_commands, own_s1f13_of, primary_turn, read_turn, request_turn, stray_turn}
 use Rattle.equipment_tables.specs.Plan.{EquipmentPlanFits}
 use Rattle.tool_step.specs.Replies.{given_up_by_t4, given_up_turn, granted_turn, loss_turn, matched_turn, reply_turn, secondary_turn, timeout_turn}
 use Rattle.equipment_tables.specs.Requests.{request_of}
@@ -345,7 +345,7 @@ module _ (plan : EquipmentPlan) (TriedIs : Option ℕ → Type 0) (fits : Equipm
 
     -- ---- requests
 
-    own-request-quiet : (kind : Kind) (system : ℕ) → IsMild (own_request_commands kind system)
+    own-request-quiet : (kind : Kind) (system : ℕ) → IsMild (own_s1f13_commands kind system)
     own-request-quiet kind.Establish system = record { calls = (tt, (tt, tt)); may = (tt, (tt, tt)) }
     own-request-quiet kind.Attempt system = none-quiet
     own-request-quiet kind.Grant system = none-quiet
@@ -355,10 +355,10 @@ module _ (plan : EquipmentPlan) (TriedIs : Option ℕ → Type 0) (fits : Equipm
     own-request-quiet kind.Trace system = none-quiet
     own-request-quiet kind.TraceGrant system = none-quiet
 
-    own-requests-quiet : (begun : List (Begun Kind)) → IsMild (flat_map own_request_of begun)
+    own-requests-quiet : (begun : List (Begun Kind)) → IsMild (flat_map own_s1f13_of begun)
     own-requests-quiet [] = none-quiet
     own-requests-quiet (one ∷ begun) =
-        joined (own_request_of one) (flat_map own_request_of begun) (own-request-quiet one.kind (system_of one))
+        joined (own_s1f13_of one) (flat_map own_s1f13_of begun) (own-request-quiet one.kind (system_of one))
         (own-requests-quiet begun)
 
     established-quiet :

@@ -411,7 +411,7 @@ carry-turned (Command.Remove primary system) step asks =
     less step.next _ refl refl (first-less (is_named primary system) step.next.outgoing.waiting) asks
 carry-turned Command.DropFront step asks =
     less step.next _ refl refl (cut-less 0 1 step.next.outgoing.waiting (omega arith)) asks
-carry-turned Command.EndStep step asks = same step.next (with_asked None step.next) refl refl refl tt
+carry-turned Command.CloseStep step asks = same step.next (with_asked None step.next) refl refl refl tt
 carry-turned Command.Halt step asks = itself step.next asks
 
 -- ---- commands, duties, turns and parts, one after the other

@@ -192,7 +192,7 @@ carry-free (Command.End system) step free so = so
 carry-free (Command.Recall header) step free so = so
 carry-free (Command.Remove primary system) step free so = so
 carry-free Command.DropFront step free so = so
-carry-free Command.EndStep step free so = one-free Happening.StepEnded step.notes tt so
+carry-free Command.CloseStep step free so = one-free Happening.StepEnded step.notes tt so
 carry-free Command.Halt step free so = so
 
 pub carried-free :
@@ -348,7 +348,7 @@ carry-ahead (Command.End system) step off = goes _ _ (quietly step _)
 carry-ahead (Command.Recall header) step off = goes _ _ (quietly step _)
 carry-ahead (Command.Remove primary system) step off = goes _ _ (quietly step _)
 carry-ahead Command.DropFront step off = goes _ _ (quietly step _)
-carry-ahead Command.EndStep step off = absurd off
+carry-ahead Command.CloseStep step off = absurd off
 carry-ahead Command.Halt step off = ap (λ (s : CoreStep). Spent s) (quietly step step.next)
 
 -- a call of the line
@@ -445,7 +445,7 @@ StaysMild (Command.Take byte now) = ⊥
 StaysMild (Command.Offer now) = ⊥
 StaysMild (Command.DropDue now) = ⊥
 StaysMild (Command.More count) = ⊥
-StaysMild Command.EndStep = ⊥
+StaysMild Command.CloseStep = ⊥
 StaysMild _ = Unit {0}
 
 abbrev pub AllStayMild : ToolCommands → Type 0
@@ -475,7 +475,7 @@ mild-off (Command.End system) mild = (tt, tt)
 mild-off (Command.Recall header) mild = (tt, tt)
 mild-off (Command.Remove primary system) mild = (tt, tt)
 mild-off Command.DropFront mild = (tt, tt)
-mild-off Command.EndStep mild = absurd mild
+mild-off Command.CloseStep mild = absurd mild
 mild-off Command.Halt mild = (tt, tt)
 
 all-mild : (commands : ToolCommands) → AllStayMild commands → AllStayOff commands × AreFree commands

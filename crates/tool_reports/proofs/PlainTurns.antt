@@ -38,7 +38,7 @@ use Rattle.equipment_tables.specs.Answers.{identity_of}
 use Rattle.tool_step.specs.Grants.{GrantView}
 use Rattle.tool_step.specs.declared.kind.Kind.{Kind}
 use Rattle.tool_step.specs.declared.kind.Kind.TheVariants as kind
-use Rattle.tool_step.specs.Messages.{dropped_turn, error_turn, offline_turn, own_request_commands, own_request_of, stray_turn}
+use Rattle.tool_step.specs.Messages.{dropped_turn, error_turn, offline_turn, own_s1f13_commands, own_s1f13_of, stray_turn}
 use Rattle.tool_step.specs.Live.{ReportView}
 use Rattle.tool_step.specs.Own.{OwnView, ToolCommands, ToolDuty, ToolTurn, is_communicating, is_granted_by, is_online, is_report_of, quiet_turn, turn_before, turn_of, with_comms, with_control, with_ledger, with_report, without_grant, without_report, with_tried}
 use Rattle.tool_step.specs.Replies.{denied_turn}
@@ -455,7 +455,7 @@ module _
       → IsPlain own (error_turn function header own)
   error-plain function odd header own = record { silent = errors-silent function odd header own; less = itself own }
 
-  own-request-silent : (kind : Kind) (system : ℕ) → Silent (own_request_commands kind system)
+  own-request-silent : (kind : Kind) (system : ℕ) → Silent (own_s1f13_commands kind system)
   own-request-silent kind.Establish system = (tt, (tt, tt))
   own-request-silent kind.Attempt system = tt
   own-request-silent kind.Grant system = tt
@@ -465,10 +465,10 @@ module _
   own-request-silent kind.Trace system = tt
   own-request-silent kind.TraceGrant system = tt
 
-  pub own-requests-silent : (begun : List (Begun Kind)) → Silent (flat_map own_request_of begun)
+  pub own-requests-silent : (begun : List (Begun Kind)) → Silent (flat_map own_s1f13_of begun)
   own-requests-silent [] = tt
   own-requests-silent (one ∷ begun) =
-      both-silent Asks none Fact lasts (own_request_of one) (flat_map own_request_of begun)
+      both-silent Asks none Fact lasts (own_s1f13_of one) (flat_map own_s1f13_of begun)
       (own-request-silent one.kind (system_of one)) (own-requests-silent begun)
 
   -- ---- replies

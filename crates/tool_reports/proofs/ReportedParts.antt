@@ -17,7 +17,7 @@ use Rattle.trace_log.specs.Log.{Happening, Past, is_before_change}
 use Rattle.trace_log.specs.Names.{Spooled, title_of}
 use Rattle.message_end.specs.Calls.{dropped_now, due_now, failed_as, failed_at, took_by}
 use Rattle.message_end.specs.Core.{EndView, Step, Went, asked_by, calls, carried, held_header, judges, takes_back, tells, with_assembly, with_end}
-use Rattle.message_end.specs.Core.Command.{DropDue, EndStep, Expire, Halt, Offer, Take, Tick}
+use Rattle.message_end.specs.Core.Command.{DropDue, CloseStep, Expire, Halt, Offer, Take, Tick}
 use Rattle.message_end.specs.Core.Went.{Goes, Spent}
 use Rattle.message_end.specs.Course.{noted_behind}
 use Rattle.message_end.specs.Duties.{all_done}
@@ -406,7 +406,7 @@ module _ (plan : EquipmentPlan) (fits : EquipmentPlanFits plan) (looked : Tables
 
     pub closes-plain : (own : OwnView) (e : EndView Kind) → IsPlain Free tt Any any-lasts own (closes own e)
     closes-plain own e =
-        fixed-plain Free tt Any any-lasts own own (EndStep ∷ []) (itself Free tt Any any-lasts own) (tt, tt)
+        fixed-plain Free tt Any any-lasts own own (CloseStep ∷ []) (itself Free tt Any any-lasts own) (tt, tt)
 
   -- some parts, and others behind them
   parts-then :

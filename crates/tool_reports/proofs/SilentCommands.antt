@@ -224,7 +224,7 @@ module _
     carry-silent (Command.Remove primary system) step silent asks fact =
         record { quiet = inl refl; drawn = refl; asks = asks }
     carry-silent Command.DropFront step silent asks fact = record { quiet = inl refl; drawn = refl; asks = asks }
-    carry-silent Command.EndStep step silent asks fact =
+    carry-silent Command.CloseStep step silent asks fact =
         record { quiet = one-note step.notes Happening.StepEnded tt; drawn = refl; asks = none }
     carry-silent Command.Halt step silent asks fact = record { quiet = inl refl; drawn = refl; asks = asks }
 

@@ -444,7 +444,7 @@ module _ (hears : Bool) (told : List Told) where
       no-note step _ (still step.next _ refl refl (inl refl) (λ asks. asks))
   carry-calm Command.DropFront step calm drawn asks =
       no-note step _ (still step.next _ refl refl (inl refl) (λ asks. asks))
-  carry-calm Command.EndStep step calm drawn asks =
+  carry-calm Command.CloseStep step calm drawn asks =
       one-note Happening.StepEnded step (with_asked None step.next) (tt, λ notes. refl)
       (still step.next _ refl refl (inl refl) (λ asks. tt))
   carry-calm Command.Halt step calm drawn asks = no-note step step.next (itself step.next)

@@ -26,7 +26,7 @@ use Rattle.transact.specs.declared.begun.Begun.{Begun}
 use Rattle.transact.specs.Transactions.{system_of}
 use Rattle.message_end.specs.declared.unsent.Unsent.{Unsent}
 use Rattle.message_end.specs.Core.{Command, EndView, is_crowded_out}
-use Rattle.message_end.specs.Core.Command.{Abort, EndStep, Note, Offer, Primary, Reply}
+use Rattle.message_end.specs.Core.Command.{Abort, CloseStep, Note, Offer, Primary, Reply}
 use Rattle.message_end.specs.Endings.{ends_failed, ends_front, ends_one, ends_open, is_of_open, notes_failed}
 use Rattle.message_end.specs.Own.{Has}
 use Rattle.message_end.specs.Parts.{fixed_turn, led_turn}
@@ -39,7 +39,7 @@ use Rattle.spool_ledger.specs.Activity.{rsda_of}
 use Rattle.tool_step.specs.declared.kind.Kind.{Kind}
 use Rattle.tool_step.specs.declared.kind.Kind.TheVariants as kind
 use Rattle.tool_step.specs.Live.{ReportView}
-use Rattle.tool_step.specs.Messages.{answer_turn, control_answer_duties, control_request_turn, dropped_turn, error_turn, established_duties, established_turn, offline_turn, own_request_commands, own_request_of, stray_turn}
+use Rattle.tool_step.specs.Messages.{answer_turn, control_answer_duties, control_request_turn, dropped_turn, error_turn, established_duties, established_turn, offline_turn, own_s1f13_commands, own_s1f13_of, stray_turn}
 use Rattle.tool_step.specs.Own.{OwnView, ToolCommands, ToolDuty, ToolTurn, is_communicating, is_local, is_report_of, quiet_turn, turn_before, turn_of, with_comms, with_control, with_report, with_tables, without_report}
 use Rattle.tool_step.specs.Replies.{denied_turn}
 use Rattle.tool_step.specs.Reports.{unreported_turn}
@@ -333,7 +333,7 @@ offline-calm message own = go message.wait
 pub error-turn-calm : (function : ℕ) (header : Header) (own : OwnView) → IsCalmTurn own (error_turn function header own)
 error-turn-calm function header own = record { duties = errors-calm function header own; like = likes own }
 
-own-request-calm : (kind : Kind) (system : ℕ) → AreCalm false (own_request_commands kind system)
+own-request-calm : (kind : Kind) (system : ℕ) → AreCalm false (own_s1f13_commands kind system)
 own-request-calm kind.Establish system = (tt, (tt, tt))
 own-request-calm kind.Attempt system = tt
 own-request-calm kind.Grant system = tt
@@ -343,10 +343,10 @@ own-request-calm kind.UnloadGrant system = tt
 own-request-calm kind.Trace system = tt
 own-request-calm kind.TraceGrant system = tt
 
-own-requests-calm : (begun : List (Begun Kind)) → AreCalm false (flat_map own_request_of begun)
+own-requests-calm : (begun : List (Begun Kind)) → AreCalm false (flat_map own_s1f13_of begun)
 own-requests-calm [] = tt
 own-requests-calm (one ∷ begun) =
-    both-calm (own_request_of one) (flat_map own_request_of begun) (own-request-calm one.kind (system_of one))
+    both-calm (own_s1f13_of one) (flat_map own_s1f13_of begun) (own-request-calm one.kind (system_of one))
     (own-requests-calm begun)
 
 pub established-calm : (now : ℕ) (message : Message) (own : OwnView)
@@ -449,5 +449,5 @@ online-calm own e =
 pub offer-calm : (now : ℕ) (own : OwnView) → IsCalmTurn own (led_turn (Offer now) (fixed_turn own []))
 offer-calm now own = record { duties = ((λ e. (tt, tt)), ((λ e. tt), tt)); like = likes own }
 
-pub closes-calm : (own : OwnView) → IsCalmTurn own (fixed_turn own (EndStep ∷ []))
+pub closes-calm : (own : OwnView) → IsCalmTurn own (fixed_turn own (CloseStep ∷ []))
 closes-calm own = record { duties = ((λ e. (tt, tt)), tt); like = likes own }

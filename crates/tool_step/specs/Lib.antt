@@ -19,6 +19,6 @@ pub mod Step
 pub mod Taking
 pub mod Tool
 pub mod WorkedLosses
-pub mod WorkedRequests
+pub mod WorkedOwnS1F13
 pub mod WorkedSpool
 pub mod WorkedTraces

@@ -36,16 +36,16 @@ use Rattle.equipment_tables.specs.Tables.{tables_after}
 -- ---- S1F13
 
 -- the equipment's own S1F13, sent and not answered yet, ends without a note (this profile)
-abbrev pub own_request_commands : Kind → ℕ → ToolCommands
-own_request_commands kind.Establish system = End system ∷ Remove true system ∷ []
-own_request_commands _ system = []
+abbrev pub own_s1f13_commands : Kind → ℕ → ToolCommands
+own_s1f13_commands kind.Establish system = End system ∷ Remove true system ∷ []
+own_s1f13_commands _ system = []
 
-abbrev pub own_request_of : Begun Kind → ToolCommands
-own_request_of begun = own_request_commands begun.kind (system_of begun)
+abbrev pub own_s1f13_of : Begun Kind → ToolCommands
+own_s1f13_of begun = own_s1f13_commands begun.kind (system_of begun)
 
 -- each that is open, in the order in which they began (SEMI E30, communications state model)
-abbrev pub own_request_duty : ToolDuty
-own_request_duty e = flat_map own_request_of e.transactions.begun
+abbrev pub own_s1f13_duty : ToolDuty
+own_s1f13_duty e = flat_map own_s1f13_of e.transactions.begun
 
 abbrev pub established_duties : Message → OwnView → List ToolDuty
 established_duties message own =
@@ -54,7 +54,7 @@ established_duties message own =
 abbrev pub established_turn : ℕ → Message → OwnView → ToolTurn
 established_turn now message own =
     let turn = comms_turn HostRequest now own in
-    turn_of turn.own (own_request_duty ∷ turn.duties ++ established_duties message own)
+    turn_of turn.own (own_s1f13_duty ∷ turn.duties ++ established_duties message own)
 
 -- ---- requests that aren't carried out
 

@@ -4,7 +4,7 @@ ghost use Rattle.tool_step.specs.CallsCounted.{CallsAreCounted};
 ghost use Rattle.spool_works.specs.WorkedCalls.{CallsOfWorks};
 ghost use Rattle.tool_step.specs.Losses.{LossesAreCounted};
 ghost use Rattle.tool_step.specs.WorkedLosses.{LosesAtCalls};
-ghost use Rattle.tool_step.specs.WorkedRequests.{EndOwnRequests};
+ghost use Rattle.tool_step.specs.WorkedOwnS1F13.{EndOwnS1F13};
 ghost use Rattle.tool_step.specs.WorkedSpool.{FullSpools, LosesInOrder, PutsTheLast, SpoolingBegins, UnloadsInOrder};
 ghost use Rattle.tool_step.specs.WorkedTraces.{TraceDataGoes, TracesAreWorked};
 
@@ -45,6 +45,6 @@ pub fn worked_losses()
 {}
 
 /// Examples of the equipment's own S1F13, open before a report, behind one, and twice, as that of the host comes.
-pub fn worked_own_requests()
-    ensures { EndOwnRequests }
+pub fn worked_own_s1f13()
+    ensures { EndOwnS1F13 }
 {}

@@ -282,7 +282,7 @@ module _ (before : List Happening) (look : Look) (running : List Running) (sent 
   carry-idle (Command.Recall header) step idle so = so
   carry-idle (Command.Remove primary system) step idle so = so
   carry-idle Command.DropFront step idle so = so
-  carry-idle Command.EndStep step idle so = (one-idle Happening.StepEnded step.notes tt so.0, tt)
+  carry-idle Command.CloseStep step idle so = (one-idle Happening.StepEnded step.notes tt so.0, tt)
   carry-idle Command.Halt step idle so = so
 
   pub carried-idle :

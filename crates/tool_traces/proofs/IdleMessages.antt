@@ -39,7 +39,7 @@ use Rattle.spool_ledger.specs.Unloading.{confirmed, fresh, let_go, waiting_in, w
 use Rattle.tool_step.specs.declared.kind.Kind.{Kind}
 use Rattle.tool_step.specs.declared.kind.Kind.TheVariants as kind
 use Rattle.tool_step.specs.Grants.{GrantView}
-use Rattle.tool_step.specs.Messages.{answer_turn, control_answer_duties, control_request_turn, dropped_turn, error_turn, established_duties, established_turn, offline_turn, own_request_commands, own_request_of, stray_turn}
+use Rattle.tool_step.specs.Messages.{answer_turn, control_answer_duties, control_request_turn, dropped_turn, error_turn, established_duties, established_turn, offline_turn, own_s1f13_commands, own_s1f13_of, stray_turn}
 use Rattle.tool_step.specs.Own.{OwnView, ToolTurn, event_report, is_communicating, is_granted_by, is_local, turn_before, turn_of, waiting_report, with_control, with_ledger, with_tables, without_grant, without_report, without_waiting_data}
 use Rattle.tool_step.specs.Replies.{block_timer, given_up_by_t4, given_up_turn, granted_turn, loss_turn, reply_timer, timeout_turn}
 use Rattle.tool_step.specs.Sampling.{trace_name}
@@ -148,7 +148,7 @@ confirmed-idle own = booked-idle own (confirmed own.ledger) (confirmed-lines own
 
 -- ---- requests that aren't carried out
 
-own-request-idle : (lost : Kind) (system : ℕ) → AreIdle (own_request_commands lost system)
+own-request-idle : (lost : Kind) (system : ℕ) → AreIdle (own_s1f13_commands lost system)
 own-request-idle kind.Establish system = (tt, (tt, tt))
 own-request-idle kind.Attempt system = tt
 own-request-idle kind.Grant system = tt
@@ -158,10 +158,10 @@ own-request-idle kind.UnloadGrant system = tt
 own-request-idle kind.Trace system = tt
 own-request-idle kind.TraceGrant system = tt
 
-own-requests-idle : (begun : List (Begun Kind)) → AreIdle (flat_map own_request_of begun)
+own-requests-idle : (begun : List (Begun Kind)) → AreIdle (flat_map own_s1f13_of begun)
 own-requests-idle [] = tt
 own-requests-idle (one ∷ begun) =
-    both-idle (own_request_of one) (flat_map own_request_of begun) (own-request-idle one.kind (system_of one))
+    both-idle (own_s1f13_of one) (flat_map own_s1f13_of begun) (own-request-idle one.kind (system_of one))
     (own-requests-idle begun)
 
 pub established-idle : (now : ℕ) (message : Message) (own : OwnView)

@@ -22,7 +22,7 @@ use Rattle.transact.specs.Numbers.{after_draw, next_number}
 use Rattle.transact.specs.Transactions.{primary_of as title_of_begun}
 use Rattle.message_end.specs.Calls.{answered_by, dropped_now, due_now, failed_at}
 use Rattle.message_end.specs.Core.{EndView, Step, Went, and_then, carried, carry, drawn_primary, draws, is_crowded_out, keeps_drawn, noted, primary_of, sends, unsent_name, waits, with_end}
-use Rattle.message_end.specs.Core.Command.{Draw, DrawnPrimary, EndStep, Offer, Tick}
+use Rattle.message_end.specs.Core.Command.{Draw, DrawnPrimary, CloseStep, Offer, Tick}
 use Rattle.message_end.specs.Core.Went.{Goes, Spent}
 use Rattle.message_end.specs.Course.{noted_behind}
 use Rattle.message_end.specs.Duties.{all_done}
@@ -608,7 +608,7 @@ module _ (before : List Happening) (look : Look) (past : List TraceEntry) (due :
             idle-part (offer now)
                 (λ own e.
                 led-idle own (Offer now) (fixed_turn own []) tt (fixed-idle own own [] (itself own) tt)),
-            (idle-part closes (λ own e. fixed-idle own own (EndStep ∷ []) (itself own) (tt, tt)), tt),
+            (idle-part closes (λ own e. fixed-idle own own (CloseStep ∷ []) (itself own) (tt, tt)), tt),
           ),
         ),
       ) step at (λ last at_last. at_last)

@@ -4,7 +4,7 @@ use Rattle.transact.specs.declared.begun.Begun.{Begun}
 use Rattle.message_end.specs.Core.Command.{End, Remove}
 use Rattle.tool_step.specs.declared.kind.Kind.{Kind}
 use Rattle.tool_step.specs.declared.kind.Kind.TheVariants.{Establish, Report}
-use Rattle.tool_step.specs.Messages.{own_request_of}
+use Rattle.tool_step.specs.Messages.{own_s1f13_of}
 use Rattle.tool_step.specs.Own.{ToolCommands}
 
 -- an open primary of the equipment, with these system bytes
@@ -31,10 +31,10 @@ abbrev pub establish_one : ℕ → Begun Kind
 establish_one system = open_one Establish 1 13 system
 
 abbrev pub ended_of : List (Begun Kind) → ToolCommands
-ended_of begun = flat_map own_request_of begun
+ended_of begun = flat_map own_s1f13_of begun
 
 -- a report stays, and S1F13 ends, in front of the report, behind it, and each of two
-pub record EndOwnRequests : Type 0 where
+pub record EndOwnS1F13 : Type 0 where
   pub front : ended_of (establish_one 1 ∷ report_one 2 ∷ []) ≡ End 1 ∷ Remove true 1 ∷ []
   pub behind : ended_of (report_one 1 ∷ establish_one 2 ∷ []) ≡ End 2 ∷ Remove true 2 ∷ []
   pub both : ended_of (establish_one 1 ∷ report_one 2 ∷ establish_one 3 ∷ [])

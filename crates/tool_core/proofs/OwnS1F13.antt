@@ -19,16 +19,16 @@ use Rattle.message_end.specs.Core.Went.{Goes}
 use Rattle.message_end.specs.Duties.{all_done}
 use Rattle.message_end.specs.Parts.{AreCarried, next_of, on_the_way, went_with}
 use Rattle.message_end.proofs.Carrying.{carried_append}
-use Rattle.tool_core.specs.OwnRequests.{place_behind}
+use Rattle.tool_core.specs.OwnS1F13.{place_behind}
 use Rattle.tool_step.specs.declared.kind.Kind.{Kind}
 use Rattle.tool_step.specs.declared.kind.Kind.TheVariants as kind
-use Rattle.tool_step.specs.Messages.{own_request_commands, own_request_duty, own_request_of}
+use Rattle.tool_step.specs.Messages.{own_s1f13_commands, own_s1f13_duty, own_s1f13_of}
 use Rattle.tool_step.specs.Own.{OwnView, ToolCommands, turn_of}
 use Rattle.tool_core.proofs.Following.{node}
 use Rattle.tool_core.proofs.Turned.{HasTaken, ToolNode}
 
 abbrev pub all_requests : List (Begun Kind) → ToolCommands
-all_requests begun = flat_map own_request_of begun
+all_requests begun = flat_map own_s1f13_of begun
 
 -- the primary at a place of those that are open was passed: what is left has as much to end, and is less
 pub record IsPassed (place next : ℕ) (old new : EndView Kind) : Type 0 where
@@ -64,7 +64,7 @@ quiet = record { line = record { items = [] }; notes = [] }
 
 module _ (old new : EndView Kind) (place : ℕ) (header : Header) (what : Kind) (are : IsTransactions old.transactions)
     (is : option_map primary_of (slice_get old.transactions.begun place) ≡ Some (header, what))
-    (ended : (out : StepOut) → AreCarried (own_request_commands what header.system) old out new out)
+    (ended : (out : StepOut) → AreCarried (own_s1f13_commands what header.system) old out new out)
   where
     here : IsHere old.transactions.begun place header what
     here = here_is old.transactions.begun place header what is
@@ -88,14 +88,14 @@ module _ (old new : EndView Kind) (place : ℕ) (header : Header) (what : Kind) 
         ap (λ (all : List (Begun Kind)). carried printed_note (all_requests all) (on_the_way new out)) rest
         ∙ sym (
         ap (λ (all : List (Begun Kind)). carried printed_note (all_requests all) (on_the_way old out)) left
-        ∙ carried_append printed_note (own_request_of here.one) later (on_the_way old out)
+        ∙ carried_append printed_note (own_s1f13_of here.one) later (on_the_way old out)
         ∙ ap
-        (λ (p : Header × Kind). and_then (carried printed_note (own_request_commands p.1 p.0.system) (on_the_way old out))
+        (λ (p : Header × Kind). and_then (carried printed_note (own_s1f13_commands p.1 p.0.system) (on_the_way old out))
         (carried printed_note later)) here.primary_is
         ∙ ap (λ (w : Went (EndView Kind) Note). and_then w (carried printed_note later)) (ended out))
 
     -- one of another kind stays
-    stayed : own_request_commands what header.system ≡ [] → IsPassed place (place + 1) old new
+    stayed : own_s1f13_commands what header.system ≡ [] → IsPassed place (place + 1) old new
     stayed none =
         let kept : new ≡ old =
         sym (ap (λ (w : Went (EndView Kind) Note). next_of w)
@@ -128,7 +128,7 @@ module _ (old new : EndView Kind) (place : ℕ) (header : Header) (what : Kind) 
       gone : new.transactions.begun ≡ remove old.transactions.begun place
       gone =
           sym (ap (λ (w : Went (EndView Kind) Note). (next_of w).transactions.begun)
-          (ap (λ (k : Kind). carried printed_note (own_request_commands k header.system) (on_the_way old quiet)) (sym own)
+          (ap (λ (k : Kind). carried printed_note (own_s1f13_commands k header.system) (on_the_way old quiet)) (sym own)
           ∙ ended quiet))
           ∙ ap (λ (n : ℕ). remove old.transactions.begun n) first
 
@@ -155,13 +155,13 @@ module _ (old new : EndView Kind) (place : ℕ) (header : Header) (what : Kind) 
       where
         go : (k : Kind) → what ≡ k → IsPassed place (place_behind k place) old new
         go kind.Establish is = ended_one is
-        go kind.Attempt is = stayed (ap (λ (k : Kind). own_request_commands k header.system) is)
-        go kind.Grant is = stayed (ap (λ (k : Kind). own_request_commands k header.system) is)
-        go kind.Report is = stayed (ap (λ (k : Kind). own_request_commands k header.system) is)
-        go kind.Unload is = stayed (ap (λ (k : Kind). own_request_commands k header.system) is)
-        go kind.UnloadGrant is = stayed (ap (λ (k : Kind). own_request_commands k header.system) is)
-        go kind.Trace is = stayed (ap (λ (k : Kind). own_request_commands k header.system) is)
-        go kind.TraceGrant is = stayed (ap (λ (k : Kind). own_request_commands k header.system) is)
+        go kind.Attempt is = stayed (ap (λ (k : Kind). own_s1f13_commands k header.system) is)
+        go kind.Grant is = stayed (ap (λ (k : Kind). own_s1f13_commands k header.system) is)
+        go kind.Report is = stayed (ap (λ (k : Kind). own_s1f13_commands k header.system) is)
+        go kind.Unload is = stayed (ap (λ (k : Kind). own_s1f13_commands k header.system) is)
+        go kind.UnloadGrant is = stayed (ap (λ (k : Kind). own_s1f13_commands k header.system) is)
+        go kind.Trace is = stayed (ap (λ (k : Kind). own_s1f13_commands k header.system) is)
+        go kind.TraceGrant is = stayed (ap (λ (k : Kind). own_s1f13_commands k header.system) is)
 
     -- to a place that is the next one
     pub passed_to : (next : ℕ) → next ≡ place_behind what place → IsPassed place next old new
@@ -173,7 +173,7 @@ pub none_left :
     → option_map primary_of (slice_get new.core.transactions.begun place) ≡ None
     → carried printed_note (all_requests (drop place new.core.transactions.begun)) (on_the_way new.core out)
     ≡ carried printed_note (all_requests old.core.transactions.begun) (on_the_way old.core out)
-    → HasTaken (turn_of old.own (own_request_duty ∷ [])) old out new out
+    → HasTaken (turn_of old.own (own_s1f13_duty ∷ [])) old out new out
 none_left old new place out same none done =
     let over : drop place new.core.transactions.begun ≡ [] = past new.core.transactions.begun place none in
     ap (λ (w : Went (EndView Kind) Note). went_with old.own (and_then w (all_done printed_note [])))

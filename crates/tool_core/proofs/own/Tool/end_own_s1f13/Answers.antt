@@ -2,8 +2,8 @@
 
 use Rattle.std.proofs.Common.{sym, ◌∙◌, arith}
 use Rattle.tool_core.specs.Node.{node_of}
-use Rattle.tool_core.proofs.OwnRequests.{none_left, passed_to, within}
-use Rattle.tool_core.proofs.own.Tool.end_own_requests.Goals as goal
+use Rattle.tool_core.proofs.OwnS1F13.{none_left, passed_to, within}
+use Rattle.tool_core.proofs.own.Tool.end_own_s1f13.Goals as goal
 
 pub place_behind-next-requires : goal.place_behind-next-requires
 place_behind-next-requires c =

@@ -7,8 +7,8 @@ use Rattle.trace_log.specs.Text.{printed_note}
 use Rattle.message_end.specs.Core.{carried}
 use Rattle.message_end.specs.Parts.{on_the_way}
 use Rattle.tool_core.specs.Node.{own_of}
-use Rattle.tool_core.proofs.OwnRequests.{all_requests}
-use Rattle.tool_core.proofs.own.Tool.end_own_requests.Given as goal
+use Rattle.tool_core.proofs.OwnS1F13.{all_requests}
+use Rattle.tool_core.proofs.own.Tool.end_own_s1f13.Given as goal
 
 abbrev pub invariant-requests : goal.invariant-requests
 invariant-requests l = record {
