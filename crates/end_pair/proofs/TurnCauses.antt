@@ -7,9 +7,9 @@ use Rattle.message_end.specs.Ends.{Input, Machine}
 use Rattle.trace_log.specs.declared.commands.HostCommand.{HostCommand}
 use Rattle.trace_log.specs.declared.commands.ToolCommand.{ToolCommand}
 use Rattle.end_pair.specs.declared.answers.WorldStep.TheVariants.{Turns}
-use Rattle.end_pair.specs.Laws.{EndsByCause, StopsAt}
-use Rattle.end_pair.specs.Steps.{Stepped, stepped}
-use Rattle.end_pair.specs.TurnCauses.{FindsNoRoom, HostFindsNoRoom, IsBehindLast, TurnsByCause, TurnsEndByCause}
+use Rattle.end_pair.specs.Laws.{EndsByCause}
+use Rattle.end_pair.specs.Steps.{stepped}
+use Rattle.end_pair.specs.TurnCauses.{FindsNoRoom, HostFindsNoRoom, IsBehindLast, TurnsEndByCause}
 use Rattle.end_pair.specs.World.{World, most_steps, turned_out, with_equipment, with_host}
 use Rattle.end_pair.proofs.Causes.{by-cause}
 

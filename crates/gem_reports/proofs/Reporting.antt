@@ -1,8 +1,7 @@
 -- What stands after a history goes by what stood before its last entry.
-use Rattle.std.proofs.Common.{◌≡◌, refl, sym, ◌∙◌, ap, Bool, true, false, cond, not, ◌&&◌, ◌||◌, ◌==◌, ℕ, ◌+◌, ◌-◌, List, [], ◌∷◌, ◌++◌, length, length-append, fold, nat_eq, Option, Some, None, is_some, arith}
+use Rattle.std.proofs.Common.{◌≡◌, refl, sym, ◌∙◌, ap, Bool, true, false, cond, ◌&&◌, ◌||◌, ◌==◌, ℕ, ◌+◌, ◌-◌, List, [], ◌∷◌, ◌++◌, length, length-append, fold, nat_eq, Option, Some, None, is_some, arith}
 use Rattle.std.proofs.lemmas.Bool.{eqb-true}
-use Rattle.std.specs.List.{find, list_any}
-use Rattle.std.specs.Map.{lookup}
+use Rattle.std.specs.List.{list_any}
 use Rattle.std.specs.Option.{option_map_or}
 use Rattle.secs_items.specs.declared.item.Item.{Item}
 use Rattle.gem_shapes.specs.declared.entries.Definition.{Definition}
@@ -12,7 +11,7 @@ use Rattle.gem_reports.specs.declared.event.Event.{Event}
 use Rattle.gem_reports.specs.Answers.{define_entry, drack_at, drack_of, erack_of, first_drack, first_lrack, link_entry, lrack_by, lrack_of, past_after_define, past_after_link, past_with_definitions}
 use Rattle.gem_reports.specs.Bodies.{event_body_at, event_body_of}
 use Rattle.gem_reports.specs.Events.{EventTable, enabled_by, event_after, events_at, links_in, rptids_in, with_no_links, without}
-use Rattle.gem_reports.specs.History.{ReportEntry, each_once, enabled_at, is_event, link_count, links_of, report_at, report_count, standing_at, with_number}
+use Rattle.gem_reports.specs.History.{ReportEntry, each_once, enabled_at, is_event, link_count, report_at, report_count, standing_at, with_number}
 use Rattle.gem_reports.specs.History.ReportEntry.{Define, Delete, DeleteAll, Link, Unlink, Enable}
 use Rattle.gem_reports.specs.Reporting.{Reporting, after_entry, drack_in, erack_in, event_body_in, is_enabled_in, is_planned, lrack_in, relinked, reporting_at, reporting_of, with_definitions, with_linkings}
 use Rattle.gem_reports.specs.Tables.{ReportsView, StandsFor}

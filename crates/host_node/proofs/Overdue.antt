@@ -17,7 +17,7 @@ use Rattle.transact.specs.Transactions.{primary_of}
 use Rattle.message_end.specs.Calls.{dropped_now, due_now}
 use Rattle.message_end.specs.Core as core
 use Rattle.message_end.specs.Core.{EndView, Step, Went, and_then, carried, times_out}
-use Rattle.message_end.specs.Core.Went.{Goes, Spent}
+use Rattle.message_end.specs.Core.Went.{Goes}
 use Rattle.message_end.specs.Duties.{Duty, all_done}
 use Rattle.message_end.proofs.Carrying.{done_append}
 use Rattle.host_node.specs.Host.{Kind, drops, expires, gives_up}

@@ -1,15 +1,10 @@
 -- That a disk that has made few calls has room for more.
-use Rattle.std.proofs.Common.{◌≡◌, arith, sym, subst, zero, suc, ◌<◌, ◌≤◌, ◌+◌, ◌-◌, ℕ, List, [], ◌∷◌, length, Some}
+use Rattle.std.proofs.Common.{◌≡◌, arith, subst, zero, suc, ◌<◌, ◌≤◌, ◌+◌, ◌-◌, ℕ, List, [], ◌∷◌, length, Some}
 use Rattle.std.specs.List.{slice_get}
-use Rattle.end_pair.specs.TurnCauses.{FindsNoRoom}
-use Rattle.end_pair.specs.World.{World}
-use Rattle.message_end.specs.Ends.{Input, call_of}
-use Rattle.tool_step.specs.Equipment.{EquipmentView}
+use Rattle.message_end.specs.Ends.{call_of}
 use Rattle.tool_step.specs.Disk.{asks}
-use Rattle.tool_step.specs.End.{machine}
 use Rattle.tool_step.specs.Losses.{LossesAreCounted, losses}
-use Rattle.trace_log.specs.declared.commands.ToolCommand.{ToolCommand}
-use Rattle.line_world.specs.FewCalls.{FewCallsFindRoom, calls_since}
+use Rattle.line_world.specs.FewCalls.{FewCallsFindRoom}
 
 get-within : {X : Type 0} (calls : List X) (n : ℕ) (x : X) → slice_get calls n ≡ Some x → n < length calls
 get-within [] n x is = absurd (cc)

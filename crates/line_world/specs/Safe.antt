@@ -31,8 +31,8 @@ plans_of plans = record { equipment = plans.equipment.line; host = plans.host.li
 abbrev pub HostDid : HostPlan → ℕ → List Doing → Node host.HostOwn host.Kind → Type 0
 HostDid plan = Did (host.HasPlan plan) (host.end_plan plan)
 
--- the log is that of moves on one line, each of which its end may make, step by step, and in these messages are received
--- in order
+-- the log is that of moves on one line, each of which its end may make, step by step, and in these messages are
+-- received in order
 pub record ComesInOrder (plans : Plans) (log : List Entry) : Type 0 where
   pub moved : IsOfMoves (DidOf plans.equipment) (HostDid plans.host) (plans_of plans) log
   pub in_order : AreInOrder (plans_of plans) moved.moves

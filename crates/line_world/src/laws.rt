@@ -13,8 +13,8 @@ pub fn holds_at_each_entry()
     ensures { HoldsAtEachEntry }
 {}
 
-/// No step of an end goes on past its moment: between two notes of an end in a safe log that are of two moments, the end
-/// has noted that a step has ended, or that it has started.
+/// No step of an end goes on past its moment: between two notes of an end in a safe log that are of two moments, the
+/// end has noted that a step has ended, or that it has started.
 pub fn steps_are_noted()
     ensures { SafeLogsHaveSteps }
 {}

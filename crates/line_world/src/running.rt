@@ -25,8 +25,9 @@ use tool_spool::{messages_leave_in_step, overwrites_for_puts, spool_is_kept};
 /// trace of what both note. The log of that trace is safe, up to the first slip: each message delivered was sent by the
 /// other end, whole, and once in a start of its receiver, and messages are delivered in order; each report that the
 /// tool sends, at once or out of its spool, in that start or a later one, holds what its variables held as its event
-/// happened, or as it was asked for; what the tool spools is there at each of its starts until it leaves, in the step
-/// that has brought the cause, and is taken by the host in order. Hands the world back exactly where it answers `Whole`.
+/// happened, or as it was asked for; what the tool spools is there at each of its starts until it leaves, in the
+/// step that has brought the cause, and is taken by the host in order. Hands the world back exactly where it answers
+/// `Whole`.
 ///
 /// The disk of the tool's spool is in memory, and new. A run has no turn left exactly where all 4,000,000 steps are
 /// made and one is left, or where a step comes to a call of that disk that would be its 65,537th since it was made or

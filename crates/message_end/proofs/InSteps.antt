@@ -1,5 +1,5 @@
 -- What an end does in the step that it makes, note by note, and the end of a step.
-use Rattle.std.proofs.Common.{◌≡◌, refl, sym, subst, ℕ, List, [], ◌∷◌, ◌++◌, Option, Some, None}
+use Rattle.std.proofs.Common.{◌≡◌, refl, sym, subst, ℕ, List, [], ◌∷◌, ◌++◌, Option, None}
 use Rattle.message_flow.specs.declared.message.Message.{Message}
 use Rattle.trace_log.specs.declared.names.Title.{Title}
 use Rattle.trace_log.specs.Log.{Happening}

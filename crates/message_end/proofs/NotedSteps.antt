@@ -1,7 +1,6 @@
 -- Notes in the step that an end makes, as its doings in that step have brought them.
-use Rattle.std.proofs.Common.{◌≡◌, refl, List, ◌∷◌, Option}
+use Rattle.std.proofs.Common.{◌≡◌, refl, List, ◌∷◌}
 use Rattle.gl_base.specs.declared.side.Side.{Side}
-use Rattle.message_flow.specs.declared.message.Message.{Message}
 use Rattle.trace_log.specs.InStep.{noted_in_step}
 use Rattle.trace_log.specs.Log.{Happening}
 use Rattle.message_end.specs.Doings.{IsPlain}

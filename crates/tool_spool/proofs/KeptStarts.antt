@@ -43,7 +43,7 @@ use Rattle.tool_spool.proofs.ShelvedTurns.{IsSpentAt, Shelves, count_at, spent-a
 use Rattle.message_end.proofs.Growing.{behind-both}
 use Rattle.tool_law.proofs.WorkLines.{AreLines, lines-none, same-lines}
 use Rattle.message_end.proofs.Parts.{OnEither, either-less}
-use Rattle.tool_spool.proofs.KeptParts.{BothEnd, BothRight, Settled, SettledRight, first-both, last-both}
+use Rattle.tool_spool.proofs.KeptParts.{BothEnd, Settled, SettledRight, first-both, last-both}
 
 module _ (plan : EquipmentPlan) (fits : EquipmentPlanFits plan) (looked : TablesAreLookedBackFor) (slots : ℕ) where
   -- ---- the whole step

@@ -7,20 +7,17 @@ use Rattle.message_end.specs.Core.Went.{Goes, Spent}
 use Rattle.message_end.specs.Course.{Course, Meeting, broken_at, course_of, filled_at, noted_behind, notes_of, went_on, with_meeting}
 use Rattle.message_end.specs.Course.Course.{Reached, Stopped}
 use Rattle.message_end.specs.Course.Meeting.{Acts, Breaks, Fills, LosesPower, Restarts, Writes}
-use Rattle.message_end.specs.Doings.{AreLawful, Doing, IsInTurn, own_of}
+use Rattle.message_end.specs.Doings.{Doing, IsInTurn}
 use Rattle.message_end.specs.Doings.Doing.{Says}
 use Rattle.message_end.specs.Ends.{DoesStep, GoesSoFar, HasRestarted, HasStarted, Input, IsOfWorld, KeepsLaw, Loss, LosesAt, MayTake, OnStart, call_of}
 use Rattle.message_end.specs.History.{noted_in}
-use Rattle.message_end.specs.Own.{Has, whole_in}
 use Rattle.message_flow.specs.declared.message.Message.{Message}
-use Rattle.spool_slots.specs.Slot.{Message as Put}
 use Rattle.spool_works.proofs.LossCounts.{has-call}
 use Rattle.trace_log.specs.Commands.{ToolCommandFits}
 use Rattle.trace_log.specs.declared.commands.ToolCommand.{ToolCommand}
 use Rattle.trace_log.specs.Log.{Happening}
 use Rattle.trace_log.specs.Names.{Spooled}
 use Rattle.equipment_tables.specs.declared.plan.EquipmentPlan.{EquipmentPlan}
-use Rattle.equipment_tables.specs.Plan.{EquipmentPlanFits}
 use Rattle.tool_law.specs.Laws.{DidOf, EquipmentKeepsItsLaw}
 use Rattle.tool_law.specs.Tried.{AreTried}
 use Rattle.message_end.proofs.Growing.{behind-both}

@@ -1,5 +1,5 @@
 -- That no place is left that was made for a put, wherever a disk stops a step.
-use Rattle.std.proofs.Common.{◌≡◌, refl, sym, ap, subst, ◌∙◌, inl, inr, ◌⊎◌, append_assoc, append-nil, Bool, true, false, List, [], ◌∷◌, ◌++◌, if◌then◌else◌}
+use Rattle.std.proofs.Common.{◌≡◌, refl, sym, ap, subst, ◌∙◌, inl, inr, ◌⊎◌, append_assoc, Bool, true, false, List, [], ◌∷◌, ◌++◌, if◌then◌else◌}
 use Rattle.message_end.specs.Course.{noted_behind}
 use Rattle.message_end.specs.Own.{Has}
 use Rattle.spool_law.specs.Shelf.{change_of}

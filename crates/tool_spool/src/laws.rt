@@ -78,8 +78,8 @@ pub fn messages_leave_in_step()
 }
 
 /// Examples of messages that leave in the step of their cause, as the law of steps asks for it: a reply confirms, and a
-/// request empties the spool. An abort confirms nothing, and neither does a secondary with the W bit, or what came in an
-/// earlier step.
+/// request empties the spool. An abort confirms nothing, and neither does a secondary with the W bit, or what came in
+/// an earlier step.
 pub fn worked_steps()
     ensures { StepsOfCauses }
 {}

@@ -4,8 +4,8 @@ use Rattle.message_flow.specs.declared.message.Message.{Message}
 use Rattle.trace_log.specs.Log.{Happening}
 use Rattle.trace_log.specs.Log.Happening.{EquipmentStarted, HostStarted, Received, StepEnded}
 
--- since its last step has come to its end, or since its start; what the world notes of that step, its characters, stands
--- among these
+-- since its last step has come to its end, or since its start; what the world notes of that step, its characters,
+-- stands among these
 abbrev pub noted_in_step : List Happening → List Happening
 noted_in_step [] = []
 noted_in_step (StepEnded ∷ before) = []

@@ -2,16 +2,15 @@
 
 use Rattle.std.proofs.Common.{◌≡◌, refl, sym, ap, subst, ◌∙◌, ℕ, List, [], ◌∷◌, ◌++◌}
 use Rattle.line_end.specs.Step.{LineCall}
-use Rattle.line_end.specs.Step.LineCall.{Cancel, Resume, Send, Take, Tick}
+use Rattle.line_end.specs.Step.LineCall.{Tick}
 use Rattle.message_flow.specs.declared.message.Message.{Message}
 use Rattle.message_end.specs.Doings.{Doing}
-use Rattle.message_end.specs.Doings.Doing.{Calls, Does, Gives, Says}
+use Rattle.message_end.specs.Doings.Doing.{Does}
 use Rattle.message_end.specs.Ends.{AreDecidedAt, AreOfStep, Input, IsDecidedAt, taking_calls}
 use Rattle.message_end.specs.Ends.Input.{Char, Command, Time}
 use Rattle.message_end.specs.InStep.{EndsOnce}
 use Rattle.message_end.specs.LineCalls.{calls_in}
-use Rattle.message_end.specs.Own.Own.{ReceivedMessage, SentMessage}
-use Rattle.trace_log.specs.Log.{Happening}
+use Rattle.message_end.specs.Own.Own.{SentMessage}
 use Rattle.end_pair.proofs.EndedSteps.{of-cut-step, of-whole-step}
 use Rattle.end_pair.specs.InSteps.{AreOfWholeStep, with_wrote}
 use Rattle.end_pair.specs.WorkedSteps.{asked_at, ended, replied, replied_late}

@@ -1,8 +1,7 @@
 -- The item at the front is found, and what is found is the first of those that stand there.
 
-use Rattle.std.proofs.Common.{List, sym, subst}
-use Rattle.secs_items.specs.declared.item.Item.{Item}
-use Rattle.secs_items.specs.Spelling.{Spells, SpellsEach, SpellsFront}
+use Rattle.std.proofs.Common.{sym, subst}
+use Rattle.secs_items.specs.Spelling.{Spells, SpellsEach}
 use Rattle.gem_shapes.proofs.Contents.{front_filled}
 use Rattle.gem_shapes.proofs.Lists.{first_front}
 use Rattle.gem_shapes.proofs.part.front_of.Goals as goal

@@ -1,9 +1,8 @@
-use Rattle.std.proofs.Common.{◌≡◌, refl, sym, ◌∙◌, ap, arith, ℕ, List, [], ◌∷◌}
+use Rattle.std.proofs.Common.{◌≡◌, refl, ◌∙◌, ap, arith, ℕ, [], ◌∷◌}
 use Rattle.trace_log.specs.declared.names.Cause.{Cause}
 use Rattle.trace_log.specs.declared.names.Cause.TheVariants as cause
 use Rattle.spool_law.specs.Shelf.{Change}
 use Rattle.spool_law.specs.Shelf.Change.{Leaves, Stores}
-use Rattle.trace_log.specs.Names.{Spooled}
 use Rattle.tool_spool.specs.InPairs.{IsOfOne}
 use Rattle.tool_spool.proofs.laws.worked_pairs.Goals as goal
 

@@ -1,10 +1,10 @@
-use Rattle.std.proofs.Common.{◌≡◌, ◌∙◌, ◌+◌, ap, refl, sym, inl, inr, arith, ℕ, true, List, [], ◌∷◌, Some, None}
+use Rattle.std.proofs.Common.{◌≡◌, ◌∙◌, ◌+◌, ap, refl, sym, inl, inr, arith, ℕ, true, List, [], ◌∷◌, Some}
 use Rattle.message_flow.specs.declared.message.Message.{Message}
 use Rattle.message_end.specs.Own.{Has}
 use Rattle.spool_law.specs.Shelf.{Tried, told_with}
 use Rattle.trace_log.specs.Names.{Spooled}
 use Rattle.tool_spool.specs.LeavesInStep.{IsConfirmedInStep}
-use Rattle.tool_spool.specs.WorkedSteps.{leaves, received, report, secondary}
+use Rattle.tool_spool.specs.WorkedSteps.{received, report, secondary}
 use Rattle.tool_spool.proofs.laws.worked_steps.Goals as goal
 
 -- one member alone
