@@ -4,11 +4,11 @@ mod CellWrites
 mod Changes
 pub mod Contents
 pub mod Evens
-mod Firsts
+pub mod Firsts
 mod Found
 mod Fresh
 mod Fronts
-mod Gapless
+pub mod Gapless
 pub mod Gates
 mod Lasting
 mod Lists
