@@ -1,4 +1,5 @@
-"""Plans and schedules drawn by a seed: a tool that reports, a host that asks, a bad line, and losses of power."""
+"""Plans and schedules drawn by a seed: a tool that reports and is sampled, a host that asks, a bad line, and losses of
+power."""
 import random
 
 # Report 10 has both variables, and both events have it.
@@ -23,6 +24,16 @@ SPOOLING = ["S2F43 W <L <L <U1 6> <L>> <L <U1 5> <L>>>", "S2F43 W <L>",
             *[f"S2F15 W <L <L <U4 4> <U4 {most}>>>" for most in (0, 1, 2)]]
 OTHERS = ["S1F1 W -", "S1F13 W -", "S1F3 W <L>", "S1F11 -", "S3F1 W -", "S6F15 W <U4 1>", "S6F19 W <U4 10>",
           'S10F5 W <L <B 00> <L <A "yes"> <A "no">>>', f'S10F5 W <L <B 00> <L <A "{"y" * 300}"> <A "no">>>']
+# What S2F23 may ask for, and what is wrong in some.
+PERIODS = ["00000010", "00000010", "00000010", "00000015", "00000025", "000001", "00000100", "000010", "00010000"]
+SAMPLED = [[1], [1], [1], [1, 2], [2, 1, 1], [2], [], [1] * 45]
+NO_PERIODS = ["00000009", "000000", "000060", "006000", "00001", "0000001", "0000010a", "00000 10", "", "000001000"]
+WRONG = [[{"period": period} for period in NO_PERIODS],
+         [{"variables": [1] * 257}, {"variables": [2] * 256 + [9]}],
+         [{"variables": [9]}, {"variables": [1, 0]}, {"variables": [2, 9, 1]}],
+         [{"group": 0}, {"total": 3, "group": 4}, {"total": 5000, "group": 4097},
+          {"total": 92, "group": 92, "variables": [1] * 45}],
+         [{"total": 0}]]
 STATES = [["tool disable", "settle", "tool enable"], ["host disable", "settle", "host enable"],
           ["tool offline", "tool online", "settle"], ["tool local"], ["host send S1F13 W -", "settle"],
           ["host send S1F15 W -", "settle", "host send S1F17 W -", "settle"]]
@@ -44,7 +55,7 @@ class Drawing:
         pick = self.rng.choice
         spooled = pick([None, None, None, '["S6F11"]', '["S5F1", "S10F1"]', "[]"])
         return "\n".join([
-            "[line]", f"rty = {self.retries}", "t3 = 25000",
+            "[line]", f"rty = {self.retries}", "t3 = 25000", *pick([[], [], [], [], [], ["max_body = 400"]]),
             "[equipment]", f"slots = {pick([1, 2, 2, 3, 4, 6])}", f"overwrite = {pick(['true', 'false'])}",
             f"max_transmit = {pick([0, 0, 0, 1, 2])}", f"enable_spool = {pick(['true', 'true', 'true', 'false'])}",
             f"delay = {pick([1, 5, 15])}", *([f"spooled = {spooled}"] if spooled else []),
@@ -55,11 +66,13 @@ class Drawing:
 
     def schedule(self):
         pick, lines = self.rng.choice, ["settle", *REPORTED]
+        if self.rng.random() < 0.05:
+            lines += self.many_traces()
         if self.rng.random() < 0.8:
             lines += self.events() + self.failure() + pick([["settle"], ["settle"], []])
         for _ in range(self.rng.randrange(8, 24)):
             lines += self.some([(8, self.loss), (10, self.unload), (12, self.events), (6, self.failure),
-                                (64, self.line)])
+                                (10, self.trace), (10, self.time), (64, self.line)])
         # The communication is there again, and all that stands in the spool is taken.
         lines += ["tool enable", "host enable", "settle", "wait 45000", "settle", "wait 45000", "settle",
                   "host send S1F13 W -", "settle", "host send S2F15 W <L <L <U4 4> <U4 0>>>", "settle"]
@@ -90,6 +103,44 @@ class Drawing:
             (2, lambda: list(REPORTED)),
             (6, lambda: [f"host send {pick(pick([TABLES, SPOOLING, OTHERS]))}", pick(["settle"] * 2 + ["to E 1"])]),
             (4, lambda: pick(STATES))])
+
+    def trace(self):
+        """S2F23, in most cases for a trace that may run. TRIDs are few, so that some are set anew."""
+        rng, pick, total = self.rng, self.rng.choice, self.rng.choice([1, 2, 3, 3, 4, 5, 7, 40])
+        asked = {"number": pick([1, 1, 2, 2, 3, 4]), "period": pick(PERIODS), "total": total,
+                 "group": rng.randint(1, total), "variables": pick(SAMPLED)}
+        for wrongs in rng.choices(WRONG, k=pick([0, 0, 0, 0, 1, 1, 2])):
+            asked.update(pick(wrongs))
+        wait, behind = pick(["W "] * 5 + [""]), pick(["settle"] * 4 + ["to E 1"])
+        return [f"host send S2F23 {wait}{self.asking(**asked)}", behind, *pick([[], self.time()])]
+
+    def asking(self, number, period, total, group, variables):
+        """The item of an S2F23. Its numbers may be wider than they need."""
+        wide = self.rng.choice(["U4", "U8"] + ["U1"] * (total < 256))
+        listed = "".join(f" <{wide} {variable}>" for variable in variables)
+        return f'<L <{wide} {number}> <A "{period}"> <{wide} {total}> <{wide} {group}> <L{listed}>>'
+
+    def many_traces(self):
+        """As many traces as may run, one more, and one of them anew. Their samples are due at once."""
+        rng, pick, lines = self.rng, self.rng.choice, []
+        for number in [*range(17), rng.randrange(16)]:
+            asked = self.asking(number, pick(["00000010"] * 3 + ["00000020"]), pick([2, 5, 9]), pick([1, 1, 2]), [1])
+            lines += [f"host send S2F23 W {asked}", "settle"]
+        for _ in range(pick([1, 2, 3, 6])):
+            lines += self.set() + ["wait 100"] + pick([[], ["settle"]])
+        return lines
+
+    def time(self):
+        """Steps in which samples are due, with other values in some."""
+        pick, lines = self.rng.choice, []
+        for _ in range(self.rng.randrange(2, 7)):
+            lines += pick([self.set(), []]) + [f"wait {pick([30, 50, 100, 100, 100, 101, 150, 300, 1000])}"]
+            lines += pick([[], ["settle"]])
+        return lines
+
+    def set(self):
+        self.value += 1
+        return [f"tool set 1 <U4 {self.value}>"]
 
     def letters(self, count):
         return chr(97 + self.value % 26) * count

@@ -9,6 +9,9 @@
    used.
 4. The host takes what was stored in order, each perhaps more than once in a row, and skips only what was purged or
    overwritten.
+5. S2F24 has the code that is due to its S2F23. An S6F1 has the values that its variables had at the samples of a trace
+   that the host has asked for and that ran. Each one that is due comes, in its step and in order, and no other comes
+   (tracing.py).
 
 A trace has no values of `tool set` and no texts of terminals: they are taken from the schedule. It has no body behind
 `storing`: that is the message which was made just before, or one of those that were open when the communication was
@@ -16,78 +19,21 @@ lost, in the order in which they began. Of a list that a start finds it has the 
 it leaves. Nor does it say whether a request without W was accepted, which is judged here.
 """
 import copy
-import re
 import tomllib
 
-CODES = {"L": 0o00, "B": 0o10, "BOOLEAN": 0o11, "A": 0o20, "J": 0o21, "I8": 0o30, "I1": 0o31, "I2": 0o32, "I4": 0o34,
-         "F8": 0o40, "F4": 0o44, "U8": 0o50, "U1": 0o51, "U2": 0o52, "U4": 0o54}
+from spelling import headed, list_of, parsed, spelled, u4
+from tracing import Tracing, moments_of
+
 DONE = "210100"
 MOST = (1 << 32) - 1
-
-
-# Items as bytes.
-
-def headed(kind, count, content):
-    size = 1 if count < 1 << 8 else 2 if count < 1 << 16 else 3
-    return bytes([CODES[kind] * 4 + size]) + count.to_bytes(size, "big") + content
-
-
-def list_of(items):
-    return headed("L", len(items), b"".join(items))
-
-
-def u4(number):
-    return headed("U4", 4, number.to_bytes(4, "big"))
-
-
-def spelled(text):
-    """The kind of an item, and its bytes."""
-    words = re.findall(r'<\w+|>|"(?:[^"\\]|\\x..)*"|[^\s<>"]+', text)
-    at = 0
-
-    def item():
-        nonlocal at
-        kind, parts = words[at][1:], []
-        at += 1
-        while words[at] != ">":
-            word = words[at]
-            if word[0] == "<":
-                parts.append(item())
-                continue
-            at += 1
-            if kind == "A":
-                parts.append(re.sub(rb"\\x(..)", lambda found: bytes.fromhex(found[1].decode()), word[1:-1].encode()))
-            elif kind[0] in "UI":
-                parts.append(int(word).to_bytes(int(kind[1]), "big", signed=kind[0] == "I"))
-            else:
-                parts.append(bytes.fromhex(word))
-        at += 1
-        content = b"".join(parts)
-        return headed(kind, len(parts) if kind == "L" else len(content), content)
-
-    return words[0][1:], item()
-
-
-def parsed(spelling):
-    """A list as a list, an unsigned number as a number, a flag as 0 or 1."""
-    def item(at):
-        code, size = spelling[at] >> 2, spelling[at] & 3
-        count, at = int.from_bytes(spelling[at + 1:at + 1 + size], "big"), at + 1 + size
-        if code != CODES["L"]:
-            number = int.from_bytes(spelling[at:at + count], "big")
-            return min(number, 1) if code == CODES["BOOLEAN"] else number, at + count
-        items = []
-        for _ in range(count):
-            one, at = item(at)
-            items.append(one)
-        return items, at
-    return item(0)[0]
 
 
 class Plan:
     def __init__(self, text):
         plan = tomllib.loads(text)
         tool = plan.get("equipment", {})
+        self.max_body = plan.get("line", {}).get("max_body", 1 << 20)
+        self.control = tool.get("control", "remote").upper()
         self.slots = tool.get("slots", 16)
         self.overwrites = tool.get("overwrite", True)
         self.variables = {row["vid"]: spelled(row["value"]) for row in plan.get("variable", [])}
@@ -198,14 +144,18 @@ class Put:
         self.number, self.message, self.why, self.cause = number, message, None, None
 
 
+ONLINE = ("LOCAL", "REMOTE")
 UNLOADED = Message("unloaded", None)
 CHANGES = ("S2F15", "S2F33", "S2F35")
+# How many system bytes a start sets aside, and how many are left where it sets as many aside again.
+ASIDE, FEW = 4096, 128
 
 
 class Reading:
     def __init__(self, plan_text, schedule):
         self.plan = Plan(plan_text)
         self.starts = starts_of(self.plan, schedule)
+        self.moments = moments_of(schedule)[::-1]   # those that are still to come, the next one last
         self.broken, self.losses = [], 0
         self.sent = {"E": set(), "H": set()}        # of all starts
         self.requests = {"E": set(), "H": set()}    # the system bytes of the requests among them
@@ -220,6 +170,10 @@ class Reading:
         self.received["E"] = set()
         self.commands = self.starts[min(self.losses, len(self.starts) - 1)]
         self.tables = Tables(self.plan)
+        self.tracing = Tracing(self.plan)
+        self.is_communicating, self.is_online = False, self.plan.control in ONLINE
+        self.unanswered = set()                     # the system bytes of what waits for a reply
+        self.base = self.drawn = 0                  # the first system bytes, and those behind the last
         self.events = {}                            # their messages, by their bodies
         self.open = {}                              # what waits for a reply, by the system bytes that were sent
         self.failed = []                            # what was open when the communication was lost, to be stored
@@ -230,15 +184,25 @@ class Reading:
     def breaks(self, why):
         self.broken.append(f"line {self.at}: {why}: {self.line[:150]}")
 
+    def breaks_by(self, why):
+        if why:
+            self.breaks(why)
+
     def read(self, trace):
         """All that the lines of a trace break."""
         for self.at, self.line in enumerate(trace, 1):
-            words = self.line.split(" ")[1:]
+            now, *words = self.line.split(" ")
+            self.to_moment(int(now))
             if words[0] == "end":
+                self.breaks_by(self.tracing.missing())
                 if self.losses != len(self.starts) - 1:
                     self.breaks(f"{self.losses} losses of power where {len(self.starts) - 1} were planned")
                 break
             side, kind, *words = words
+            if side == "E":
+                self.breaks_by(self.tracing.read(kind, words, self.before, self))
+            else:
+                self.breaks_by(self.tracing.missing())
             if side == "E" and self.moving and kind not in ("stored", "gone", "power", "start"):
                 self.breaks("nothing comes between the two lines of a message that moves")
                 self.moving = None
@@ -254,6 +218,13 @@ class Reading:
                 self.before = [kind, *words]
         return self.broken
 
+    def to_moment(self, now):
+        """The clock moves to each moment of the schedule up to this one, and the tool makes a step."""
+        self.now = now
+        while self.moments and self.moments[-1] <= now:
+            self.breaks_by(self.tracing.missing())
+            self.tracing.sample(self.moments.pop(), self.tables.values)
+
     # What both ends do.
 
     def gives(self, side, words):
@@ -263,6 +234,8 @@ class Reading:
             if system in self.requests[side]:
                 self.breaks("system bytes that an earlier request had")
             self.requests[side].add(system)
+            if side == "E":
+                self.drawn = int(system, 16) + 1
         return " ".join(name), system, b"" if body == "-" else bytes.fromhex(body)
 
     def takes(self, side, words):
@@ -292,8 +265,11 @@ class Reading:
 
     def tool_power(self):
         self.losses += 1
+        # Where system bytes were to be set aside the power may have been lost before the samples.
+        if (self.drawn - self.base) % ASIDE <= ASIDE - FEW:
+            self.breaks_by(self.tracing.missing())
 
-    def tool_start(self, found, _base):
+    def tool_start(self, found, base):
         found, stood = int(found[len("len="):]), len(self.standing)
         if self.moving:
             kind, put = self.moving
@@ -308,6 +284,7 @@ class Reading:
             self.standing = self.standing[:found]
         self.moving = None
         self.begin()
+        self.base = self.drawn = int(base[len("base="):])
 
     # Values, and what is made of them.
 
@@ -339,13 +316,16 @@ class Reading:
             self.request = self.last_received
         elif is_reply(name):
             self.open.pop(system, None)
-        elif name in CHANGES:
+            self.unanswered.discard(system)
+        elif name in CHANGES or name == "S2F23":
             self.silent = self.last_received
 
     def judge(self, kind):
         """A request without W was carried out where the acknowledgement of its block is the next line."""
         name, _, body = self.silent
-        if kind == "tx":
+        if kind == "tx" and name == "S2F23":
+            self.tracing.set(body, self.now)
+        elif kind == "tx":
             self.tables = self.tables.after(name, body)
         self.silent = None
 
@@ -356,6 +336,10 @@ class Reading:
         request = request.split(" ")[0]
         if body.hex() == DONE and request in CHANGES:
             self.tables = self.tables.after(request, asked)
+        if name == "S2F24":
+            code = self.tracing.set(asked, self.now)
+            if body != headed("B", 1, bytes([code])):
+                self.breaks(f"the code is {code}")
         if name == "S6F16" and body != self.tables.event(parsed(asked), 0):
             self.breaks("other values than those of now")
         if name == "S6F20" and body != self.tables.report(parsed(asked)):
@@ -368,6 +352,7 @@ class Reading:
         name, system, body = self.gives("E", words)
         if not name.endswith(" W"):
             return self.answers(name, system, body)
+        self.unanswered.add(system)
         if system in self.tries:
             wanted = self.tries[system].message
             if wanted.name != name or wanted.body not in (None, body):
@@ -379,7 +364,7 @@ class Reading:
             self.sent_new(system, body, self.new(name))
         elif name == "S6F5 W" and self.before[0] == "try":
             self.open[system] = UNLOADED
-        elif name == "S6F5 W":
+        elif name == "S6F5 W" and system not in self.tracing.inquired:
             self.sent_new(system, self.made.body if self.made else b"", self.made)
 
     def sent_new(self, system, body, wanted):
@@ -389,10 +374,12 @@ class Reading:
             self.open[system] = wanted
 
     def tool_failed(self, name, *words):
+        self.unanswered.discard(words[-1])
         if name != "S6F5" and not is_reply(name):
             self.open.pop(words[-1], None)
 
     def tool_t3(self, *words):
+        self.unanswered.discard(words[-1])
         self.open.pop(words[-1], None)
 
     def tool_dropped(self, *name):
@@ -416,7 +403,11 @@ class Reading:
             return self.failed.pop(0)
         return self.new(name)
 
+    def tool_control(self, state):
+        self.is_online = state in ONLINE
+
     def tool_comms(self, state):
+        self.is_communicating = state == "COMMUNICATING"
         if state != "COMMUNICATING":
             self.failed, self.open = [one for one in self.open.values() if one is not UNLOADED], {}
 

@@ -5,7 +5,7 @@ import tempfile
 
 from reading import Reading
 
-COUNTED = ("rx", "power", "stored", "try", "confirmed", "purged", "overwritten", "slip")
+COUNTED = ("rx", "sent S2F24", "sent S6F1", "power", "stored", "try", "confirmed", "purged", "overwritten", "slip")
 
 
 class Replays:
@@ -32,8 +32,9 @@ class Replays:
         if status != wanted:
             broken.append(f"status {status} where {wanted} is wanted")
         for line in trace:
-            for word in set(line.split(" ")[2:]).intersection(COUNTED):
-                self.counts[word] += 1
+            words = line.split(" ")[2:]
+            for told in {*words, " ".join(words[:2])}.intersection(COUNTED):
+                self.counts[told] += 1
         self.done += 1
         if broken:
             self.broken += 1
