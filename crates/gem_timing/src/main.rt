@@ -1,7 +1,10 @@
 //! Calls GEM's tables again and again, so that a script can time them.
 #![tactic(auto)]
 
+ghost use Rattle.std.specs.Prelude.{◌<◌, ◌^◌};
+
 use gem_reports::{Definition, Linking, Reports};
+use gem_trace::{TraceRequest, Traces};
 use gem_vars::{VariablePlan, Vars, VarsPlan};
 use gl_base::{NoMemory, Row};
 use secs_items::Item;
@@ -22,6 +25,12 @@ enum Work {
     Define,
     /// Unlinks an event, and links all reports to it anew.
     Link,
+    /// The values of all variables, as S1F4 has them.
+    StatusValues,
+    /// A sample of all variables, by a trace with so many samples in an S6F1.
+    Sample(u32),
+    /// What a step asks of as many traces as there are rows, of which none is due.
+    NotDue,
 }
 
 /// Tables with so many variables, events and reports of one variable each.
@@ -31,6 +40,7 @@ struct Tables {
     vars: Vars,
     reports: Reports,
     requests: Requests,
+    traces: Traces,
 }
 
 /// What is asked of the reports.
@@ -53,7 +63,7 @@ fn main(rt: HostRuntime) -> io::Result<ExitCode> {
         .next()
         .and_then(|word| word.as_str().parse::<u32>().ok())
         .unwrap_or(1);
-    match tables_of(rt.alloc(), rows) {
+    match tables_of(rt.alloc(), work, rows) {
         Ok(Some(mut tables)) => {
             let done = work_on(rt.alloc(), work, turns, &mut tables);
             println!(rt; "{done}")?;
@@ -71,13 +81,17 @@ fn work_named(word: &str) -> Option<Work> {
         "event-body" => Some(Work::EventBody),
         "define" => Some(Work::Define),
         "link" => Some(Work::Link),
+        "status-values" => Some(Work::StatusValues),
+        "sample-alone" => Some(Work::Sample(1)),
+        "sample-of-16" => Some(Work::Sample(16)),
+        "not-due" => Some(Work::NotDue),
         _ => None,
     }
 }
 
-fn tables_of(alloc: Global, rows: u32) -> Result<Option<Tables>, NoMemory> {
+fn tables_of(alloc: Global, work: Work, rows: u32) -> Result<Option<Tables>, NoMemory> {
     match vars_of(alloc, rows)? {
-        Some(vars) => Ok(Some(tables_over(alloc, rows, vars)?)),
+        Some(vars) => Ok(Some(tables_over(alloc, work, rows, vars)?)),
         None => Ok(None),
     }
 }
@@ -91,15 +105,17 @@ fn vars_of(alloc: Global, rows: u32) -> Result<Option<Vars>, NoMemory> {
     Ok(Some(Vars::new(alloc, &plan)?))
 }
 
-fn tables_over(alloc: Global, rows: u32, vars: Vars) -> Result<Tables, NoMemory> {
+fn tables_over(alloc: Global, work: Work, rows: u32, vars: Vars) -> Result<Tables, NoMemory> {
     let ids = ids_of(alloc, rows)?;
     let requests = requests_of(alloc, ids.as_slice())?;
     let reports = reports_of(alloc, &vars, ids.as_slice(), &requests)?;
+    let traces = traces_of(alloc, work, &vars, ids.as_slice())?;
     Ok(Tables {
         ids,
         vars,
         reports,
         requests,
+        traces,
     })
 }
 
@@ -128,6 +144,44 @@ fn reports_of(
     let _ = reports.link(alloc, requests.linked.as_slice())?;
     let _ = reports.enable(true, &[]);
     Ok(reports)
+}
+
+// The traces that the work wants: one of all variables, or one for each row that isn't due yet.
+fn traces_of(alloc: Global, work: Work, vars: &Vars, ids: &[u32]) -> Result<Traces, NoMemory> {
+    let mut traces = Traces::new(alloc);
+    match work {
+        Work::Sample(group) => {
+            let request = request_of(alloc, 0, group, ids)?;
+            let _ = traces.set(alloc, vars, &request, 0)?;
+        }
+        Work::NotDue => set_each(alloc, &mut traces, vars, ids)?,
+        _ => {}
+    }
+    Ok(traces)
+}
+
+fn set_each(alloc: Global, traces: &mut Traces, vars: &Vars, ids: &[u32]) -> Result<(), NoMemory> {
+    for id in ids {
+        let request = request_of(alloc, *id, 1, &[*id])?;
+        let _ = traces.set(alloc, vars, &request, 0)?;
+    }
+    Ok(())
+}
+
+// A trace of these variables, with a sample each 100 ms.
+fn request_of(
+    alloc: Global,
+    trid: u32,
+    group: u32,
+    svids: &[u32],
+) -> Result<TraceRequest, NoMemory> {
+    Ok(TraceRequest {
+        trid,
+        dsper: Row::of(alloc, b"00000010")?,
+        total: u32::MAX,
+        group,
+        svids: Row::of(alloc, svids)?,
+    })
 }
 
 fn plan_of(alloc: Global, rows: u32) -> Result<VarsPlan, NoMemory> {
@@ -182,19 +236,22 @@ fn linkings(alloc: Global, ids: &[u32]) -> Result<Row<Linking>, NoMemory> {
 // Does the work so many times, and says how often it came to something.
 fn work_on(alloc: Global, work: Work, turns: u32, tables: &mut Tables) -> u64 {
     let mut done = 0u64;
-    for _ in 0..turns {
-        done = done.wrapping_add(once(alloc, work, tables));
+    for turn in 0..turns {
+        done = done.wrapping_add(once(alloc, work, turn, tables));
     }
     done
 }
 
-fn once(alloc: Global, work: Work, tables: &mut Tables) -> u64 {
+fn once(alloc: Global, work: Work, turn: u32, tables: &mut Tables) -> u64 {
     match work {
         Work::Value => values(&tables.vars, tables.ids.as_slice()),
         Work::Enabled => enabled(&tables.reports, tables.ids.as_slice()),
         Work::EventBody => u64::from(has_body(alloc, tables)),
         Work::Define => u64::from(defines(alloc, tables)),
         Work::Link => u64::from(links(alloc, tables)),
+        Work::StatusValues => u64::from(has_status_values(alloc, tables)),
+        Work::Sample(_) => samples(alloc, u64::from(turn) * 100 + 100, tables),
+        Work::NotDue => samples(alloc, 0, tables).wrapping_add(waits(&tables.traces)),
     }
 }
 
@@ -210,6 +267,26 @@ fn defines(alloc: Global, tables: &mut Tables) -> bool {
 fn links(alloc: Global, tables: &mut Tables) -> bool {
     let list = tables.requests.linked.as_slice();
     tables.reports.link(alloc, list).is_ok()
+}
+
+fn has_status_values(alloc: Global, tables: &Tables) -> bool {
+    let ids = tables.ids.as_slice();
+    tables.vars.status_values(alloc, ids).is_ok()
+}
+
+// How many S6F1 are due with the samples of this moment.
+fn samples(alloc: Global, now: u64, tables: &mut Tables) -> u64
+    requires { now < 2 ^ 62 }
+{
+    match tables.traces.sample(alloc, &tables.vars, now) {
+        Ok(bodies) => bodies.len() as u64,
+        Err(_) => 0,
+    }
+}
+
+// Whether a sample is to come.
+fn waits(traces: &Traces) -> u64 {
+    u64::from(traces.deadline().is_some())
 }
 
 fn values(vars: &Vars, ids: &[u32]) -> u64 {
