@@ -17,4 +17,6 @@ mod played_host;
 #[cfg(test)]
 mod reports;
 #[cfg(test)]
+mod trace_data;
+#[cfg(test)]
 mod traces;

@@ -29,9 +29,12 @@ pub(crate) enum Given {
     Event(u32),
     Alarm,
     Disable,
+    Enable,
     Offline,
     Online,
     Local,
+    // Event 1 so many times, one behind the other.
+    Events(u32),
     // The host sends a message of one block: stream, function, W, system bytes and text.
     Sent(u8, u8, bool, u32, &'static [u8]),
     // A block of the host: stream, function and W; system bytes; its number, and whether it is the last one; text.
@@ -42,8 +45,10 @@ pub(crate) enum Given {
     Begin(u32),
     // S2F33 of the host, which defines a report of so many times variable 1.
     Define(u8),
-    // S2F23 of the host: TRID, TOTSMP, REPGSZ, and so many times variable 1 each second.
-    Trace(u8, u8, u8, u8),
+    // S2F23 of the host: its system bytes; TRID, TOTSMP, REPGSZ, and so many times variable 1 each second.
+    Trace(u32, [u8; 4]),
+    // So many S2F23 of the host, the first of TRID 1 and with the system bytes 1: one sample of nothing, in a second.
+    Traces(u8),
     // Nothing: it acts next at this moment.
     ActsAt(u64),
 }
@@ -383,7 +388,8 @@ fn defines(
 }
 
 // S2F23: so many times variable 1, each second.
-fn tracing(alloc: Global, trid: u8, total: u8, group: u8, count: u8) -> Option<Row<u8>> {
+fn tracing(alloc: Global, asked: [u8; 4]) -> Option<Row<u8>> {
+    let [trid, total, group, count] = asked;
     let front = [
         0x01, 0x05, 0xA5, 0x01, trid, 0x41, 0x06, 0x30, 0x30, 0x30, 0x30, 0x30, 0x31, 0xA5, 0x01,
         total, 0xA5, 0x01, group, 0x01, count,
@@ -402,17 +408,56 @@ fn tracing(alloc: Global, trid: u8, total: u8, group: u8, count: u8) -> Option<R
 fn traces(
     alloc: Global,
     equipment: &mut Option<Equipment<MemDisk>>,
-    asked: (u8, u8, u8, u8),
+    system: u32,
+    asked: [u8; 4],
     now: u64,
     text: &mut Row<u8>,
 ) -> bool
     requires { now < 2 ^ 62 }
 {
-    let Some(body) = tracing(alloc, asked.0, asked.1, asked.2, asked.3) else {
+    let Some(body) = tracing(alloc, asked) else {
         return false;
     };
-    let block = block((2, 23, true), 1, WHOLE, body.as_slice());
+    let block = block((2, 23, true), system, WHOLE, body.as_slice());
     hears(alloc, equipment, block, now, text)
+}
+
+// The host sets so many traces.
+fn sets_traces(
+    alloc: Global,
+    equipment: &mut Option<Equipment<MemDisk>>,
+    count: u8,
+    now: u64,
+    text: &mut Row<u8>,
+) -> bool
+    requires { now < 2 ^ 62 }
+{
+    for before in 0..count {
+        let trid = before.saturating_add(1);
+        let asked = [trid, 1, 1, 0];
+        if !traces(alloc, equipment, u32::from(trid), asked, now, text) {
+            return false;
+        }
+    }
+    true
+}
+
+// Its tool has event 1 so many times.
+fn has_events(
+    alloc: Global,
+    equipment: &mut Option<Equipment<MemDisk>>,
+    count: u32,
+    now: u64,
+    text: &mut Row<u8>,
+) -> bool
+    requires { now < 2 ^ 62 }
+{
+    for _ in 0..count {
+        if !obeys(alloc, equipment, &ToolCommand::Event(1), now, text) {
+            return false;
+        }
+    }
+    true
 }
 
 // The host begins so many messages.
@@ -454,7 +499,9 @@ fn is_done(
         },
         Given::Event(ceid) => obeys(alloc, equipment, &ToolCommand::Event(*ceid), now, text),
         Given::Alarm => obeys(alloc, equipment, &ToolCommand::Alarm(7, true), now, text),
+        Given::Events(count) => has_events(alloc, equipment, *count, now, text),
         Given::Disable => obeys(alloc, equipment, &ToolCommand::Disable, now, text),
+        Given::Enable => obeys(alloc, equipment, &ToolCommand::Enable, now, text),
         Given::Offline => obeys(alloc, equipment, &ToolCommand::Offline, now, text),
         Given::Online => obeys(alloc, equipment, &ToolCommand::Online, now, text),
         Given::Local => obeys(alloc, equipment, &ToolCommand::Local, now, text),
@@ -472,9 +519,8 @@ fn is_done(
         }
         Given::Begin(count) => begins(alloc, equipment, *count, now, text),
         Given::Define(count) => defines(alloc, equipment, *count, now, text),
-        Given::Trace(trid, total, group, count) => {
-            traces(alloc, equipment, (*trid, *total, *group, *count), now, text)
-        }
+        Given::Trace(system, asked) => traces(alloc, equipment, *system, *asked, now, text),
+        Given::Traces(count) => sets_traces(alloc, equipment, *count, now, text),
         Given::ActsAt(at) => acts_at(equipment) == Some(*at),
     }
 }

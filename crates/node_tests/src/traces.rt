@@ -1,4 +1,4 @@
-//! Traces: when their samples are taken, and what becomes of the S6F1 that they bring.
+//! Traces: how S2F23 is answered, when samples are taken, and which S6F1 they bring.
 
 use crate::played_host::{Case, ESTABLISHES, GOES_ONLINE, Given, Text, runs};
 use std::test::Fail;
@@ -18,7 +18,7 @@ static IS_SEVEN: [Case; 1] = [Case {
 static TAKES_TWO: [Case; 8] = [
     Case {
         now: 0,
-        given: Given::Trace(1, 2, 2, 1),
+        given: Given::Trace(1, [1, 2, 2, 1]),
         text: Text::Whole(
             b"rx S2F23 W 00000001 0105A501014106303030303031A50102A501020101A50101\n\
               sent S2F24 00000001 210100\n",
@@ -68,7 +68,7 @@ static TAKES_TWO: [Case; 8] = [
 static IS_OF_BEFORE: [Case; 5] = [
     Case {
         now: 0,
-        given: Given::Trace(1, 3, 1, 1),
+        given: Given::Trace(1, [1, 3, 1, 1]),
         text: TAKEN,
     },
     Case {
@@ -119,10 +119,10 @@ static IS_REFUSED: [Case; 6] = [
     },
     Case {
         now: 0,
-        given: Given::Trace(1, 2, 3, 1),
+        given: Given::Trace(2, [1, 2, 3, 1]),
         text: Text::Whole(
-            b"rx S2F23 W 00000001 0105A501014106303030303031A50102A501030101A50101\n\
-              sent S2F24 00000001 210105\n",
+            b"rx S2F23 W 00000002 0105A501014106303030303031A50102A501030101A50101\n\
+              sent S2F24 00000002 210105\n",
         ),
     },
     Case {
@@ -131,28 +131,31 @@ static IS_REFUSED: [Case; 6] = [
             2,
             23,
             true,
-            1,
+            3,
             &[
                 0x01, 0x05, 0xA5, 0x01, 0x01, 0x41, 0x06, 0x30, 0x30, 0x30, 0x30, 0x30, 0x31, 0xA5,
                 0x01, 0x02, 0xA5, 0x01, 0x02, 0x01, 0x01, 0xA5, 0x01, 0x63,
             ],
         ),
         text: Text::Whole(
-            b"rx S2F23 W 00000001 0105A501014106303030303031A50102A501020101A50163\n\
-              sent S2F24 00000001 210104\n",
+            b"rx S2F23 W 00000003 0105A501014106303030303031A50102A501020101A50163\n\
+              sent S2F24 00000003 210104\n",
         ),
     },
     Case {
         now: 0,
-        given: Given::Trace(1, 2, 1, 1),
-        text: TAKEN,
+        given: Given::Trace(4, [1, 2, 1, 1]),
+        text: Text::Whole(
+            b"rx S2F23 W 00000004 0105A501014106303030303031A50102A501010101A50101\n\
+              sent S2F24 00000004 210100\n",
+        ),
     },
     Case {
         now: 0,
-        given: Given::Trace(1, 0, 0, 0),
+        given: Given::Trace(5, [1, 0, 0, 0]),
         text: Text::Whole(
-            b"rx S2F23 W 00000001 0105A501014106303030303031A50100A501000100\n\
-              sent S2F24 00000001 210100\n",
+            b"rx S2F23 W 00000005 0105A501014106303030303031A50100A501000100\n\
+              sent S2F24 00000005 210100\n",
         ),
     },
     Case {
@@ -162,22 +165,47 @@ static IS_REFUSED: [Case; 6] = [
     },
 ];
 
+// One that asks for no answer sets its trace.
+static IS_UNANSWERED: [Case; 2] = [
+    Case {
+        now: 0,
+        given: Given::Sent(
+            2,
+            23,
+            false,
+            1,
+            &[
+                0x01, 0x05, 0xA5, 0x01, 0x01, 0x41, 0x06, 0x30, 0x30, 0x30, 0x30, 0x30, 0x31, 0xA5,
+                0x01, 0x01, 0xA5, 0x01, 0x01, 0x01, 0x01, 0xA5, 0x01, 0x01,
+            ],
+        ),
+        text: Text::Whole(b"rx S2F23 00000001 0105A501014106303030303031A50101A501010101A50101\n"),
+    },
+    Case {
+        now: 1_000,
+        given: Given::Time,
+        text: Text::Whole(
+            b"sent S6F1 W 00000001 0104B10400000001B1040000000141000101B10400000007\n",
+        ),
+    },
+];
+
 // A trace that is set anew stands last.
 static IS_SET_ANEW: [Case; 4] = [
     Case {
         now: 0,
-        given: Given::Trace(1, 1, 1, 0),
+        given: Given::Trace(1, [1, 1, 1, 0]),
         text: TAKEN,
     },
     Case {
         now: 0,
-        given: Given::Trace(2, 1, 1, 0),
-        text: Text::Front(b"rx S2F23 W 00000001 0105A50102"),
+        given: Given::Trace(2, [2, 1, 1, 0]),
+        text: Text::Front(b"rx S2F23 W 00000002 0105A50102"),
     },
     Case {
         now: 0,
-        given: Given::Trace(1, 1, 1, 0),
-        text: TAKEN,
+        given: Given::Trace(3, [1, 1, 1, 0]),
+        text: Text::Front(b"rx S2F23 W 00000003 0105A50101"),
     },
     Case {
         now: 1_000,
@@ -189,93 +217,55 @@ static IS_SET_ANEW: [Case; 4] = [
     },
 ];
 
-// Off-line no trace is set, and those that run bring S6F1 that are dropped; disabled too.
-static IS_DROPPED: [Case; 6] = [
+// Beside 16 others none is set, but one of these may be set anew. All S6F1 that one step brings go.
+static ARE_SIXTEEN: [Case; 5] = [
     Case {
         now: 0,
-        given: Given::Trace(1, 9, 1, 1),
+        given: Given::Traces(16),
         text: TAKEN,
     },
     Case {
         now: 0,
-        given: Given::Sent(1, 15, true, 20, &[]),
-        text: Text::Front(b"rx S1F15 W 00000014 -\ncontrol HOST-OFF-LINE\n"),
+        given: Given::Trace(17, [17, 1, 1, 0]),
+        text: Text::Whole(
+            b"rx S2F23 W 00000011 0105A501114106303030303031A50101A501010100\n\
+              sent S2F24 00000011 210102\n",
+        ),
     },
     Case {
         now: 0,
-        given: Given::Sent(2, 23, true, 2, &[]),
-        text: Text::Whole(b"rx S2F23 W 00000002 -\nsent S2F0 00000002 -\n"),
+        given: Given::Trace(18, [3, 1, 1, 0]),
+        text: Text::Whole(
+            b"rx S2F23 W 00000012 0105A501034106303030303031A50101A501010100\n\
+              sent S2F24 00000012 210100\n",
+        ),
     },
     Case {
         now: 1_000,
         given: Given::Time,
-        text: Text::Whole(b"dropped S6F1 W\n"),
-    },
-    Case {
-        now: 1_000,
-        given: Given::Disable,
-        text: Text::Whole(b"comms DISABLED\n"),
+        text: Text::Whole(
+            b"sent S6F1 W 00000001 0104B10400000001B1040000000141000100\n\
+              sent S6F1 W 00000002 0104B10400000002B1040000000141000100\n\
+              sent S6F1 W 00000003 0104B10400000004B1040000000141000100\n\
+              sent S6F1 W 00000004 0104B10400000005B1040000000141000100\n\
+              sent S6F1 W 00000005 0104B10400000006B1040000000141000100\n\
+              sent S6F1 W 00000006 0104B10400000007B1040000000141000100\n\
+              sent S6F1 W 00000007 0104B10400000008B1040000000141000100\n\
+              sent S6F1 W 00000008 0104B10400000009B1040000000141000100\n\
+              sent S6F1 W 00000009 0104B1040000000AB1040000000141000100\n\
+              sent S6F1 W 0000000A 0104B1040000000BB1040000000141000100\n\
+              sent S6F1 W 0000000B 0104B1040000000CB1040000000141000100\n\
+              sent S6F1 W 0000000C 0104B1040000000DB1040000000141000100\n\
+              sent S6F1 W 0000000D 0104B1040000000EB1040000000141000100\n\
+              sent S6F1 W 0000000E 0104B1040000000FB1040000000141000100\n\
+              sent S6F1 W 0000000F 0104B10400000010B1040000000141000100\n\
+              sent S6F1 W 00000010 0104B10400000003B1040000000141000100\n",
+        ),
     },
     Case {
         now: 2_000,
         given: Given::Time,
-        text: Text::Whole(b"dropped S6F1 W\n"),
-    },
-];
-
-// One of several blocks asks for a grant first, with its TRID as the DATAID.
-static INQUIRES: [Case; 2] = [
-    Case {
-        now: 0,
-        given: Given::Trace(1, 1, 1, 42),
-        text: TAKEN,
-    },
-    Case {
-        now: 1_000,
-        given: Given::Time,
-        text: Text::Whole(b"sent S6F5 W 00000001 0102B10400000001B1040000010E\n"),
-    },
-];
-
-static IS_GRANTED: [Case; 1] = [Case {
-    now: 1_000,
-    given: Given::Sent(6, 6, false, 1, &[0x21, 0x01, 0x00]),
-    text: Text::Front(
-        b"rx S6F6 00000001 210100\nsent S6F1 W 00000002 0104B10400000001B104000000014100012A",
-    ),
-}];
-
-static IS_DENIED: [Case; 1] = [Case {
-    now: 1_000,
-    given: Given::Sent(6, 6, false, 1, &[0x21, 0x01, 0x01]),
-    text: Text::Whole(b"rx S6F6 00000001 210101\ndenied S6F1 W\n"),
-}];
-
-static TIMES_OUT: [Case; 1] = [Case {
-    now: 46_000,
-    given: Given::Time,
-    text: Text::Whole(
-        b"t3 S6F5 W 00000001\ndenied S6F1 W\nsent S9F9 00000002 210A80008605800100000001\n",
-    ),
-}];
-
-static ENDS_WITH_ALL: [Case; 1] = [Case {
-    now: 1_000,
-    given: Given::Disable,
-    text: Text::Whole(b"failed S6F5 W 00000001\ndropped S6F1 W\ncomms DISABLED\n"),
-}];
-
-// One that is too long is not sent.
-static IS_TOO_LONG: [Case; 2] = [
-    Case {
-        now: 0,
-        given: Given::Trace(1, 1, 1, 64),
-        text: TAKEN,
-    },
-    Case {
-        now: 1_000,
-        given: Given::Time,
-        text: Text::Whole(b"toolong S6F1 W\n"),
+        text: NOTHING,
     },
 ];
 
@@ -314,57 +304,18 @@ fn a_trace_set_anew_stands_last(rt: HostRuntime) -> Result<(), Fail> {
 }
 
 #[test]
-fn off_line_and_disabled_it_is_dropped(rt: HostRuntime) -> Result<(), Fail> {
-    assert!(rt; runs(rt.alloc(), &[&ESTABLISHES, &GOES_ONLINE, &IS_DROPPED]));
-    Ok(())
-}
-
-#[test]
-fn a_long_one_goes_by_grant(rt: HostRuntime) -> Result<(), Fail> {
+fn one_that_asks_for_no_answer_sets_its_trace(rt: HostRuntime) -> Result<(), Fail> {
     assert!(rt;
         runs(
             rt.alloc(),
-            &[&ESTABLISHES, &GOES_ONLINE, &INQUIRES, &IS_GRANTED]
+            &[&ESTABLISHES, &GOES_ONLINE, &IS_SEVEN, &IS_UNANSWERED]
         )
     );
     Ok(())
 }
 
 #[test]
-fn a_long_one_is_denied(rt: HostRuntime) -> Result<(), Fail> {
-    assert!(rt;
-        runs(
-            rt.alloc(),
-            &[&ESTABLISHES, &GOES_ONLINE, &INQUIRES, &IS_DENIED]
-        )
-    );
-    Ok(())
-}
-
-#[test]
-fn the_grant_of_a_long_one_is_missed(rt: HostRuntime) -> Result<(), Fail> {
-    assert!(rt;
-        runs(
-            rt.alloc(),
-            &[&ESTABLISHES, &GOES_ONLINE, &INQUIRES, &TIMES_OUT]
-        )
-    );
-    Ok(())
-}
-
-#[test]
-fn a_long_one_ends_with_all(rt: HostRuntime) -> Result<(), Fail> {
-    assert!(rt;
-        runs(
-            rt.alloc(),
-            &[&ESTABLISHES, &GOES_ONLINE, &INQUIRES, &ENDS_WITH_ALL]
-        )
-    );
-    Ok(())
-}
-
-#[test]
-fn one_that_is_too_long_is_not_sent(rt: HostRuntime) -> Result<(), Fail> {
-    assert!(rt; runs(rt.alloc(), &[&ESTABLISHES, &GOES_ONLINE, &IS_TOO_LONG]));
+fn sixteen_are_sampled_at_once(rt: HostRuntime) -> Result<(), Fail> {
+    assert!(rt; runs(rt.alloc(), &[&ESTABLISHES, &GOES_ONLINE, &ARE_SIXTEEN]));
     Ok(())
 }
