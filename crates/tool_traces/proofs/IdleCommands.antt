@@ -264,12 +264,11 @@ module _ (before : List Happening) (look : Look) (running : List Running) (sent 
   carry-idle (Command.Take byte now) step idle so =
       told-idle (held_header step.next.line.held) (line_step step.next.line (LineCall.Take byte now)).event now
       (calls (LineCall.Take byte now) step) so
-  carry-idle (Command.Offer now) step idle so =
-      (
-        subst (Reads before look running sent asked)
-            (sym (offer-notes step.next.line.phase step.next.line.held now step)) so.0,
-        subst IsOdd (sym (offer-asked step.next.line.phase step.next.line.held now step)) so.1,
-      )
+  carry-idle (Command.Offer now) step idle so = (
+    subst (Reads before look running sent asked)
+        (sym (offer-notes step.next.line.phase step.next.line.held now step)) so.0,
+    subst IsOdd (sym (offer-asked step.next.line.phase step.next.line.held now step)) so.1,
+  )
   carry-idle (Command.DropDue now) step idle so =
       drop-idle (header_so_far (find (assembly.is_due now) step.next.assembly.partials)) now step so
   carry-idle (Command.Expire now) step idle so =

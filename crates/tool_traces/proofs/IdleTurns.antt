@@ -140,16 +140,17 @@ stores-lines : (overwriting : Bool) (messages : List Spooled) (v : LedgerView)
 stores-lines overwriting [] v = tt
 stores-lines overwriting (message ∷ messages) v =
     go (stored overwriting message v) (stored-lines (room_for v (length message.body)) overwriting message v)
+    (λ next. stores-lines overwriting messages next)
   where
     go : (found : Option Booked) → IfSome found (λ (booked : Booked). AreIdleLines booked.lines)
+        → ((next : LedgerView) → AreIdleLines (stores_all overwriting messages next).lines)
         → AreIdleLines
         (option_map_or
         (λ (booked : Booked). stores_behind booked.lines (stores_all overwriting messages booked.next)) found
         (stores_none true v)).lines
-    go None are = tt
-    go (Some booked) are =
-        both-lines booked.lines (stores_all overwriting messages booked.next).lines are
-        (stores-lines overwriting messages booked.next)
+    go None are more = tt
+    go (Some booked) are more =
+        both-lines booked.lines (stores_all overwriting messages booked.next).lines are (more booked.next)
 
 pub all-out-lines : (v : LedgerView) → AreIdleLines (all_out v).lines
 all-out-lines v = go (v.len == 0)
@@ -448,17 +449,15 @@ parted-idle outcome spools activity failed own e are = record {
       ((λ later. states.left_commands outcome activity (stores_of spools outcome activity own e) own) ∷ [])
       (open-idle spools (left_of outcome activity own) e failed) (
         (λ later.
-            both-idle (states.comms_lines own.comms.state outcome.next.state)
-            (lines_commands activity.lines
-            ++ stores_commands (stores_of spools outcome activity own e) (states.request_commands outcome.output own))
-            (comms-lines own.comms.state outcome.next.state)
-            (both-idle (lines_commands activity.lines)
+            both-idle
+            (states.comms_lines own.comms.state outcome.next.state ++ lines_commands activity.lines)
             (stores_commands (stores_of spools outcome activity own e) (states.request_commands outcome.output own))
-            (lines-idle activity.lines are)
+            (both-idle (states.comms_lines own.comms.state outcome.next.state) (lines_commands activity.lines)
+            (comms-lines own.comms.state outcome.next.state) (lines-idle activity.lines are))
             (stores-idle (stores_of spools outcome activity own e) (states.request_commands outcome.output own)
             (stores-lines (overwrites own.tables)
             (filter_map (states.stored_of spools (left_of outcome activity own)) e.transactions.begun) activity.next)
-            (request-idle outcome.output own)))),
+            (request-idle outcome.output own))),
         tt,
       );
   keeps = record {

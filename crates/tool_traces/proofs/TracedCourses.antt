@@ -147,6 +147,11 @@ module _ (plan : EquipmentPlan) where
         → IsReachedSo steps s notes → OnEither WellEnds FewEnds (begun_step s input now)
     begun-keeps input s tables so = go (needs_numbers s) (is_marked_out s.mark)
       where
+        -- more numbers change nothing of that
+        reserved_so : IsReachedSo steps (reserved s) notes
+        reserved_so =
+            record { runs = so.runs; odd = so.odd; wait = so.wait; few = so.few }
+
         go : (needs spent : Bool)
             → OnEither WellEnds FewEnds
             (and_then
@@ -156,7 +161,7 @@ module _ (plan : EquipmentPlan) where
         go true false =
             with-file (reserved s) (after_parts Some (first_parts input now) (at_first (reserved s).node))
             (first-keeps notes look past due looked input (at_first (reserved s).node)
-            (at-start (reserved s) tables so))
+            (at-start (reserved s) tables reserved_so))
         go false spent =
             with-file s (after_parts Some (first_parts input now) (at_first s.node))
             (first-keeps notes look past due looked input (at_first s.node) (at-start s tables so))

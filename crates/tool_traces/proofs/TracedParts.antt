@@ -12,6 +12,7 @@ use Rattle.gem_trace.specs.History.TraceEntry.{Step as Sample}
 use Rattle.gem_trace.specs.Laws.{WhatRunsIsLookedBackFor}
 use Rattle.gem_trace.specs.Traces.{Running, after_samples, bodies_due}
 use Rattle.gem_vars.specs.Tables.{VarsTable}
+use Rattle.message_flow.specs.declared.message.Message.{Message}
 use Rattle.message_flow.specs.Outgoing.{with_waiting, without_first}
 use Rattle.message_flow.specs.Waiting.{is_named}
 use Rattle.secs_items.specs.declared.item.Item.{Item}
@@ -491,8 +492,7 @@ module _ (before : List Happening) (look : Look) (past : List TraceEntry) (due :
           (if crowded then noted Some (Happening.Full (unsent_name (unloaded message))) step
           else sends Some (unloaded message) system (with_end (record step.next { drawn = None }) step))
       go true =
-          with_notes (noted Some (Happening.Full (unsent_name (unloaded message))) step)
-          (
+          with_notes (noted Some (Happening.Full (unsent_name (unloaded message))) step) (
             reads-idle before look the_run so.sent so.asked step.notes
                 (Happening.Full (unsent_name (unloaded message)))
                 (idle-note (Happening.Full (unsent_name (unloaded message))) tt) so.reads,
@@ -539,8 +539,7 @@ module _ (before : List Happening) (look : Look) (past : List TraceEntry) (due :
       (one-behind step.notes (Happening.Try number system) before)
       ∙ first-tried system (tries_in (noted_behind step.notes before)))
       (still before look the_run (Follows before look past all_due looked) all_due own tried_own step
-      (noted Some (Happening.Try number system) next) (kept own tried_own refl) so
-      (
+      (noted Some (Happening.Try number system) next) (kept own tried_own refl) so (
         reads-idle before look the_run so.sent so.asked step.notes (Happening.Try number system)
             (idle-note (Happening.Try number system) tt) so.reads,
         so.odd,

@@ -54,7 +54,7 @@ text-counts max item text body is =
 
 pub counted-both : {X : Type 0} (test : X → Bool) (xs ys : List X)
     → length (filter test (xs ++ ys)) ≡ length (filter test xs) + length (filter test ys)
-counted-both test [] ys = refl
+counted-both test [] ys = omega (arith)
 counted-both test (x ∷ xs) ys =
     let first = counted test x (xs ++ ys) in
     let again = counted test x xs in
