@@ -26,7 +26,7 @@ use Rattle.equipment_tables.specs.Past.{Entries, asked_counts, set_counts, vars_
 use Rattle.tool_step.specs.WorkedTraces.{each_second, seven_and_nine}
 use Rattle.tool_reports.specs.Reported.{IsTextOf, count_of, is_of}
 use Rattle.tool_reports.specs.Sampled.{IsOfTrace, datas_in, due_in, is_text_of, setting_of}
-use Rattle.tool_reports.specs.WorkedSampled.{Are, IsAsking, IsData, again, asked, notes_behind, without_asking, start, steps_of, the_plan}
+use Rattle.tool_reports.specs.WorkedSampled.{Are, AreOverStart, IsAsking, IsAskingTooMuch, IsData, again, asked, notes_behind, putting, start, steps_of, the_plan, too_early, without_asking}
 use Rattle.tool_reports.proofs.QuietNotes.{counted, one}
 use Rattle.tool_reports.proofs.QuietReports.{equal-bytes}
 
@@ -117,6 +117,24 @@ again-due message s6f1 other is =
     ap (λ (asks : Option Request). still_due_by (refused_by asks) asks) is
     ∙ ap (λ (refusal : Option Setting). still_due_by refusal a_trace) accepted
 
+-- ---- where none is due
+
+abbrev early_due_by : Option Request → List Item
+early_due_by asks =
+    bodies_at (one_step asks) (looks (asked_by asks) 1000) ++ (bodies_at [] first_look ++ [])
+
+early-due : (message s6f1 : Message) → IsAsking message → due_in the_plan (steps_of (too_early message s6f1)) ≡ []
+early-due message s6f1 is = ap (λ (asks : Option Request). early_due_by asks) is
+
+abbrev a_group_too_long : Option Request
+a_group_too_long = Some (request.Trace 1 each_second 2 3 (1 ∷ []))
+
+refused-due : (message s6f1 : Message) → IsAskingTooMuch message
+    → due_in the_plan (steps_of (asked message s6f1)) ≡ []
+refused-due message s6f1 is =
+    ap (λ (asks : Option Request). due_by (refused_by asks) asks) is
+    ∙ ap (λ (refusal : Option Setting). due_by refusal a_group_too_long) accepted
+
 -- ---- which were sent
 
 data-true : (s6f1 : Message) → IsData s6f1 → (is_of 6 1 s6f1 && true) ≡ true
@@ -140,6 +158,28 @@ sent-two message s6f1 other is also =
     (λ (b : Bool). if b then other.body ∷ (if is_of 6 1 s6f1 && true then s6f1.body ∷ [] else [])
     else (if is_of 6 1 s6f1 && true then s6f1.body ∷ [] else [])) (data-true other also)
     ∙ ap (λ (all : List (List ℕ)). other.body ∷ all) (sent-is s6f1 is)
+
+-- ---- one that isn't due
+
+pub never-early : (message s6f1 : Message) → IsAsking message → IsData s6f1 → Are (too_early message s6f1) → ⊥
+never-early message s6f1 is named are =
+    let has : Has (datas_in (notes_behind (too_early message s6f1) start)) s6f1.body =
+    subst (λ (all : List (List ℕ)). Has all s6f1.body) (sym (sent-is s6f1 named)) (inl refl) in
+    let of = are.each s6f1.body has in
+    subst (λ (due : List Item). Has due of.item) (early-due message s6f1 is) of.due
+
+pub never-refused : (message s6f1 : Message) → IsAskingTooMuch message → IsData s6f1 → Are (asked message s6f1) → ⊥
+never-refused message s6f1 is named are =
+    let of = are.each s6f1.body (sent-one message s6f1 named) in
+    subst (λ (due : List Item). Has due of.item) (refused-due message s6f1 is) of.due
+
+pub never-over-start : (message s6f1 : Message) → IsData s6f1 → AreOverStart message s6f1 → ⊥
+never-over-start message s6f1 named are =
+    (are.each s6f1.body
+    (subst (λ (all : List (List ℕ)). Has all s6f1.body) (sym (sent-is s6f1 named)) (inl refl))).due
+
+pub never-spooled : (body : List ℕ) → Are (putting body) → ⊥
+never-spooled body are = let can = are.spoolable.0 in absurd (cc)
 
 -- ---- what one holds
 
@@ -206,6 +246,7 @@ pub asked-is : (message s6f1 : Message) → IsAsking message → IsData s6f1 →
     → Are (asked message s6f1)
 asked-is message s6f1 is named text = record {
   wait = ((λ is_one. named.wait), tt);
+  spoolable = tt;
   each = λ body has. of_one body (subst (λ (all : List (List ℕ)). Has all body) (sent-is s6f1 named) has);
   once = λ body.
       let sent = ap (count_of body) (sent-is s6f1 named) in

@@ -5,6 +5,7 @@ use Rattle.std.specs.Prelude.{◌≡◌, ◌≤◌, ◌&&◌, ℕ, Bool, not, na
 use Rattle.std.specs.List.{cons_option, list_any}
 use Rattle.gem_shapes.specs.declared.request.Request.{Request}
 use Rattle.gem_shapes.specs.declared.request.Request.TheVariants as request
+use Rattle.gem_spool.specs.Rule.{is_spoolable}
 use Rattle.gem_trace.specs.declared.request.Tiaack.{Tiaack}
 use Rattle.gem_trace.specs.declared.request.Tiaack.TheVariants as tiaack
 use Rattle.gem_trace.specs.declared.request.TraceRequest.{TraceRequest}
@@ -97,6 +98,13 @@ HaveWait [] = Unit {0}
 HaveWait (Happening.Sent message ∷ before) = (is_data message before ≡ true → message.wait ≡ true) × HaveWait before
 HaveWait (_ ∷ before) = HaveWait before
 
+-- what is put into the spool is S5F1, S6F11 or S10F1, and so no S6F1 (this profile)
+abbrev pub PutsAreSpoolable : List Happening → Type 0
+PutsAreSpoolable [] = Unit {0}
+PutsAreSpoolable (Happening.Storing number message ∷ before) =
+    (is_spoolable message.stream message.function ≡ true) × PutsAreSpoolable before
+PutsAreSpoolable (_ ∷ before) = PutsAreSpoolable before
+
 -- ---- what is said of them
 
 -- it was due in one of these steps
@@ -105,8 +113,10 @@ pub record IsOfTrace (plan : EquipmentPlan) (body : List ℕ) (steps : List Step
   pub due : Has (due_in plan steps) item
   pub text : IsTextOf item body
 
--- each S6F1 that was sent has W, and was due by then; and no more were sent with one text than were due with it
+-- each S6F1 that was sent has W, and was due by then; no more were sent with one text than were due with it; and none
+-- was put into the spool
 pub record AreSampled (plan : EquipmentPlan) (notes : List Happening) (steps : List Stepped) : Type 0 where
   pub wait : HaveWait notes
   pub each : (body : List ℕ) → Has (datas_in notes) body → IsOfTrace plan body steps
   pub once : (body : List ℕ) → count_of body (datas_in notes) ≤ count_due plan body steps
+  pub spoolable : PutsAreSpoolable notes

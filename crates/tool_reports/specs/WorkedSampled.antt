@@ -6,6 +6,7 @@ use Rattle.gem_shapes.specs.declared.request.Request.TheVariants.{Trace}
 use Rattle.message_flow.specs.declared.message.Message.{Message}
 use Rattle.trace_log.specs.declared.commands.ToolCommand.TheVariants.{Set}
 use Rattle.trace_log.specs.Log.{Happening, Past}
+use Rattle.trace_log.specs.Names.{Spooled}
 use Rattle.message_end.specs.Course.{noted_behind}
 use Rattle.equipment_tables.specs.declared.plan.EquipmentPlan.{EquipmentPlan}
 use Rattle.equipment_tables.specs.Requests.{request_of}
@@ -70,8 +71,39 @@ asked message s6f1 =
 abbrev pub again : Message → Message → Message → StepNotes
 again message s6f1 other = asked message s6f1 ++ (3000, Happening.Sent other ∷ Happening.StepEnded ∷ []) ∷ []
 
+-- one goes out with the first sample, before it is due
+abbrev pub too_early : Message → Message → StepNotes
+too_early message s6f1 =
+    (0, Happening.Received message ∷ Happening.Recorded (Past.Asked message) ∷ Happening.StepEnded ∷ [])
+    ∷ (1000, Happening.Sent s6f1 ∷ Happening.StepEnded ∷ []) ∷ []
+
+-- three samples were to come in each S6F1, and two in all: that is refused
+abbrev pub IsAskingTooMuch : Message → Type 0
+IsAskingTooMuch message =
+    request_of message.stream message.function message.body ≡ Some (Trace 1 each_second 2 3 (1 ∷ []))
+
+-- it was asked for before a start
+abbrev pub started_behind : Message → List Happening
+started_behind message =
+    Happening.EquipmentStarted [] 0 ∷ Happening.Power ∷ Happening.StepEnded ∷ Happening.Recorded (Past.Asked message)
+    ∷ Happening.Received message ∷ start
+
+abbrev pub AreOverStart : Message → Message → Type 0
+AreOverStart message s6f1 =
+    AreSampled the_plan (notes_behind (without_asking s6f1) (started_behind message))
+    (steps_behind (without_asking s6f1) (started_behind message) [])
+
+-- one is put into the spool
+abbrev pub spooled_data : List ℕ → Spooled
+spooled_data body = record { stream = 6; function = 1; body = body }
+
+abbrev pub putting : List ℕ → StepNotes
+putting body =
+    (0, Happening.Storing 0 (spooled_data body) ∷ Happening.Stored 0 ∷ Happening.StepEnded ∷ []) ∷ []
+
 -- one S6F1 is due, with what the variable held at each of its samples; one with that may go out, and none with another
--- text; none goes where nobody has asked for it, none without W, and no second one
+-- text; none goes where nobody has asked for it, or before a start, or where that was refused; none before it is due,
+-- none without W, and no second one; and none is put into the spool
 pub record SamplesAreWorked : Type 0 where
   pub due : (message s6f1 : Message) → IsAsking message
       → due_in the_plan (steps_of (asked message s6f1)) ≡ seven_and_nine ∷ []
@@ -82,5 +114,9 @@ pub record SamplesAreWorked : Type 0 where
       → Are (asked message s6f1)
   pub unawaited : (s6f1 : Message) → is_of 6 1 s6f1 ≡ true → s6f1.wait ≡ false → Are (without_asking s6f1) → ⊥
   pub unasked : (s6f1 : Message) → IsData s6f1 → Are (without_asking s6f1) → ⊥
+  pub early : (message s6f1 : Message) → IsAsking message → IsData s6f1 → Are (too_early message s6f1) → ⊥
+  pub refused : (message s6f1 : Message) → IsAskingTooMuch message → IsData s6f1 → Are (asked message s6f1) → ⊥
+  pub over_start : (message s6f1 : Message) → IsData s6f1 → AreOverStart message s6f1 → ⊥
+  pub unspooled : (body : List ℕ) → Are (putting body) → ⊥
   pub once : (message s6f1 other : Message) → IsAsking message → IsData s6f1 → IsData other
       → Are (again message s6f1 other) → ⊥

@@ -44,7 +44,8 @@ pub fn worked_settings()
 {}
 
 /// An example of what is said of S6F1: one of two samples, with the variable set between them. It holds what the
-/// variable held at each; and none goes out that nobody has asked for, and no second one.
+/// variable held at each; none goes out before it is due, none that nobody has asked for in this start or that was
+/// refused, and no second one; and none is put into the spool.
 pub fn worked_samples()
     ensures { SamplesAreWorked }
 {}

@@ -275,7 +275,8 @@ set-idle None vid value own =
 enabled-idle : (enabled : Bool) (ceid dataid : ℕ) (own : OwnView) (e : EndView Kind)
     → IsIdleTurn own (enabled_turn enabled ceid dataid own e)
 enabled-idle true ceid dataid own e =
-    judged-idle event_report (λ (message : Spooled). sent.event_turn dataid message.body own e)
+    judged-idle event_report (λ body. refl)
+    (λ (message : Spooled). sent.event_turn dataid message.body own e)
     (sent.text_of own (event_item own.tables ceid dataid)) own (λ body. event-idle dataid body own e)
 enabled-idle false ceid dataid own e = nothing-idle own own (itself own)
 
@@ -293,7 +294,7 @@ event-command-idle true ceid own e =
 alarm-report-idle : (enabled : Bool) (alid : ℕ) (own : OwnView) (e : EndView Kind)
     → IsIdleTurn own (alarm_report_turn enabled alid own e)
 alarm-report-idle true alid own e =
-    report-idle sent.alarm_report (λ body. refl) (sent.text_of own (alarm_item_of own.tables alid)) own e
+    report-idle sent.alarm_report (λ body. refl) (λ body. refl) (sent.text_of own (alarm_item_of own.tables alid)) own e
 alarm-report-idle false alid own e = nothing-idle own own (itself own)
 
 alarm-idle : (found : AlarmStep) (alid : ℕ) (is_set : Bool) (own : OwnView) (e : EndView Kind)
@@ -354,4 +355,5 @@ command-idle tool.Offline now own e = control-idle control_in.Offline own
 command-idle tool.Local now own e = control-idle control_in.ToLocal own
 command-idle tool.Remote now own e = control-idle control_in.ToRemote own
 command-idle (tool.Terminal tid text) now own e =
-    report-idle sent.terminal_report (λ body. refl) (sent.text_of own (sent.terminal_item tid text)) own e
+    report-idle sent.terminal_report (λ body. refl) (λ body. refl) (sent.text_of own (sent.terminal_item tid text)) own
+    e

@@ -2,25 +2,32 @@
 use Rattle.std.proofs.Common.{◌≡◌, refl, sym, ap, subst, ◌∙◌, arith, ◌+◌, ◌≤◌, Bool, true, false, ℕ, List, [], ◌∷◌, ◌++◌, append-nil, if◌then◌else◌}
 use Rattle.std.specs.Prelude.{bytes_eq}
 use Rattle.std.proofs.lemmas.List.Concat.{flat_map-append}
+use Rattle.gem_spool.specs.Rule.{is_spoolable}
 use Rattle.gem_trace.specs.History.{Look, TraceEntry}
 use Rattle.gem_trace.specs.Traces.{Running}
 use Rattle.message_flow.specs.declared.message.Message.{Message}
 use Rattle.trace_log.specs.Log.{Happening, Past}
 use Rattle.message_end.specs.Course.{noted_behind}
 use Rattle.tool_reports.specs.Reported.{count_of}
-use Rattle.tool_reports.specs.Sampled.{HaveWait, datas_in, is_data, setting_in, settings_in}
+use Rattle.tool_reports.specs.Sampled.{HaveWait, PutsAreSpoolable, datas_in, is_data, setting_in, settings_in}
 use Rattle.tool_reports.proofs.QuietNotes.{counted, one, one-behind}
 
 -- no S6F1 W
 abbrev pub IsNoData : Message → Type 0
 IsNoData message = (before : List Happening) → is_data message before ≡ false
 
--- nothing is read off it: it is no S6F1, no start, and nothing that the host has asked for
+-- nothing is read off it: it is no S6F1, no start, and nothing that the host has asked for; and what it puts into the
+-- spool can be spooled
 abbrev pub IsIdleNote : Happening → Type 0
 IsIdleNote (Happening.EquipmentStarted found base) = ⊥
 IsIdleNote (Happening.Sent message) = IsNoData message
 IsIdleNote (Happening.Recorded (Past.Asked message)) = ⊥
+IsIdleNote (Happening.Storing number message) = is_spoolable message.stream message.function ≡ true
 IsIdleNote _ = Unit {0}
+
+-- what is said of all notes
+abbrev pub AreSound : List Happening → Type 0
+AreSound notes = HaveWait notes × PutsAreSpoolable notes
 
 abbrev pub IsNoStart : Happening → Type 0
 IsNoStart (Happening.EquipmentStarted found base) = ⊥
@@ -34,7 +41,7 @@ pub record IsIdle (what : Happening) : Type 0 where
   pub datas : (before : List Happening) → datas_in (what ∷ before) ≡ datas_in before
   pub asks : (look : Look) (running : List Running) → setting_in look running what ≡ []
   pub no_start : IsNoStart what
-  pub wait : (before : List Happening) → HaveWait before → HaveWait (what ∷ before)
+  pub sound : (before : List Happening) → AreSound before → AreSound (what ∷ before)
 
 idle-sent : (message : Message) → IsNoData message → IsIdle (Happening.Sent message)
 idle-sent message none = record {
@@ -42,7 +49,7 @@ idle-sent message none = record {
       ap (λ (b : Bool). if b then message.body ∷ datas_in before else datas_in before) (none before);
   asks = λ look running. refl;
   no_start = tt;
-  wait = λ before so. ((λ is. let e = none before in absurd (cc)), so);
+  sound = λ before so. (((λ is. let e = none before in absurd (cc)), so.0), so.1);
 }
 
 pub idle-note : (what : Happening) → IsIdleNote what → IsIdle what
@@ -50,75 +57,79 @@ idle-note (Happening.EquipmentStarted found base) idle = absurd idle
 idle-note (Happening.Sent message) idle = idle-sent message idle
 idle-note (Happening.Recorded (Past.Asked message)) idle = absurd idle
 idle-note (Happening.Recorded (Past.Commanded command)) idle =
-    record { datas = λ before. refl; asks = λ look running. refl; no_start = tt; wait = λ before so. so }
+    record { datas = λ before. refl; asks = λ look running. refl; no_start = tt; sound = λ before so. so }
 idle-note Happening.HostStarted idle =
-    record { datas = λ before. refl; asks = λ look running. refl; no_start = tt; wait = λ before so. so }
+    record { datas = λ before. refl; asks = λ look running. refl; no_start = tt; sound = λ before so. so }
 idle-note Happening.Power idle =
-    record { datas = λ before. refl; asks = λ look running. refl; no_start = tt; wait = λ before so. so }
+    record { datas = λ before. refl; asks = λ look running. refl; no_start = tt; sound = λ before so. so }
 idle-note Happening.Closed idle =
-    record { datas = λ before. refl; asks = λ look running. refl; no_start = tt; wait = λ before so. so }
+    record { datas = λ before. refl; asks = λ look running. refl; no_start = tt; sound = λ before so. so }
 idle-note (Happening.Received message) idle =
-    record { datas = λ before. refl; asks = λ look running. refl; no_start = tt; wait = λ before so. so }
+    record { datas = λ before. refl; asks = λ look running. refl; no_start = tt; sound = λ before so. so }
 idle-note (Happening.Wrote characters) idle =
-    record { datas = λ before. refl; asks = λ look running. refl; no_start = tt; wait = λ before so. so }
+    record { datas = λ before. refl; asks = λ look running. refl; no_start = tt; sound = λ before so. so }
 idle-note (Happening.Comms state) idle =
-    record { datas = λ before. refl; asks = λ look running. refl; no_start = tt; wait = λ before so. so }
+    record { datas = λ before. refl; asks = λ look running. refl; no_start = tt; sound = λ before so. so }
 idle-note (Happening.Control state) idle =
-    record { datas = λ before. refl; asks = λ look running. refl; no_start = tt; wait = λ before so. so }
+    record { datas = λ before. refl; asks = λ look running. refl; no_start = tt; sound = λ before so. so }
 idle-note (Happening.Spool active) idle =
-    record { datas = λ before. refl; asks = λ look running. refl; no_start = tt; wait = λ before so. so }
+    record { datas = λ before. refl; asks = λ look running. refl; no_start = tt; sound = λ before so. so }
 idle-note (Happening.Set vid) idle =
-    record { datas = λ before. refl; asks = λ look running. refl; no_start = tt; wait = λ before so. so }
+    record { datas = λ before. refl; asks = λ look running. refl; no_start = tt; sound = λ before so. so }
 idle-note (Happening.Event ceid dataid) idle =
-    record { datas = λ before. refl; asks = λ look running. refl; no_start = tt; wait = λ before so. so }
+    record { datas = λ before. refl; asks = λ look running. refl; no_start = tt; sound = λ before so. so }
 idle-note (Happening.Alarm alid set) idle =
-    record { datas = λ before. refl; asks = λ look running. refl; no_start = tt; wait = λ before so. so }
+    record { datas = λ before. refl; asks = λ look running. refl; no_start = tt; sound = λ before so. so }
 idle-note (Happening.Carried rcmd) idle =
-    record { datas = λ before. refl; asks = λ look running. refl; no_start = tt; wait = λ before so. so }
+    record { datas = λ before. refl; asks = λ look running. refl; no_start = tt; sound = λ before so. so }
 idle-note (Happening.Display tid text) idle =
-    record { datas = λ before. refl; asks = λ look running. refl; no_start = tt; wait = λ before so. so }
+    record { datas = λ before. refl; asks = λ look running. refl; no_start = tt; sound = λ before so. so }
 idle-note Happening.Refused idle =
-    record { datas = λ before. refl; asks = λ look running. refl; no_start = tt; wait = λ before so. so }
-idle-note (Happening.Storing number message) idle =
-    record { datas = λ before. refl; asks = λ look running. refl; no_start = tt; wait = λ before so. so }
+    record { datas = λ before. refl; asks = λ look running. refl; no_start = tt; sound = λ before so. so }
+idle-note (Happening.Storing number message) idle = record {
+  datas = λ before. refl;
+  asks = λ look running. refl;
+  no_start = tt;
+  sound = λ before so. (so.0, (idle, so.1));
+}
 idle-note (Happening.Stored number) idle =
-    record { datas = λ before. refl; asks = λ look running. refl; no_start = tt; wait = λ before so. so }
+    record { datas = λ before. refl; asks = λ look running. refl; no_start = tt; sound = λ before so. so }
 idle-note (Happening.Leaving number cause) idle =
-    record { datas = λ before. refl; asks = λ look running. refl; no_start = tt; wait = λ before so. so }
+    record { datas = λ before. refl; asks = λ look running. refl; no_start = tt; sound = λ before so. so }
 idle-note (Happening.Gone number) idle =
-    record { datas = λ before. refl; asks = λ look running. refl; no_start = tt; wait = λ before so. so }
+    record { datas = λ before. refl; asks = λ look running. refl; no_start = tt; sound = λ before so. so }
 idle-note (Happening.Try number system) idle =
-    record { datas = λ before. refl; asks = λ look running. refl; no_start = tt; wait = λ before so. so }
+    record { datas = λ before. refl; asks = λ look running. refl; no_start = tt; sound = λ before so. so }
 idle-note (Happening.Duplicate header) idle =
-    record { datas = λ before. refl; asks = λ look running. refl; no_start = tt; wait = λ before so. so }
+    record { datas = λ before. refl; asks = λ look running. refl; no_start = tt; sound = λ before so. so }
 idle-note (Happening.Unexpected header) idle =
-    record { datas = λ before. refl; asks = λ look running. refl; no_start = tt; wait = λ before so. so }
+    record { datas = λ before. refl; asks = λ look running. refl; no_start = tt; sound = λ before so. so }
 idle-note (Happening.Foreign header) idle =
-    record { datas = λ before. refl; asks = λ look running. refl; no_start = tt; wait = λ before so. so }
+    record { datas = λ before. refl; asks = λ look running. refl; no_start = tt; sound = λ before so. so }
 idle-note (Happening.TooLongBlock header) idle =
-    record { datas = λ before. refl; asks = λ look running. refl; no_start = tt; wait = λ before so. so }
+    record { datas = λ before. refl; asks = λ look running. refl; no_start = tt; sound = λ before so. so }
 idle-note (Happening.Crowded header) idle =
-    record { datas = λ before. refl; asks = λ look running. refl; no_start = tt; wait = λ before so. so }
+    record { datas = λ before. refl; asks = λ look running. refl; no_start = tt; sound = λ before so. so }
 idle-note (Happening.DroppedByT4 header) idle =
-    record { datas = λ before. refl; asks = λ look running. refl; no_start = tt; wait = λ before so. so }
+    record { datas = λ before. refl; asks = λ look running. refl; no_start = tt; sound = λ before so. so }
 idle-note (Happening.Failed title) idle =
-    record { datas = λ before. refl; asks = λ look running. refl; no_start = tt; wait = λ before so. so }
+    record { datas = λ before. refl; asks = λ look running. refl; no_start = tt; sound = λ before so. so }
 idle-note (Happening.TimedOut title) idle =
-    record { datas = λ before. refl; asks = λ look running. refl; no_start = tt; wait = λ before so. so }
+    record { datas = λ before. refl; asks = λ look running. refl; no_start = tt; sound = λ before so. so }
 idle-note (Happening.Stranger title) idle =
-    record { datas = λ before. refl; asks = λ look running. refl; no_start = tt; wait = λ before so. so }
+    record { datas = λ before. refl; asks = λ look running. refl; no_start = tt; sound = λ before so. so }
 idle-note (Happening.Dropped name) idle =
-    record { datas = λ before. refl; asks = λ look running. refl; no_start = tt; wait = λ before so. so }
+    record { datas = λ before. refl; asks = λ look running. refl; no_start = tt; sound = λ before so. so }
 idle-note (Happening.Denied name) idle =
-    record { datas = λ before. refl; asks = λ look running. refl; no_start = tt; wait = λ before so. so }
+    record { datas = λ before. refl; asks = λ look running. refl; no_start = tt; sound = λ before so. so }
 idle-note (Happening.Discarded name) idle =
-    record { datas = λ before. refl; asks = λ look running. refl; no_start = tt; wait = λ before so. so }
+    record { datas = λ before. refl; asks = λ look running. refl; no_start = tt; sound = λ before so. so }
 idle-note (Happening.TooLong name) idle =
-    record { datas = λ before. refl; asks = λ look running. refl; no_start = tt; wait = λ before so. so }
+    record { datas = λ before. refl; asks = λ look running. refl; no_start = tt; sound = λ before so. so }
 idle-note (Happening.Full name) idle =
-    record { datas = λ before. refl; asks = λ look running. refl; no_start = tt; wait = λ before so. so }
+    record { datas = λ before. refl; asks = λ look running. refl; no_start = tt; sound = λ before so. so }
 idle-note Happening.StepEnded idle =
-    record { datas = λ before. refl; asks = λ look running. refl; no_start = tt; wait = λ before so. so }
+    record { datas = λ before. refl; asks = λ look running. refl; no_start = tt; sound = λ before so. so }
 
 pub no-starts-more : (notes more : List Happening) → AreNoStarts notes → AreNoStarts more → AreNoStarts (notes ++ more)
 no-starts-more [] more one two = two
@@ -132,10 +143,10 @@ module _ (before : List Happening) (look : Look) (running : List Running) where
     pub datas : datas_in (noted_behind notes before) ≡ sent
     pub asks : settings_in notes look running ≡ asked
     pub no_start : AreNoStarts notes
-    pub wait : HaveWait (noted_behind notes before)
+    pub sound : AreSound (noted_behind notes before)
 
-  pub reads-none : HaveWait before → Reads (datas_in before) [] []
-  reads-none have = record { datas = refl; asks = refl; no_start = tt; wait = have }
+  pub reads-none : AreSound before → Reads (datas_in before) [] []
+  reads-none sound = record { datas = refl; asks = refl; no_start = tt; sound = sound }
 
   asks-more : (notes : List Happening) (what : Happening)
       → settings_in (notes ++ what ∷ []) look running ≡ settings_in notes look running ++ setting_in look running what
@@ -155,7 +166,7 @@ module _ (before : List Happening) (look : Look) (running : List Running) where
         ∙ ap (λ (l : List TraceEntry). settings_in notes look running ++ l) (idle.asks look running)
         ∙ append-nil (settings_in notes look running) ∙ so.asks;
     no_start = no-starts-more notes (what ∷ []) so.no_start (idle.no_start, tt);
-    wait = subst HaveWait (sym (one-behind notes what before)) (idle.wait (noted_behind notes before) so.wait);
+    sound = subst AreSound (sym (one-behind notes what before)) (idle.sound (noted_behind notes before) so.sound);
   }
 
   -- what the host has asked for
@@ -170,7 +181,7 @@ module _ (before : List Happening) (look : Look) (running : List Running) where
         ∙ ap
         (λ (l : List TraceEntry). l ++ setting_in look running (Happening.Recorded (Past.Asked message))) so.asks;
     no_start = no-starts-more notes (Happening.Recorded (Past.Asked message) ∷ []) so.no_start (tt, tt);
-    wait = subst HaveWait (sym (one-behind notes (Happening.Recorded (Past.Asked message)) before)) so.wait;
+    sound = subst AreSound (sym (one-behind notes (Happening.Recorded (Past.Asked message)) before)) so.sound;
   }
 
   -- an S6F1
@@ -198,8 +209,9 @@ module _ (before : List Happening) (look : Look) (running : List Running) where
           asks =
               asks-more notes (Happening.Sent message) ∙ append-nil (settings_in notes look running) ∙ so.asks;
           no_start = no-starts-more notes (Happening.Sent message ∷ []) so.no_start (tt, tt);
-          wait =
-              subst HaveWait (sym (one-behind notes (Happening.Sent message) before)) ((λ one_is. waits), so.wait);
+          sound =
+              subst AreSound (sym (one-behind notes (Happening.Sent message) before))
+              (((λ one_is. waits), so.sound.0), so.sound.1);
         };
         few = λ body. let e = counted (bytes_eq body) message.body sent in omega (arith, e);
       }
@@ -215,8 +227,9 @@ module _ (before : List Happening) (look : Look) (running : List Running) where
           asks =
               asks-more notes (Happening.Sent message) ∙ append-nil (settings_in notes look running) ∙ so.asks;
           no_start = no-starts-more notes (Happening.Sent message ∷ []) so.no_start (tt, tt);
-          wait =
-              subst HaveWait (sym (one-behind notes (Happening.Sent message) before)) ((λ one_is. waits), so.wait);
+          sound =
+              subst AreSound (sym (one-behind notes (Happening.Sent message) before))
+              (((λ one_is. waits), so.sound.0), so.sound.1);
         };
         few = λ body. omega (arith);
       }
@@ -284,13 +297,13 @@ datas-grow body (what ∷ rest) before none =
     one_more (Happening.Full name) past none = same (datas_in past)
     one_more Happening.StepEnded past none = same (datas_in past)
 
--- those before have it as well
-pub waits-before : (rest before : List Happening) → HaveWait (noted_behind rest before) → HaveWait before
-waits-before [] before so = so
-waits-before (what ∷ rest) before so = one_less what before (waits-before rest (what ∷ before) so)
+-- so is what is said of those before
+pub sound-before : (rest before : List Happening) → AreSound (noted_behind rest before) → AreSound before
+sound-before [] before so = so
+sound-before (what ∷ rest) before so = one_less what before (sound-before rest (what ∷ before) so)
   where
-    one_less : (what : Happening) (past : List Happening) → HaveWait (what ∷ past) → HaveWait past
-    one_less (Happening.Sent message) past so = so.1
+    one_less : (what : Happening) (past : List Happening) → AreSound (what ∷ past) → AreSound past
+    one_less (Happening.Sent message) past so = (so.0.1, so.1)
     one_less Happening.HostStarted past so = so
     one_less Happening.Power past so = so
     one_less Happening.Closed past so = so
@@ -305,7 +318,7 @@ waits-before (what ∷ rest) before so = one_less what before (waits-before rest
     one_less (Happening.Carried rcmd) past so = so
     one_less (Happening.Display tid text) past so = so
     one_less Happening.Refused past so = so
-    one_less (Happening.Storing number message) past so = so
+    one_less (Happening.Storing number message) past so = (so.0, so.1.1)
     one_less (Happening.Stored number) past so = so
     one_less (Happening.Leaving number cause) past so = so
     one_less (Happening.Gone number) past so = so

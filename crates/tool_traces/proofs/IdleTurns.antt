@@ -49,6 +49,7 @@ use Rattle.tool_step.specs.States as states
 use Rattle.tool_reports.proofs.PlainTurns.{at-most, count_waiting, fewer-without}
 use Rattle.tool_traces.proofs.IdleCommands.{AreIdle, AreIdleDuties, IsIdleCommand, IsOther, both-duties, both-idle}
 use Rattle.tool_traces.proofs.IdleNotes.{IsIdleNote}
+use Rattle.tool_traces.proofs.Spoolable.{AllCanBeSpooled, CanBeSpooled, all-can}
 
 -- the same traces run, and no more S6F1 wait
 pub record KeepsTraces (own other : OwnView) : Type 0 where
@@ -127,20 +128,20 @@ both-lines [] second one two = two
 both-lines (what ∷ first) second one two = (one.0, both-lines first second one.1 two)
 
 stored-lines :
-    (found : Room) (overwriting : Bool) (message : Spooled) (v : LedgerView)
+    (found : Room) (overwriting : Bool) (message : Spooled) (v : LedgerView) → CanBeSpooled message
     → IfSome (stored_by found overwriting message v) (λ (booked : Booked). AreIdleLines booked.lines)
-stored-lines room.Fits overwriting message v = (tt, (tt, tt))
-stored-lines room.Full true message v = (tt, (tt, (tt, (tt, tt))))
-stored-lines room.Full false message v = (tt, tt)
-stored-lines room.TooLong overwriting message v = (tt, tt)
-stored-lines room.NumbersSpent overwriting message v = tt
+stored-lines room.Fits overwriting message v can = (can, (tt, tt))
+stored-lines room.Full true message v can = (tt, (tt, (can, (tt, tt))))
+stored-lines room.Full false message v can = (tt, tt)
+stored-lines room.TooLong overwriting message v can = (tt, tt)
+stored-lines room.NumbersSpent overwriting message v can = tt
 
-stores-lines : (overwriting : Bool) (messages : List Spooled) (v : LedgerView)
+stores-lines : (overwriting : Bool) (messages : List Spooled) (v : LedgerView) → AllCanBeSpooled messages
     → AreIdleLines (stores_all overwriting messages v).lines
-stores-lines overwriting [] v = tt
-stores-lines overwriting (message ∷ messages) v =
-    go (stored overwriting message v) (stored-lines (room_for v (length message.body)) overwriting message v)
-    (λ next. stores-lines overwriting messages next)
+stores-lines overwriting [] v can = tt
+stores-lines overwriting (message ∷ messages) v can =
+    go (stored overwriting message v) (stored-lines (room_for v (length message.body)) overwriting message v can.0)
+    (λ next. stores-lines overwriting messages next can.1)
   where
     go : (found : Option Booked) → IfSome found (λ (booked : Booked). AreIdleLines booked.lines)
         → ((next : LedgerView) → AreIdleLines (stores_all overwriting messages next).lines)
@@ -195,10 +196,11 @@ booked-idle own booked are =
     fixed-idle own (with_ledger booked.next own) (lines_commands booked.lines)
     (kept own (with_ledger booked.next own) refl) (lines-idle booked.lines are)
 
-pub stored-idle : (message : Spooled) (own : OwnView) → IsIdleTurn own (stored_turn message own)
-stored-idle message own =
+pub stored-idle : (message : Spooled) → CanBeSpooled message → (own : OwnView)
+    → IsIdleTurn own (stored_turn message own)
+stored-idle message can own =
     go (stored (overwrites own.tables) message own.ledger)
-    (stored-lines (room_for own.ledger (length message.body)) (overwrites own.tables) message own.ledger)
+    (stored-lines (room_for own.ledger (length message.body)) (overwrites own.tables) message own.ledger can)
   where
     go : (found : Option Booked) → IfSome found (λ (booked : Booked). AreIdleLines booked.lines)
         → IsIdleTurn own
@@ -255,15 +257,16 @@ event-idle dataid body own e = go (nat_le (length body) 244)
 
 -- a report, however it is judged
 pub judged-idle :
-    (report : List ℕ → Spooled) (going : Spooled → ToolTurn) (text : Text) (own : OwnView)
+    (report : List ℕ → Spooled) → ((body : List ℕ) → CanBeSpooled (report body))
+    → (going : Spooled → ToolTurn) (text : Text) (own : OwnView)
     → ((body : List ℕ) → IsIdleTurn own (going (report body))) → IsIdleTurn own (judged_turn report going text own)
-judged-idle report going text own goes = go (is_online own)
+judged-idle report can going text own goes = go (is_online own)
   where
     made : (body : List ℕ) (spooled communicating : Bool)
         → IsIdleTurn own
         (if spooled then stored_turn (report body) own else if communicating then going (report body)
         else unreported_turn (spooled_name (report body)) own)
-    made body true communicating = stored-idle (report body) own
+    made body true communicating = stored-idle (report body) (can body) own
     made body false true = goes body
     made body false false = note-idle own own (Happening.Dropped (spooled_name (report body))) (itself own) tt
 
@@ -278,10 +281,11 @@ judged-idle report going text own goes = go (is_online own)
     go false = note-idle own own (Happening.Dropped (spooled_name (report []))) (itself own) tt
 
 pub report-idle :
-    (report : List ℕ → Spooled) → ((body : List ℕ) → IsOtherReport (report body)) → (text : Text) (own : OwnView)
-    (e : EndView Kind) → IsIdleTurn own (report_turn report text own e)
-report-idle report other text own e =
-    judged-idle report (λ (message : Spooled). sent.going_turn message own e) text own
+    (report : List ℕ → Spooled) → ((body : List ℕ) → IsOtherReport (report body))
+    → ((body : List ℕ) → CanBeSpooled (report body)) → (text : Text) (own : OwnView) (e : EndView Kind)
+    → IsIdleTurn own (report_turn report text own e)
+report-idle report other can text own e =
+    judged-idle report can (λ (message : Spooled). sent.going_turn message own e) text own
     (λ body. going-idle (report body) (other body) own e)
 
 error-commands : (function : ℕ) (header : Header) (own : OwnView) (e : EndView Kind)
@@ -456,7 +460,8 @@ parted-idle outcome spools activity failed own e are = record {
             (comms-lines own.comms.state outcome.next.state) (lines-idle activity.lines are))
             (stores-idle (stores_of spools outcome activity own e) (states.request_commands outcome.output own)
             (stores-lines (overwrites own.tables)
-            (filter_map (states.stored_of spools (left_of outcome activity own)) e.transactions.begun) activity.next)
+            (filter_map (states.stored_of spools (left_of outcome activity own)) e.transactions.begun) activity.next
+            (all-can spools (left_of outcome activity own) e.transactions.begun))
             (request-idle outcome.output own))),
         tt,
       );

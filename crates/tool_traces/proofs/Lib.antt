@@ -2,6 +2,8 @@ pub mod IdleCommands
 pub mod IdleMessages
 pub mod IdleNotes
 pub mod IdleTurns
+pub mod Spoolable
+pub mod StepParts
 pub mod TracedCourses
 pub mod TracedMessages
 pub mod TracedParts

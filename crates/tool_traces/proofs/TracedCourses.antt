@@ -5,7 +5,8 @@ use Rattle.std.proofs.lemmas.Slice.Eq.{bytes_eq-Decides}
 use Rattle.disk_base.specs.declared.cut.CutChoice.{CutChoice}
 use Rattle.gem_trace.specs.History.{Look, TraceEntry, bodies_at, traces_at}
 use Rattle.gem_trace.specs.History.TraceEntry.{Step as Sample}
-use Rattle.gem_trace.specs.Laws.{WhatRunsIsLookedBackFor}
+use Rattle.gem_trace.specs.Laws.{FewTracesRun, WhatRunsIsLookedBackFor}
+use Rattle.gem_trace.specs.Traces.{Running}
 use Rattle.secs_items.specs.declared.encode_fault.EncodeFault.{EncodeFault}
 use Rattle.secs_items.specs.declared.item.Item.{Item}
 use Rattle.secs_items.specs.Encoding.{encode_fault}
@@ -40,7 +41,7 @@ use Rattle.tool_law.specs.Sound.{AllCanBeSent}
 use Rattle.tool_law.proofs.Lawful.{fronts-are}
 use Rattle.tool_reports.specs.LookedBack.{HasWhatWasSet}
 use Rattle.tool_reports.specs.Reported.{IsTextOf, count_of, tables_in}
-use Rattle.tool_reports.specs.Sampled.{AreSampled, HaveWait, Stepped, datas_in, due_in, history_of, is_text_of, look_at_step}
+use Rattle.tool_reports.specs.Sampled.{AreSampled, Stepped, datas_in, due_in, history_of, is_text_of, look_at_step}
 use Rattle.tool_reports.proofs.PlainTurns.{count_waiting}
 use Rattle.tool_reports.proofs.QuietNotes.{counted, one, some-passes}
 use Rattle.tool_reports.proofs.QuietReports.{equal-bytes}
@@ -48,7 +49,7 @@ use Rattle.tool_reports.proofs.Reporting.{tables-so}
 use Rattle.tool_traces.specs.Laws.{TracesHold}
 use Rattle.tool_traces.specs.Steps.{stepped, steps_behind, steps_broken, steps_filled, steps_met, steps_started}
 use Rattle.tool_traces.proofs.IdleCommands.{IsOdd}
-use Rattle.tool_traces.proofs.IdleNotes.{AreNoStarts, datas-grow, reads-none, waits-before}
+use Rattle.tool_traces.proofs.IdleNotes.{AreNoStarts, AreSound, datas-grow, reads-none, sound-before}
 use Rattle.tool_traces.proofs.TracedMessages.{run}
 use Rattle.tool_traces.proofs.TracedParts.{AtEnd, AtFirst, AtSpent, all_due, first-keeps, last-keeps}
 use Rattle.tool_traces.proofs.TracedTurns.{count_items, counted-both}
@@ -70,11 +71,14 @@ rest-no-starts (what ∷ front) rest none = rest-no-starts front rest none.1
 -- ---- where it has come to
 
 module _ (plan : EquipmentPlan) where
-  -- the traces that run are those of the history; and no more S6F1 were sent, or wait, than were due
+  -- the traces that run are those of the history, 16 at most; each S6F1 that was due has had its turn; and no more were
+  -- sent, or wait, than were due
   pub record IsReachedSo (steps : List Stepped) (s : EquipmentView) (notes : List Happening) : Type 0 where
     pub runs : s.node.own.tracing.running ≡ traces_at (history_of plan steps)
+    pub most : length s.node.own.tracing.running ≤ 16
+    pub all : s.node.own.tracing.made ≡ []
     pub odd : IsOdd s.node.core.asked
-    pub wait : HaveWait notes
+    pub sound : AreSound notes
     pub few :
         (body : List ℕ)
         → count_of body (datas_in notes)
@@ -82,7 +86,7 @@ module _ (plan : EquipmentPlan) where
         ≤ count_items body (due_in plan steps)
 
   pub record AreFew (steps : List Stepped) (notes : List Happening) : Type 0 where
-    pub wait : HaveWait notes
+    pub sound : AreSound notes
     pub few : (body : List ℕ) → count_of body (datas_in notes) ≤ count_items body (due_in plan steps)
 
   abbrev IsCourseSo : List Stepped → Course EquipmentView → Type 0
@@ -92,11 +96,12 @@ module _ (plan : EquipmentPlan) where
   few-so : (steps : List Stepped) (s : EquipmentView) (notes : List Happening) → IsReachedSo steps s notes
       → AreFew steps notes
   few-so steps s notes so =
-      record { wait = so.wait; few = λ body. let all = so.few body in omega (arith, all) }
+      record { sound = so.sound; few = λ body. let all = so.few body in omega (arith, all) }
 
   -- ---- one step
 
-  module _ (looked : WhatRunsIsLookedBackFor) (steps : List Stepped) (notes : List Happening) (now : ℕ) where
+  module _ (looked : WhatRunsIsLookedBackFor) (bound : FewTracesRun) (steps : List Stepped) (notes : List Happening)
+      (now : ℕ) where
     abbrev look : Look
     look = look_at_step plan (stepped now notes [])
 
@@ -106,20 +111,23 @@ module _ (plan : EquipmentPlan) where
     abbrev due : List Item
     due = due_in plan steps
 
+    abbrev the_run : List Running
+    the_run = run notes look past (all_due notes look past due looked bound) looked bound
+
     abbrev WellEnds : FileStep → Type 0
-    WellEnds step = AtEnd notes look past due looked (node_step step)
+    WellEnds step = AtEnd notes look past due looked bound (node_step step)
 
     abbrev FewEnds : FileStep → Type 0
-    FewEnds step = AtSpent notes look past due looked (node_step step)
+    FewEnds step = AtSpent notes look past due looked bound (node_step step)
 
     at-start : (s : EquipmentView) → s.node.own.tables ≡ tables_in plan notes → IsReachedSo steps s notes
-        → AtFirst notes look past due looked (at_first s.node)
+        → AtFirst notes look past due looked bound (at_first s.node)
     at-start s tables so = record {
       so = record {
         sent = datas_in notes;
         asked = [];
-        reads = reads-none notes look (run notes look past (all_due notes look past due looked) looked) so.wait;
-        runs = record { none = refl; runs = so.runs };
+        reads = reads-none notes look the_run so.sound;
+        runs = record { none = refl; runs = so.runs; most = so.most };
         odd = so.odd;
         few = so.few;
       };
@@ -130,7 +138,7 @@ module _ (plan : EquipmentPlan) where
     none-sent s so = record {
       sent = datas_in notes;
       asked = [];
-      reads = reads-none notes look (run notes look past (all_due notes look past due looked) looked) so.wait;
+      reads = reads-none notes look the_run so.sound;
       few = λ body.
           let few = (few-so steps s notes so).few body in
           let more = counted-more (is_text_of body) (bodies_at past look) due in
@@ -138,7 +146,7 @@ module _ (plan : EquipmentPlan) where
     }
 
     with-file : (s : EquipmentView) (went : Went (Node OwnView Kind) Happening)
-        → OnEither (AtEnd notes look past due looked) (AtSpent notes look past due looked) went
+        → OnEither (AtEnd notes look past due looked bound) (AtSpent notes look past due looked bound) went
         → OnEither WellEnds FewEnds (went_with_file s went)
     with-file s (Goes step) at = at
     with-file s (Spent step) at = at
@@ -149,8 +157,14 @@ module _ (plan : EquipmentPlan) where
       where
         -- more numbers change nothing of that
         reserved_so : IsReachedSo steps (reserved s) notes
-        reserved_so =
-            record { runs = so.runs; odd = so.odd; wait = so.wait; few = so.few }
+        reserved_so = record {
+          runs = so.runs;
+          most = so.most;
+          all = so.all;
+          odd = so.odd;
+          sound = so.sound;
+          few = so.few;
+        }
 
         go : (needs spent : Bool)
             → OnEither WellEnds FewEnds
@@ -160,11 +174,11 @@ module _ (plan : EquipmentPlan) where
         go true true = none-sent s so
         go true false =
             with-file (reserved s) (after_parts Some (first_parts input now) (at_first (reserved s).node))
-            (first-keeps notes look past due looked input (at_first (reserved s).node)
+            (first-keeps notes look past due looked bound input (at_first (reserved s).node)
             (at-start (reserved s) tables reserved_so))
         go false spent =
             with-file s (after_parts Some (first_parts input now) (at_first s.node))
-            (first-keeps notes look past due looked input (at_first s.node) (at-start s tables so))
+            (first-keeps notes look past due looked bound input (at_first s.node) (at-start s tables so))
 
     act-keeps : (input : Input ToolCommand) (s : EquipmentView) → s.node.own.tables ≡ tables_in plan notes
         → IsReachedSo steps s notes → OnEither WellEnds FewEnds (act s input now)
@@ -176,7 +190,7 @@ module _ (plan : EquipmentPlan) where
         go (Goes step) at =
             with-file (settled step.next)
             (after_parts Some (last_parts (oldest_of (settled step.next)) now) (node_step (settled_step step)))
-            (last-keeps notes look past due looked (oldest_of (settled step.next)) now
+            (last-keeps notes look past due looked bound (oldest_of (settled step.next)) now
             (node_step (settled_step step))
             (record {
               sent = at.sent;
@@ -191,7 +205,7 @@ module _ (plan : EquipmentPlan) where
     few-behind : (step : FileStep) → FewEnds step → AreFew (stepped now notes step.notes ∷ steps)
         (noted_behind step.notes notes)
     few-behind step few = record {
-      wait = few.reads.wait;
+      sound = few.reads.sound;
       few = λ body.
           let all = few.few body in
           let same = ap (λ (sent : List (List ℕ)). count_of body sent) few.reads.datas in
@@ -202,10 +216,12 @@ module _ (plan : EquipmentPlan) where
         → IsReachedSo (stepped now notes step.notes ∷ steps) step.next (noted_behind step.notes notes)
     well-behind step at = record {
       runs =
-          at.runs
+          at.runs.runs
           ∙ ap (λ (asked : List TraceEntry). traces_at (past ++ Sample look ∷ asked)) (sym at.reads.asks);
+      most = at.runs.most;
+      all = at.runs.all;
       odd = at.odd;
-      wait = at.reads.wait;
+      sound = at.reads.sound;
       few = λ body.
           let all = at.few body in
           let same = ap (λ (sent : List (List ℕ)). count_of body sent) at.reads.datas in
@@ -239,7 +255,7 @@ module _ (plan : EquipmentPlan) where
         ap (λ (l : List Happening). noted_behind l notes) first.whole ∙ behind-both front first.rest notes in
         let none = rest-no-starts front first.rest (subst AreNoStarts first.whole few.reads.no_start) in
         record {
-          wait = waits-before first.rest (noted_behind front notes) (subst HaveWait whole few.reads.wait);
+          sound = sound-before first.rest (noted_behind front notes) (subst AreSound whole few.reads.sound);
           few = λ body.
               let all = (few-behind (step_in (begun_step s input now)) few).few body in
               let grow = datas-grow body first.rest (noted_behind front notes) none in
@@ -261,13 +277,20 @@ module _ (plan : EquipmentPlan) where
 
       go : (spent : Bool) → IsCourseSo (steps_started (went spent) steps) (went_on (went spent) notes)
       go true = few
-      go false = record { runs = refl; odd = tt; wait = few.wait; few = λ body. omega (arith) }
+      go false = record {
+        runs = refl;
+        most = omega (arith);
+        all = refl;
+        odd = tt;
+        sound = few.sound;
+        few = λ body. omega (arith);
+      }
 
   power-so : (steps : List Stepped) (notes : List Happening) → AreFew steps notes
       → AreFew steps (Happening.Power ∷ notes)
-  power-so steps notes so = record { wait = so.wait; few = so.few }
+  power-so steps notes so = record { sound = so.sound; few = so.few }
 
-  module _ (looked : WhatRunsIsLookedBackFor) where
+  module _ (looked : WhatRunsIsLookedBackFor) (bound : FewTracesRun) where
     broken-so :
         (input : Input ToolCommand) (now call : ℕ) (choice : CutChoice) (steps : List Stepped) (s : EquipmentView)
         (notes : List Happening) (found : Option (Loss EquipmentView)) → call_of call (losses s input now) ≡ found
@@ -281,7 +304,7 @@ module _ (plan : EquipmentPlan) where
         (loss.left choice).mark (stepped now notes loss.front ∷ steps)
         (Happening.Power ∷ noted_behind loss.front notes)
         (power-so (stepped now notes loss.front ∷ steps) (noted_behind loss.front notes)
-        (front-so looked steps notes now input s loss.front tables so
+        (front-so looked bound steps notes now input s loss.front tables so
         ((losses-counted s input now).1 loss (has-call call (losses s input now) loss is))))
 
     filled-so :
@@ -291,7 +314,7 @@ module _ (plan : EquipmentPlan) where
         → IsCourseSo (steps_filled now notes found steps) (filled_at s notes found)
     filled-so input now call steps s notes None is tables so = so
     filled-so input now call steps s notes (Some loss) is tables so =
-        front-so looked steps notes now input s loss.front tables so
+        front-so looked bound steps notes now input s loss.front tables so
         ((losses-counted s input now).1 loss (has-call call (losses s input now) loss is))
 
     meeting-so :
@@ -300,14 +323,15 @@ module _ (plan : EquipmentPlan) where
         → IsCourseSo (steps_behind meeting course steps) (with_meeting machine meeting course)
     meeting-so meeting steps (Stopped notes) tables so = so
     meeting-so (Acts input now) steps (Reached s notes) tables so =
-        step-so looked steps notes now (act s input now) (act-keeps looked steps notes now input s tables so)
+        step-so looked bound steps notes now (act s input now)
+        (act-keeps looked bound steps notes now input s tables so)
     meeting-so (Restarts now) steps (Reached s notes) tables so =
         started-so s.node.own.plan s.node.own.ledger.slots s.list s.mark steps notes
         (few-so steps s notes so)
     meeting-so (Writes characters) steps (Reached s notes) tables so =
-        record { runs = so.runs; odd = so.odd; wait = so.wait; few = so.few }
+        record { runs = so.runs; most = so.most; all = so.all; odd = so.odd; sound = so.sound; few = so.few }
     meeting-so LosesPower steps (Reached s notes) tables so =
-        record { runs = so.runs; odd = so.odd; wait = so.wait; few = so.few }
+        record { runs = so.runs; most = so.most; all = so.all; odd = so.odd; sound = so.sound; few = so.few }
     meeting-so (Breaks input now call choice) steps (Reached s notes) tables so =
         broken-so input now call choice steps s notes (call_of call (losses s input now)) refl tables so
     meeting-so (Fills input now call) steps (Reached s notes) tables so =
@@ -319,7 +343,14 @@ module _ (plan : EquipmentPlan) where
         → IsCourseSo (steps_met (started_on plan slots list mark) meetings)
         (course_of (started_on plan slots list mark) machine meetings)
     course-so fits tables slots list mark can [] =
-        record { runs = refl; odd = tt; wait = tt; few = λ body. omega (arith) }
+        record {
+          runs = refl;
+          most = omega (arith);
+          all = refl;
+          odd = tt;
+          sound = (tt, tt);
+          few = λ body. omega (arith);
+        }
     course-so fits tables slots list mark can (meeting ∷ meetings) =
         meeting-so meeting (steps_met (started_on plan slots list mark) meetings)
         (course_of (started_on plan slots list mark) machine meetings)
@@ -352,28 +383,32 @@ text-so item body is = go (encode_fault item) (bytes_eq body (shortest_spelling 
 sampled-so : (plan : EquipmentPlan) (steps : List Stepped) (notes : List Happening)
     → AreFew plan steps notes → AreSampled plan notes steps
 sampled-so plan steps notes so = record {
-  wait = so.wait;
+  wait = so.sound.0;
   each = λ body has.
       let some = has-counts body (datas_in notes) has in
       let most = so.few body in
       let found = some-passes (is_text_of body) (due_in plan steps) (omega (arith, some, most)) in
       record { item = found.0; due = found.1; text = text-so found.0 body found.2 };
   once = so.few;
+  spoolable = so.sound.1;
 }
 
 pub traces-so :
-    (plan : EquipmentPlan) → EquipmentPlanFits plan → TablesAreLookedBackFor → WhatRunsIsLookedBackFor → (slots : ℕ)
-    (list : List Kept) (mark : ℕ) → AllCanBeSent list → (meetings : List (Meeting ToolCommand))
+    (plan : EquipmentPlan) → EquipmentPlanFits plan → TablesAreLookedBackFor → WhatRunsIsLookedBackFor → FewTracesRun
+    → (slots : ℕ) (list : List Kept) (mark : ℕ) → AllCanBeSent list → (meetings : List (Meeting ToolCommand))
     → TracesHold plan (course_of (started_on plan slots list mark) machine meetings)
     (steps_met (started_on plan slots list mark) meetings)
-traces-so plan fits tables looked slots list mark can meetings =
+traces-so plan fits tables looked bound slots list mark can meetings =
     go (course_of (started_on plan slots list mark) machine meetings)
-    (course-so plan looked fits tables slots list mark can meetings)
+    (course-so plan looked bound fits tables slots list mark can meetings)
   where
     steps : List Stepped
     steps = steps_met (started_on plan slots list mark) meetings
 
     go : (course : Course EquipmentView) → IsCourseSo plan steps course → TracesHold plan course steps
     go (Reached s notes) so =
-        record { sampled = sampled-so plan steps notes (few-so plan steps s notes so); runs = so.runs }
-    go (Stopped notes) so = record { sampled = sampled-so plan steps notes so; runs = tt }
+        record {
+          sampled = sampled-so plan steps notes (few-so plan steps s notes so);
+          between = record { running = so.runs; most = so.most; made = so.all };
+        }
+    go (Stopped notes) so = record { sampled = sampled-so plan steps notes so; between = tt }

@@ -1,5 +1,5 @@
 -- What a step is given: the traces that run behind it are those of the history.
-use Rattle.std.proofs.Common.{◌≡◌, refl, sym, ap, subst, ◌∙◌, ◌&&◌, not, Bool, true, false, ℕ, List, [], ◌∷◌, ◌++◌, append_assoc, Option, Some, None, if◌then◌else◌}
+use Rattle.std.proofs.Common.{◌≡◌, refl, sym, ap, subst, ◌∙◌, ◌&&◌, ◌≤◌, not, Bool, true, false, ℕ, List, [], ◌∷◌, ◌++◌, append_assoc, length, Option, Some, None, if◌then◌else◌}
 use Rattle.std.specs.List.{cons_option}
 use Rattle.block_codec.specs.declared.header.Header.{Header}
 use Rattle.gem_shapes.specs.Answers.{code_item}
@@ -13,7 +13,7 @@ use Rattle.gem_trace.specs.declared.request.Tiaack.TheVariants as tiaack
 use Rattle.gem_trace.specs.declared.request.TraceRequest.{TraceRequest}
 use Rattle.gem_trace.specs.History.{Look, TraceEntry, traces_at}
 use Rattle.gem_trace.specs.History.TraceEntry.{Set, Step}
-use Rattle.gem_trace.specs.Laws.{WhatRunsIsLookedBackFor}
+use Rattle.gem_trace.specs.Laws.{FewTracesRun, WhatRunsIsLookedBackFor}
 use Rattle.gem_trace.specs.Settings.{tiaack_of}
 use Rattle.gem_trace.specs.Traces.{Running}
 use Rattle.gem_vars.specs.Tables.{VarsTable}
@@ -58,18 +58,23 @@ use Rattle.tool_traces.proofs.IdleTurns.{IsIdleTurn, answers-idle, comms-idle, c
 use Rattle.tool_traces.proofs.TracedTurns.{FewSent, Keeps, Traced, granted-keeps, idle-keeps, led-keeps}
 
 module _ (before : List Happening) (look : Look) (past : List TraceEntry) (due : List Item)
-    (looked : WhatRunsIsLookedBackFor) where
+    (looked : WhatRunsIsLookedBackFor) (bound : FewTracesRun) where
   -- the traces behind the samples of the step
   abbrev pub run : List Running
   run = traces_at (past ++ Step look ∷ [])
 
-  -- before the input nothing was asked for, and these run; and behind it, with what was
-  pub record Fresh (running : List Running) (asked : List TraceEntry) : Type 0 where
+  -- before the input nothing was asked for, and these run; each S6F1 that was due has had its turn
+  pub record Fresh (running : List Running) (made : List Item) (asked : List TraceEntry) : Type 0 where
     pub none : asked ≡ []
     pub runs : running ≡ run
+    pub most : length running ≤ 16
+    pub all : made ≡ []
 
-  abbrev pub Follows : List Running → List TraceEntry → Type 0
-  Follows running asked = running ≡ traces_at (past ++ Step look ∷ asked)
+  -- and behind it, with what was asked for
+  pub record Follows (running : List Running) (made : List Item) (asked : List TraceEntry) : Type 0 where
+    pub runs : running ≡ traces_at (past ++ Step look ∷ asked)
+    pub most : length running ≤ 16
+    pub all : made ≡ []
 
   abbrev pub IsFresh : OwnView → CoreStep → Type 0
   IsFresh own step = Traced before look run Fresh due own step
@@ -90,9 +95,13 @@ module _ (before : List Happening) (look : Look) (past : List TraceEntry) (due :
     sent = so.sent;
     asked = so.asked;
     reads = so.reads;
-    runs =
-        so.runs.runs
-        ∙ ap (λ (asked : List TraceEntry). traces_at (past ++ Step look ∷ asked)) (sym so.runs.none);
+    runs = record {
+      runs =
+          so.runs.runs
+          ∙ ap (λ (asked : List TraceEntry). traces_at (past ++ Step look ∷ asked)) (sym so.runs.none);
+      most = so.runs.most;
+      all = so.runs.all;
+    };
     odd = so.odd;
     few = so.few;
   }
@@ -119,6 +128,23 @@ module _ (before : List Happening) (look : Look) (past : List TraceEntry) (due :
   sets asked (tiaack.Unknown svid) is = refl
   sets asked tiaack.BadGroup is = refl
 
+  few-run : (asked : TraceRequest) (code : Tiaack) → code ≡ tiaack_of look.vars run asked → length run ≤ 16
+      → length (running_by code asked look.now run) ≤ 16
+  few-run asked tiaack.Done is most = bound.set look.vars run asked look.now most (sym is)
+  few-run asked tiaack.TooMany is most = most
+  few-run asked tiaack.NoMore is most = most
+  few-run asked tiaack.BadPeriod is most = most
+  few-run asked (tiaack.Unknown svid) is most = most
+  few-run asked tiaack.BadGroup is most = most
+
+  -- what runs then
+  runs-by : (asked : TraceRequest) (own : OwnView) → own.tables.vars ≡ look.vars → own.tracing.running ≡ run
+      → running_by (tiaack_in asked own) asked look.now own.tracing.running
+      ≡ running_by (tiaack_of look.vars run asked) asked look.now run
+  runs-by asked own vars is =
+      ap (λ (r : List Running). running_by (tiaack_of own.tables.vars r asked) asked look.now r) is
+      ∙ ap (λ (v : VarsTable). running_by (tiaack_of v run asked) asked look.now run) vars
+
   -- behind the note that it was asked for
   noted : (message : Message) (own : OwnView) (step : CoreStep) → (so : IsFresh own step)
       → Reads before look run so.sent (setting_in look run (Happening.Recorded (Past.Asked message)))
@@ -143,7 +169,7 @@ module _ (before : List Happening) (look : Look) (past : List TraceEntry) (due :
             (step.notes ++ Happening.Recorded (Past.Asked message) ∷ []))
             (ap (λ (f : Option Request). cons_option (setting_of f look run) []) is ∙ none)
             (noted message own step so);
-        runs = record { none = refl; runs = so.runs.runs };
+        runs = record { none = refl; runs = so.runs.runs; most = so.runs.most; all = so.runs.all };
         odd = so.odd;
         few = so.few;
       })
@@ -170,10 +196,14 @@ module _ (before : List Happening) (look : Look) (past : List TraceEntry) (due :
             (step.notes ++ Happening.Recorded (Past.Asked message) ∷ []))
             (ap (λ (f : Option Request). cons_option (setting_of f look run) []) is)
             (noted message own step so);
-        runs =
-            ap (λ (r : List Running). running_by (tiaack_of own.tables.vars r asked) asked look.now r) so.runs.runs
-            ∙ ap (λ (v : VarsTable). running_by (tiaack_of v run asked) asked look.now run) vars
-            ∙ sets asked (tiaack_of look.vars run asked) refl;
+        runs = record {
+          runs = runs-by asked own vars so.runs.runs ∙ sets asked (tiaack_of look.vars run asked) refl;
+          most =
+              subst (λ (r : List Running). length r ≤ 16) (sym (runs-by asked own vars so.runs.runs))
+              (few-run asked (tiaack_of look.vars run asked) refl
+              (subst (λ (r : List Running). length r ≤ 16) so.runs.runs so.runs.most));
+          all = so.runs.all;
+        };
         odd = so.odd;
         few = so.few;
       })

@@ -1,15 +1,14 @@
 -- The parts of a step: what is due, the samples, the input, and what comes behind the works of the disk.
-use Rattle.std.proofs.Common.{◌≡◌, refl, sym, ap, subst, ◌∙◌, arith, ◌&&◌, ◌||◌, not, nat_eq, Bool, true, false, ℕ, zero, suc, List, [], ◌∷◌, ◌++◌, append_assoc, append-nil, replicate, nat_le, length, Option, Some, None, if◌then◌else◌}
+use Rattle.std.proofs.Common.{◌≡◌, refl, sym, ap, subst, ◌∙◌, arith, ◌&&◌, ◌||◌, not, nat_eq, Bool, true, false, ℕ, zero, suc, List, [], ◌∷◌, ◌++◌, append_assoc, append-nil, replicate, length, Option, Some, None, if◌then◌else◌, ◌≤◌}
 use Rattle.std.specs.List.{list_any}
-use Rattle.std.specs.Option.{option_map}
 use Rattle.std.specs.Prelude.{is_some}
+use Rattle.std.proofs.lemmas.Cmp.{nat_eq_equiv}
 use Rattle.std.proofs.lemmas.List.Concat.{flat_map-append}
 use Rattle.block_codec.specs.declared.header.Header.{Header}
-use Rattle.gem_states.specs.declared.comms.CommsIn.{CommsIn}
 use Rattle.gem_states.specs.declared.comms.CommsIn.TheVariants as comms_in
 use Rattle.gem_trace.specs.History.{Look, TraceEntry, bodies_at, traces_at}
 use Rattle.gem_trace.specs.History.TraceEntry.{Step as Sample}
-use Rattle.gem_trace.specs.Laws.{WhatRunsIsLookedBackFor}
+use Rattle.gem_trace.specs.Laws.{FewTracesRun, WhatRunsIsLookedBackFor}
 use Rattle.gem_trace.specs.Traces.{Running, after_samples, bodies_due}
 use Rattle.gem_vars.specs.Tables.{VarsTable}
 use Rattle.message_flow.specs.declared.message.Message.{Message}
@@ -20,25 +19,21 @@ use Rattle.trace_log.specs.declared.commands.ToolCommand.{ToolCommand}
 use Rattle.trace_log.specs.Log.{Happening}
 use Rattle.trace_log.specs.Names.{Spooled}
 use Rattle.transact.specs.Numbers.{after_draw, next_number}
-use Rattle.transact.specs.Transactions.{primary_of as title_of_begun}
-use Rattle.message_end.specs.Calls.{answered_by, dropped_now, due_now, failed_at}
-use Rattle.message_end.specs.Core.{EndView, Step, Went, and_then, carried, carry, drawn_primary, draws, is_crowded_out, keeps_drawn, noted, primary_of, sends, unsent_name, waits, with_end}
+use Rattle.message_end.specs.Calls.{dropped_now, due_now, failed_at}
+use Rattle.message_end.specs.Core.{EndView, Went, and_then, carried, carry, drawn_primary, draws, is_crowded_out, keeps_drawn, noted, primary_of, sends, unsent_name, waits, with_end}
 use Rattle.message_end.specs.Core.Command.{Draw, DrawnPrimary, CloseStep, Offer, Tick}
-use Rattle.message_end.specs.Core.Went.{Goes, Spent}
 use Rattle.message_end.specs.Course.{noted_behind}
 use Rattle.message_end.specs.Duties.{all_done}
 use Rattle.message_end.specs.Ends.{Input}
-use Rattle.message_end.specs.Parts.{Node, after_parts, after_turn, closes, core_after, core_step, fixed_turn, leads, went_with, with_own}
+use Rattle.message_end.specs.Parts.{after_parts, after_turn, closes, core_after, core_step, fixed_turn, leads}
 use Rattle.message_end.proofs.Parts.{OnEither, either-then}
 use Rattle.equipment_tables.specs.Tables.{TablesState, most_transmitted}
 use Rattle.spool_ledger.specs.Activity.{rested}
 use Rattle.spool_ledger.specs.Unloading.{after_next, next_number as next_of, taken_up}
 use Rattle.tool_step.specs.declared.kind.Kind.{Kind}
-use Rattle.tool_step.specs.declared.kind.Kind.TheVariants as kind
-use Rattle.tool_step.specs.Own.{OwnView, ToolPart, ToolTurn, is_communicating, is_online, quiet_turn, with_ledger, with_tried}
-use Rattle.tool_step.specs.Replies.{block_timer, given_up_by_t4, loss_turn, reply_timer, timeout_turn}
-use Rattle.tool_step.specs.Reports.{unreported_turn}
-use Rattle.tool_step.specs.Sampling.{first_turn, data_inquiry_turn, made_part, sample_parts, sampled_text_turn, sampling, trace_data_turn, trace_grant_turn, trace_name, trace_sent_turn, with_data_inquiry, with_made}
+use Rattle.tool_step.specs.Own.{OwnView, ToolPart, ToolTurn, is_communicating, quiet_turn, with_ledger, with_tried}
+use Rattle.tool_step.specs.Replies.{block_timer, reply_timer}
+use Rattle.tool_step.specs.Sampling.{made_part, sample_parts, sampling}
 use Rattle.tool_step.specs.Sent as sent
 use Rattle.tool_step.specs.Spooling.{dataid_in, end_of_spooling, inquiry_turn, needs_grant, sent_turn, stopped_turn, taking_turn, tried_turn, unload_part, unloaded, unloaded_own, unloading_turn, waiting_text}
 use Rattle.tool_step.specs.States as states
@@ -47,14 +42,15 @@ use Rattle.equipment_tables.specs.declared.answers.Answer.{Answer as Text}
 use Rattle.equipment_tables.specs.declared.answers.Answer.TheVariants as answer
 use Rattle.tool_law.proofs.CoreSteps.{CoreStep}
 use Rattle.tool_reports.specs.Reported.{is_of, tries_in}
-use Rattle.tool_reports.specs.Sampled.{HaveWait, datas_in, is_data, is_text_of, setting_in, settings_in}
+use Rattle.tool_reports.specs.Sampled.{datas_in, is_data, is_text_of, setting_in, settings_in}
 use Rattle.tool_reports.proofs.QuietNotes.{one-behind}
 use Rattle.tool_traces.proofs.IdleCommands.{ReadsStep}
 use Rattle.tool_traces.proofs.IdleMessages.{after-idle, block-timer-idle, reply-timer-idle}
-use Rattle.tool_traces.proofs.IdleNotes.{Reads, idle-note, no-starts-more, reads-idle}
+use Rattle.tool_traces.proofs.IdleNotes.{AreSound, Reads, idle-note, no-starts-more, reads-idle}
 use Rattle.tool_traces.proofs.IdleTurns.{IsIdleTurn, KeepsTraces, booked-idle, comms-idle, fixed-idle, itself, kept, leaving-idle, led-idle, nothing-idle, rested-lines}
 use Rattle.tool_traces.proofs.TracedMessages.{Follows, Fresh, input-takes, run}
 use Rattle.tool_traces.proofs.TracedTurns.{FewSent, Keeps, Traced, counted-both, few-of, idle-keeps, made-keeps, sampled-so, still}
+use Rattle.tool_traces.proofs.StepParts.{AllKeep, NodeStep, as-node, begin-tables, both-keep, by-t4-tables, counted-then, failed-tables, made-tables, many-keep, parts-then, timeout-tables}
 
 -- with these system bytes a message of the spool has gone out
 abbrev has_tried : ℕ → List ℕ → Bool
@@ -62,162 +58,30 @@ has_tried system tries = list_any (nat_eq system) tries
 
 -- as when it was tried last
 first-tried : (system : ℕ) (tries : List ℕ) → has_tried system (system ∷ tries) ≡ true
-first-tried system tries = go (nat_eq system system) refl
-  where
-    go : (b : Bool) → nat_eq system system ≡ b → list_any (nat_eq system) (system ∷ tries) ≡ true
-    go b is = grind (arith, is)
-
-abbrev pub NodeStep : Type 0
-NodeStep = Step (Node OwnView Kind) Happening
-
--- ---- tables that stay
-
-leaving-tables : (input : CommsIn) (failed : Option Header) (now : ℕ) (own : OwnView) (e : EndView Kind)
-    → (states.end_of_talk input failed now own e).own.tables ≡ own.tables
-leaving-tables input failed now own e =
-    go (states.is_same_comms own.comms.state (states.comms_outcome input now own).next.state)
-  where
-    go : (same : Bool)
-        → (if same then quiet_turn own
-        else states.parted_turn (states.comms_outcome input now own)
-        (states.begins_spooling own.comms.state (states.comms_outcome input now own).next.state)
-        (states.activity_of (states.comms_outcome input now own) own) failed own e).own.tables
-        ≡ own.tables
-    go true = refl
-    go false = refl
-
-loss-tables : (now : ℕ) (lost : Kind) (system : ℕ) (own : OwnView) (e : EndView Kind)
-    → (loss_turn now lost system own e).own.tables ≡ own.tables
-loss-tables now kind.Establish system own e = leaving-tables comms_in.Denied None now own e
-loss-tables now kind.Attempt system own e = refl
-loss-tables now kind.Grant system own e = refl
-loss-tables now kind.Report system own e = refl
-loss-tables now kind.Unload system own e = refl
-loss-tables now kind.UnloadGrant system own e = refl
-loss-tables now kind.Trace system own e = refl
-loss-tables now kind.TraceGrant system own e = refl
-
-timeout-tables : (now : ℕ) (found : Option (Header × Kind)) (own : OwnView) (e : EndView Kind)
-    → (timeout_turn now found own e).own.tables ≡ own.tables
-timeout-tables now None own e = refl
-timeout-tables now (Some primary) own e = loss-tables now primary.1 primary.0.system own e
-
-by-t4-tables : (now : ℕ) (found : Option Header) (own : OwnView) (e : EndView Kind)
-    → (given_up_by_t4 now found own e).own.tables ≡ own.tables
-by-t4-tables now None own e = refl
-by-t4-tables now (Some header) own e =
-    timeout-tables now (option_map title_of_begun (answered_by e header)) own _
-
-failed-tables : (now : ℕ) (failed : Option Header) (own : OwnView) (e : EndView Kind)
-    → (failed_turn now failed own e).own.tables ≡ own.tables
-failed-tables now None own e = refl
-failed-tables now (Some header) own e = leaving-tables comms_in.SendFailed (Some header) now own e
-
-begin-tables : (now : ℕ) (own : OwnView) (e : EndView Kind) → (beginning now own e).own.tables ≡ own.tables
-begin-tables now own e = go (own.has_begun || not own.plan.enable)
-  where
-    go : (over : Bool)
-        → (if over then quiet_turn (begun own) else states.comms_turn comms_in.Enable now (begun own)).own.tables
-        ≡ own.tables
-    go true = refl
-    go false = refl
-
-inquired-tables : (asked : Text) (body : List ℕ) (own : OwnView) (e : EndView Kind)
-    → (data_inquiry_turn asked body own e).own.tables ≡ own.tables
-inquired-tables answer.TooLong body own e = refl
-inquired-tables (answer.Body text) body own e = go (is_crowded_out true e) (next_number e.numbers)
-  where
-    go : (crowded : Bool) (next : Option ℕ)
-        → (if crowded then own else with_data_inquiry next body own).tables ≡ own.tables
-    go true next = refl
-    go false None = refl
-    go false (Some system) = refl
-
-made-tables : (made : List Item) (own : OwnView) (e : EndView Kind)
-    → (first_turn made own e).own.tables ≡ own.tables
-made-tables [] own e = refl
-made-tables (item ∷ items) own e = go (is_online own) (sent.text_of own item)
-  where
-    goes : (body : List ℕ) (alone : Bool)
-        → (if alone then trace_sent_turn body (with_made items own)
-        else trace_grant_turn body (with_made items own) e).own.tables
-        ≡ own.tables
-    goes body true = refl
-    goes body false =
-        inquired-tables
-        (sent.text_of (with_made items own) (sent.grant_item (dataid_in body) (length body))) body
-        (with_made items own) e
-
-    by : (text : Text) → (sampled_text_turn text (with_made items own) e).own.tables ≡ own.tables
-    by answer.TooLong = refl
-    by (answer.Body body) = communicating (is_communicating own)
-      where
-        communicating : (is : Bool)
-            → (if is then trace_data_turn body (with_made items own) e
-            else unreported_turn trace_name (with_made items own)).own.tables
-            ≡ own.tables
-        communicating true = goes body (nat_le (length body) 244)
-        communicating false = refl
-
-    go : (online : Bool) (text : Text)
-        → (if online then sampled_text_turn text (with_made items own) e
-        else unreported_turn trace_name (with_made items own)).own.tables
-        ≡ own.tables
-    go true text = by text
-    go false text = refl
-
--- ---- parts in their order
-
--- each of these keeps it, unless the numbers are spent
-abbrev pub AllKeep : (P Q : NodeStep → Type 0) → List ToolPart → Type 0
-AllKeep P Q [] = Unit {0}
-AllKeep P Q (part ∷ parts) =
-    ((step : NodeStep) → P step → OnEither P Q (after_turn Some (part step.next.own step.next.core) step))
-    × AllKeep P Q parts
-
-both-keep : (P Q : NodeStep → Type 0) (first second : List ToolPart) → AllKeep P Q first → AllKeep P Q second
-    → AllKeep P Q (first ++ second)
-both-keep P Q [] second one two = two
-both-keep P Q (part ∷ first) second one two = (one.0, both-keep P Q first second one.1 two)
-
-many-keep : (P Q : NodeStep → Type 0) (n : ℕ) (part : ToolPart)
-    → ((step : NodeStep) → P step → OnEither P Q (after_turn Some (part step.next.own step.next.core) step))
-    → AllKeep P Q (replicate n part)
-many-keep P Q zero part one = tt
-many-keep P Q (suc n) part one = (one, many-keep P Q n part one)
-
-parts-then : (P Q R : NodeStep → Type 0) (parts rest : List ToolPart) → AllKeep P Q parts → (step : NodeStep)
-    → P step → ((last : NodeStep) → P last → OnEither R Q (after_parts Some rest last))
-    → OnEither R Q (after_parts Some (parts ++ rest) step)
-parts-then P Q R [] rest all step so more = more step so
-parts-then P Q R (part ∷ parts) rest all step so more =
-    either-then P Q R (after_turn Some (part step.next.own step.next.core) step) (after_parts Some (parts ++ rest))
-    (all.0 step so) (λ next at. parts-then P Q R parts rest all.1 next at more)
-
--- what a turn does of the core, as one of the end
-as-node : (turn : ToolTurn) (step : NodeStep) (P Q : NodeStep → Type 0) (C D : CoreStep → Type 0)
-    → OnEither C D (all_done Some turn.duties (core_step step))
-    → ((next : NodeStep) → next.next.own ≡ turn.own → C (core_step next) → P next)
-    → ((next : NodeStep) → D (core_step next) → Q next) → OnEither P Q (after_turn Some turn step)
-as-node turn step P Q C D is goes spent = go (all_done Some turn.duties (core_step step)) is
-  where
-    go : (went : Went (EndView Kind) Happening) → OnEither C D went → OnEither P Q (went_with turn.own went)
-    go (Goes next) at = goes (with_own turn.own next) refl at
-    go (Spent next) at = spent (with_own turn.own next) at
+first-tried system tries =
+    ap (λ (b : Bool). b || list_any (nat_eq system) tries) (nat_eq_equiv.refl system)
 
 module _ (before : List Happening) (look : Look) (past : List TraceEntry) (due : List Item)
-    (looked : WhatRunsIsLookedBackFor) where
+    (looked : WhatRunsIsLookedBackFor) (bound : FewTracesRun) where
   -- ---- before the samples
 
-  pub record Older (running : List Running) (asked : List TraceEntry) : Type 0 where
+  pub record Older (running : List Running) (made : List Item) (asked : List TraceEntry) : Type 0 where
     pub none : asked ≡ []
     pub runs : running ≡ traces_at past
+    pub most : length running ≤ 16
+
+  -- behind them, while so many S6F1 at most have had no turn
+  record Sampled (n : ℕ) (running : List Running) (made : List Item) (asked : List TraceEntry) : Type 0 where
+    none : asked ≡ []
+    runs : running ≡ traces_at (past ++ Sample look ∷ [])
+    most : length running ≤ 16
+    left : length made ≤ n
 
   abbrev pub all_due : List Item
   all_due = bodies_at past look ++ due
 
   abbrev the_run : List Running
-  the_run = run before look past all_due looked
+  the_run = run before look past all_due looked bound
 
   abbrev IsFew : List Item → NodeStep → Type 0
   IsFew items step = FewSent before look the_run items (core_step step)
@@ -226,13 +90,18 @@ module _ (before : List Happening) (look : Look) (past : List TraceEntry) (due :
     pub so : Traced before look the_run Older due step.next.own (core_step step)
     pub vars : step.next.own.tables.vars ≡ look.vars
 
+  record AtSampled (n : ℕ) (step : NodeStep) : Type 0 where
+    so : Traced before look the_run (Sampled n) all_due step.next.own (core_step step)
+    vars : step.next.own.tables.vars ≡ look.vars
+
   pub record AtInput (step : NodeStep) : Type 0 where
-    pub so : Traced before look the_run (Fresh before look past all_due looked) all_due step.next.own (core_step step)
+    pub so :
+        Traced before look the_run (Fresh before look past all_due looked bound) all_due step.next.own (core_step step)
     pub vars : step.next.own.tables.vars ≡ look.vars
 
   abbrev pub AtEnd : NodeStep → Type 0
   AtEnd step =
-      Traced before look the_run (Follows before look past all_due looked) all_due step.next.own (core_step step)
+      Traced before look the_run (Follows before look past all_due looked bound) all_due step.next.own (core_step step)
 
   -- what was sent up to a place of the step
   abbrev pub AtSpent : NodeStep → Type 0
@@ -315,43 +184,83 @@ module _ (before : List Happening) (look : Look) (past : List TraceEntry) (due :
   -- ---- the samples
 
   sampling-keeps : (step : NodeStep) → AtFirst step
-      → OnEither AtInput AtSpent (after_turn Some (sampling look.now step.next.own step.next.core) step)
+      → OnEither (AtSampled 16) AtSpent (after_turn Some (sampling look.now step.next.own step.next.core) step)
   sampling-keeps step at = record {
     so =
-        sampled-so before look the_run Older (Fresh before look past all_due looked) due (bodies_at past look)
-        step.next.own (sampling look.now step.next.own step.next.core).own (core_step step) at.so refl
+        sampled-so before look the_run Older (Sampled 16) due (bodies_at past look) step.next.own
+        (sampling look.now step.next.own step.next.core).own (core_step step) at.so refl
         (ap (λ (r : List Running). bodies_due step.next.own.tables.vars look.now r) at.so.runs.runs
         ∙ ap (λ (v : VarsTable). bodies_due v look.now (traces_at past)) at.vars
         ∙ looked.bodies (traces_at past) past look refl)
-        (λ asked older. record {
+        (λ asked older.
+        let left = bound.left step.next.own.tables.vars look.now step.next.own.tracing.running in
+        let bodies = bound.bodies step.next.own.tables.vars look.now step.next.own.tracing.running in
+        let most = older.most in
+        record {
           none = older.none;
           runs =
               ap (λ (r : List Running). after_samples step.next.own.tables.vars look.now r) older.runs
               ∙ ap (λ (v : VarsTable). after_samples v look.now (traces_at past)) at.vars
               ∙ looked.next (traces_at past) past (Sample look) refl;
+          most = omega (arith, left, most);
+          left = omega (arith, bodies, most);
         });
     vars = at.vars;
   }
 
-  made-part-keeps : (step : NodeStep) → AtInput step
-      → OnEither AtInput AtSpent (after_turn Some (made_part step.next.own step.next.core) step)
-  made-part-keeps step at =
-      as-node (made_part step.next.own step.next.core) step AtInput AtSpent
-      (Traced before look the_run (Fresh before look past all_due looked) all_due
-      (made_part step.next.own step.next.core).own) (FewSent before look the_run all_due)
-      (made-keeps before look the_run (Fresh before look past all_due looked) all_due step.next.own step.next.core
-      (core_step step) at.so)
+  made-part-keeps : (n : ℕ) (step : NodeStep) → AtSampled (suc n) step
+      → OnEither (AtSampled n) AtSpent (after_turn Some (made_part step.next.own step.next.core) step)
+  made-part-keeps n step at =
+      as-node (made_part step.next.own step.next.core) step (AtSampled n) AtSpent
+      (Traced before look the_run (Sampled n) all_due (made_part step.next.own step.next.core).own)
+      (FewSent before look the_run all_due)
+      (made-keeps before look the_run (Sampled (suc n)) (Sampled n) all_due one-less none-left step.next.own
+      step.next.core (core_step step) at.so)
       (λ next same so. record {
         so =
-            subst
-            (λ (own : OwnView). Traced before look the_run (Fresh before look past all_due looked) all_due own
-            (core_step next)) (sym same) so;
+            subst (λ (own : OwnView). Traced before look the_run (Sampled n) all_due own (core_step next)) (sym same)
+            so;
         vars =
             ap (λ (own : OwnView). own.tables.vars) same
             ∙ ap (λ (t : TablesState). t.vars) (made-tables step.next.own.tracing.made step.next.own step.next.core)
             ∙ at.vars;
       })
       (λ next few. few)
+    where
+      one-less : (running : List Running) (item : Item) (items : List Item) (asked : List TraceEntry)
+          → Sampled (suc n) running (item ∷ items) asked → Sampled n running items asked
+      one-less running item items asked so =
+          let left = so.left in
+          record { none = so.none; runs = so.runs; most = so.most; left = omega (arith, left) }
+
+      none-left : (running : List Running) (asked : List TraceEntry)
+          → Sampled (suc n) running [] asked → Sampled n running [] asked
+      none-left running asked so =
+          record { none = so.none; runs = so.runs; most = so.most; left = omega (arith) }
+
+  no-items : (made : List Item) → length made ≤ 0 → made ≡ []
+  no-items [] none = refl
+  no-items (item ∷ made) none = absurd (omega (arith, none))
+
+  -- each has had its turn
+  all-made : (step : NodeStep) → AtSampled zero step → AtInput step
+  all-made step at = record {
+    so =
+        record {
+          sent = at.so.sent;
+          asked = at.so.asked;
+          reads = at.so.reads;
+          runs = record {
+            none = at.so.runs.none;
+            runs = at.so.runs.runs;
+            most = at.so.runs.most;
+            all = no-items step.next.own.tracing.made at.so.runs.left;
+          };
+          odd = at.so.odd;
+          few = at.so.few;
+        };
+    vars = at.vars;
+  }
 
   -- ---- what the step is given
 
@@ -359,12 +268,13 @@ module _ (before : List Happening) (look : Look) (past : List TraceEntry) (due :
       → OnEither AtEnd AtSpent (after_turn Some (input_part input look.now step.next.own step.next.core) step)
   input-keeps input step at =
       as-node (input_part input look.now step.next.own step.next.core) step AtEnd AtSpent
-      (Traced before look the_run (Follows before look past all_due looked) all_due
+      (Traced before look the_run (Follows before look past all_due looked bound) all_due
       (input_part input look.now step.next.own step.next.core).own) (FewSent before look the_run all_due)
-      (input-takes before look past all_due looked input step.next.own step.next.core at.vars (core_step step) at.so)
+      (input-takes before look past all_due looked bound input step.next.own step.next.core at.vars (core_step step)
+      at.so)
       (λ next same so.
       subst
-      (λ (own : OwnView). Traced before look the_run (Follows before look past all_due looked) all_due own
+      (λ (own : OwnView). Traced before look the_run (Follows before look past all_due looked bound) all_due own
       (core_step next)) (sym same) so)
       (λ next few. few)
 
@@ -372,15 +282,15 @@ module _ (before : List Happening) (look : Look) (past : List TraceEntry) (due :
       → OnEither AtEnd AtSpent (after_parts Some (sample_parts look.now ++ input_part input look.now ∷ []) step)
   unfolding sample_parts
   behind-samples input step at =
-      either-then AtInput AtSpent AtEnd (after_turn Some (sampling look.now step.next.own step.next.core) step)
+      either-then (AtSampled 16) AtSpent AtEnd
+      (after_turn Some (sampling look.now step.next.own step.next.core) step)
       (after_parts Some (replicate 16 made_part ++ input_part input look.now ∷ [])) (sampling-keeps step at)
       (λ next sampled.
-      parts-then AtInput AtSpent AtEnd (replicate 16 made_part) (input_part input look.now ∷ [])
-      (many-keep AtInput AtSpent 16 made_part made-part-keeps) next sampled
+      counted-then AtSampled AtSpent AtEnd made_part (input_part input look.now ∷ []) made-part-keeps 16 next sampled
       (λ last given.
       either-then AtEnd AtSpent AtEnd
       (after_turn Some (input_part input look.now last.next.own last.next.core) last) (after_parts Some [])
-      (input-keeps input last given) (λ end at_end. at_end)))
+      (input-keeps input last (all-made last given)) (λ end at_end. at_end)))
 
   pub first-keeps : (input : Input ToolCommand) (step : NodeStep) → AtFirst step
       → OnEither AtEnd AtSpent (after_parts Some (first_parts input look.now) step)
@@ -402,18 +312,18 @@ module _ (before : List Happening) (look : Look) (past : List TraceEntry) (due :
 
   abbrev EndsWell : OwnView → Went (EndView Kind) Happening → Type 0
   EndsWell own went =
-      OnEither (Traced before look the_run (Follows before look past all_due looked) all_due own)
+      OnEither (Traced before look the_run (Follows before look past all_due looked bound) all_due own)
       (FewSent before look the_run all_due) went
 
   abbrev KeepsWell : OwnView → ToolTurn → Type 0
-  KeepsWell own turn = Keeps before look the_run (Follows before look past all_due looked) all_due own turn
+  KeepsWell own turn = Keeps before look the_run (Follows before look past all_due looked bound) all_due own turn
 
   abbrev IsWell : OwnView → CoreStep → Type 0
-  IsWell own step = Traced before look the_run (Follows before look past all_due looked) all_due own step
+  IsWell own step = Traced before look the_run (Follows before look past all_due looked bound) all_due own step
 
   idle-well : (own : OwnView) (turn : ToolTurn) → IsIdleTurn own turn → KeepsWell own turn
   idle-well own turn idle =
-      idle-keeps before look the_run (Follows before look past all_due looked) all_due own turn idle
+      idle-keeps before look the_run (Follows before look past all_due looked bound) all_due own turn idle
 
   last-part : (part : ToolPart) → ((own : OwnView) (e : EndView Kind) (step : CoreStep) → step.next ≡ e
       → IsWell own step → EndsWell (part own e).own (all_done Some (part own e).duties step)) → (step : NodeStep)
@@ -454,9 +364,9 @@ module _ (before : List Happening) (look : Look) (past : List TraceEntry) (due :
             flat_map-append (setting_in look the_run) notes (Happening.Sent out ∷ [])
             ∙ append-nil (settings_in notes look the_run) ∙ so.asks;
         no_start = no-starts-more notes (Happening.Sent out ∷ []) so.no_start (tt, tt);
-        wait =
-            subst HaveWait (sym (one-behind notes (Happening.Sent out) before))
-            ((λ one_is. let none = tried-none message system notes tried in absurd (cc)), so.wait);
+        sound =
+            subst AreSound (sym (one-behind notes (Happening.Sent out) before))
+            (((λ one_is. let none = tried-none message system notes tried in absurd (cc)), so.sound.0), so.sound.1);
       }
 
   -- it goes under the number that was drawn for it
@@ -484,7 +394,7 @@ module _ (before : List Happening) (look : Look) (past : List TraceEntry) (due :
 
       with_notes : (next : CoreStep) → ReadsStep before look the_run so.sent so.asked next → IsWell left next
       with_notes next reads =
-          still before look the_run (Follows before look past all_due looked) all_due own left step next
+          still before look the_run (Follows before look past all_due looked bound) all_due own left step next
           (keeps (is_crowded_out true e)) so reads
 
       go : (crowded : Bool)
@@ -532,13 +442,13 @@ module _ (before : List Happening) (look : Look) (past : List TraceEntry) (due :
       (and_then (and_then (draws drawn keeps_drawn step) (carried Some []))
       (all_done Some (tried_turn drawn number message own e).duties))
   taken-well number message own e step None so =
-      few-of before look the_run (Follows before look past all_due looked) all_due own step so
+      few-of before look the_run (Follows before look past all_due looked bound) all_due own step so
   taken-well number message own e step (Some system) so =
       out-well message system tried_own e (noted Some (Happening.Try number system) next) refl
       (ap (λ (notes : List Happening). has_tried system (tries_in notes))
       (one-behind step.notes (Happening.Try number system) before)
       ∙ first-tried system (tries_in (noted_behind step.notes before)))
-      (still before look the_run (Follows before look past all_due looked) all_due own tried_own step
+      (still before look the_run (Follows before look past all_due looked bound) all_due own tried_own step
       (noted Some (Happening.Try number system) next) (kept own tried_own refl) so (
         reads-idle before look the_run so.sent so.asked step.notes (Happening.Try number system)
             (idle-note (Happening.Try number system) tt) so.reads,
@@ -564,7 +474,7 @@ module _ (before : List Happening) (look : Look) (past : List TraceEntry) (due :
 
       held : IsWell on step
       held =
-          still before look the_run (Follows before look past all_due looked) all_due own on step step
+          still before look the_run (Follows before look past all_due looked bound) all_due own on step step
           (kept own on refl) so (so.reads, so.odd)
 
       go : (number : Option ℕ) (oldest : Option Spooled)
@@ -584,7 +494,7 @@ module _ (before : List Happening) (look : Look) (past : List TraceEntry) (due :
               waits
               (with_waiting step.next.outgoing (without_first (is_named true last) step.next.outgoing.waiting)) step in
               taken-well number message on (core_after Draw removed.next) removed (next_number removed.next.numbers)
-              (still before look the_run (Follows before look past all_due looked) all_due on on step removed
+              (still before look the_run (Follows before look past all_due looked bound) all_due on on step removed
               (itself on) held (held.reads, held.odd))
 
   -- ---- the last parts

@@ -70,13 +70,13 @@ module _ (before : List Happening) (look : Look) (run : List Running) (due : Lis
     pub few : (body : List ℕ) → count_of body sent ≤ count_items body due
 
 module _ (before : List Happening) (look : Look) (run : List Running)
-    (Runs : List Running → List TraceEntry → Type 0) (due : List Item) where
+    (Runs : List Running → List Item → List TraceEntry → Type 0) (due : List Item) where
   -- by this turn
   pub record Traced (own : OwnView) (step : CoreStep) : Type 0 where
     pub sent : List (List ℕ)
     pub asked : List TraceEntry
     pub reads : Reads before look run sent asked step.notes
-    pub runs : Runs own.tracing.running asked
+    pub runs : Runs own.tracing.running own.tracing.made asked
     pub odd : IsOdd step.next.asked
     pub few :
         (body : List ℕ)
@@ -104,7 +104,9 @@ module _ (before : List Happening) (look : Look) (run : List Running)
     sent = so.sent;
     asked = so.asked;
     reads = reads.0;
-    runs = subst (λ (r : List Running). Runs r so.asked) (sym keeps.running) so.runs;
+    runs =
+        subst (λ (made : List Item). Runs other.tracing.running made so.asked) (sym keeps.made)
+        (subst (λ (r : List Running). Runs r own.tracing.made so.asked) (sym keeps.running) so.runs);
     odd = reads.1;
     few = λ body.
         let all = so.few body in
@@ -137,11 +139,11 @@ module _ (before : List Happening) (look : Look) (run : List Running)
   -- ---- an S6F1 goes
 
   -- one with this text less waits, or is to be routed
-  record HasSpare (own : OwnView) (step : CoreStep) (text : List ℕ) : Type 0 where
+  pub record HasSpare (own : OwnView) (step : CoreStep) (text : List ℕ) : Type 0 where
     pub sent : List (List ℕ)
     pub asked : List TraceEntry
     pub reads : Reads before look run sent asked step.notes
-    pub runs : Runs own.tracing.running asked
+    pub runs : Runs own.tracing.running own.tracing.made asked
     pub odd : IsOdd step.next.asked
     pub few :
         (body : List ℕ)
@@ -247,7 +249,7 @@ module _ (before : List Happening) (look : Look) (run : List Running)
           inquired-keeps (sent.text_of own (sent.grant_item (dataid_in text) (length text))) text own e step spare
 
   -- one that a sample has brought
-  sampled-keeps :
+  pub sampled-keeps :
       (item : Item) (own : OwnView) (e : EndView Kind) (step : CoreStep)
       → ((text : List ℕ) → sent.text_of own item ≡ answer.Body text → HasSpare own step text) → Traced own step
       → Ends (sampled_turn item own e).own (all_done Some (sampled_turn item own e).duties step)
@@ -278,41 +280,6 @@ module _ (before : List Happening) (look : Look) (run : List Running)
           step)
       go true = with_text (sent.text_of own item) refl
       go false = noted-keeps (Happening.Dropped trace_name) tt
-
-  -- the first of those that are due
-  first-keeps : (made : List Item) (own : OwnView) (e : EndView Kind) (step : CoreStep) → own.tracing.made ≡ made
-      → Traced own step → Ends (first_turn made own e).own (all_done Some (first_turn made own e).duties step)
-  first-keeps [] own e step is so = so
-  first-keeps (item ∷ items) own e step is so =
-      sampled-keeps item (with_made items own) e step
-      (λ text spelled. record {
-        sent = so.sent;
-        asked = so.asked;
-        reads = so.reads;
-        runs = so.runs;
-        odd = so.odd;
-        few = λ body.
-            let all = so.few body in
-            let first = ap (λ (made : List Item). count_items body made) is in
-            let counts = counted (is_text_of body) item items in
-            let same = text-counts own.plan.line.max_body item text body spelled in
-            omega (arith, all, first, counts, same);
-      })
-      (record {
-        sent = so.sent;
-        asked = so.asked;
-        reads = so.reads;
-        runs = so.runs;
-        odd = so.odd;
-        few = λ body.
-            let all = so.few body in
-            let first = ap (λ (made : List Item). count_items body made) is in
-            let counts = counted (is_text_of body) item items in
-            omega (arith, all, first, counts);
-      })
-
-  pub made-keeps : (own : OwnView) (e : EndView Kind) → Keeps own (made_part own e)
-  made-keeps own e step so = first-keeps own.tracing.made own e step refl so
 
   -- ---- one that has waited goes
 
@@ -347,14 +314,76 @@ module _ (before : List Happening) (look : Look) (run : List Running)
                 omega (arith, all, left, found_one);
           })
 
+-- ---- each that is due has its turn
+
+module _ (before : List Happening) (look : Look) (run : List Running)
+    (Runs Later : List Running → List Item → List TraceEntry → Type 0) (due : List Item)
+    (less : (running : List Running) (item : Item) (items : List Item) (asked : List TraceEntry)
+    → Runs running (item ∷ items) asked → Later running items asked)
+    (none : (running : List Running) (asked : List TraceEntry) → Runs running [] asked → Later running [] asked) where
+  first-keeps : (made : List Item) (own : OwnView) (e : EndView Kind) (step : CoreStep) → own.tracing.made ≡ made
+      → Traced before look run Runs due own step
+      → Ends before look run Later due (first_turn made own e).own
+      (all_done Some (first_turn made own e).duties step)
+  first-keeps [] own e step is so = record {
+    sent = so.sent;
+    asked = so.asked;
+    reads = so.reads;
+    runs =
+        subst (λ (made : List Item). Later own.tracing.running made so.asked) (sym is)
+        (none own.tracing.running so.asked
+        (subst (λ (made : List Item). Runs own.tracing.running made so.asked) is so.runs));
+    odd = so.odd;
+    few = so.few;
+  }
+  first-keeps (item ∷ items) own e step is so =
+      sampled-keeps before look run Later due item (with_made items own) e step
+      (λ text spelled. record {
+        sent = so.sent;
+        asked = so.asked;
+        reads = so.reads;
+        runs = fewer;
+        odd = so.odd;
+        few = λ body.
+            let all = so.few body in
+            let first = ap (λ (made : List Item). count_items body made) is in
+            let counts = counted (is_text_of body) item items in
+            let same = text-counts own.plan.line.max_body item text body spelled in
+            omega (arith, all, first, counts, same);
+      })
+      (record {
+        sent = so.sent;
+        asked = so.asked;
+        reads = so.reads;
+        runs = fewer;
+        odd = so.odd;
+        few = λ body.
+            let all = so.few body in
+            let first = ap (λ (made : List Item). count_items body made) is in
+            let counts = counted (is_text_of body) item items in
+            omega (arith, all, first, counts);
+      })
+    where
+      fewer : Later own.tracing.running items so.asked
+      fewer =
+          less own.tracing.running item items so.asked
+          (subst (λ (made : List Item). Runs own.tracing.running made so.asked) is so.runs)
+
+  -- the first of those that are due
+  pub made-keeps : (own : OwnView) (e : EndView Kind) (step : CoreStep) → Traced before look run Runs due own step
+      → Ends before look run Later due (made_part own e).own (all_done Some (made_part own e).duties step)
+  made-keeps own e step so = first-keeps own.tracing.made own e step refl so
+
 -- ---- a sample
 
 -- the traces run on by their samples, and what these bring is due
 pub sampled-so :
-    (before : List Happening) (look : Look) (run : List Running) (Runs Later : List Running → List TraceEntry → Type 0)
-    (due more : List Item) (own other : OwnView) (step : CoreStep) → Traced before look run Runs due own step
+    (before : List Happening) (look : Look) (run : List Running)
+    (Runs Later : List Running → List Item → List TraceEntry → Type 0) (due more : List Item) (own other : OwnView)
+    (step : CoreStep) → Traced before look run Runs due own step
     → other.tracing.for_grant ≡ own.tracing.for_grant → other.tracing.made ≡ more
-    → ((asked : List TraceEntry) → Runs own.tracing.running asked → Later other.tracing.running asked)
+    → ((asked : List TraceEntry) → Runs own.tracing.running own.tracing.made asked
+    → Later other.tracing.running other.tracing.made asked)
     → Traced before look run Later (more ++ due) other step
 sampled-so before look run Runs Later due more own other step so waiting made runs = record {
   sent = so.sent;

@@ -1,5 +1,5 @@
 -- What holds of the trace data of the equipment whatever it meets.
-use Rattle.std.specs.Prelude.{◌≡◌, ℕ, List}
+use Rattle.std.specs.Prelude.{◌≡◌, ◌≤◌, ℕ, List, [], length}
 use Rattle.gem_trace.specs.History.{traces_at}
 use Rattle.spool_slots.specs.Slot.{Message}
 use Rattle.trace_log.specs.declared.commands.ToolCommand.{ToolCommand}
@@ -13,14 +13,20 @@ use Rattle.tool_law.specs.Sound.{AllCanBeSent}
 use Rattle.tool_reports.specs.Sampled.{AreSampled, Stepped, history_of}
 use Rattle.tool_traces.specs.Steps.{steps_met}
 
--- between two steps those traces run that are looked back for
-abbrev pub RunsWhatIsLookedBackFor : EquipmentPlan → Course EquipmentView → List Stepped → Type 0
-RunsWhatIsLookedBackFor plan (Reached s notes) steps = s.node.own.tracing.running ≡ traces_at (history_of plan steps)
-RunsWhatIsLookedBackFor plan (Stopped notes) steps = Unit {0}
+-- between two steps those traces run that are looked back for, 16 at most, and each S6F1 that was due has had its turn
+pub record IsBetweenSteps (plan : EquipmentPlan) (s : EquipmentView) (steps : List Stepped) : Type 0 where
+  pub running : s.node.own.tracing.running ≡ traces_at (history_of plan steps)
+  pub most : length s.node.own.tracing.running ≤ 16
+  pub made : s.node.own.tracing.made ≡ []
+
+-- where it goes on
+abbrev pub GoesOnBetweenSteps : EquipmentPlan → Course EquipmentView → List Stepped → Type 0
+GoesOnBetweenSteps plan (Reached s notes) steps = IsBetweenSteps plan s steps
+GoesOnBetweenSteps plan (Stopped notes) steps = Unit {0}
 
 pub record TracesHold (plan : EquipmentPlan) (course : Course EquipmentView) (steps : List Stepped) : Type 0 where
   pub sampled : AreSampled plan (notes_of course) steps
-  pub runs : RunsWhatIsLookedBackFor plan course steps
+  pub between : GoesOnBetweenSteps plan course steps
 
 -- whatever it meets over all its starts, at any moments, over a spool with whatever messages that can be sent (SEMI
 -- E30, trace data collection)
