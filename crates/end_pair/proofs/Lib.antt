@@ -6,6 +6,7 @@ pub mod Causes
 pub mod Doing
 pub mod EndedSteps
 pub mod Ending
+pub mod EndNoting
 pub mod Fallen
 pub mod FourWays
 pub mod Holding

@@ -1,279 +1,29 @@
--- What each end notes in a run is what its own course brings.
+-- What both ends note in a run, and when, is what their own courses bring.
 use Rattle.std.proofs.Common.{◌≡◌, ◌≢◌, refl, sym, ap, subst, ◌∙◌, zero, suc, ℕ, ◌==◌, Bool, true, false, List, [], ◌∷◌, ◌++◌, append_assoc, append-nil, Option, Some, None, if◌then◌else◌}
-use Rattle.disk_base.specs.declared.cut.CutChoice.{CutChoice}
 use Rattle.gl_base.specs.declared.side.Side.{Side}
 use Rattle.gl_base.specs.declared.side.Side.TheVariants.{Equipment, Host}
-use Rattle.gl_base.specs.Side.{is_same_side}
 use Rattle.line_schedule.specs.declared.event.Event.{Event}
 use Rattle.line_schedule.specs.declared.event.Event.TheVariants as event
-use Rattle.line_way.specs.Ways.{Ways, characters_of, is_under_way, next_byte}
+use Rattle.line_way.specs.Ways.{characters_of, is_under_way, next_byte}
 use Rattle.message_end.specs.Core.{Step, Went}
 use Rattle.message_end.specs.Core.Went.{Goes, Spent}
-use Rattle.message_end.specs.Course.{Course, Meeting, broken_at, course_of, filled_at, noted_behind, notes_of, went_on, with_meeting}
+use Rattle.message_end.specs.Course.{Course, noted_behind, notes_of}
 use Rattle.message_end.specs.Course.Course.{Reached}
-use Rattle.message_end.specs.Course.Meeting.{Acts, Breaks, Fills, LosesPower, Restarts, Writes}
-use Rattle.message_end.specs.Ends.{Input, Loss, Machine, call_of, wrote}
+use Rattle.message_end.specs.Ends.{Input, Machine}
 use Rattle.message_end.specs.Ends.Input.{Char, Command, Time}
-use Rattle.message_end.proofs.Growing.{behind-both}
 use Rattle.trace_log.specs.Laws.{log_with}
 use Rattle.trace_log.specs.Log.{Entry, Happening}
-use Rattle.trace_log.specs.Log.Entry.{Noted}
 use Rattle.trace_log.specs.Log.Happening.{Power}
 use Rattle.trace_log.specs.declared.commands.HostCommand.{HostCommand}
 use Rattle.trace_log.specs.declared.commands.ToolCommand.{ToolCommand}
 use Rattle.end_pair.specs.declared.answers.WorldStep.{WorldStep}
 use Rattle.end_pair.specs.declared.answers.WorldStep.TheVariants as answer
-use Rattle.end_pair.specs.Noted.{AreOfCourses, noted_by}
+use Rattle.end_pair.specs.Noted.{AreOfCourses, AreTimesOf, TimedNotes, noted_by, timed_behind, timed_by}
 use Rattle.end_pair.specs.Run.{closing, log_of, piece_of}
-use Rattle.end_pair.specs.Steps.{Stepped, entries_of, made, made_by, slipped, slips, stepped, stopped_at}
+use Rattle.end_pair.specs.Steps.{Stepped, entries_of, stepped}
 use Rattle.end_pair.specs.World.{Piece, World, added_to, after_event, after_events, again, and_more, and_on, armed, at_start, begun, both_stepped, changed_at, darkened, ended_by, equipment_stepped, given, given_next, given_times, happened, host_stepped, later, lost_from, met, most_steps, settled, settled_times, started_anew, still, turned_out, way_to, with_equipment, with_host, without}
-use Rattle.end_pair.proofs.Causes.{never-on}
+use Rattle.end_pair.proofs.EndNoting.{HasAgain, HasNoted, IsAsNoted, IsBroken, IsNoted, IsReached, again-broken, again-reached, behind-other, noted-other, noted-own, other-entries, own-entries, reached-noted, stays-reached, step-noted, timed-entries, timed-other, timed-own}
 use Rattle.end_pair.proofs.Powered.{run-powered, unplanned}
-
--- ---- notes as entries
-
-same-side : (side : Side) → is_same_side side side ≡ true
-same-side Equipment = refl
-same-side Host = refl
-
-with-behind : (now : ℕ) (side : Side) (notes : List Happening) (front log : List Entry)
-    → log_with now side notes front ++ log ≡ log_with now side notes (front ++ log)
-with-behind now side [] front log = refl
-with-behind now side (what ∷ notes) front log = with-behind now side notes (Noted now side what ∷ front) log
-
--- those of an end itself
-noted-own : (now : ℕ) (side : Side) (notes : List Happening) (log : List Entry)
-    → noted_by side (log_with now side notes log) ≡ noted_behind notes (noted_by side log)
-noted-own now side [] log = refl
-noted-own now side (what ∷ notes) log =
-    noted-own now side notes (Noted now side what ∷ log)
-    ∙ ap
-    (λ (b : Bool). noted_behind notes (if b then what ∷ noted_by side log else noted_by side log))
-    (same-side side)
-
--- those of the other end
-noted-other :
-    (now : ℕ) (side other : Side) → is_same_side other side ≡ false → (notes : List Happening) (log : List Entry)
-    → noted_by other (log_with now side notes log) ≡ noted_by other log
-noted-other now side other apart [] log = refl
-noted-other now side other apart (what ∷ notes) log =
-    noted-other now side other apart notes (Noted now side what ∷ log)
-    ∙ ap (λ (b : Bool). if b then what ∷ noted_by other log else noted_by other log) apart
-
--- ---- the course of one end
-
-module _ {S C : Type 0} (start : Step S Happening) (machine : Machine S C) (side : Side) where
-  -- some meetings have brought the end to this state, with what the log has of it
-  pub record IsReached (s : S) (log : List Entry) : Type 0 where
-    pub met : List (Meeting C)
-    pub is : course_of start machine met ≡ Reached s (noted_by side log)
-
-  -- what the log has of it was noted so
-  pub record IsNoted (log : List Entry) : Type 0 where
-    pub met : List (Meeting C)
-    pub is : noted_by side log ≡ notes_of (course_of start machine met)
-
-  pub reached-noted : (s : S) (log : List Entry) → IsReached s log → IsNoted log
-  reached-noted s log at = record { met = at.met; is = sym (ap (λ (c : Course S). notes_of c) at.is) }
-
-  -- it has lost its power in a step, of which the log has what was noted by then
-  pub record IsBroken (now : ℕ) (choice : CutChoice) (left : S) (log : List Entry) : Type 0 where
-    pub s : S
-    pub notes : List Happening
-    pub met : List (Meeting C)
-    pub is : course_of start machine met ≡ Reached s notes
-    pub input : Input C
-    pub call : ℕ
-    pub loss : Loss S
-    pub lost : call_of call (machine.losses s input now) ≡ Some loss
-    pub left_is : left ≡ loss.left choice
-    pub noted : noted_by side log ≡ noted_behind loss.front notes
-
-  -- a step of it
-  pub record HasNoted (step : Stepped S) (now : ℕ) (choice : CutChoice) (log : List Entry) : Type 0 where
-    pub noted : step.went ≢ answer.PowerLost → IsNoted (step.entries ++ log)
-    pub on : step.went ≡ answer.Went → IsReached step.end (step.entries ++ log)
-    pub broken : step.went ≡ answer.PowerLost → IsBroken now choice step.end (step.entries ++ log)
-
-  own-entries : (now : ℕ) (notes : List Happening) (log : List Entry)
-      → noted_by side (entries_of side now notes ++ log) ≡ noted_behind notes (noted_by side log)
-  own-entries now notes log =
-      ap (λ (l : List Entry). noted_by side l) (with-behind now side notes [] log) ∙ noted-own now side notes log
-
-  wrote-reached : (s : S) (written : List ℕ) (notes : List Happening) (met : List (Meeting C))
-      → course_of start machine met ≡ Reached s notes
-      → (more : List (Meeting C)) × (course_of start machine more ≡ Reached s (noted_behind (wrote written) notes))
-  wrote-reached s [] notes met is = (met, is)
-  wrote-reached s (byte ∷ bytes) notes met is =
-      (Writes (byte ∷ bytes) ∷ met, ap (λ (c : Course S). with_meeting machine (Writes (byte ∷ bytes)) c) is)
-
-  made-noted :
-      (now : ℕ) (choice : CutChoice) (input : Input C) (s : S) (ways : Ways) (log : List Entry) → IsReached s log
-      → HasNoted (made machine side now input s ways (machine.act s input now)) now choice log
-  made-noted now choice input s ways log at = go (machine.act s input now) refl
-    where
-      go : (went : Went S Happening) → machine.act s input now ≡ went
-          → HasNoted (made machine side now input s ways went) now choice log
-      go (Goes step) is = record {
-        noted = λ other. reached-noted step.next (entries ++ log) there;
-        on = λ on. there;
-        broken = λ dark. absurd (cc);
-      }
-        where
-          entries : List Entry
-          entries = entries_of side now (step.notes ++ wrote step.written)
-
-          acted : course_of start machine (Acts input now ∷ at.met)
-              ≡ Reached step.next (noted_behind step.notes (noted_by side log))
-          acted =
-              ap (λ (c : Course S). with_meeting machine (Acts input now) c) at.is
-              ∙ ap (λ (went : Went S Happening). went_on went (noted_by side log)) is
-
-          written : (more : List (Meeting C))
-              × (course_of start machine more
-              ≡ Reached step.next
-              (noted_behind (wrote step.written) (noted_behind step.notes (noted_by side log))))
-          written =
-              wrote-reached step.next step.written (noted_behind step.notes (noted_by side log))
-              (Acts input now ∷ at.met) acted
-
-          there : IsReached step.next (entries ++ log)
-          there = record {
-            met = written.0;
-            is = written.1
-                ∙ ap (λ (ns : List Happening). Reached step.next ns)
-                (sym (behind-both step.notes (wrote step.written) (noted_by side log))
-                ∙ sym (own-entries now (step.notes ++ wrote step.written) log));
-          }
-      go (Spent step) is = record {
-        noted = λ other. record {
-          met = Acts input now ∷ at.met;
-          is = own-entries now step.notes log
-              ∙ sym
-              (ap (λ (c : Course S). notes_of (with_meeting machine (Acts input now) c)) at.is
-              ∙ ap
-              (λ (went : Went S Happening).
-              notes_of (went_on went (noted_by side log))) is);
-        };
-        on = λ on. absurd (cc);
-        broken = λ dark. absurd (cc);
-      }
-
-  -- a disk stops it, which ends all or loses the power
-  stopped-noted :
-      (now call : ℕ) (is_cut : Bool) (choice : CutChoice) (input : Input C) (s : S) (ways : Ways) (log : List Entry)
-      (loss : Loss S) → call_of call (machine.losses s input now) ≡ Some loss → IsReached s log
-      → HasNoted (stopped_at machine side now call is_cut choice input s ways loss) now choice log
-  stopped-noted now call is_cut choice input s ways log loss lost at = record {
-    noted = λ other. record {
-      met = Fills input now call ∷ at.met;
-      is =
-          own-entries now loss.front log
-          ∙ sym
-          (ap (λ (c : Course S). notes_of (with_meeting machine (Fills input now call) c)) at.is
-          ∙ ap (λ (found : Option (Loss S)). notes_of (filled_at s (noted_by side log) found)) lost);
-    };
-    on = λ on. absurd (never-on is_cut on);
-    broken = λ dark. record {
-      s = s;
-      notes = noted_by side log;
-      met = at.met;
-      is = at.is;
-      input = input;
-      call = call;
-      loss = loss;
-      lost = lost;
-      left_is = refl;
-      noted = own-entries now loss.front log;
-    };
-  }
-
-  pub step-noted :
-      (now call : ℕ) (is_cut : Bool) (choice : CutChoice) (input : Input C) (s : S) (ways : Ways) (log : List Entry)
-      → IsReached s log → HasNoted (stepped machine side now call is_cut choice input s ways) now choice log
-  step-noted now call is_cut choice input s ways log at = go (slips machine side now input s ways)
-    where
-      by_lost : (lost : Option (Loss S)) → call_of call (machine.losses s input now) ≡ lost
-          → HasNoted (made_by machine side now call is_cut choice input s ways lost) now choice log
-      by_lost None is = made-noted now choice input s ways log at
-      by_lost (Some loss) is = stopped-noted now call is_cut choice input s ways log loss is at
-
-      go : (b : Bool)
-          → HasNoted
-          (if b then slipped side now s ways
-          else made_by machine side now call is_cut choice input s ways (call_of call (machine.losses s input now)))
-          now choice log
-      go true =
-          let noted = reached-noted s log at in
-          record {
-            noted = λ other. record { met = noted.met; is = noted.is };
-            on = λ on. absurd (cc);
-            broken = λ dark. absurd (cc);
-          }
-      go false = by_lost (call_of call (machine.losses s input now)) refl
-
-  -- it starts anew, without power: behind whole steps, or amid one
-  pub record HasAgain (now : ℕ) (went : Went S Happening) (log : List Entry) : Type 0 where
-    pub met : List (Meeting C)
-    pub is : course_of start machine met ≡ went_on went (Power ∷ noted_by side log)
-
-  pub again-reached : (now : ℕ) (s : S) (log : List Entry) → IsReached s log → HasAgain now (machine.restart s now) log
-  again-reached now s log at = record {
-    met = Restarts now ∷ LosesPower ∷ at.met;
-    is = ap (λ (c : Course S). with_meeting machine (Restarts now) (with_meeting machine LosesPower c)) at.is;
-  }
-
-  pub again-broken : (now : ℕ) (choice : CutChoice) (left : S) (log : List Entry) → IsBroken now choice left log
-      → HasAgain now (machine.restart left now) log
-  again-broken now choice left log at = record {
-    met = Breaks at.input now at.call choice ∷ at.met;
-    is =
-        ap (λ (c : Course S). with_meeting machine (Breaks at.input now at.call choice) c) at.is
-        ∙ ap (λ (loss : Option (Loss S)). broken_at machine now choice at.s at.notes loss) at.lost
-        ∙ ap (λ (s : S). went_on (machine.restart s now) (Power ∷ noted_behind at.loss.front at.notes))
-        (sym at.left_is)
-        ∙ ap (λ (ns : List Happening). went_on (machine.restart left now) (Power ∷ ns)) (sym at.noted);
-  }
-
--- an end that did nothing is where it was
-pub stays-reached :
-    {S C : Type 0} (start : Step S Happening) (machine : Machine S C) (side : Side) (s : S) (one two : List Entry)
-    → noted_by side two ≡ noted_by side one → IsReached start machine side s one → IsReached start machine side s two
-stays-reached start machine side s one two same at =
-    record { met = at.met; is = at.is ∙ ap (λ (ns : List Happening). Reached s ns) (sym same) }
-
--- the entries of a step are its end's, or no end's
-pub other-entries :
-    {S C : Type 0} (machine : Machine S C) (side other : Side) → is_same_side other side ≡ false
-    → (now call : ℕ) (is_cut : Bool) (choice : CutChoice) (input : Input C) (s : S) (ways : Ways) (log : List Entry)
-    → noted_by other ((stepped machine side now call is_cut choice input s ways).entries ++ log) ≡ noted_by other log
-other-entries {S} {C} machine side other apart now call is_cut choice input s ways log =
-    go (slips machine side now input s ways)
-  where
-    by_went : (went : Went S Happening)
-        → noted_by other ((made machine side now input s ways went).entries ++ log) ≡ noted_by other log
-    by_went (Goes step) =
-        ap (λ (l : List Entry). noted_by other l) (with-behind now side (step.notes ++ wrote step.written) [] log)
-        ∙ noted-other now side other apart (step.notes ++ wrote step.written) log
-    by_went (Spent step) =
-        ap (λ (l : List Entry). noted_by other l) (with-behind now side step.notes [] log)
-        ∙ noted-other now side other apart step.notes log
-
-    by_lost : (lost : Option (Loss S))
-        → noted_by other ((made_by machine side now call is_cut choice input s ways lost).entries ++ log)
-        ≡ noted_by other log
-    by_lost None = by_went (machine.act s input now)
-    by_lost (Some loss) =
-        ap (λ (l : List Entry). noted_by other l) (with-behind now side loss.front [] log)
-        ∙ noted-other now side other apart loss.front log
-
-    go : (b : Bool)
-        → noted_by other
-        ((if b then slipped side now s ways
-        else made_by machine side now call is_cut choice input s ways (call_of call (machine.losses s input now))).entries
-        ++ log) ≡ noted_by other log
-    go true = refl
-    go false = by_lost (call_of call (machine.losses s input now))
 
 -- ---- both ends
 
@@ -360,7 +110,7 @@ module _ {E H : Type 0}
             step-noted equipment e Equipment world.moment world.left world.is_cut world.choice input world.equipment
             world.ways log at.equipment_is
 
-        other : noted_by Host (step.entries ++ log) ≡ noted_by Host log
+        other : IsAsNoted Host (step.entries ++ log) log
         other =
             other-entries e Equipment Host refl world.moment world.left world.is_cut world.choice input world.equipment
             world.ways log
@@ -397,7 +147,7 @@ module _ {E H : Type 0}
         never : step.went ≡ answer.PowerLost → ⊥
         never = unplanned h Host world.moment world.host_left world.choice input world.host world.ways
 
-        other : noted_by Equipment (step.entries ++ log) ≡ noted_by Equipment log
+        other : IsAsNoted Equipment (step.entries ++ log) log
         other =
             other-entries h Host Equipment refl world.moment world.host_left false world.choice input world.host
             world.ways log
@@ -495,13 +245,15 @@ module _ {E H : Type 0}
               is.is
               ∙ ap (λ (ns : List Happening). Reached step.next ns)
               (sym (own-entries equipment e Equipment world.moment (Power ∷ step.notes) log));
+          timed =
+              subst (λ (timed : TimedNotes). AreTimesOf equipment e is.met timed)
+              (sym (timed-entries equipment e Equipment world.moment (Power ∷ step.notes) log)) is.times;
         }
 
         host_there : IsReached host h Host world.host (entries ++ log)
         host_there =
             stays-reached host h Host world.host log (entries ++ log)
-            (ap (λ (l : List Entry). noted_by Host l) (with-behind world.moment Equipment (Power ∷ step.notes) [] log)
-            ∙ noted-other world.moment Equipment Host refl (Power ∷ step.notes) log) host_at
+            (behind-other world.moment Equipment Host refl (Power ∷ step.notes) log) host_at
     started-noted world (Spent step) log is host_at = record {
       noted = λ other. record {
         equipment_is = record {
@@ -509,6 +261,9 @@ module _ {E H : Type 0}
           is =
               own-entries equipment e Equipment world.moment (Power ∷ step.notes) log
               ∙ sym (ap (λ (c : Course E). notes_of c) is.is);
+          timed =
+              subst (λ (timed : TimedNotes). AreTimesOf equipment e is.met timed)
+              (sym (timed-entries equipment e Equipment world.moment (Power ∷ step.notes) log)) is.times;
         };
         host_is = reached-noted host h Host world.host (entries ++ log) host_there;
       };
@@ -522,8 +277,7 @@ module _ {E H : Type 0}
         host_there : IsReached host h Host world.host (entries ++ log)
         host_there =
             stays-reached host h Host world.host log (entries ++ log)
-            (ap (λ (l : List Entry). noted_by Host l) (with-behind world.moment Equipment (Power ∷ step.notes) [] log)
-            ∙ noted-other world.moment Equipment Host refl (Power ∷ step.notes) log) host_at
+            (behind-other world.moment Equipment Host refl (Power ∷ step.notes) log) host_at
 
     again-keeps : Keeps (again e h)
     again-keeps world log at =
@@ -631,10 +385,17 @@ module _ {E H : Type 0}
           equipment_is = record {
             met = [];
             is = ap (λ (ns : List Happening). Reached equipment.next ns) (sym equipment_notes);
+            timed =
+                ap (λ (l : List Entry). timed_by Equipment l) (append-nil entries)
+                ∙ timed-other 0 Host Equipment refl host.notes first ∙ timed-own 0 Equipment equipment.notes [];
           };
           host_is = record {
             met = [];
             is = ap (λ (ns : List Happening). Reached host.next ns) (sym host_notes);
+            timed =
+                ap (λ (l : List Entry). timed_by Host l) (append-nil entries) ∙ timed-own 0 Host host.notes first
+                ∙ ap (λ (timed : TimedNotes). timed_behind 0 host.notes timed)
+                (timed-other 0 Equipment Host refl equipment.notes []);
           };
         }
 
@@ -655,6 +416,8 @@ module _ {E H : Type 0}
           host_met = noted.host_is.met;
           equipment_noted = noted.equipment_is.is;
           host_noted = noted.host_is.is;
+          equipment_timed = noted.equipment_is.timed;
+          host_timed = noted.host_is.timed;
         }
 
         go : (went : WorldStep) (now : ℕ) → AreNoted (piece_of e h equipment host events).entries
@@ -664,6 +427,8 @@ module _ {E H : Type 0}
           host_met = noted.host_is.met;
           equipment_noted = noted.equipment_is.is;
           host_noted = noted.host_is.is;
+          equipment_timed = noted.equipment_is.timed;
+          host_timed = noted.host_is.timed;
         }
         go answer.Slip now noted = of_noted (piece_of e h equipment host events).entries noted
         go answer.Turns now noted = of_noted (piece_of e h equipment host events).entries noted

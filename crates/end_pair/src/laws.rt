@@ -60,7 +60,8 @@ pub fn runs_are_moves<E: End<Command = ToolCommand>, H: End<Command = HostComman
 {}
 
 /// Whatever a schedule does, what the log has of an end is what the end notes when it meets some steps, one after the
-/// other. So what holds of all that an end may note holds of its entries in the log of every run.
+/// other, and each of these notes has the moment of its step. So what holds of all that an end may note, and when,
+/// holds of its entries in the log of every run.
 pub fn entries_are_of_courses<E: End<Command = ToolCommand>, H: End<Command = HostCommand>>()
     ensures { EntriesAreOfCourses E.State H.State }
 {}

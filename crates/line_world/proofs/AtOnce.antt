@@ -1,6 +1,6 @@
 -- That each reply is noted at the moment of its primary: no step goes on past its moment, and the reply is of the step.
 use Rattle.std.proofs.Common.{◌≡◌, ◌⊎◌, inl, inr, refl, sym, ap, subst, ◌∙◌, ℕ, Bool, true, false, List, [], ◌∷◌, ◌++◌, map, Option, Some, None, if◌then◌else◌}
-use Rattle.end_pair.specs.Noted.{noted_by}
+use Rattle.end_pair.specs.Noted.{noted_by, timed_by}
 use Rattle.gl_base.specs.declared.side.Side.{Side}
 use Rattle.gl_base.specs.Side.{is_same_side}
 use Rattle.message_end.specs.InStep.{RepliesAreOfSteps, asked_among}
@@ -10,7 +10,7 @@ use Rattle.message_flow.specs.declared.message.Message.{Message}
 use Rattle.trace_log.specs.InStep.{noted_in_step}
 use Rattle.trace_log.specs.Log.{Entry, Happening}
 use Rattle.trace_log.specs.Log.Entry.{Ended, Noted, Slipped}
-use Rattle.line_world.specs.Steps.{AreAtAnEnd, IsOfAStep, MayStepBehind, NotesAreOfSteps, RepliesAreAtOnce, timed_by}
+use Rattle.line_world.specs.Steps.{AreAtAnEnd, IsOfAStep, MayStepBehind, NotesAreOfSteps, RepliesAreAtOnce}
 
 -- ---- the notes without their moments
 

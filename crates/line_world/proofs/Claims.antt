@@ -2,7 +2,9 @@
 use Rattle.std.proofs.Common.{◌<◌, List, [], refl, sym, subst, arith}
 use Rattle.delivery.specs.Laws.{EndsDeliver}
 use Rattle.end_pair.specs.Laws.{IsOfMoves}
-use Rattle.end_pair.specs.Noted.{AreOfCourses, noted_by}
+use Rattle.end_pair.specs.Noted.{AreOfCourses, noted_by, timed_by}
+use Rattle.equipment_tables.specs.Laws.{TablesAreLookedBackFor}
+use Rattle.gem_trace.specs.Laws.{FewTracesRun, WhatRunsIsLookedBackFor}
 use Rattle.tool_step.specs.End as equipment
 use Rattle.tool_law.specs.Laws.{DidOf}
 use Rattle.tool_reports.specs.Laws.{ReportsAreOfTheirEvents}
@@ -23,6 +25,7 @@ use Rattle.line_world.specs.Safe.{HostDid, IsSafe, plans_of}
 use Rattle.line_world.proofs.Behind.{in-order, is-delivered}
 use Rattle.line_world.proofs.Disks.{none-sent}
 use Rattle.line_world.proofs.OverStarts.{over-starts}
+use Rattle.line_world.proofs.SampledLog.{sampled-log}
 use Rattle.line_world.proofs.Spool.{holds-spool}
 
 -- what the crates below promise
@@ -33,6 +36,9 @@ pub record LawsHold : Type 0 where
   pub kept : SpoolIsKept
   pub left : MessagesLeaveInStep
   pub used : OverwritesForPuts
+  pub tables : TablesAreLookedBackFor
+  pub running : WhatRunsIsLookedBackFor
+  pub few : FewTracesRun
 
 module _ (plans : Plans) (schedule : Schedule) (fit : PlansFit plans) (laws : LawsHold)
     (moved : IsOfMoves (DidOf plans.equipment) (HostDid plans.host) (plans_of plans) (log_of plans schedule))
@@ -83,6 +89,10 @@ module _ (plans : Plans) (schedule : Schedule) (fit : PlansFit plans) (laws : La
             over_all_starts =
                 over-starts plans.equipment (policy_of plans.equipment plans.slots) notes reports kept;
           };
+      sampled =
+          sampled-log plans.equipment laws.running laws.few fit.equipment laws.tables plans.slots [] 0
+          (none-sent [] refl) courses.equipment_met (timed_by Equipment (log_of plans schedule))
+          courses.equipment_timed;
       spooled = holds-spool plans fit laws.take (log_of plans schedule) kept moved;
       left = record { caused = left; overwritten = used };
     }

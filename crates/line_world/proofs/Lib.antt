@@ -4,6 +4,7 @@ mod Behind
 mod Bodies
 mod Carried
 mod Claims
+mod CutSteps
 mod Disks
 mod Events
 mod FewCalls
@@ -14,6 +15,7 @@ mod OrderSoFar
 mod OverStarts
 mod Replies
 mod RoundEvents
+mod SampledLog
 mod SoFar
 mod Spool
 mod Summed

@@ -5,6 +5,7 @@ use Rattle.end_pair.specs.InSteps.{AreOfWholeStep, AreSteps, ComeInSteps, IsCutB
 use Rattle.end_pair.specs.InSteps.AreSteps.{both_start, line_changes, one_step, starts_anew}
 use Rattle.end_pair.specs.InSteps.ComeInSteps.{at_a_step, in_a_step, without_power}
 use Rattle.end_pair.specs.Laws.{AreNoNotes, IsOfMoves}
+use Rattle.end_pair.specs.Noted.{timed_by}
 use Rattle.gl_base.specs.declared.side.Side.{Side}
 use Rattle.gl_base.specs.declared.side.Side.TheVariants.{Equipment, Host}
 use Rattle.gl_base.specs.Side.{is_same_side}
@@ -19,7 +20,7 @@ use Rattle.trace_log.specs.Log.Entry.{Ended, Noted, Slipped}
 use Rattle.trace_log.specs.Log.Happening.{EquipmentStarted, Power, StepEnded}
 use Rattle.trace_log.specs.Names.{Spooled}
 use Rattle.line_world.specs.Safe.{HostDid, plans_of}
-use Rattle.line_world.specs.Steps.{IsOfAStep, MayStepBehind, NotesAreOfSteps, SafeLogsHaveSteps, timed_by}
+use Rattle.line_world.specs.Steps.{IsOfAStep, MayStepBehind, NotesAreOfSteps, SafeLogsHaveSteps}
 
 -- what an end has noted, with the moments
 abbrev timed_at : Side → List Move → List (ℕ × Happening)
@@ -217,7 +218,8 @@ module _ {S T : Type 0} (equipment : ℕ → List Doing → S → Type 0) (host 
       (dark-timed side moment before dark cut (steps-between side before steps)).so_far
 
 -- what stands behind the moves is no note
-no-notes-timed : (side : Side) (last log : List Entry) → AreNoNotes last → timed_by side (last ++ log) ≡ timed_by side log
+no-notes-timed : (side : Side) (last log : List Entry) → AreNoNotes last
+    → timed_by side (last ++ log) ≡ timed_by side log
 no-notes-timed side [] log none = refl
 no-notes-timed side (Noted moment end what ∷ last) log none = absurd none.0
 no-notes-timed side (Slipped moment end frame characters ∷ last) log none = no-notes-timed side last log none.1

@@ -1,4 +1,5 @@
 pub mod Counting
+pub mod Cuts
 pub mod Disk
 pub mod FewCalls
 pub mod Make
@@ -8,4 +9,5 @@ pub mod Run
 pub mod Safe
 pub mod Steps
 pub mod Worked
+pub mod WorkedSamples
 pub mod WorkedSteps

@@ -2,7 +2,7 @@
 use Rattle.std.specs.Prelude.{◌≡◌, ℕ, List, ◌++◌}
 use Rattle.delivery.specs.Order.{AreInOrder}
 use Rattle.end_pair.specs.Laws.{AreNoNotes, IsOfMoves}
-use Rattle.end_pair.specs.Noted.{noted_by}
+use Rattle.end_pair.specs.Noted.{noted_by, timed_by}
 use Rattle.tool_law.specs.Laws.{DidOf}
 use Rattle.tool_reports.specs.Reported.{Reported}
 use Rattle.tool_spool.specs.LeavesInStep.{LeaveInTheirSteps}
@@ -21,6 +21,7 @@ use Rattle.message_end.specs.Parts.{Did, Node}
 use Rattle.spool_delivery.specs.Laws.{IsSpoolTaken}
 use Rattle.trace_log.specs.Delivered.{Delivered}
 use Rattle.trace_log.specs.Log.{Entry}
+use Rattle.line_world.specs.Cuts.{AreSampledSoFar}
 use Rattle.line_world.specs.Reports.{TellOfEvents}
 
 -- the plans of the two ends of one line
@@ -50,6 +51,12 @@ pub record HoldsReports (plans : Plans) (log : List Entry) : Type 0 where
 abbrev pub HoldsSpool : Plans → List Entry → Type 0
 HoldsSpool plans log = IsSpoolTaken (policy_of plans.equipment plans.slots) log
 
+-- each S6F1 that the equipment notes as sent, and that wasn't in its spool, has W, and holds what its variables held at
+-- its samples, at the moments of its entries, of a trace that the host has asked for in this start; no more go out with
+-- one text than were due by then; and none is put into the spool
+abbrev pub HoldsSamples : Plans → List Entry → Type 0
+HoldsSamples plans log = AreSampledSoFar plans.equipment (timed_by side.Equipment log)
+
 -- each message leaves the spool in the step that has brought the cause of that; and right behind one that is gone as
 -- overwritten another is put
 pub record LeavesInSteps (plans : Plans) (log : List Entry) : Type 0 where
@@ -57,12 +64,13 @@ pub record LeavesInSteps (plans : Plans) (log : List Entry) : Type 0 where
   pub overwritten : MakesRoomForPuts (noted_by side.Equipment log)
 
 -- at each entry of the log, over all starts of the equipment: each message received was sent by the other end, whole,
--- once in a start of its receiver, and in order; reports hold the values of their events; and the spool is kept, taken
--- in order, and left in the steps of the causes
+-- once in a start of its receiver, and in order; reports hold the values of their events, and trace data those of their
+-- samples; and the spool is kept, taken in order, and left in the steps of the causes
 pub record IsSafe (plans : Plans) (log : List Entry) : Type 0 where
   pub delivered : Delivered log
   pub in_order : ComesInOrder plans log
   pub reported : HoldsReports plans log
+  pub sampled : HoldsSamples plans log
   pub spooled : HoldsSpool plans log
   pub left : LeavesInSteps plans log
 
@@ -83,6 +91,7 @@ pub record HoldsSoFar (plans : Plans) (log : List Entry) : Type 0 where
   pub delivered : Delivered log
   pub in_order : HasComeInOrder plans log
   pub reported : HoldsReports plans log
+  pub sampled : HoldsSamples plans log
   pub spooled : HoldsSpool plans log
   pub left : LeavesInSteps plans log
 

@@ -1,30 +1,21 @@
 -- Of a log: that the notes of a step are of one moment and its end is noted, and that replies go in the steps of their
 -- primaries (this profile).
-use Rattle.std.specs.Prelude.{◌≡◌, ◌⊎◌, ℕ, false, List, [], ◌∷◌, ◌++◌, if◌then◌else◌}
-use Rattle.end_pair.specs.Noted.{noted_by}
+use Rattle.std.specs.Prelude.{◌≡◌, ◌⊎◌, ℕ, false, List, [], ◌∷◌, ◌++◌}
+use Rattle.end_pair.specs.Noted.{noted_by, timed_by}
 use Rattle.equipment_tables.specs.declared.plan.Plans.{Plans}
 use Rattle.gl_base.specs.declared.side.Side.{Side}
 use Rattle.gl_base.specs.declared.side.Side.TheVariants as side
-use Rattle.gl_base.specs.Side.{is_same_side, other_side}
+use Rattle.gl_base.specs.Side.{other_side}
 use Rattle.message_end.specs.InStep.{RepliesAreOfSteps}
 use Rattle.message_end.specs.Own.{Has, IsReplyTo}
 use Rattle.message_flow.specs.Blocks.{header_of}
 use Rattle.message_flow.specs.Message.{is_primary}
 use Rattle.message_flow.specs.declared.message.Message.{Message}
 use Rattle.trace_log.specs.Log.{Entry, Happening}
-use Rattle.trace_log.specs.Log.Entry.{Ended, Noted, Slipped}
 use Rattle.trace_log.specs.Log.Happening.{EquipmentStarted, HostStarted, StepEnded, Wrote}
 use Rattle.line_world.specs.Safe.{IsSafe}
 
 -- ---- the end of a step
-
--- what one end has noted, each with its moment, the newest first as in the log
-abbrev pub timed_by : Side → List Entry → List (ℕ × Happening)
-timed_by side [] = []
-timed_by side (Noted moment end what ∷ before) =
-    if is_same_side side end then (moment, what) ∷ timed_by side before else timed_by side before
-timed_by side (Slipped moment end frame characters ∷ before) = timed_by side before
-timed_by side (Ended moment ∷ before) = timed_by side before
 
 abbrev pub IsStepsEnd : Happening → Type 0
 IsStepsEnd StepEnded = Unit {0}

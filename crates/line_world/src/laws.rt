@@ -4,6 +4,7 @@ ghost use Rattle.line_world.specs.FewCalls.{FewCallsFindRoom};
 ghost use Rattle.line_world.specs.Safe.{HoldsAtEachEntry};
 ghost use Rattle.line_world.specs.Steps.{SafeLogsHaveSteps, SafeLogsReplyInSteps};
 ghost use Rattle.line_world.specs.Worked.{WorkedRounds};
+ghost use Rattle.line_world.specs.WorkedSamples.{DataOutOfTurn};
 ghost use Rattle.line_world.specs.WorkedSteps.{LateReplies};
 
 use tool_step::losses_are_counted;
@@ -41,4 +42,10 @@ pub fn worked_rounds()
 /// Logs with a reply behind the step of its primary, its end noted or not, which aren't safe.
 pub fn worked_steps()
     ensures { LateReplies }
+{}
+
+/// Notes of a trace, with the steps that they tell of; and logs that aren't safe: an S6F1 that goes out before it is
+/// due, one that nobody has asked for, and one that is put into the spool.
+pub fn worked_trace_data()
+    ensures { DataOutOfTurn }
 {}

@@ -14,7 +14,7 @@ pub use end_pair::{RunEnd, World, WorldStep};
 pub use equipment_tables::Plans;
 pub use laws::{
     few_calls_find_room, holds_at_each_entry, replies_go_in_steps, steps_are_noted, worked_rounds,
-    worked_steps,
+    worked_steps, worked_trace_data,
 };
 pub use maker::make;
 pub use running::run;

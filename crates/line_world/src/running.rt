@@ -11,7 +11,8 @@ use crate::disk::empty_spool;
 use delivery::ends_deliver;
 use end_pair::{RunEnd, World, entries_are_of_courses, runs_are_moves};
 use equipment_node::EquipmentEnd;
-use equipment_tables::Plans;
+use equipment_tables::{Plans, tables_are_looked_back_for};
+use gem_trace::{few_traces_run, what_runs_is_looked_back_for};
 use gl_base::Sink;
 use host_node::Host;
 use line_schedule::Schedule;
@@ -25,9 +26,9 @@ use tool_spool::{messages_leave_in_step, overwrites_for_puts, spool_is_kept};
 /// trace of what both note. The log of that trace is safe, up to the first slip: each message delivered was sent by the
 /// other end, whole, and once in a start of its receiver, and messages are delivered in order; each report that the
 /// tool sends, at once or out of its spool, in that start or a later one, holds what its variables held as its event
-/// happened, or as it was asked for; what the tool spools is there at each of its starts until it leaves, in the
-/// step that has brought the cause, and is taken by the host in order. Hands the world back exactly where it answers
-/// `Whole`.
+/// happened, or as it was asked for; its trace data hold what they held at the samples; what the tool spools is there
+/// at each of its starts until it leaves, in the step that has brought the cause, and is taken by the host in order.
+/// Hands the world back exactly where it answers `Whole`.
 ///
 /// The disk of the tool's spool is in memory, and new. A run has no turn left exactly where all 4,000,000 steps are
 /// made and one is left, or where a step comes to a call of that disk that would be its 65,537th since it was made or
@@ -57,6 +58,9 @@ pub fn run<W: Sink>(
     spool_is_kept();
     messages_leave_in_step();
     overwrites_for_puts();
+    tables_are_looked_back_for();
+    what_runs_is_looked_back_for();
+    few_traces_run();
     entries_are_of_courses::<EquipmentEnd, Host>();
     runs_are_moves::<EquipmentEnd, Host>();
     let Ok(spool) = empty_spool(alloc, plans.slots) else {

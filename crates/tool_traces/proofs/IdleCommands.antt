@@ -45,6 +45,7 @@ abbrev pub IsIdleCommand : Command Kind → Type 0
 IsIdleCommand (Command.Note what) = IsIdleNote what
 IsIdleCommand (Command.Primary unsent) = IsOther unsent
 IsIdleCommand (Command.DrawnPrimary unsent) = IsOther unsent
+IsIdleCommand Command.CloseStep = ⊥
 IsIdleCommand _ = Unit {0}
 
 abbrev pub AreIdle : ToolCommands → Type 0
@@ -281,7 +282,7 @@ module _ (before : List Happening) (look : Look) (running : List Running) (sent 
   carry-idle (Command.Recall header) step idle so = so
   carry-idle (Command.Remove primary system) step idle so = so
   carry-idle Command.DropFront step idle so = so
-  carry-idle Command.CloseStep step idle so = (one-idle Happening.StepEnded step.notes tt so.0, tt)
+  carry-idle Command.CloseStep step idle so = absurd idle
   carry-idle Command.Halt step idle so = so
 
   pub carried-idle :

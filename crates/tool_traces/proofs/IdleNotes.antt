@@ -16,31 +16,38 @@ use Rattle.tool_reports.proofs.QuietNotes.{counted, one, one-behind}
 abbrev pub IsNoData : Message → Type 0
 IsNoData message = (before : List Happening) → is_data message before ≡ false
 
--- nothing is read off it: it is no S6F1, no start, and nothing that the host has asked for; and what it puts into the
--- spool can be spooled
+-- nothing is read off it: it is no S6F1, no start, no end of a step, nothing that the world notes, and nothing that the
+-- host has asked for; and what it puts into the spool can be spooled
 abbrev pub IsIdleNote : Happening → Type 0
 IsIdleNote (Happening.EquipmentStarted found base) = ⊥
 IsIdleNote (Happening.Sent message) = IsNoData message
 IsIdleNote (Happening.Recorded (Past.Asked message)) = ⊥
 IsIdleNote (Happening.Storing number message) = is_spoolable message.stream message.function ≡ true
+IsIdleNote Happening.StepEnded = ⊥
+IsIdleNote (Happening.Wrote characters) = ⊥
+IsIdleNote Happening.Power = ⊥
 IsIdleNote _ = Unit {0}
 
 -- what is said of all notes
 abbrev pub AreSound : List Happening → Type 0
 AreSound notes = HaveWait notes × PutsAreSpoolable notes
 
-abbrev pub IsNoStart : Happening → Type 0
-IsNoStart (Happening.EquipmentStarted found base) = ⊥
-IsNoStart _ = Unit {0}
+-- it may stand in the middle of a step: it is no start, no end of a step, and nothing that the world notes
+abbrev pub IsAmid : Happening → Type 0
+IsAmid (Happening.EquipmentStarted found base) = ⊥
+IsAmid Happening.StepEnded = ⊥
+IsAmid (Happening.Wrote characters) = ⊥
+IsAmid Happening.Power = ⊥
+IsAmid _ = Unit {0}
 
-abbrev pub AreNoStarts : List Happening → Type 0
-AreNoStarts [] = Unit {0}
-AreNoStarts (what ∷ notes) = IsNoStart what × AreNoStarts notes
+abbrev pub AreAmid : List Happening → Type 0
+AreAmid [] = Unit {0}
+AreAmid (what ∷ notes) = IsAmid what × AreAmid notes
 
 pub record IsIdle (what : Happening) : Type 0 where
   pub datas : (before : List Happening) → datas_in (what ∷ before) ≡ datas_in before
   pub asks : (look : Look) (running : List Running) → setting_in look running what ≡ []
-  pub no_start : IsNoStart what
+  pub amid : IsAmid what
   pub sound : (before : List Happening) → AreSound before → AreSound (what ∷ before)
 
 idle-sent : (message : Message) → IsNoData message → IsIdle (Happening.Sent message)
@@ -48,7 +55,7 @@ idle-sent message none = record {
   datas = λ before.
       ap (λ (b : Bool). if b then message.body ∷ datas_in before else datas_in before) (none before);
   asks = λ look running. refl;
-  no_start = tt;
+  amid = tt;
   sound = λ before so. (((λ is. let e = none before in absurd (cc)), so.0), so.1);
 }
 
@@ -57,83 +64,80 @@ idle-note (Happening.EquipmentStarted found base) idle = absurd idle
 idle-note (Happening.Sent message) idle = idle-sent message idle
 idle-note (Happening.Recorded (Past.Asked message)) idle = absurd idle
 idle-note (Happening.Recorded (Past.Commanded command)) idle =
-    record { datas = λ before. refl; asks = λ look running. refl; no_start = tt; sound = λ before so. so }
+    record { datas = λ before. refl; asks = λ look running. refl; amid = tt; sound = λ before so. so }
 idle-note Happening.HostStarted idle =
-    record { datas = λ before. refl; asks = λ look running. refl; no_start = tt; sound = λ before so. so }
-idle-note Happening.Power idle =
-    record { datas = λ before. refl; asks = λ look running. refl; no_start = tt; sound = λ before so. so }
+    record { datas = λ before. refl; asks = λ look running. refl; amid = tt; sound = λ before so. so }
+idle-note Happening.Power idle = absurd idle
 idle-note Happening.Closed idle =
-    record { datas = λ before. refl; asks = λ look running. refl; no_start = tt; sound = λ before so. so }
+    record { datas = λ before. refl; asks = λ look running. refl; amid = tt; sound = λ before so. so }
 idle-note (Happening.Received message) idle =
-    record { datas = λ before. refl; asks = λ look running. refl; no_start = tt; sound = λ before so. so }
-idle-note (Happening.Wrote characters) idle =
-    record { datas = λ before. refl; asks = λ look running. refl; no_start = tt; sound = λ before so. so }
+    record { datas = λ before. refl; asks = λ look running. refl; amid = tt; sound = λ before so. so }
+idle-note (Happening.Wrote characters) idle = absurd idle
 idle-note (Happening.Comms state) idle =
-    record { datas = λ before. refl; asks = λ look running. refl; no_start = tt; sound = λ before so. so }
+    record { datas = λ before. refl; asks = λ look running. refl; amid = tt; sound = λ before so. so }
 idle-note (Happening.Control state) idle =
-    record { datas = λ before. refl; asks = λ look running. refl; no_start = tt; sound = λ before so. so }
+    record { datas = λ before. refl; asks = λ look running. refl; amid = tt; sound = λ before so. so }
 idle-note (Happening.Spool active) idle =
-    record { datas = λ before. refl; asks = λ look running. refl; no_start = tt; sound = λ before so. so }
+    record { datas = λ before. refl; asks = λ look running. refl; amid = tt; sound = λ before so. so }
 idle-note (Happening.Set vid) idle =
-    record { datas = λ before. refl; asks = λ look running. refl; no_start = tt; sound = λ before so. so }
+    record { datas = λ before. refl; asks = λ look running. refl; amid = tt; sound = λ before so. so }
 idle-note (Happening.Event ceid dataid) idle =
-    record { datas = λ before. refl; asks = λ look running. refl; no_start = tt; sound = λ before so. so }
+    record { datas = λ before. refl; asks = λ look running. refl; amid = tt; sound = λ before so. so }
 idle-note (Happening.Alarm alid set) idle =
-    record { datas = λ before. refl; asks = λ look running. refl; no_start = tt; sound = λ before so. so }
+    record { datas = λ before. refl; asks = λ look running. refl; amid = tt; sound = λ before so. so }
 idle-note (Happening.Carried rcmd) idle =
-    record { datas = λ before. refl; asks = λ look running. refl; no_start = tt; sound = λ before so. so }
+    record { datas = λ before. refl; asks = λ look running. refl; amid = tt; sound = λ before so. so }
 idle-note (Happening.Display tid text) idle =
-    record { datas = λ before. refl; asks = λ look running. refl; no_start = tt; sound = λ before so. so }
+    record { datas = λ before. refl; asks = λ look running. refl; amid = tt; sound = λ before so. so }
 idle-note Happening.Refused idle =
-    record { datas = λ before. refl; asks = λ look running. refl; no_start = tt; sound = λ before so. so }
+    record { datas = λ before. refl; asks = λ look running. refl; amid = tt; sound = λ before so. so }
 idle-note (Happening.Storing number message) idle = record {
   datas = λ before. refl;
   asks = λ look running. refl;
-  no_start = tt;
+  amid = tt;
   sound = λ before so. (so.0, (idle, so.1));
 }
 idle-note (Happening.Stored number) idle =
-    record { datas = λ before. refl; asks = λ look running. refl; no_start = tt; sound = λ before so. so }
+    record { datas = λ before. refl; asks = λ look running. refl; amid = tt; sound = λ before so. so }
 idle-note (Happening.Leaving number cause) idle =
-    record { datas = λ before. refl; asks = λ look running. refl; no_start = tt; sound = λ before so. so }
+    record { datas = λ before. refl; asks = λ look running. refl; amid = tt; sound = λ before so. so }
 idle-note (Happening.Gone number) idle =
-    record { datas = λ before. refl; asks = λ look running. refl; no_start = tt; sound = λ before so. so }
+    record { datas = λ before. refl; asks = λ look running. refl; amid = tt; sound = λ before so. so }
 idle-note (Happening.Try number system) idle =
-    record { datas = λ before. refl; asks = λ look running. refl; no_start = tt; sound = λ before so. so }
+    record { datas = λ before. refl; asks = λ look running. refl; amid = tt; sound = λ before so. so }
 idle-note (Happening.Duplicate header) idle =
-    record { datas = λ before. refl; asks = λ look running. refl; no_start = tt; sound = λ before so. so }
+    record { datas = λ before. refl; asks = λ look running. refl; amid = tt; sound = λ before so. so }
 idle-note (Happening.Unexpected header) idle =
-    record { datas = λ before. refl; asks = λ look running. refl; no_start = tt; sound = λ before so. so }
+    record { datas = λ before. refl; asks = λ look running. refl; amid = tt; sound = λ before so. so }
 idle-note (Happening.Foreign header) idle =
-    record { datas = λ before. refl; asks = λ look running. refl; no_start = tt; sound = λ before so. so }
+    record { datas = λ before. refl; asks = λ look running. refl; amid = tt; sound = λ before so. so }
 idle-note (Happening.TooLongBlock header) idle =
-    record { datas = λ before. refl; asks = λ look running. refl; no_start = tt; sound = λ before so. so }
+    record { datas = λ before. refl; asks = λ look running. refl; amid = tt; sound = λ before so. so }
 idle-note (Happening.Crowded header) idle =
-    record { datas = λ before. refl; asks = λ look running. refl; no_start = tt; sound = λ before so. so }
+    record { datas = λ before. refl; asks = λ look running. refl; amid = tt; sound = λ before so. so }
 idle-note (Happening.DroppedByT4 header) idle =
-    record { datas = λ before. refl; asks = λ look running. refl; no_start = tt; sound = λ before so. so }
+    record { datas = λ before. refl; asks = λ look running. refl; amid = tt; sound = λ before so. so }
 idle-note (Happening.Failed title) idle =
-    record { datas = λ before. refl; asks = λ look running. refl; no_start = tt; sound = λ before so. so }
+    record { datas = λ before. refl; asks = λ look running. refl; amid = tt; sound = λ before so. so }
 idle-note (Happening.TimedOut title) idle =
-    record { datas = λ before. refl; asks = λ look running. refl; no_start = tt; sound = λ before so. so }
+    record { datas = λ before. refl; asks = λ look running. refl; amid = tt; sound = λ before so. so }
 idle-note (Happening.Stranger title) idle =
-    record { datas = λ before. refl; asks = λ look running. refl; no_start = tt; sound = λ before so. so }
+    record { datas = λ before. refl; asks = λ look running. refl; amid = tt; sound = λ before so. so }
 idle-note (Happening.Dropped name) idle =
-    record { datas = λ before. refl; asks = λ look running. refl; no_start = tt; sound = λ before so. so }
+    record { datas = λ before. refl; asks = λ look running. refl; amid = tt; sound = λ before so. so }
 idle-note (Happening.Denied name) idle =
-    record { datas = λ before. refl; asks = λ look running. refl; no_start = tt; sound = λ before so. so }
+    record { datas = λ before. refl; asks = λ look running. refl; amid = tt; sound = λ before so. so }
 idle-note (Happening.Discarded name) idle =
-    record { datas = λ before. refl; asks = λ look running. refl; no_start = tt; sound = λ before so. so }
+    record { datas = λ before. refl; asks = λ look running. refl; amid = tt; sound = λ before so. so }
 idle-note (Happening.TooLong name) idle =
-    record { datas = λ before. refl; asks = λ look running. refl; no_start = tt; sound = λ before so. so }
+    record { datas = λ before. refl; asks = λ look running. refl; amid = tt; sound = λ before so. so }
 idle-note (Happening.Full name) idle =
-    record { datas = λ before. refl; asks = λ look running. refl; no_start = tt; sound = λ before so. so }
-idle-note Happening.StepEnded idle =
-    record { datas = λ before. refl; asks = λ look running. refl; no_start = tt; sound = λ before so. so }
+    record { datas = λ before. refl; asks = λ look running. refl; amid = tt; sound = λ before so. so }
+idle-note Happening.StepEnded idle = absurd idle
 
-pub no-starts-more : (notes more : List Happening) → AreNoStarts notes → AreNoStarts more → AreNoStarts (notes ++ more)
-no-starts-more [] more one two = two
-no-starts-more (what ∷ notes) more one two = (one.0, no-starts-more notes more one.1 two)
+pub amid-more : (notes more : List Happening) → AreAmid notes → AreAmid more → AreAmid (notes ++ more)
+amid-more [] more one two = two
+amid-more (what ∷ notes) more one two = (one.0, amid-more notes more one.1 two)
 
 -- ---- what is read off the notes of a step
 
@@ -142,11 +146,11 @@ module _ (before : List Happening) (look : Look) (running : List Running) where
   pub record Reads (sent : List (List ℕ)) (asked : List TraceEntry) (notes : List Happening) : Type 0 where
     pub datas : datas_in (noted_behind notes before) ≡ sent
     pub asks : settings_in notes look running ≡ asked
-    pub no_start : AreNoStarts notes
+    pub amid : AreAmid notes
     pub sound : AreSound (noted_behind notes before)
 
   pub reads-none : AreSound before → Reads (datas_in before) [] []
-  reads-none sound = record { datas = refl; asks = refl; no_start = tt; sound = sound }
+  reads-none sound = record { datas = refl; asks = refl; amid = tt; sound = sound }
 
   asks-more : (notes : List Happening) (what : Happening)
       → settings_in (notes ++ what ∷ []) look running ≡ settings_in notes look running ++ setting_in look running what
@@ -165,7 +169,7 @@ module _ (before : List Happening) (look : Look) (running : List Running) where
         asks-more notes what
         ∙ ap (λ (l : List TraceEntry). settings_in notes look running ++ l) (idle.asks look running)
         ∙ append-nil (settings_in notes look running) ∙ so.asks;
-    no_start = no-starts-more notes (what ∷ []) so.no_start (idle.no_start, tt);
+    amid = amid-more notes (what ∷ []) so.amid (idle.amid, tt);
     sound = subst AreSound (sym (one-behind notes what before)) (idle.sound (noted_behind notes before) so.sound);
   }
 
@@ -180,8 +184,23 @@ module _ (before : List Happening) (look : Look) (running : List Running) where
         asks-more notes (Happening.Recorded (Past.Asked message))
         ∙ ap
         (λ (l : List TraceEntry). l ++ setting_in look running (Happening.Recorded (Past.Asked message))) so.asks;
-    no_start = no-starts-more notes (Happening.Recorded (Past.Asked message) ∷ []) so.no_start (tt, tt);
+    amid = amid-more notes (Happening.Recorded (Past.Asked message) ∷ []) so.amid (tt, tt);
     sound = subst AreSound (sym (one-behind notes (Happening.Recorded (Past.Asked message)) before)) so.sound;
+  }
+
+  -- and of a whole step
+  pub record ReadsWhole (sent : List (List ℕ)) (asked : List TraceEntry) (notes : List Happening) : Type 0 where
+    pub datas : datas_in (noted_behind notes before) ≡ sent
+    pub asks : settings_in notes look running ≡ asked
+    pub sound : AreSound (noted_behind notes before)
+
+  pub reads-ended : (sent : List (List ℕ)) (asked : List TraceEntry) (notes : List Happening)
+      → Reads sent asked notes → ReadsWhole sent asked (notes ++ Happening.StepEnded ∷ [])
+  reads-ended sent asked notes so = record {
+    datas = ap datas_in (one-behind notes Happening.StepEnded before) ∙ so.datas;
+    asks =
+        asks-more notes Happening.StepEnded ∙ append-nil (settings_in notes look running) ∙ so.asks;
+    sound = subst AreSound (sym (one-behind notes Happening.StepEnded before)) so.sound;
   }
 
   -- an S6F1
@@ -208,7 +227,7 @@ module _ (before : List Happening) (look : Look) (running : List Running) where
               ∙ ap (λ (all : List (List ℕ)). message.body ∷ all) so.datas;
           asks =
               asks-more notes (Happening.Sent message) ∙ append-nil (settings_in notes look running) ∙ so.asks;
-          no_start = no-starts-more notes (Happening.Sent message ∷ []) so.no_start (tt, tt);
+          amid = amid-more notes (Happening.Sent message ∷ []) so.amid (tt, tt);
           sound =
               subst AreSound (sym (one-behind notes (Happening.Sent message) before))
               (((λ one_is. waits), so.sound.0), so.sound.1);
@@ -226,7 +245,7 @@ module _ (before : List Happening) (look : Look) (running : List Running) where
               ∙ so.datas;
           asks =
               asks-more notes (Happening.Sent message) ∙ append-nil (settings_in notes look running) ∙ so.asks;
-          no_start = no-starts-more notes (Happening.Sent message ∷ []) so.no_start (tt, tt);
+          amid = amid-more notes (Happening.Sent message ∷ []) so.amid (tt, tt);
           sound =
               subst AreSound (sym (one-behind notes (Happening.Sent message) before))
               (((λ one_is. waits), so.sound.0), so.sound.1);
@@ -238,7 +257,7 @@ module _ (before : List Happening) (look : Look) (running : List Running) where
 
 -- notes without a start bring no fewer S6F1
 pub datas-grow :
-    (body : List ℕ) (rest before : List Happening) → AreNoStarts rest
+    (body : List ℕ) (rest before : List Happening) → AreAmid rest
     → count_of body (datas_in before) ≤ count_of body (datas_in (noted_behind rest before))
 datas-grow body [] before none = omega (arith)
 datas-grow body (what ∷ rest) before none =
@@ -257,16 +276,16 @@ datas-grow body (what ∷ rest) before none =
         omega (arith, e)
     sent message past false = same (datas_in past)
 
-    one_more : (what : Happening) (past : List Happening) → IsNoStart what
+    one_more : (what : Happening) (past : List Happening) → IsAmid what
         → count_of body (datas_in past) ≤ count_of body (datas_in (what ∷ past))
     one_more (Happening.EquipmentStarted found base) past none = absurd none
     one_more (Happening.Sent message) past none = sent message past (is_data message past)
     one_more (Happening.Recorded entry) past none = same (datas_in past)
     one_more Happening.HostStarted past none = same (datas_in past)
-    one_more Happening.Power past none = same (datas_in past)
+    one_more Happening.Power past none = absurd none
     one_more Happening.Closed past none = same (datas_in past)
     one_more (Happening.Received message) past none = same (datas_in past)
-    one_more (Happening.Wrote characters) past none = same (datas_in past)
+    one_more (Happening.Wrote characters) past none = absurd none
     one_more (Happening.Comms state) past none = same (datas_in past)
     one_more (Happening.Control state) past none = same (datas_in past)
     one_more (Happening.Spool active) past none = same (datas_in past)
@@ -295,7 +314,7 @@ datas-grow body (what ∷ rest) before none =
     one_more (Happening.Discarded name) past none = same (datas_in past)
     one_more (Happening.TooLong name) past none = same (datas_in past)
     one_more (Happening.Full name) past none = same (datas_in past)
-    one_more Happening.StepEnded past none = same (datas_in past)
+    one_more Happening.StepEnded past none = absurd none
 
 -- so is what is said of those before
 pub sound-before : (rest before : List Happening) → AreSound (noted_behind rest before) → AreSound before

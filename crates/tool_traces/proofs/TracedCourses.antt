@@ -23,7 +23,7 @@ use Rattle.message_end.specs.Ends.{Input, IsFront, Loss, call_of}
 use Rattle.message_end.specs.Own.{Has}
 use Rattle.message_end.specs.Parts.{Node, after_parts}
 use Rattle.message_end.proofs.Growing.{behind-both}
-use Rattle.message_end.proofs.Parts.{OnEither}
+use Rattle.message_end.proofs.Parts.{OnEither, either-less}
 use Rattle.equipment_tables.specs.declared.plan.EquipmentPlan.{EquipmentPlan}
 use Rattle.equipment_tables.specs.Laws.{TablesAreLookedBackFor}
 use Rattle.equipment_tables.specs.Plan.{EquipmentPlanFits}
@@ -47,26 +47,43 @@ use Rattle.tool_reports.proofs.QuietNotes.{counted, one, some-passes}
 use Rattle.tool_reports.proofs.QuietReports.{equal-bytes}
 use Rattle.tool_reports.proofs.Reporting.{tables-so}
 use Rattle.tool_traces.specs.Laws.{TracesHold}
-use Rattle.tool_traces.specs.Steps.{stepped, steps_behind, steps_broken, steps_filled, steps_met, steps_started}
+use Rattle.tool_traces.specs.Steps.{stepped, steps_behind, steps_broken, steps_filled, steps_met, steps_started, with_step}
 use Rattle.tool_traces.proofs.IdleCommands.{IsOdd}
-use Rattle.tool_traces.proofs.IdleNotes.{AreNoStarts, AreSound, datas-grow, reads-none, sound-before}
+use Rattle.tool_traces.proofs.IdleNotes.{AreAmid, AreSound, ReadsWhole, datas-grow, reads-ended, reads-none, sound-before}
 use Rattle.tool_traces.proofs.TracedMessages.{run}
-use Rattle.tool_traces.proofs.TracedParts.{AtEnd, AtFirst, AtSpent, all_due, first-keeps, last-keeps}
+use Rattle.tool_traces.proofs.TracedParts.{AtClosed, AtEnd, AtFirst, AtSpent, all_due, first-keeps, last-keeps}
 use Rattle.tool_traces.proofs.TracedTurns.{count_items, counted-both}
 
-abbrev FileStep : Type 0
+abbrev pub FileStep : Type 0
 FileStep = Step EquipmentView Happening
 
-abbrev FileWent : Type 0
+abbrev pub FileWent : Type 0
 FileWent = Went EquipmentView Happening
 
 counted-more : {X : Type 0} (test : X → Bool) (xs ys : List X)
     → length (filter test ys) ≤ length (filter test (xs ++ ys))
 counted-more test xs ys = let both = counted-both test xs ys in omega (arith, both)
 
-rest-no-starts : (front rest : List Happening) → AreNoStarts (front ++ rest) → AreNoStarts rest
-rest-no-starts [] rest none = none
-rest-no-starts (what ∷ front) rest none = rest-no-starts front rest none.1
+rest-amid : (front rest : List Happening) → AreAmid (front ++ rest) → AreAmid rest
+rest-amid [] rest are = are
+rest-amid (what ∷ front) rest are = rest-amid front rest are.1
+
+front-amid : (front rest : List Happening) → AreAmid (front ++ rest) → AreAmid front
+front-amid [] rest are = tt
+front-amid (what ∷ front) rest are = (are.0, front-amid front rest are.1)
+
+-- a step that goes on has noted something
+pub whole-step : (now : ℕ) (before notes last : List Happening) (steps : List Stepped)
+    → notes ≡ last ++ Happening.StepEnded ∷ [] → with_step now before notes steps ≡ stepped now before notes ∷ steps
+whole-step now before notes last steps is =
+    ap (λ (ns : List Happening). with_step now before ns steps) is ∙ go last
+    ∙ ap (λ (ns : List Happening). stepped now before ns ∷ steps) (sym is)
+  where
+    go : (last : List Happening)
+        → with_step now before (last ++ Happening.StepEnded ∷ []) steps
+        ≡ stepped now before (last ++ Happening.StepEnded ∷ []) ∷ steps
+    go [] = refl
+    go (what ∷ last) = refl
 
 -- ---- where it has come to
 
@@ -89,14 +106,39 @@ module _ (plan : EquipmentPlan) where
     pub sound : AreSound notes
     pub few : (body : List ℕ) → count_of body (datas_in notes) ≤ count_items body (due_in plan steps)
 
-  abbrev IsCourseSo : List Stepped → Course EquipmentView → Type 0
+  abbrev pub IsCourseSo : List Stepped → Course EquipmentView → Type 0
   IsCourseSo steps (Reached s notes) = IsReachedSo steps s notes
   IsCourseSo steps (Stopped notes) = AreFew steps notes
 
-  few-so : (steps : List Stepped) (s : EquipmentView) (notes : List Happening) → IsReachedSo steps s notes
+  pub few-so : (steps : List Stepped) (s : EquipmentView) (notes : List Happening) → IsReachedSo steps s notes
       → AreFew steps notes
   few-so steps s notes so =
       record { sound = so.sound; few = λ body. let all = so.few body in omega (arith, all) }
+
+  -- some notes of a step, in its order, without its end
+  pub record IsFewAmid (steps : List Stepped) (notes : List Happening) (now : ℕ) (front : List Happening) : Type 0 where
+    pub amid : AreAmid front
+    pub few : AreFew (stepped now notes front ∷ steps) (noted_behind front notes)
+
+  -- all notes of one that goes on
+  pub record IsWholeAmid (steps : List Stepped) (notes : List Happening) (now : ℕ) (whole : List Happening)
+      : Type 0 where
+    pub front : List Happening
+    pub is : whole ≡ front ++ Happening.StepEnded ∷ []
+    pub so : IsFewAmid steps notes now front
+
+  abbrev pub NotesWhole : List Stepped → List Happening → ℕ → FileStep → Type 0
+  NotesWhole steps notes now step = IsWholeAmid steps notes now step.notes
+
+  abbrev pub NotesFew : List Stepped → List Happening → ℕ → FileStep → Type 0
+  NotesFew steps notes now step = IsFewAmid steps notes now step.notes
+
+  -- with that step, where it has noted something
+  pub few-with : (steps : List Stepped) (notes : List Happening) (now : ℕ) (front : List Happening)
+      → AreFew steps notes → AreFew (stepped now notes front ∷ steps) (noted_behind front notes)
+      → AreFew (with_step now notes front steps) (noted_behind front notes)
+  few-with steps notes now [] none some = none
+  few-with steps notes now (what ∷ front) none some = some
 
   -- ---- one step
 
@@ -116,6 +158,9 @@ module _ (plan : EquipmentPlan) where
 
     abbrev WellEnds : FileStep → Type 0
     WellEnds step = AtEnd notes look past due looked bound (node_step step)
+
+    abbrev WellCloses : FileStep → Type 0
+    WellCloses step = AtClosed notes look past due looked bound (node_step step)
 
     abbrev FewEnds : FileStep → Type 0
     FewEnds step = AtSpent notes look past due looked bound (node_step step)
@@ -151,6 +196,12 @@ module _ (plan : EquipmentPlan) where
     with-file s (Goes step) at = at
     with-file s (Spent step) at = at
 
+    closed-file : (s : EquipmentView) (went : Went (Node OwnView Kind) Happening)
+        → OnEither (AtClosed notes look past due looked bound) (AtSpent notes look past due looked bound) went
+        → OnEither WellCloses FewEnds (went_with_file s went)
+    closed-file s (Goes step) at = record { last = at.last; is = at.is; notes = at.notes; asked = at.asked }
+    closed-file s (Spent step) at = at
+
     begun-keeps : (input : Input ToolCommand) (s : EquipmentView) → s.node.own.tables ≡ tables_in plan notes
         → IsReachedSo steps s notes → OnEither WellEnds FewEnds (begun_step s input now)
     begun-keeps input s tables so = go (needs_numbers s) (is_marked_out s.mark)
@@ -181,14 +232,14 @@ module _ (plan : EquipmentPlan) where
             (first-keeps notes look past due looked bound input (at_first s.node) (at-start s tables so))
 
     act-keeps : (input : Input ToolCommand) (s : EquipmentView) → s.node.own.tables ≡ tables_in plan notes
-        → IsReachedSo steps s notes → OnEither WellEnds FewEnds (act s input now)
+        → IsReachedSo steps s notes → OnEither WellCloses FewEnds (act s input now)
     act-keeps input s tables so = go (begun_step s input now) (begun-keeps input s tables so)
       where
         go : (went : FileWent) → OnEither WellEnds FewEnds went
-            → OnEither WellEnds FewEnds (and_then (settled_went went) (ended_step now))
+            → OnEither WellCloses FewEnds (and_then (settled_went went) (ended_step now))
         go (Spent step) at = at
         go (Goes step) at =
-            with-file (settled step.next)
+            closed-file (settled step.next)
             (after_parts Some (last_parts (oldest_of (settled step.next)) now) (node_step (settled_step step)))
             (last-keeps notes look past due looked bound (oldest_of (settled step.next)) now
             (node_step (settled_step step))
@@ -212,26 +263,59 @@ module _ (plan : EquipmentPlan) where
           omega (arith, all, same);
     }
 
-    well-behind : (step : FileStep) → WellEnds step
+    well-behind : (step : FileStep) → WellCloses step
         → IsReachedSo (stepped now notes step.notes ∷ steps) step.next (noted_behind step.notes notes)
     well-behind step at = record {
       runs =
-          at.runs.runs
-          ∙ ap (λ (asked : List TraceEntry). traces_at (past ++ Sample look ∷ asked)) (sym at.reads.asks);
-      most = at.runs.most;
-      all = at.runs.all;
-      odd = at.odd;
-      sound = at.reads.sound;
+          at.is.runs.runs
+          ∙ ap (λ (asked : List TraceEntry). traces_at (past ++ Sample look ∷ asked)) (sym whole.asks);
+      most = at.is.runs.most;
+      all = at.is.runs.all;
+      odd = subst IsOdd (sym at.asked) tt;
+      sound = whole.sound;
       few = λ body.
-          let all = at.few body in
-          let same = ap (λ (sent : List (List ℕ)). count_of body sent) at.reads.datas in
+          let all = at.is.few body in
+          let same = ap (λ (sent : List (List ℕ)). count_of body sent) whole.datas in
           omega (arith, all, same);
     }
+      where
+        whole : ReadsWhole notes look the_run at.is.sent at.is.asked step.notes
+        whole =
+            subst (λ (ns : List Happening). ReadsWhole notes look the_run at.is.sent at.is.asked ns) (sym at.notes)
+            (reads-ended notes look the_run at.is.sent at.is.asked at.last.notes at.is.reads)
 
-    step-so : (went : FileWent) → OnEither WellEnds FewEnds went
-        → IsCourseSo (stepped now notes (step_in went).notes ∷ steps) (went_on went notes)
-    step-so (Goes step) at = well-behind step at
-    step-so (Spent step) at = few-behind step at
+    step-so : (went : FileWent) → OnEither WellCloses FewEnds went → AreFew steps notes
+        → IsCourseSo (with_step now notes (step_in went).notes steps) (went_on went notes)
+    step-so (Goes step) at none =
+        subst (λ (steps : List Stepped). IsReachedSo steps step.next (noted_behind step.notes notes))
+        (sym (whole-step now notes step.notes at.last.notes steps at.notes)) (well-behind step at)
+    step-so (Spent step) at none = few-with steps notes now step.notes none (few-behind step at)
+
+    few-amid : (step : FileStep) → FewEnds step → IsFewAmid steps notes now step.notes
+    few-amid step few = record { amid = few.reads.amid; few = few-behind step few }
+
+    -- what a step notes
+    pub act-notes : (input : Input ToolCommand) (s : EquipmentView) → s.node.own.tables ≡ tables_in plan notes
+        → IsReachedSo steps s notes
+        → OnEither (NotesWhole steps notes now) (NotesFew steps notes now) (act s input now)
+    act-notes input s tables so =
+        either-less WellCloses FewEnds (NotesWhole steps notes now) (NotesFew steps notes now) (act s input now)
+        (act-keeps input s tables so)
+        (λ step at. record {
+          front = at.last.notes;
+          is = at.notes;
+          so = record {
+            amid = at.is.reads.amid;
+            few = record {
+              sound = at.is.reads.sound;
+              few = λ body.
+                  let all = at.is.few body in
+                  let same = ap (λ (sent : List (List ℕ)). count_of body sent) at.is.reads.datas in
+                  omega (arith, all, same);
+            };
+          };
+        })
+        (λ step few. few-amid step few)
 
     spent-of : (went : FileWent) → OnEither WellEnds FewEnds went → FewEnds (step_in went)
     spent-of (Goes step) at = record {
@@ -243,9 +327,9 @@ module _ (plan : EquipmentPlan) where
     spent-of (Spent step) at = at
 
     -- what is noted where a call of the disk stops the step
-    front-so : (input : Input ToolCommand) (s : EquipmentView) (front : List Happening)
+    pub front-so : (input : Input ToolCommand) (s : EquipmentView) (front : List Happening)
         → s.node.own.tables ≡ tables_in plan notes → IsReachedSo steps s notes
-        → Has (stops s input now) front → AreFew (stepped now notes front ∷ steps) (noted_behind front notes)
+        → Has (stops s input now) front → IsFewAmid steps notes now front
     front-so input s front tables so has =
         let few = spent-of (begun_step s input now) (begun-keeps input s tables so) in
         let first : IsFront front (step_in (begun_step s input now)).notes =
@@ -253,14 +337,18 @@ module _ (plan : EquipmentPlan) where
         let whole : noted_behind (step_in (begun_step s input now)).notes notes
         ≡ noted_behind first.rest (noted_behind front notes) =
         ap (λ (l : List Happening). noted_behind l notes) first.whole ∙ behind-both front first.rest notes in
-        let none = rest-no-starts front first.rest (subst AreNoStarts first.whole few.reads.no_start) in
+        let amid = subst AreAmid first.whole few.reads.amid in
+        let later = rest-amid front first.rest amid in
         record {
-          sound = sound-before first.rest (noted_behind front notes) (subst AreSound whole few.reads.sound);
-          few = λ body.
-              let all = (few-behind (step_in (begun_step s input now)) few).few body in
-              let grow = datas-grow body first.rest (noted_behind front notes) none in
-              let same = ap (λ (l : List Happening). count_of body (datas_in l)) whole in
-              omega (arith, all, grow, same);
+          amid = front-amid front first.rest amid;
+          few = record {
+            sound = sound-before first.rest (noted_behind front notes) (subst AreSound whole few.reads.sound);
+            few = λ body.
+                let all = (few-behind (step_in (begun_step s input now)) few).few body in
+                let grow = datas-grow body first.rest (noted_behind front notes) later in
+                let same = ap (λ (l : List Happening). count_of body (datas_in l)) whole in
+                omega (arith, all, grow, same);
+          };
         }
 
   -- ---- over all starts
@@ -286,11 +374,21 @@ module _ (plan : EquipmentPlan) where
         few = λ body. omega (arith);
       }
 
-  power-so : (steps : List Stepped) (notes : List Happening) → AreFew steps notes
+  pub power-so : (steps : List Stepped) (notes : List Happening) → AreFew steps notes
       → AreFew steps (Happening.Power ∷ notes)
   power-so steps notes so = record { sound = so.sound; few = so.few }
 
   module _ (looked : WhatRunsIsLookedBackFor) (bound : FewTracesRun) where
+    -- what is noted by a loss
+    pub lost-so :
+        (input : Input ToolCommand) (now call : ℕ) (steps : List Stepped) (s : EquipmentView) (notes : List Happening)
+        (loss : Loss EquipmentView) → call_of call (losses s input now) ≡ Some loss
+        → s.node.own.tables ≡ tables_in plan notes → IsReachedSo steps s notes
+        → IsFewAmid steps notes now loss.front
+    lost-so input now call steps s notes loss is tables so =
+        front-so looked bound steps notes now input s loss.front tables so
+        ((losses-counted s input now).1 loss (has-call call (losses s input now) loss is))
+
     broken-so :
         (input : Input ToolCommand) (now call : ℕ) (choice : CutChoice) (steps : List Stepped) (s : EquipmentView)
         (notes : List Happening) (found : Option (Loss EquipmentView)) → call_of call (losses s input now) ≡ found
@@ -301,11 +399,10 @@ module _ (plan : EquipmentPlan) where
     broken-so input now call choice steps s notes None is tables so = so
     broken-so input now call choice steps s notes (Some loss) is tables so =
         started-so (loss.left choice).node.own.plan (loss.left choice).node.own.ledger.slots (loss.left choice).list
-        (loss.left choice).mark (stepped now notes loss.front ∷ steps)
-        (Happening.Power ∷ noted_behind loss.front notes)
-        (power-so (stepped now notes loss.front ∷ steps) (noted_behind loss.front notes)
-        (front-so looked bound steps notes now input s loss.front tables so
-        ((losses-counted s input now).1 loss (has-call call (losses s input now) loss is))))
+        (loss.left choice).mark (with_step now notes loss.front steps) (Happening.Power ∷ noted_behind loss.front notes)
+        (power-so (with_step now notes loss.front steps) (noted_behind loss.front notes)
+        (few-with steps notes now loss.front (few-so steps s notes so)
+        (lost-so input now call steps s notes loss is tables so).few))
 
     filled-so :
         (input : Input ToolCommand) (now call : ℕ) (steps : List Stepped) (s : EquipmentView) (notes : List Happening)
@@ -314,8 +411,8 @@ module _ (plan : EquipmentPlan) where
         → IsCourseSo (steps_filled now notes found steps) (filled_at s notes found)
     filled-so input now call steps s notes None is tables so = so
     filled-so input now call steps s notes (Some loss) is tables so =
-        front-so looked bound steps notes now input s loss.front tables so
-        ((losses-counted s input now).1 loss (has-call call (losses s input now) loss is))
+        few-with steps notes now loss.front (few-so steps s notes so)
+        (lost-so input now call steps s notes loss is tables so).few
 
     meeting-so :
         (meeting : Meeting ToolCommand) (steps : List Stepped) (course : Course EquipmentView)
@@ -324,7 +421,7 @@ module _ (plan : EquipmentPlan) where
     meeting-so meeting steps (Stopped notes) tables so = so
     meeting-so (Acts input now) steps (Reached s notes) tables so =
         step-so looked bound steps notes now (act s input now)
-        (act-keeps looked bound steps notes now input s tables so)
+        (act-keeps looked bound steps notes now input s tables so) (few-so steps s notes so)
     meeting-so (Restarts now) steps (Reached s notes) tables so =
         started-so s.node.own.plan s.node.own.ledger.slots s.list s.mark steps notes
         (few-so steps s notes so)
@@ -337,7 +434,7 @@ module _ (plan : EquipmentPlan) where
     meeting-so (Fills input now call) steps (Reached s notes) tables so =
         filled-so input now call steps s notes (call_of call (losses s input now)) refl tables so
 
-    course-so :
+    pub course-so :
         (fits : EquipmentPlanFits plan) (tables : TablesAreLookedBackFor) (slots : ℕ) (list : List Kept) (mark : ℕ)
         → AllCanBeSent list → (meetings : List (Meeting ToolCommand))
         → IsCourseSo (steps_met (started_on plan slots list mark) meetings)
@@ -380,7 +477,7 @@ text-so item body is = go (encode_fault item) (bytes_eq body (shortest_spelling 
     go None false none equal all = absurd (cc)
     go (Some fault) same none equal all = absurd (cc)
 
-sampled-so : (plan : EquipmentPlan) (steps : List Stepped) (notes : List Happening)
+pub sampled-so : (plan : EquipmentPlan) (steps : List Stepped) (notes : List Happening)
     → AreFew plan steps notes → AreSampled plan notes steps
 sampled-so plan steps notes so = record {
   wait = so.sound.0;

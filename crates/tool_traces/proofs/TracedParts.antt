@@ -21,7 +21,7 @@ use Rattle.trace_log.specs.Names.{Spooled}
 use Rattle.transact.specs.Numbers.{after_draw, next_number}
 use Rattle.message_end.specs.Calls.{dropped_now, due_now, failed_at}
 use Rattle.message_end.specs.Core.{EndView, Went, and_then, carried, carry, drawn_primary, draws, is_crowded_out, keeps_drawn, noted, primary_of, sends, unsent_name, waits, with_end}
-use Rattle.message_end.specs.Core.Command.{Draw, DrawnPrimary, CloseStep, Offer, Tick}
+use Rattle.message_end.specs.Core.Command.{Draw, DrawnPrimary, Offer, Tick}
 use Rattle.message_end.specs.Course.{noted_behind}
 use Rattle.message_end.specs.Duties.{all_done}
 use Rattle.message_end.specs.Ends.{Input}
@@ -46,7 +46,7 @@ use Rattle.tool_reports.specs.Sampled.{datas_in, is_data, is_text_of, setting_in
 use Rattle.tool_reports.proofs.QuietNotes.{one-behind}
 use Rattle.tool_traces.proofs.IdleCommands.{ReadsStep}
 use Rattle.tool_traces.proofs.IdleMessages.{after-idle, block-timer-idle, reply-timer-idle}
-use Rattle.tool_traces.proofs.IdleNotes.{AreSound, Reads, idle-note, no-starts-more, reads-idle}
+use Rattle.tool_traces.proofs.IdleNotes.{AreSound, Reads, amid-more, idle-note, reads-idle}
 use Rattle.tool_traces.proofs.IdleTurns.{IsIdleTurn, KeepsTraces, booked-idle, comms-idle, fixed-idle, itself, kept, leaving-idle, led-idle, nothing-idle, rested-lines}
 use Rattle.tool_traces.proofs.TracedMessages.{Follows, Fresh, input-takes, run}
 use Rattle.tool_traces.proofs.TracedTurns.{FewSent, Keeps, Traced, counted-both, few-of, idle-keeps, made-keeps, sampled-so, still}
@@ -363,7 +363,7 @@ module _ (before : List Happening) (look : Look) (past : List TraceEntry) (due :
         asks =
             flat_map-append (setting_in look the_run) notes (Happening.Sent out ∷ [])
             ∙ append-nil (settings_in notes look the_run) ∙ so.asks;
-        no_start = no-starts-more notes (Happening.Sent out ∷ []) so.no_start (tt, tt);
+        amid = amid-more notes (Happening.Sent out ∷ []) so.amid (tt, tt);
         sound =
             subst AreSound (sym (one-behind notes (Happening.Sent out) before))
             (((λ one_is. let none = tried-none message system notes tried in absurd (cc)), so.sound.0), so.sound.1);
@@ -499,10 +499,21 @@ module _ (before : List Happening) (look : Look) (past : List TraceEntry) (due :
 
   -- ---- the last parts
 
+  -- the end of the step is noted behind all that it has noted else
+  pub record AtClosed (step : NodeStep) : Type 0 where
+    pub last : CoreStep
+    pub is : Traced before look the_run (Follows before look past all_due looked bound) all_due step.next.own last
+    pub notes : step.notes ≡ last.notes ++ Happening.StepEnded ∷ []
+    pub asked : step.next.core.asked ≡ None
+
+  closes-keep : (step : NodeStep) → AtEnd step
+      → OnEither AtClosed AtSpent (after_turn Some (closes step.next.own step.next.core) step)
+  closes-keep step at = record { last = core_step step; is = at; notes = refl; asked = refl }
+
   pub last-keeps : (oldest : Option Spooled) (now : ℕ) (step : NodeStep) → AtEnd step
-      → OnEither AtEnd AtSpent (after_parts Some (last_parts oldest now) step)
+      → OnEither AtClosed AtSpent (after_parts Some (last_parts oldest now) step)
   last-keeps oldest now step at =
-      parts-then AtEnd AtSpent AtEnd (last_parts oldest now) [] (
+      parts-then AtEnd AtSpent AtClosed (unload_part oldest ∷ end_of_spooling ∷ offer now ∷ []) (closes ∷ []) (
         last-part (unload_part oldest)
             (λ own e core is so.
             subst
@@ -517,10 +528,13 @@ module _ (before : List Happening) (look : Look) (past : List TraceEntry) (due :
             idle-part (offer now)
                 (λ own e.
                 led-idle own (Offer now) (fixed_turn own []) tt (fixed-idle own own [] (itself own) tt)),
-            (idle-part closes (λ own e. fixed-idle own own (CloseStep ∷ []) (itself own) (tt, tt)), tt),
+            tt,
           ),
         ),
-      ) step at (λ last at_last. at_last)
+      ) step at
+      (λ last at_last.
+      either-then AtClosed AtSpent AtClosed (after_turn Some (closes last.next.own last.next.core) last)
+      (after_parts Some []) (closes-keep last at_last) (λ next closed. closed))
     where
       idle-part : (part : ToolPart) → ((own : OwnView) (e : EndView Kind) → IsIdleTurn own (part own e))
           → (step : NodeStep) → AtEnd step

@@ -16,6 +16,12 @@ use Rattle.tool_reports.specs.Sampled.{Stepped}
 abbrev pub stepped : ℕ → List Happening → List Happening → Stepped
 stepped now before notes = record { now = now; before = before; notes = notes }
 
+-- a step, where it has noted something: each that goes on notes its end, and one that stops with nothing noted has sent
+-- nothing
+abbrev pub with_step : ℕ → List Happening → List Happening → List Stepped → List Stepped
+with_step now before [] steps = steps
+with_step now before (what ∷ notes) steps = stepped now before (what ∷ notes) ∷ steps
+
 -- behind a start there is none, unless it has no numbers
 abbrev pub steps_started : Went EquipmentView Happening → List Stepped → List Stepped
 steps_started (Goes step) steps = []
@@ -25,14 +31,14 @@ steps_started (Spent step) steps = steps
 abbrev pub steps_broken : (Loss EquipmentView → Went EquipmentView Happening) → ℕ → List Happening
     → Option (Loss EquipmentView) → List Stepped → List Stepped
 steps_broken again now notes None steps = steps
-steps_broken again now notes (Some loss) steps = steps_started (again loss) (stepped now notes loss.front ∷ steps)
+steps_broken again now notes (Some loss) steps = steps_started (again loss) (with_step now notes loss.front steps)
 
 abbrev pub steps_filled : ℕ → List Happening → Option (Loss EquipmentView) → List Stepped → List Stepped
 steps_filled now notes None steps = steps
-steps_filled now notes (Some loss) steps = stepped now notes loss.front ∷ steps
+steps_filled now notes (Some loss) steps = with_step now notes loss.front steps
 
 abbrev pub steps_at : Meeting ToolCommand → EquipmentView → List Happening → List Stepped → List Stepped
-steps_at (Acts input now) s notes steps = stepped now notes (step_in (act s input now)).notes ∷ steps
+steps_at (Acts input now) s notes steps = with_step now notes (step_in (act s input now)).notes steps
 steps_at (Restarts now) s notes steps = steps_started (restarts s now) steps
 steps_at (Writes characters) s notes steps = steps
 steps_at LosesPower s notes steps = steps

@@ -30,6 +30,9 @@ returns-in_default g c =
       kept = c.spool_is_kept.ensures.notes;
       left = c.messages_leave_in_step.ensures;
       used = c.overwrites_for_puts.ensures;
+      tables = c.tables_are_looked_back_for.ensures;
+      running = c.what_runs_is_looked_back_for.ensures;
+      few = c.few_traces_run.ensures;
     }
     in
     let moved =
@@ -72,6 +75,9 @@ returns g c =
       kept = c.spool_is_kept.ensures.notes;
       left = c.messages_leave_in_step.ensures;
       used = c.overwrites_for_puts.ensures;
+      tables = c.tables_are_looked_back_for.ensures;
+      running = c.what_runs_is_looked_back_for.ensures;
+      few = c.few_traces_run.ensures;
     }
     in
     let moved =
