@@ -331,6 +331,8 @@ class Reading:
 
     def answers(self, name, system, body):
         if not self.request or self.request[1] != system:
+            if name == "S2F24":
+                self.breaks("no S2F23 is to be answered")
             return
         request, _, asked = self.request
         request = request.split(" ")[0]
@@ -374,7 +376,8 @@ class Reading:
             self.open[system] = wanted
 
     def tool_failed(self, name, *words):
-        self.unanswered.discard(words[-1])
+        if not is_reply(name):
+            self.unanswered.discard(words[-1])
         if name != "S6F5" and not is_reply(name):
             self.open.pop(words[-1], None)
 

@@ -145,10 +145,10 @@ class Tracing:
 
     def read_end(self, kind, words):
         """Where this line ends the wait of an S6F1, the next one is to be its own."""
-        if kind == "rx" and len(words) == 3 and words[1] in self.inquired:
+        if kind == "rx" and words[0] in ("S6F6", "S6F0") and words[1] in self.inquired:
             is_granted = words[0] == "S6F6" and words[2] == GRANTED
             self.left = self.inquired.pop(words[1]), ("sent", "full") if is_granted else ("denied",)
-        elif kind in ("failed", "t3") and words[-1] in self.inquired:
+        elif kind in ("failed", "t3") and words[0] == "S6F5" and words[-1] in self.inquired:
             self.left = self.inquired.pop(words[-1]), ("dropped",) if kind == "failed" else ("denied",)
         return None
 
