@@ -22,7 +22,7 @@ import copy
 import tomllib
 
 from spelling import headed, list_of, parsed, spelled, u4
-from tracing import Tracing, moments_of
+from tracing import MOVES, Tracing, moments_of
 
 DONE = "210100"
 MOST = (1 << 32) - 1
@@ -265,8 +265,9 @@ class Reading:
 
     def tool_power(self):
         self.losses += 1
-        # Where system bytes were to be set aside the power may have been lost before the samples.
-        if (self.drawn - self.base) % ASIDE <= ASIDE - FEW:
+        # It may go before the samples have their lines, while a message is stored or system bytes are set aside.
+        is_moving = self.before and self.before[0] in MOVES
+        if not is_moving and (self.drawn - self.base) % ASIDE <= ASIDE - FEW:
             self.breaks_by(self.tracing.missing())
 
     def tool_start(self, found, base):

@@ -14,8 +14,10 @@ MOST_OPEN = 64
 BLOCK = 244
 GRANTED = "210100"
 S6F1 = ["S6F1", "W"]
-# What a step may note before its samples: what its timers bring.
-BY_TIMERS = ("t4", "t3", "failed", "dropped", "denied", "comms", "control", "spool", "sent", "full", "power")
+# What a step may note before its samples: what its timers bring, with what is stored then.
+MOVES = ("storing", "leaving")
+BY_TIMERS = ("t4", "t3", "failed", "dropped", "denied", "comms", "control", "spool", "sent", "full", "power", "toolong",
+             "discarded", "stored", "gone", *MOVES)
 
 
 def moments_of(schedule):
