@@ -21,4 +21,6 @@ mod spool_files;
 #[cfg(test)]
 mod tool_runs;
 #[cfg(test)]
+mod traces;
+#[cfg(test)]
 mod worlds;

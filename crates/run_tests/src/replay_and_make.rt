@@ -146,7 +146,13 @@ const REFUSED: &str = "0 E start len=0 base=0\n0 H start\n0 E comms WAIT-CRA\n\
     0 E sent S1F13 W 00000000 0102410747454D4C494E45410131\n0 E tx 05\n0 E refused\n0 end\n";
 
 /// Whether `replay` over these files ends so.
-fn is_replayed(alloc: Global, words: &[String], plan: &[u8], schedule: &[u8], end: &End) -> bool {
+pub(crate) fn is_replayed(
+    alloc: Global,
+    words: &[String],
+    plan: &[u8],
+    schedule: &[u8],
+    end: &End,
+) -> bool {
     let mut files = TestFiles {
         plan,
         schedule,

@@ -20,7 +20,7 @@ type ToolCase = (
     End,
 );
 
-const EQUIPMENT: &[&str] = &["equipment", "plan", "address", "SPOOL"];
+pub(crate) const EQUIPMENT: &[&str] = &["equipment", "plan", "address", "SPOOL"];
 
 const STARTED: &str = "0 E start len=0 base=0\n";
 
@@ -176,7 +176,7 @@ fn runs_tool_over(alloc: Global, link: &mut MemLink, case: &ToolCase) -> bool {
 }
 
 /// Whether these words over a plan, a script, a disk and a link end so, if the write of this number fails.
-fn tool_ends_so(
+pub(crate) fn tool_ends_so(
     alloc: Global,
     words: &[String],
     plan: &[u8],
