@@ -26,7 +26,7 @@ OTHERS = ["S1F1 W -", "S1F13 W -", "S1F3 W <L>", "S1F11 -", "S3F1 W -", "S6F15 W
           'S10F5 W <L <B 00> <L <A "yes"> <A "no">>>', f'S10F5 W <L <B 00> <L <A "{"y" * 300}"> <A "no">>>']
 # What S2F23 may ask for, and what is wrong in some.
 PERIODS = ["00000010", "00000010", "00000010", "00000015", "00000025", "000001", "00000100", "000010", "00010000"]
-SAMPLED = [[1], [1], [1], [1, 2], [2, 1, 1], [2], [], [1] * 45]
+SAMPLED = [[1], [1], [1], [1, 2], [2, 1, 1], [2], [], [1] * 45, [1] * 45]
 NO_PERIODS = ["00000009", "000000", "000060", "006000", "00001", "0000001", "0000010a", "00000 10", "", "000001000"]
 WRONG = [[{"period": period} for period in NO_PERIODS],
          [{"variables": [1] * 257}, {"variables": [2] * 256 + [9]}],
@@ -55,7 +55,7 @@ class Drawing:
         pick = self.rng.choice
         spooled = pick([None, None, None, '["S6F11"]', '["S5F1", "S10F1"]', "[]"])
         return "\n".join([
-            "[line]", f"rty = {self.retries}", "t3 = 25000", *pick([[], [], [], [], [], ["max_body = 400"]]),
+            "[line]", f"rty = {self.retries}", "t3 = 25000", *pick([[], [], [], ["max_body = 400"]]),
             "[equipment]", f"slots = {pick([1, 2, 2, 3, 4, 6])}", f"overwrite = {pick(['true', 'false'])}",
             f"max_transmit = {pick([0, 0, 0, 1, 2])}", f"enable_spool = {pick(['true', 'true', 'true', 'false'])}",
             f"delay = {pick([1, 5, 15])}", *([f"spooled = {spooled}"] if spooled else []),
@@ -72,7 +72,7 @@ class Drawing:
             lines += self.events() + self.failure() + pick([["settle"], ["settle"], []])
         for _ in range(self.rng.randrange(8, 24)):
             lines += self.some([(8, self.loss), (10, self.unload), (12, self.events), (6, self.failure),
-                                (10, self.trace), (10, self.time), (64, self.line)])
+                                (10, self.trace), (10, self.time), (3, self.silence), (64, self.line)])
         # The communication is there again, and all that stands in the spool is taken.
         lines += ["tool enable", "host enable", "settle", "wait 45000", "settle", "wait 45000", "settle",
                   "host send S1F13 W -", "settle", "host send S2F15 W <L <L <U4 4> <U4 0>>>", "settle"]
@@ -116,7 +116,7 @@ class Drawing:
 
     def asking(self, number, period, total, group, variables):
         """The item of an S2F23. Its numbers may be wider than they need."""
-        wide = self.rng.choice(["U4", "U8"] + ["U1"] * (total < 256))
+        wide = self.rng.choice(["U4", "U8"] + ["U1"] * (max(total, group) < 256))
         listed = "".join(f" <{wide} {variable}>" for variable in variables)
         return f'<L <{wide} {number}> <A "{period}"> <{wide} {total}> <{wide} {group}> <L{listed}>>'
 
@@ -124,11 +124,17 @@ class Drawing:
         """As many traces as may run, one more, and one of them anew. Their samples are due at once."""
         rng, pick, lines = self.rng, self.rng.choice, []
         for number in [*range(17), rng.randrange(16)]:
-            asked = self.asking(number, pick(["00000010"] * 3 + ["00000020"]), pick([2, 5, 9]), pick([1, 1, 2]), [1])
+            asked = self.asking(number, pick(["00000010"] * 3 + ["00000020"]), pick([2, 9, 9]), pick([1, 1, 2]), [1])
             lines += [f"host send S2F23 W {asked}", "settle"]
-        for _ in range(pick([1, 2, 3, 6])):
-            lines += self.set() + ["wait 100"] + pick([[], ["settle"]])
-        return lines
+        behind = pick([[], ["settle"]])
+        for _ in range(pick([1, 3, 9])):
+            lines += self.set() + ["wait 100"] + behind
+        return lines + ["settle"]
+
+    def silence(self):
+        """A trace for a host that takes its S6F1, and neither answers them nor gives leave."""
+        lines = self.trace() + ["settle", "host disable"] + self.time()
+        return lines + ["settle", "wait 24900"] + self.time() + ["host enable"]
 
     def time(self):
         """Steps in which samples are due, with other values in some."""
