@@ -156,7 +156,7 @@ class Reading:
         self.plan = Plan(plan_text)
         self.starts = starts_of(self.plan, schedule)
         self.moments = moments_of(schedule)[::-1]   # those that are still to come, the next one last
-        self.broken, self.losses = [], 0
+        self.broken, self.losses, self.now = [], 0, 0
         self.sent = {"E": set(), "H": set()}        # of all starts
         self.requests = {"E": set(), "H": set()}    # the system bytes of the requests among them
         self.received = {"E": set(), "H": set()}    # system bytes and kind, of one start
@@ -220,6 +220,8 @@ class Reading:
 
     def to_moment(self, now):
         """The clock moves to each moment of the schedule up to this one, and the tool makes a step."""
+        if now < self.now:
+            self.breaks("time goes back")
         self.now = now
         while self.moments and self.moments[-1] <= now:
             self.breaks_by(self.tracing.missing())
@@ -331,9 +333,9 @@ class Reading:
         self.silent = None
 
     def answers(self, name, system, body):
+        if name == "S2F24" and self.before[:2] != ["rx", "S2F23"]:
+            self.breaks("no S2F23 is to be answered")
         if not self.request or self.request[1] != system:
-            if name == "S2F24":
-                self.breaks("no S2F23 is to be answered")
             return
         request, _, asked = self.request
         request = request.split(" ")[0]
