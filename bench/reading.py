@@ -268,9 +268,9 @@ class Reading:
     def tool_power(self):
         self.losses += 1
         # It may go before the samples have their lines, while a message is stored or system bytes are set aside.
-        is_moving = self.before and self.before[0] in MOVES
+        missing, is_moving = self.tracing.missing(), self.before and self.before[0] in MOVES
         if not is_moving and (self.drawn - self.base) % ASIDE <= ASIDE - FEW:
-            self.breaks_by(self.tracing.missing())
+            self.breaks_by(missing)
 
     def tool_start(self, found, base):
         found, stood = int(found[len("len="):]), len(self.standing)
