@@ -2,7 +2,8 @@
 
 1. What an end takes was sent by the other end: the same name, system bytes and body. Within one start of an end it is
    taken once. A request never has the system bytes of an earlier one of the same end, whatever start sent that.
-2. A report has the values that its variables had at its event. What an unload sends is what was stored.
+2. A report has the values that its variables had at its event. What an unload sends is what was stored. S6F5 tells the
+   length of what it asks leave for.
 3. A start of the tool finds in its spool what stood there, in order. A message that was leaving may be gone, and one
    that was being stored may stand last. The first that stands is the one that leaves: confirmed where the host has
    taken it, purged where the host has just asked for that, overwritten where the constant says so and each slot is
@@ -21,7 +22,7 @@ it leaves. Nor does it say whether a request without W was accepted, which is ju
 import copy
 import tomllib
 
-from spelling import headed, list_of, parsed, spelled, u4
+from spelling import headed, leave_for, list_of, parsed, spelled, u4
 from tracing import MOVES, Tracing, moments_of
 
 DONE = "210100"
@@ -367,10 +368,15 @@ class Reading:
             self.sent_new(system, body, self.events.get(body))
         elif name in ("S5F1 W", "S10F1 W"):
             self.sent_new(system, body, self.new(name))
-        elif name == "S6F5 W" and self.before[0] == "try":
-            self.open[system] = UNLOADED
         elif name == "S6F5 W" and system not in self.tracing.inquired:
-            self.sent_new(system, self.made.body if self.made else b"", self.made)
+            is_tried = self.before[0] == "try"
+            message = self.standing[0].message if is_tried else self.made
+            if message and message.body and body != leave_for(message.body):
+                self.breaks(f"it asks leave for {message.body.hex().upper()}")
+            if is_tried:
+                self.open[system] = UNLOADED
+            else:
+                self.sent_new(system, message.body if message else b"", message)
 
     def sent_new(self, system, body, wanted):
         if not wanted or wanted.body != body:

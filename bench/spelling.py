@@ -62,3 +62,8 @@ def parsed(spelling):
             items.append(one)
         return items, at
     return item(0)[0]
+
+
+def leave_for(body):
+    """The text of the S6F5 that asks leave for a message of this text, by its first number and its length."""
+    return list_of([u4(parsed(body)[0]), u4(len(body))])

@@ -7,7 +7,7 @@ or it is dropped, too long, or full.
 """
 import re
 
-from spelling import headed, list_of, parsed, u4
+from spelling import headed, leave_for, list_of, parsed, u4
 
 MOST_TRACES, MOST_VARIABLES, MOST_VALUES = 16, 256, 4096
 MOST_OPEN = 64
@@ -51,15 +51,15 @@ class Trace:
             return None
         body = list_of([u4(self.number), u4(self.taken), headed("A", 0, b""), list_of(self.held)])
         self.held = []
-        return Due(self.number, body)
+        return Due(body)
 
 
 class Due:
     """An S6F1 that a sample has brought."""
 
-    def __init__(self, number, body):
+    def __init__(self, body):
         self.body, self.text, self.is_long = body, body.hex().upper(), len(body) > BLOCK
-        self.inquiry = list_of([u4(number), u4(len(body))]).hex().upper()
+        self.inquiry = leave_for(body).hex().upper()
 
 
 class Tracing:
