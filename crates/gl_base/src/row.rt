@@ -33,6 +33,13 @@ impl<T> Row<T> {
         }
     }
 
+    /// The row of these elements, which aren't copied.
+    pub fn from_vec(items: Vec<T>) -> Row<T>
+        ensures { result ≡ items.items }
+    {
+        Row { items }
+    }
+
     pub fn as_slice(&self) -> &[T]
         ensures { result.now ≡ self.now }
     {
