@@ -14,6 +14,7 @@ pub mod QuietTurns
 pub mod SpentCauses
 pub mod SpentRuns
 pub mod SpoolSound
+pub mod StepHalves
 pub mod StepsWriteFew
 pub mod TriedCores
 pub mod TriedCourse
