@@ -1,40 +1,32 @@
 //! The core that both ends share: line, queue, assembly, transactions and numbers behind calls that keep the law of an
 //! end.
 
-ghost use Rattle.std.specs.Prelude.{◌≡◌, ◌+◌, ◌-◌, ◌^◌, ◌<◌, ◌≤◌, ◌++◌, ◌∷◌, ◌&&◌, [], Some, None, IfOk, IfSome, OnOk, is_some, length, not, slice_get};
+ghost use Rattle.std.specs.Prelude.{◌≡◌, ◌+◌, ◌-◌, ◌^◌, ◌<◌, ◌≤◌, ◌&&◌, Some, IfOk, IfSome, is_some, length, not, slice_get};
 ghost use Rattle.std.specs.List.{count_by, find, list_any};
 ghost use Rattle.std.specs.Option.{option_map};
 ghost use Rattle.arrayvec.specs.ArrayVec.{array_vec_len};
 ghost use Rattle.block_codec.specs.Header.{Fits};
 ghost use Rattle.block_codec.specs.Protocol.{longest_text};
 ghost use Rattle.line_end.specs.Plan.{LinePlanFits};
-ghost use Rattle.message_end.specs.Calls.{Becomes, Begins, Carries, FitsLine, HasHeader, IsCame, IsCarried, IsChecked, IsGood, IsNew, answered_by, deadline_of_end, dropped_now, due_now, failed_as, failed_at, is_sent, is_waiting_for, least, took_at};
-ghost use Rattle.message_end.specs.Core.{Command, acknowledges, asked_by, hears, held_header, is_crowded_out, is_held_answered, judges, queues, replies_to, reply_text, sends, takes_back, unsent_name, with_transactions};
+ghost use Rattle.message_end.specs.Calls.{Carries, FitsLine, HasHeader, IsCarried, IsChecked, IsGood, IsNew, answered_by, deadline_of_end, dropped_now, due_now, failed_as, failed_at, is_sent, least, took_at};
+ghost use Rattle.message_end.specs.Core.{Command, held_header};
 ghost use Rattle.message_end.specs.Endings.{is_of_open};
 ghost use Rattle.message_end.specs.Laws.{new_end};
-ghost use Rattle.message_flow.specs.Assembly.{WholeFits};
-ghost use Rattle.message_flow.specs.Message.{MessageFits};
 ghost use Rattle.message_flow.specs.Outgoing.{is_source_of, last_header};
 ghost use Rattle.message_flow.specs.Waiting.{is_named};
-ghost use Rattle.trace_log.specs.Log.Happening.{Full};
-ghost use Rattle.trace_log.specs.Text.{note_of, printed_note};
-ghost use Rattle.transact.specs.Matching.{AwaitsReply};
 ghost use Rattle.transact.specs.Numbers.{numbers_from};
 ghost use Rattle.transact.specs.Transactions.{IsTransactions, PrimaryFits, has_system, kind_of, match_of, primary_of};
 
 use crate::Unsent;
-use arrayvec::ArrayVec;
-use block_codec::{Block, Header};
+use crate::sending::note_full;
+use block_codec::Header;
 use gl_base::{NoMemory, Row, Side};
 use line_end::{LineEnd, LineEvent, LinePlan, Phase};
-use message_flow::{Assembly, Flow, Message, Outgoing, Pushing, StepOut};
+use message_flow::{Assembly, Flow, Outgoing, StepOut};
 use std::alloc::Global;
 use std::marker::Model;
-use trace_log::{
-    Name, Title, crowded_note, dropped_by_t4_note, duplicate_note, foreign_note, full_note,
-    received_note, sent_note, stranger_note, timed_out_note, too_long_block_note, unexpected_note,
-};
-use transact::{Beginning, Match, Numbers, Transactions, matches};
+use trace_log::{Title, dropped_by_t4_note, stranger_note, timed_out_note};
+use transact::{Match, Numbers, Transactions};
 
 /// Why an end can't go on.
 #[derive(Clone, Copy, Debug, PartialEq, Eq)]
@@ -72,18 +64,18 @@ pub enum Took {
 /// keeps the law of an end: see `ends_are_lawful`. Its parts are on the heap, so that it is cheap to move.
 #[derive(Debug, Drop)]
 pub struct MessageEnd<K> {
-    parts: Box<Parts<K>>,
+    pub(crate) parts: Box<Parts<K>>,
 }
 
 #[derive(Debug, Drop)]
-struct Parts<K> {
-    line: LineEnd,
-    outgoing: Outgoing,
-    assembly: Assembly,
-    transactions: Transactions<K>,
-    numbers: Numbers,
-    drawn: Option<u32>,
-    asked: Option<Title>,
+pub(crate) struct Parts<K> {
+    pub(crate) line: LineEnd,
+    pub(crate) outgoing: Outgoing,
+    pub(crate) assembly: Assembly,
+    pub(crate) transactions: Transactions<K>,
+    pub(crate) numbers: Numbers,
+    pub(crate) drawn: Option<u32>,
+    pub(crate) asked: Option<Title>,
 }
 
 impl<K> Model for MessageEnd<K> {
@@ -526,242 +518,6 @@ impl<K: Copy> MessageEnd<K> {
         ensures { result ≡ self.now.numbers.end - self.now.numbers.next }
     {
         self.parts.numbers.left()
-    }
-
-    // Whether there is no room for a primary, in a transaction where it has one.
-    fn is_crowded_out(&self, awaited: bool) -> bool
-        ensures crowded { result ≡ is_crowded_out awaited self.now }
-        ensures device { self.now.outgoing.device < 32768 }
-    {
-        let waiting = self.parts.outgoing.len();
-        (awaited && self.parts.transactions.len() >= 64) || waiting >= 128
-    }
-
-    // Sends a primary for which there is room, under a number of its own.
-    fn send(
-        &mut self,
-        alloc: Global,
-        unsent: Unsent<K>,
-        system: u32,
-        out: &mut StepOut,
-    ) -> Result<(), Stop>
-        requires fits { FitsLine unsent }
-        requires room { length self.old.outgoing.waiting < 128 }
-        requires device { self.old.outgoing.device < 32768 }
-        ensures does { Becomes (sends printed_note unsent system) self.old out.old self.new out.new result }
-        ensures line { out.new.line ≡ out.old.line }
-    {
-        let Unsent {
-            stream,
-            function,
-            kind,
-            body,
-        } = unsent;
-        let message = Message {
-            stream,
-            function,
-            wait: kind.is_some(),
-            system,
-            body,
-        };
-        if let Some(kind) = kind {
-            let header = self.parts.outgoing.last_header(&message);
-            self.begin(header, kind)?;
-        }
-        self.queue(alloc, message, out)
-    }
-
-    // Begins a transaction, unless it is refused.
-    fn begin(&mut self, header: Header, kind: K) -> Result<(), NoMemory>
-        requires { AwaitsReply header }
-        ensures { OnOk result (Begins kind header self.old self.new) }
-    {
-        match self.parts.transactions.begin(header, kind) {
-            Err(Beginning::NoMemory) => Err(NoMemory),
-            Ok(()) | Err(Beginning::Full | Beginning::Same(_)) => Ok(()),
-        }
-    }
-
-    // Puts a message behind those that wait, where there is room for it.
-    fn queue(&mut self, alloc: Global, message: Message, out: &mut StepOut) -> Result<(), Stop>
-        requires fits { MessageFits message }
-        requires room { length self.old.outgoing.waiting < 128 }
-        ensures does { Becomes (queues printed_note message) self.old out.old self.new out.new result }
-        ensures line { out.new.line ≡ out.old.line }
-    {
-        out.notes.push(sent_note(alloc, &message)?)?;
-        match self.parts.outgoing.push(message) {
-            Ok(()) => Ok(()),
-            Err(Pushing::NoMemory(_)) => Err(Stop::NoMemory),
-            Err(Pushing::QueueFull(_)) => unreachable!("fewer than 128 messages wait"),
-        }
-    }
-
-    // Replies to the primary that asks.
-    fn answer_with(
-        &mut self,
-        alloc: Global,
-        asked: Title,
-        function: u8,
-        body: Row<u8>,
-        out: &mut StepOut,
-    ) -> Result<(), Stop>
-        requires stream { asked.name.stream < 128 }
-        requires short { length body ≤ longest_text }
-        ensures does { Becomes (replies_to printed_note asked function body) self.old out.old self.new out.new result }
-        ensures line { out.new.line ≡ out.old.line }
-    {
-        self.parts.asked = None;
-        let message = Message {
-            stream: asked.name.stream,
-            function,
-            wait: false,
-            system: asked.system,
-            body: reply_text(alloc, function, body),
-        };
-        if self.parts.outgoing.len() >= 128 {
-            out.notes.push(full_note(alloc, Name::of(&message))?)?;
-            return Ok(());
-        }
-        self.queue(alloc, message, out)
-    }
-
-    // A block with this header was acknowledged.
-    fn acknowledge(&mut self, held: Option<Header>, now: u64)
-        requires { now < 2 ^ 62 }
-        ensures { self.new ≡ with_transactions (acknowledges held now self.old.transactions) self.old }
-    {
-        if let Some(header) = held {
-            if header.last && header.wait {
-                self.parts.transactions.sent(header.system, now);
-            }
-        }
-    }
-
-    // The receiver takes a block, and a primary that it answers is taken back.
-    fn hear(
-        &mut self,
-        alloc: Global,
-        block: &Block,
-        now: u64,
-        out: &mut StepOut,
-    ) -> Result<Took, Stop>
-        requires idle { self.old.line.phase ≡ Phase.Idle }
-        requires now { now < 2 ^ 62 }
-        ensures does { Becomes (hears printed_note block.now now) self.old out.old self.new out.new result }
-        ensures took { IfOk result (IsCame self.old block.now) }
-        ensures line { out.new.line ≡ out.old.line }
-        ensures whole { IfOk result (λ brought. IsGood brought) }
-        ensures checked { IfOk result (λ brought. IsChecked brought) }
-        ensures header { IfOk result (λ brought. HasHeader brought) }
-    {
-        let header = block.header();
-        let flow = self.parts.assembly.accept(block, now)?;
-        self.take_back(&header, now);
-        self.judge(alloc, &header, &flow, out)?;
-        Ok(Took::Came(header, flow))
-    }
-
-    // Takes back the primary that a block with this header answers.
-    fn take_back(&mut self, header: &Header, now: u64)
-        requires idle { self.old.line.phase ≡ Phase.Idle }
-        requires now { now < 2 ^ 62 }
-        ensures { self.new ≡ takes_back header.now now self.old }
-    {
-        let held = self.is_held_answered(header);
-        let waits = self.is_waiting_answered(header);
-        if held || waits {
-            self.parts.transactions.sent(header.system, now);
-        }
-        if waits {
-            self.parts.outgoing.remove(true, header.system);
-        }
-        if held {
-            self.parts.line.cancel();
-        }
-    }
-
-    // Whether the block that is held is of a primary that a block with this header answers.
-    fn is_held_answered(&self, header: &Header) -> bool
-        ensures { result ≡ is_held_answered header.now self.now.line.held }
-    {
-        match self.parts.line.held() {
-            Some(held) => held.function % 2 == 1 && matches(&held, header),
-            None => false,
-        }
-    }
-
-    // Whether a block with this header answers the primary that waits with its system bytes.
-    fn is_waiting_answered(&self, header: &Header) -> bool
-        ensures { result ≡ is_waiting_for header.now self.now }
-    {
-        match self.parts.outgoing.waiting(true, header.system) {
-            Some(primary) => matches(&primary, header),
-            None => false,
-        }
-    }
-
-    // What a block with this header was is noted, and a message that is whole is delivered.
-    fn judge(
-        &mut self,
-        alloc: Global,
-        header: &Header,
-        flow: &Flow,
-        out: &mut StepOut,
-    ) -> Result<(), Stop>
-        requires header { Fits header.now }
-        requires whole { WholeFits longest_text flow.now }
-        ensures does { Becomes (judges printed_note header.now flow.now) self.old out.old self.new out.new result }
-        ensures line { out.new.line ≡ out.old.line }
-    {
-        let note = match flow {
-            Flow::Part => {
-                self.parts.transactions.reply_began(header);
-                return Ok(());
-            }
-            Flow::Whole(message, _) => {
-                self.parts.asked = asked_by(message);
-                received_note(alloc, message)?
-            }
-            Flow::Duplicate => duplicate_note(alloc, header)?,
-            Flow::Foreign(_) => foreign_note(alloc, header)?,
-            Flow::Unexpected => unexpected_note(alloc, header)?,
-            Flow::TooLong => too_long_block_note(alloc, header)?,
-            Flow::Crowded => crowded_note(alloc, header)?,
-        };
-        out.notes.push(note)?;
-        Ok(())
-    }
-}
-
-// Notes a primary for which there is no room.
-fn note_full<K>(alloc: Global, unsent: &Unsent<K>, out: &mut StepOut) -> Result<(), NoMemory>
-    ensures line { out.new.line ≡ out.old.line }
-    ensures notes { OnOk result (out.new.notes ≡ out.old.notes ++ note_of (Full (unsent_name unsent.now)) ∷ []) }
-{
-    let name = Name {
-        stream: unsent.stream,
-        function: unsent.function,
-        wait: unsent.kind.is_some(),
-    };
-    out.notes.push(full_note(alloc, name)?)
-}
-
-// The text of a reply: function 0 has none.
-fn reply_text(alloc: Global, function: u8, body: Row<u8>) -> Row<u8>
-    ensures { result ≡ reply_text function body }
-{
-    if function == 0 { Row::new(alloc) } else { body }
-}
-
-// The primary that asks for a reply, if this message is one.
-fn asked_by(message: &Message) -> Option<Title>
-    ensures { result ≡ asked_by message.now }
-{
-    if message.function % 2 == 1 && message.wait {
-        Some(Title::of(message))
-    } else {
-        None
     }
 }
 

@@ -4,7 +4,9 @@
 mod end;
 mod endings;
 mod ends;
+mod hearing;
 mod laws;
+mod sending;
 mod unsent;
 mod written;
 
