@@ -34,7 +34,8 @@ use Rattle.message_end.specs.Ends.{Input, KeepsLaw, MayTake}
 use Rattle.message_end.specs.Ends.Input.{Char, Command as Told, Time}
 use Rattle.message_end.specs.Parts.{Did, Node, core_after, fixed_turn, started}
 use Rattle.message_end.proofs.Lower.{lower}
-use Rattle.message_end.proofs.Parts.{AreDueDuties, AreQuietDuties, IsDue, IsInputPart, IsQuiet, IsQuietTurn, IsStepOf, led-turn, node-lawful}
+use Rattle.message_end.proofs.NodeLawful.{node-lawful}
+use Rattle.message_end.proofs.Parts.{AreDueDuties, AreQuietDuties, IsDue, IsInputPart, IsQuiet, IsQuietTurn, IsStepOf, led-turn}
 use Rattle.host_node.specs.declared.comms.HostComms.{HostComms}
 use Rattle.host_node.specs.declared.comms.HostComms.TheVariants as comms
 use Rattle.host_node.specs.Host.{HasPlan, HostOwn, HostTurn, Kind, breaks, brings, drops, ends_all, ends_in, ends_late, enabled_comms, end_plan, enters, expires, failed_comms, fails, first_own, follows, function_with, given, gives_up, heeds, heeds_primary, heeds_secondary, host_design, host_machine, is_accepted, is_disabled, is_full, judges, late_duties, name_of, notes_comms, obeys, offers, parts, replies, sends, sends_reply, ticks, unsent_of}

@@ -11,9 +11,10 @@ use Rattle.message_end.specs.History.{IsHistoryOf, noted_in, written_in}
 use Rattle.message_end.specs.Laws.{CarriesOn, EndsAreLawful, new_end}
 use Rattle.message_end.specs.Own.{sent_in}
 use Rattle.message_end.specs.Plan.{EndPlan}
+use Rattle.message_end.proofs.CarriedOn.{carries-on}
 use Rattle.message_end.proofs.InSteps.{history-ends}
 use Rattle.message_end.proofs.Open.{not-refused}
-use Rattle.message_end.proofs.Steps.{Laws, carries-on}
+use Rattle.message_end.proofs.Steps.{Laws}
 
 begins :
     {K : Type 0} (laws : Laws) (plan : EndPlan) (numbers : NumbersView) → LinePlanFits plan.line → IsNumbers numbers

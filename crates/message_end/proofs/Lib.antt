@@ -1,3 +1,6 @@
+pub mod CallingLine
+pub mod CallingNone
+pub mod CarriedOn
 pub mod Carrying
 pub mod Courses
 pub mod Duties
@@ -5,7 +8,6 @@ pub mod Ended
 pub mod Fronts
 pub mod Growing
 pub mod InSteps
-pub mod Keeps
 pub mod Lawful
 pub mod Leaving
 pub mod Limits
@@ -15,9 +17,13 @@ pub mod Lists
 pub mod LogText
 pub mod Lower
 pub mod Members
+pub mod MessagesKept
+pub mod NodeLawful
 pub mod NotedSteps
+pub mod NumbersKept
 mod Open
 pub mod Parts
+pub mod PartsKept
 pub mod Reading
 pub mod Steps
 pub mod Such

@@ -11,7 +11,8 @@ use Rattle.message_end.specs.Doings.{Doing}
 use Rattle.message_end.specs.Ends.{AreDecidedAt}
 use Rattle.message_end.specs.LineCalls.{AreCallsOf, IsOffer, calls_in}
 use Rattle.message_end.specs.Plan.{EndPlan}
-use Rattle.message_end.proofs.Steps.{Exactly, IsAt, IsDone, Laws, at-exactly, at-such, offer-made, take-made, tick-made}
+use Rattle.message_end.proofs.CallingLine.{IsDone, offer-made, take-made, tick-made}
+use Rattle.message_end.proofs.Steps.{Exactly, IsAt, Laws, at-exactly, at-such}
 
 offer-decided : (now : ℕ) (calls : List LineCall) → IsOffer now calls → AreDecidedAt now calls
 offer-decided now [] is = tt

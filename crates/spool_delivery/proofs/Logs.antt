@@ -16,7 +16,7 @@ use Rattle.message_end.specs.Plan.{EndPlan, receiver_of}
 use Rattle.message_end.specs.Log.{log_of, noted_at, with_note}
 use Rattle.message_end.specs.Moves.{KeepLaws, Kind, LinePlans, MayMove, Move, Run, all_sent, plan_at, run_after, run_at, seen_at}
 use Rattle.message_end.specs.Moves.Kind.{Added, Changed, Did, Lost, Started}
-use Rattle.message_end.proofs.Keeps.{reply-system}
+use Rattle.message_end.proofs.MessagesKept.{reply-system}
 use Rattle.message_flow.specs.declared.message.Message.{Message}
 use Rattle.message_flow.specs.Blocks.{header_of}
 use Rattle.message_flow.specs.Message.{is_primary}

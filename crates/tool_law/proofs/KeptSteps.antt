@@ -13,8 +13,10 @@ use Rattle.message_end.specs.Parts.{core_step}
 use Rattle.message_end.specs.InStep.{NoneEnds}
 use Rattle.message_end.proofs.InSteps.{none-noted}
 use Rattle.message_end.proofs.Lower.{lower}
-use Rattle.message_end.proofs.Parts.{OnEither, begun-none}
-use Rattle.message_end.proofs.Steps.{IsAt, at-carried}
+use Rattle.message_end.proofs.Parts.{OnEither}
+use Rattle.message_end.proofs.PartsKept.{begun-none}
+use Rattle.message_end.proofs.CallingNone.{at-carried}
+use Rattle.message_end.proofs.Steps.{IsAt}
 use Rattle.message_end.specs.History.{noted_in, written_in}
 use Rattle.equipment_tables.specs.declared.plan.EquipmentPlan.{EquipmentPlan}
 use Rattle.equipment_tables.specs.Plan.{EquipmentPlanFits}

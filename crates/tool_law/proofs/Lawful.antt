@@ -26,7 +26,7 @@ use Rattle.message_end.specs.InStep.{NoneEnds}
 use Rattle.message_end.specs.Parts.{Node, after_parts, after_turn, core_after, core_step, fixed_turn, went_with, with_own}
 use Rattle.message_end.proofs.InSteps.{none-front}
 use Rattle.message_end.proofs.Lower.{lower}
-use Rattle.message_end.proofs.Parts.{begins-new, history-says}
+use Rattle.message_end.proofs.NodeLawful.{begins-new, history-says}
 use Rattle.message_end.proofs.Growing.{front-both, front-more, front-same, parts-grow}
 use Rattle.message_end.specs.Own.{Has}
 use Rattle.equipment_tables.specs.declared.answers.Answer.{Answer as Text}

@@ -20,7 +20,8 @@ use Rattle.message_end.specs.Ends.Input.{Char, Command as Told, Time}
 use Rattle.message_end.specs.Parts.{Node, after_parts, after_turn, closes, core_after, core_step, with_own}
 use Rattle.message_end.specs.InStep.{EndsOnce, HasNoEnd}
 use Rattle.message_end.proofs.InSteps.{history-ends}
-use Rattle.message_end.proofs.Parts.{OnEither, begun-none, either-less, either-then, step_ended}
+use Rattle.message_end.proofs.Parts.{OnEither, either-less, either-then}
+use Rattle.message_end.proofs.PartsKept.{begun-none, step_ended}
 use Rattle.message_end.specs.History.{noted_in, written_in}
 use Rattle.tool_step.specs.declared.kind.Kind.{Kind}
 use Rattle.equipment_tables.specs.declared.plan.EquipmentPlan.{EquipmentPlan}
@@ -254,7 +255,8 @@ module _ (plan : EquipmentPlan) (base : ℕ) (fits : EquipmentPlanFits plan) (sl
             (λ next at.
             parts-then (end_plan plan) base fits.line doings now limit (HeldAt plan slots stood) tries (AreTicked now)
             HasStepped
-            HasBegun (late_parts now ++ delay_timer now ∷ sample_parts now) (input_part input now ∷ []) next (late-keep tries) at
+            HasBegun (late_parts now ++ delay_timer now ∷ sample_parts now) (input_part input now ∷ []) next
+            (late-keep tries) at
             (λ end ended. some-less tries (AreTicked now) (AreBegunOf input now) end (begun-ticked input now) ended)
             (λ end ended. input-at tries end may ended))
 

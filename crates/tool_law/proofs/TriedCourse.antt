@@ -24,7 +24,9 @@ use Rattle.message_end.proofs.InSteps.{none-both}
 use Rattle.message_end.proofs.Limits.{AddsNone, carry-limit, limit_of}
 use Rattle.message_end.proofs.Lower.{lower}
 use Rattle.message_end.proofs.Parts.{OnEither, commands-due, either-then}
-use Rattle.message_end.proofs.Steps.{CallsNone, Exactly, IsAt, IsDone, OnWent, at-carry, offer-made, take-made, tick-made}
+use Rattle.message_end.proofs.CallingLine.{IsDone, offer-made, take-made, tick-made}
+use Rattle.message_end.proofs.CallingNone.{at-carry}
+use Rattle.message_end.proofs.Steps.{CallsNone, Exactly, IsAt, OnWent}
 use Rattle.message_end.proofs.Fronts.{calls-behind}
 use Rattle.message_flow.specs.declared.message.Message.{Message}
 use Rattle.spool_law.specs.Tries.{tries_in}
