@@ -9,5 +9,6 @@ pub mod Logs
 pub mod Orders
 pub mod Runs
 pub mod Sound
+pub mod Tied
 pub mod Tries
 pub mod Worlds

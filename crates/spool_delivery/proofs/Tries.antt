@@ -12,7 +12,7 @@ use Rattle.spool_law.specs.Shelf.Change.{Finds, HasGone, HasStored, Leaves, Othe
 use Rattle.spool_law.specs.Tries.{tried_behind}
 use Rattle.spool_delivery.specs.Account.{Account, Put, Try, account_changed, tried_first, tried_with}
 use Rattle.spool_delivery.specs.Claims.{CarriesPut, numbered}
-use Rattle.spool_delivery.proofs.Claimed.{IsSound, IsTied, first-put}
+use Rattle.spool_delivery.proofs.Tied.{IsSound, IsTied, first-put}
 use Rattle.spool_delivery.proofs.Folded.{place_of}
 use Rattle.message_end.proofs.Members.{has-either}
 use Rattle.spool_delivery.proofs.Lists.{Rising, rising-across}

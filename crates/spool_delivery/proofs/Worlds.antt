@@ -29,7 +29,7 @@ use Rattle.spool_law.specs.Tries.{KeepsTries, MayMoveTried, MaySayTried, MayTryA
 use Rattle.spool_delivery.specs.Account.{Account, Put, Try, account_changed, account_of, taken_with, tried_with}
 use Rattle.spool_delivery.specs.Claims.{IsNew, equipment_notes}
 use Rattle.spool_delivery.proofs.Facts.{AreFacts, HasNew, IsTakenBehind, IsBacked}
-use Rattle.spool_delivery.proofs.Claimed.{IsAt, sound-at}
+use Rattle.spool_delivery.proofs.Tied.{IsAt, sound-at}
 use Rattle.message_end.proofs.Members.{has-back, has-either, has-front, has-mapped}
 use Rattle.spool_delivery.proofs.Logs.{AreReplied, IsReplied, equipment_sent, host_received, received-was-sent, replied-are, sent-are, sent-more, sent_behind, taken-was-sent}
 use Rattle.spool_delivery.proofs.Orders.{AllPlaced, AreGivenInOrder, AreTakenAt, IsOfLatest, IsPutGiven, IsTakenAt, of-latest, order-given, order-sent, order-tried, taken-given, taken-sent, taken-tried}
