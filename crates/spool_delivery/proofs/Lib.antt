@@ -12,3 +12,4 @@ pub mod Sound
 pub mod Tied
 pub mod Tries
 pub mod Worlds
+pub mod WorldSteps
