@@ -33,8 +33,9 @@ use Rattle.trace_log.specs.Log.{Happening}
 use Rattle.end_pair.specs.InSteps.{moves_with}
 use Rattle.end_pair.specs.Steps.{gives, slips, stopped_at}
 use Rattle.end_pair.proofs.Doing.{AreDone, AreOnWay, IsNext, NoSlipIn, are-done, deeds_by, no-slip, no-slip-first, on-way-first, step-deeds}
+use Rattle.end_pair.proofs.DoingMoves.{IsAt, deeds-moves, keep-done, line-moves, log-done, log_with-behind, own-base, own-doings, timely-done}
 use Rattle.end_pair.proofs.EndedSteps.{none-done, of-cut-step}
-use Rattle.end_pair.proofs.Moved.{HasFallen, HasStopped, IsAt, calls-on, calls-quiet, deeds-moves, keep-done, like-no-slip, line-moves, log-done, log_with-behind, own-base, own-doings, timely-done}
+use Rattle.end_pair.proofs.Moved.{HasFallen, HasStopped, calls-on, calls-quiet, like-no-slip}
 use Rattle.end_pair.proofs.Renamed.{IsLike, dark-like, renamed, renamed-dark}
 
 -- ---- the first calls of a step are none, the timer alone, or those of a step

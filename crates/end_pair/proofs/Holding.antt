@@ -44,11 +44,12 @@ use Rattle.end_pair.specs.World.{Piece, World, added_to, after_event, after_even
 use Rattle.end_pair.proofs.ByteWays.{AreByteCharacters, AreByteWays, bytes-to, bytes-with, dropped, with-byte}
 use Rattle.end_pair.proofs.Causes.{never-on}
 use Rattle.end_pair.proofs.Doing.{IsNext}
+use Rattle.end_pair.proofs.DoingMoves.{IsAt, other-is}
 use Rattle.end_pair.proofs.LineDeeds.{lost-more, lost-none, new-stands}
 use Rattle.end_pair.proofs.EndedSteps.{cut-at-once}
 use Rattle.end_pair.proofs.Fallen.{dark-now, has-fallen, has-stopped}
 use Rattle.message_end.proofs.LineKept.{side-kept, times-kept}
-use Rattle.end_pair.proofs.Moved.{HasFallen, HasLostAll, HasStepped, HasStopped, IsAt, has-made, has-slipped, other-is}
+use Rattle.end_pair.proofs.Moved.{HasFallen, HasLostAll, HasStepped, HasStopped, has-made, has-slipped}
 use Rattle.end_pair.proofs.Renamed.{IsLike, like-change, like-lost, like-noise, renamed_all}
 
 module _ {S T : Type 0}

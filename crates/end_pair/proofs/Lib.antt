@@ -4,6 +4,7 @@ pub mod ByteWays
 pub mod Bytes
 pub mod Causes
 pub mod Doing
+pub mod DoingMoves
 pub mod EndedSteps
 pub mod Ending
 pub mod EndNoting

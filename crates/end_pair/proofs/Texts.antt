@@ -13,7 +13,7 @@ use Rattle.trace_log.specs.Log.{Happening}
 use Rattle.trace_log.specs.Text.{note_line, printed_note, text_of}
 use Rattle.end_pair.specs.Kept.{PutPart}
 use Rattle.end_pair.specs.Steps.{entries_of}
-use Rattle.end_pair.proofs.Moved.{log_with-behind}
+use Rattle.end_pair.proofs.DoingMoves.{log_with-behind}
 use Rattle.message_end.proofs.LogText.{text_of-append}
 
 -- the lines of notes are those of the entries
