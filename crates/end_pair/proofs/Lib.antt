@@ -10,6 +10,7 @@ pub mod Ending
 pub mod EndNoting
 pub mod Fallen
 pub mod FourWays
+pub mod HeldSteps
 pub mod Holding
 pub mod LineDeeds
 pub mod Moved

@@ -27,7 +27,8 @@ use Rattle.end_pair.specs.Run as run
 use Rattle.end_pair.specs.Steps.{stepped}
 use Rattle.end_pair.specs.World.{Piece, World, after_event, after_events, again, and_more, and_on, armed, at_start, begun, both_stepped, darkened, ended_by, equipment_stepped, given, given_next, given_times, happened, host_stepped, later, met, most_steps, settled, settled_times, started_anew, still, turned_out, way_to, with_equipment, with_host, without}
 use Rattle.end_pair.proofs.Causes.{no-call}
-use Rattle.end_pair.proofs.Holding.{Good, run-is, same_moves}
+use Rattle.end_pair.proofs.HeldSteps.{Good, same_moves}
+use Rattle.end_pair.proofs.Holding.{run-is}
 
 -- ---- the whole log
 
