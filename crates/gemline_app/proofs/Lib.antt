@@ -13,8 +13,10 @@ mod HostAnswered
 mod HostDue
 mod Hosting
 mod InputDue
+mod InputFaults
 mod LinkedAnswered
 mod LinkedDue
+mod LinkFaults
 mod MakeDue
 mod ReadBack
 mod ReplayDue
