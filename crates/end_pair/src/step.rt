@@ -1,19 +1,19 @@
-//! One step of an end on the line.
+//! An end's start, a step of it on the line, and its start anew.
 
-ghost use Rattle.std.specs.Prelude.{◌≡◌, ◌<◌, ◌≤◌, ◌+◌, ◌-◌, ◌^◌, ◌++◌, ◌∷◌, ◌&&◌, ℕ, false, OnErr, OnOk};
+ghost use Rattle.std.specs.Prelude.{◌≡◌, ◌<◌, ◌≤◌, ◌+◌, ◌-◌, ◌^◌, ◌++◌, ◌∷◌, ◌&&◌, ℕ, false, IfOk, OnErr, OnOk};
 ghost use Rattle.disk_base.specs.declared.cut.CutChoice.{CutChoice};
 ghost use Rattle.gl_base.specs.declared.side.Side.{Side};
 ghost use Rattle.gl_base.specs.declared.side.Side.TheVariants as side;
 ghost use Rattle.line_end.specs.Step.{is_due};
 ghost use Rattle.line_way.specs.Kept.{IsSlipOf, direction_to, gathered_with_next, makes_slip_in};
-ghost use Rattle.message_end.specs.Ends.{MayTake, calls_left, input_of};
+ghost use Rattle.message_end.specs.Ends.{MayTake, Opens, calls_left, input_of};
 ghost use Rattle.std.specs.List.{flat_map};
 ghost use Rattle.message_end.specs.Core.{step_in};
 ghost use Rattle.trace_log.specs.Log.Entry.{Slipped};
 ghost use Rattle.trace_log.specs.Log.Happening.{Power};
 ghost use Rattle.trace_log.specs.Text.{entry_text, note_line, note_of, text_of};
 ghost use Rattle.end_pair.specs.declared.answers.WorldStep.TheVariants as answer;
-ghost use Rattle.end_pair.specs.Kept.{IfLeft, IfWent, IsPowered, Puts, gone};
+ghost use Rattle.end_pair.specs.Kept.{IfLeft, IfWent, IsPowered, PutPart, Puts, gone};
 ghost use Rattle.end_pair.specs.Steps.{entries_of, gives, slip_of, stepped, stopped_for};
 
 use crate::answers::WorldStep;
@@ -26,6 +26,45 @@ use message_end::{End, Stop};
 use message_flow::{NodeInput, Note, StepOut};
 use std::alloc::Global;
 use trace_log::{notes_are_lines, power_note, put_note, put_slip};
+
+/// An end starts, and the line of that is put.
+pub(crate) fn start_end<E: End>(
+    alloc: Global,
+    side: Side,
+    plan: &E::Plan,
+    store: E::Store,
+    lines: &mut Row<u8>,
+) -> Result<E, NoMemory>
+    requires fits { E.fits plan.now }
+    requires store { E.holds store }
+    requires opens { Opens (E.start plan.now store) }
+    ensures end { IfOk result (λ end. E.means end ≡ (step_in (E.start plan.now store)).next) }
+    ensures sound { IfOk result (λ end. E.sound end) }
+    ensures planned { IfOk result (λ end. E.planned end ≡ calls_left E.machine (E.means end)) }
+    ensures going { IfOk result (λ end. E.stopped end ≡ false) }
+    ensures lines { OnOk result (lines.new
+        ≡ lines.old ++ text_of (entries_of side 0 (step_in (E.start plan.now store)).notes)) }
+    ensures part { OnErr result (PutPart
+        (text_of (entries_of side 0 (step_in (E.start plan.now store)).notes))
+        lines.old
+        lines.new) }
+{
+    notes_are_lines();
+    let mut out = StepOut {
+        line: ArrayVec::new(),
+        notes: Row::new(alloc),
+    };
+    let end = match E::start(alloc, plan, store, &mut out) {
+        Ok(end) => end,
+        Err(Stop::NoMemory) => return Err(NoMemory),
+        Err(Stop::DiskFailed) => unreachable!("no start is stopped by its disk"),
+        Err(Stop::NumbersSpent) => unreachable!("there are numbers to start with"),
+    };
+    let Ok(()) = put_notes(0, side, out.notes.as_slice(), lines) else {
+        return Err(NoMemory);
+    };
+    Ok(end)
+}
 
 /// An end makes a step, with the next character on its way where it is given that; its lines are put.
 pub(crate) fn step_end<E: End>(

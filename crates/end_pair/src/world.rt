@@ -1,31 +1,28 @@
 //! The world: two ends, the line between them, the clock, and what is planned of the power. One call carries out one
 //! event.
 
-ghost use Rattle.std.specs.Prelude.{◌≡◌, ◌≢◌, ◌<◌, ◌≤◌, ◌+◌, ◌*◌, ◌^◌, ◌++◌, ◌&&◌, false, not, None, Some, IfErr, IfOk, OnErr, OnOk};
+ghost use Rattle.std.specs.Prelude.{◌≡◌, ◌≢◌, ◌<◌, ◌≤◌, ◌+◌, ◌*◌, ◌^◌, ◌++◌, ◌&&◌, not, None, Some, IfErr, IfOk, OnErr, OnOk};
 ghost use Rattle.gl_base.specs.declared.side.Side.TheVariants as sides;
 ghost use Rattle.message_end.specs.Core.{step_in};
-ghost use Rattle.message_end.specs.Ends.{MayTake, Opens, calls_left, input_of};
+ghost use Rattle.message_end.specs.Ends.{MayTake, Opens, input_of};
 ghost use Rattle.trace_log.specs.Text.{text_of};
 ghost use Rattle.end_pair.specs.Kept.{Comes, IfWent, IsDark, IsPowered, MayHappen, PutPart, Puts, begun_by, seen};
 ghost use Rattle.line_way.specs.Kept.{direction_to, with_direction, without_power};
 ghost use Rattle.line_way.specs.Ways.{characters_of, is_under_way};
-ghost use Rattle.end_pair.specs.Steps.{entries_of};
 ghost use Rattle.end_pair.specs.World.{World as WorldOf, added_to, after_event, again, armed, at_start, begun, both_stepped, changed_at, equipment_stepped, given, given_times, happened, host_stepped, later, lost, lost_from, met, settled, settled_times, way_to, without};
 ghost use Rattle.end_pair.specs.declared.answers.WorldStep.TheVariants as answer;
 
 use crate::answers::WorldStep;
-use crate::putting::put_notes;
-use crate::step::{restart_end, step_end};
-use arrayvec::ArrayVec;
+use crate::step::{restart_end, start_end, step_end};
 use disk_base::CutChoice;
 use gl_base::{NoMemory, Row, Side};
 use line_schedule::Event;
 use line_way::Ways;
-use message_end::{End, Stop};
-use message_flow::{NodeInput, StepOut};
+use message_end::End;
+use message_flow::NodeInput;
 use std::alloc::Global;
 use std::marker::Model;
-use trace_log::{HostCommand, ToolCommand, notes_are_lines};
+use trace_log::{HostCommand, ToolCommand};
 
 /// The most steps of ends that a run makes.
 const MOST_STEPS: u32 = 4_000_000;
@@ -586,43 +583,4 @@ fn empty_line(ways: &mut Ways)
     ensures count { ways.new.written ≡ ways.old.written }
 {
     ways.empty(Side::Equipment);
-}
-
-// An end starts, and the line of that is put.
-fn start_end<E: End>(
-    alloc: Global,
-    side: Side,
-    plan: &E::Plan,
-    store: E::Store,
-    lines: &mut Row<u8>,
-) -> Result<E, NoMemory>
-    requires fits { E.fits plan.now }
-    requires store { E.holds store }
-    requires opens { Opens (E.start plan.now store) }
-    ensures end { IfOk result (λ end. E.means end ≡ (step_in (E.start plan.now store)).next) }
-    ensures sound { IfOk result (λ end. E.sound end) }
-    ensures planned { IfOk result (λ end. E.planned end ≡ calls_left E.machine (E.means end)) }
-    ensures going { IfOk result (λ end. E.stopped end ≡ false) }
-    ensures lines { OnOk result (lines.new
-        ≡ lines.old ++ text_of (entries_of side 0 (step_in (E.start plan.now store)).notes)) }
-    ensures part { OnErr result (PutPart
-        (text_of (entries_of side 0 (step_in (E.start plan.now store)).notes))
-        lines.old
-        lines.new) }
-{
-    notes_are_lines();
-    let mut out = StepOut {
-        line: ArrayVec::new(),
-        notes: Row::new(alloc),
-    };
-    let end = match E::start(alloc, plan, store, &mut out) {
-        Ok(end) => end,
-        Err(Stop::NoMemory) => return Err(NoMemory),
-        Err(Stop::DiskFailed) => unreachable!("no start is stopped by its disk"),
-        Err(Stop::NumbersSpent) => unreachable!("there are numbers to start with"),
-    };
-    let Ok(()) = put_notes(0, side, out.notes.as_slice(), lines) else {
-        return Err(NoMemory);
-    };
-    Ok(end)
 }
