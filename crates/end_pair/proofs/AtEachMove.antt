@@ -68,4 +68,5 @@ module _ {S T : Type 0}
   at-each-move moves (in_a_step before side moment cut steps) =
       cut-keeps side moment before moves cut (steps-keep before steps)
   at-each-move moves (without_power dark before moment is cut steps) =
-      subst AtEach (sym is) (kept.power moment dark (cut-keeps Equipment moment before dark cut (steps-keep before steps)))
+      subst AtEach (sym is)
+      (kept.power moment dark (cut-keeps Equipment moment before dark cut (steps-keep before steps)))

@@ -150,14 +150,16 @@ dark-few input now calls ways line like run (inl none) =
     (dark (line_after line (deeds_by Equipment cs))))
     (sym none) (dark-now ways line like)
 dark-few input now calls ways line like run (inr (inl of)) = dark-behind input now calls ways line like run of
-dark-few {C} input now calls ways line like run (inr (inr of)) = dark-behind {C = C} Time now calls ways line like run of
+dark-few {C} input now calls ways line like run (inr (inr of)) =
+    dark-behind {C = C} Time now calls ways line like run of
 
 -- ---- the step
 
 module _ {S C : Type 0} (did : ℕ → List Doing → S → Type 0) (takes : C → Type 0) (first : Step S Happening)
     (machine : Machine S C) (side : Side) (plans : LinePlans)
     (law : KeepsLaw (plan_at side plans) did takes (Goes first) machine) (now : ℕ) (choice : CutChoice)
-    (moves : List Move) (s : S) (input : Input C) (ways : Ways) (may : MayTake takes input) (keep : KeepLaws plans moves)
+    (moves : List Move) (s : S) (input : Input C) (ways : Ways) (may : MayTake takes input)
+    (keep : KeepLaws plans moves)
     (timely : AreTimely moves) (clean : HasNoSlip (new_line plans.equipment.times plans.host.times) (deeds_of moves))
     (at : IsAt did side plans moves s) (next : IsNext (seen_at side plans moves).there.under_way input)
     (like : IsLike ways (line_of_moves plans moves)) (none : slips machine side now input s ways ≡ false)
@@ -235,7 +237,8 @@ module _ {S C : Type 0} (did : ℕ → List Doing → S → Type 0) (takes : C �
 module _ {S C : Type 0} (did : ℕ → List Doing → S → Type 0) (takes : C → Type 0) (first : Step S Happening)
     (machine : Machine S C) (plans : LinePlans)
     (law : KeepsLaw (plan_at Equipment plans) did takes (Goes first) machine) (now : ℕ) (choice : CutChoice)
-    (moves : List Move) (s : S) (input : Input C) (ways : Ways) (may : MayTake takes input) (keep : KeepLaws plans moves)
+    (moves : List Move) (s : S) (input : Input C) (ways : Ways) (may : MayTake takes input)
+    (keep : KeepLaws plans moves)
     (timely : AreTimely moves) (clean : HasNoSlip (new_line plans.equipment.times plans.host.times) (deeds_of moves))
     (at : IsAt did Equipment plans moves s) (next : IsNext (seen_at Equipment plans moves).there.under_way input)
     (like : IsLike ways (line_of_moves plans moves)) (none : slips machine Equipment now input s ways ≡ false)

@@ -119,7 +119,8 @@ module _ {S T : Type 0}
     fallen = λ lost. cc;
   }
 
-  pub good-then : (piece : Piece S T) (before : List Entry) (rest : World S T → Piece S T) → Good piece before → Keeps rest
+  pub good-then : (piece : Piece S T) (before : List Entry) (rest : World S T → Piece S T) → Good piece before
+      → Keeps rest
       → Good (and_more piece rest) before
   good-then piece before rest good two = go piece.went refl
     where

@@ -10,7 +10,8 @@ use Rattle.gemline_app.proofs.HexLaws.{read_break}
 use Rattle.gemline_app.specs.declared.outcome.Outcome.{Outcome}
 use Rattle.gemline_app.specs.declared.outcome.Outcome.TheVariants.{Done, Usage, BadFrame, BadText, BadHex, BadItem, BadLine, Longer, FileLonger, FileFailed, ReadFailed, NoMemory, WriteFailed, TurnsSpent, NumbersSpent, Slip, DiskFailed, NotSpool, BadPlan, BadScript, LinkFailed}
 
-hex_refuses : (digits bytes : List ℕ) (refusal : Outcome) → HexMeans bytes digits → ItemRefuses bytes refusal → HexRefuses digits refusal
+hex_refuses : (digits bytes : List ℕ) (refusal : Outcome) → HexMeans bytes digits → ItemRefuses bytes refusal
+    → HexRefuses digits refusal
 hex_refuses digits bytes Done means refuses = absurd refuses
 hex_refuses digits bytes Usage means refuses = absurd refuses
 hex_refuses digits bytes (BadFrame named) means refuses = absurd refuses
@@ -34,11 +35,13 @@ hex_refuses digits bytes (BadScript number) means refuses = absurd refuses
 hex_refuses digits bytes LinkFailed means refuses = absurd refuses
 
 -- what bytes give, their hex gives
-pub hex_answers : (digits bytes : List ℕ) (answer : Result (List ℕ) Outcome) → HexMeans bytes digits → ItemAnswers bytes answer
+pub hex_answers : (digits bytes : List ℕ) (answer : Result (List ℕ) Outcome) → HexMeans bytes digits
+    → ItemAnswers bytes answer
     → HexAnswers digits answer
 hex_answers digits bytes (Ok line) means (item, spelled, is) = (item, (bytes, means, spelled), is)
 hex_answers digits bytes (Err refusal) means refuses = hex_refuses digits bytes refusal means refuses
 
-pub hex_refusal : (digits : List ℕ) (fault : HexFault) → Gives (Err fault) (bytes_from None 0 digits) → HexRefuses digits (refusal_of fault)
+pub hex_refusal : (digits : List ℕ) (fault : HexFault) → Gives (Err fault) (bytes_from None 0 digits)
+    → HexRefuses digits (refusal_of fault)
 hex_refusal digits (hex_fault.Break at) gives = read_break digits at gives
 hex_refusal digits hex_fault.NoMemory gives = tt

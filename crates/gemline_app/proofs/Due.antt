@@ -39,17 +39,21 @@ use Rattle.gemline_app.proofs.SpoolDue.{formatted_due, listed_due}
 
 -- ---- a command of its whole input
 
-shown_due : (source : SourceTold) (files : FilesTold) (disk : DiskTold) (link : LinkTold) (out : SinkTold) (capture : List ℕ) (pieces : List Piece) (ending : Ending) (outcome due : Outcome) (result : Result Ending Stop) →
-    outcome ≡ outcome_of_show result → Shows out capture result → HasStopCause out result → Reads capture pieces ending → due ≡ outcome_of_show (Ok ending) → Comes source files disk link out outcome due
+shown_due : (source : SourceTold) (files : FilesTold) (disk : DiskTold) (link : LinkTold) (out : SinkTold)
+    (capture : List ℕ) (pieces : List Piece) (ending : Ending) (outcome due : Outcome) (result : Result Ending Stop)
+    → outcome ≡ outcome_of_show result → Shows out capture result → HasStopCause out result
+    → Reads capture pieces ending → due ≡ outcome_of_show (Ok ending) → Comes source files disk link out outcome due
 shown_due source files disk link out capture pieces ending outcome due (Ok found) is shows cause reads is_due =
     inl (is ∙ ap (λ (e : Ending). outcome_of_show (Ok e)) (shows pieces ending reads).0 ∙ sym is_due)
 shown_due source files disk link out capture pieces ending outcome due (Err stop.NoMemory) is shows cause reads is_due =
     inr (subst (Hinders source files disk link out) (sym is) tt)
-shown_due source files disk link out capture pieces ending outcome due (Err stop.WriteFailed) is shows cause reads is_due =
+shown_due source files disk link out capture pieces ending outcome due (Err stop.WriteFailed) is shows cause reads
+    is_due =
     inr (subst (Hinders source files disk link out) (sym is) cause)
 
 -- a line was written, or a write failed
-written_due : (source : SourceTold) (files : FilesTold) (disk : DiskTold) (link : LinkTold) (out : SinkTold) (line : List ℕ) (outcome : Outcome) → WasWritten line out outcome
+written_due : (source : SourceTold) (files : FilesTold) (disk : DiskTold) (link : LinkTold) (out : SinkTold)
+    (line : List ℕ) (outcome : Outcome) → WasWritten line out outcome
     → Comes source files disk link out outcome Done
 written_due source files disk link out line Done written = inl refl
 written_due source files disk link out line Usage written = absurd written
@@ -145,48 +149,66 @@ one_bytes digits bytes bytes' means means' =
 
 one_hex : (digits : List ℕ) (a b : Outcome) → HexAsks digits a → HexAsks digits b → a ≡ b
 one_hex digits a b (inl (bytes, means, asks)) (inl (bytes', means', asks')) =
-    one_item bytes a b asks (subst (λ (all : List ℕ). BytesAsk all b) (sym (one_bytes digits bytes bytes' means means')) asks')
+    one_item bytes a b asks
+    (subst (λ (all : List ℕ). BytesAsk all b) (sym (one_bytes digits bytes bytes' means means')) asks')
 one_hex digits a b (inl (bytes, means, asks)) (inr (at, broken, is')) = absurd (broken.unread bytes means)
 one_hex digits a b (inr (at, broken, is)) (inl (bytes, means, asks)) = absurd (broken.unread bytes means)
-one_hex digits a b (inr (at, broken, is)) (inr (at', broken', is')) = is ∙ ap (λ p. BadHex p) (one_break digits at at' broken broken') ∙ sym is'
+one_hex digits a b (inr (at, broken, is)) (inr (at', broken', is')) =
+    is ∙ ap (λ p. BadHex p) (one_break digits at at' broken broken') ∙ sym is'
 
 -- an outcome that is a refusal for want of memory hinders, another one is what is asked for
-refused_due : (source : SourceTold) (files : FilesTold) (disk : DiskTold) (link : LinkTold) (out : SinkTold) (outcome refusal due : Outcome) (A : Outcome → Type 0) → outcome ≡ refusal →
-    ((a b : Outcome) → A a → A b → a ≡ b) → (refusal ≡ NoMemory) ⊎ A refusal → A due → Comes source files disk link out outcome due
-refused_due source files disk link out outcome refusal due A is one (inl memory) asks = inr (subst (Hinders source files disk link out) (sym (is ∙ memory)) tt)
+refused_due : (source : SourceTold) (files : FilesTold) (disk : DiskTold) (link : LinkTold) (out : SinkTold)
+    (outcome refusal due : Outcome) (A : Outcome → Type 0) → outcome ≡ refusal
+    → ((a b : Outcome) → A a → A b → a ≡ b) → (refusal ≡ NoMemory) ⊎ A refusal → A due
+    → Comes source files disk link out outcome due
+refused_due source files disk link out outcome refusal due A is one (inl memory) asks =
+    inr (subst (Hinders source files disk link out) (sym (is ∙ memory)) tt)
 refused_due source files disk link out outcome refusal due A is one (inr why) asks = inl (is ∙ one refusal due why asks)
 
-pub text_why : (text : List ℕ) (refusal : Outcome) → TextRefuses text refusal → (refusal ≡ NoMemory) ⊎ TextAsks text refusal
-text_why text refusal refuses = elim (text_refused text refusal refuses) [ inl memory ↦ inl memory | inr why ↦ inr (inr why) ]
+pub text_why : (text : List ℕ) (refusal : Outcome) → TextRefuses text refusal
+    → (refusal ≡ NoMemory) ⊎ TextAsks text refusal
+text_why text refusal refuses =
+    elim (text_refused text refusal refuses) [ inl memory ↦ inl memory | inr why ↦ inr (inr why) ]
 
-line_due : (source : SourceTold) (files : FilesTold) (disk : DiskTold) (link : LinkTold) (out : SinkTold) (line : List ℕ) (outcome due : Outcome) → WasWritten line out outcome
+line_due : (source : SourceTold) (files : FilesTold) (disk : DiskTold) (link : LinkTold) (out : SinkTold)
+    (line : List ℕ) (outcome due : Outcome) → WasWritten line out outcome
     → due ≡ Done → Comes source files disk link out outcome due
 line_due source files disk link out line outcome due written is =
-    subst (Comes source files disk link out outcome) (sym is) (written_due source files disk link out line outcome written)
+    subst (Comes source files disk link out outcome) (sym is)
+    (written_due source files disk link out line outcome written)
 
-spelled_due : (text : List ℕ) (source : SourceTold) (files : FilesTold) (disk : DiskTold) (link : LinkTold) (out : SinkTold) (outcome due : Outcome) →
-    WasSpelled text out outcome → TextAsks text due → Comes source files disk link out outcome due
+spelled_due : (text : List ℕ) (source : SourceTold) (files : FilesTold) (disk : DiskTold) (link : LinkTold)
+    (out : SinkTold) (outcome due : Outcome)
+    → WasSpelled text out outcome → TextAsks text due → Comes source files disk link out outcome due
 spelled_due text source files disk link out outcome due (Ok line, (item, reads, is), written) asks =
     line_due source files disk link out line outcome due written (one_text text due Done asks (inl (item, reads, refl)))
 spelled_due text source files disk link out outcome due (Err refusal, refuses, (is, untouched)) asks =
-    refused_due source files disk link out outcome refusal due (TextAsks text) is (one_text text) (text_why text refusal refuses) asks
+    refused_due source files disk link out outcome refusal due (TextAsks text) is (one_text text)
+    (text_why text refusal refuses) asks
 
-printed_due : (digits : List ℕ) (source : SourceTold) (files : FilesTold) (disk : DiskTold) (link : LinkTold) (out : SinkTold) (outcome due : Outcome) →
-    WasPrinted digits out outcome → HexAsks digits due → Comes source files disk link out outcome due
+printed_due : (digits : List ℕ) (source : SourceTold) (files : FilesTold) (disk : DiskTold) (link : LinkTold)
+    (out : SinkTold) (outcome due : Outcome)
+    → WasPrinted digits out outcome → HexAsks digits due → Comes source files disk link out outcome due
 printed_due digits source files disk link out outcome due (Ok line, (item, (bytes, means, spelled), is), written) asks =
-    line_due source files disk link out line outcome due written (one_hex digits due Done asks (inl (bytes, means, inl (item, spelled, refl))))
+    line_due source files disk link out line outcome due written
+    (one_hex digits due Done asks (inl (bytes, means, inl (item, spelled, refl))))
 printed_due digits source files disk link out outcome due (Err refusal, refuses, (is, untouched)) asks =
-    refused_due source files disk link out outcome refusal due (HexAsks digits) is (one_hex digits) (hex_refused digits refusal refuses) asks
+    refused_due source files disk link out outcome refusal due (HexAsks digits) is (one_hex digits)
+    (hex_refused digits refusal refuses) asks
 
-captured_due : (capture : List ℕ) (source : SourceTold) (files : FilesTold) (disk : DiskTold) (link : LinkTold) (out : SinkTold) (outcome due : Outcome) →
-    WasShown capture out outcome → CaptureAsks capture due → Comes source files disk link out outcome due
+captured_due : (capture : List ℕ) (source : SourceTold) (files : FilesTold) (disk : DiskTold) (link : LinkTold)
+    (out : SinkTold) (outcome due : Outcome)
+    → WasShown capture out outcome → CaptureAsks capture due → Comes source files disk link out outcome due
 captured_due capture source files disk link out outcome due was (pieces, ending, reads, is) =
-    shown_due source files disk link out capture pieces ending outcome due was.result was.outcome_is was.shown was.cause reads is
+    shown_due source files disk link out capture pieces ending outcome due was.result was.outcome_is was.shown
+    was.cause reads is
 
 -- ---- a run
 
-comes_due : (asked : Option Asked) (source : SourceTold) (files : FilesTold) (disk : DiskTold) (link : LinkTold) (out : SinkTold) (outcome due : Outcome) →
-    ComesFrom asked source files disk link out outcome → IsDue asked source files disk link due → Comes source files disk link out outcome due
+comes_due : (asked : Option Asked) (source : SourceTold) (files : FilesTold) (disk : DiskTold) (link : LinkTold)
+    (out : SinkTold) (outcome due : Outcome)
+    → ComesFrom asked source files disk link out outcome → IsDue asked source files disk link due
+    → Comes source files disk link out outcome due
 comes_due None source files disk link out outcome due refused is = inl (refused.refused ∙ sym is)
 comes_due (Some Show) source files disk link out outcome due (files_unread, unused, uncalled, comes) is_due =
     input_due capture_limit WasShown CaptureAsks source files disk link out outcome due
@@ -197,28 +219,35 @@ comes_due (Some Spell) source files disk link out outcome due (files_unread, unu
 comes_due (Some SpellHex) source files disk link out outcome due (files_unread, unused, uncalled, comes) is_due =
     input_due item_limit WasPrinted HexAsks source files disk link out outcome due
     (λ digits was asks. printed_due digits source files disk link out outcome due was asks) comes is_due
-comes_due (Some (Replay plan schedule)) source files disk link out outcome due (unread, unused, uncalled, comes) (bytes, told, is_due) =
+comes_due (Some (Replay plan schedule)) source files disk link out outcome due (unread, unused, uncalled, comes)
+    (bytes, told, is_due) =
     replay_due source files disk link out plan schedule bytes outcome due told comes is_due
-comes_due (Some (Equipment plan address spool polls)) source files disk link out outcome due (comes, connects, tells) is_due =
+comes_due (Some (Equipment plan address spool polls)) source files disk link out outcome due (comes, connects, tells)
+    is_due =
     equipment_due source files disk link out plan spool polls outcome due comes is_due
 comes_due (Some (Host plan address polls)) source files disk link out outcome due (unused, comes, connects) is_due =
     host_due source files disk link out plan polls outcome due comes is_due
-comes_due (Some (Format spool slots)) source files disk link out outcome due (unread, files_unread, uncalled, was) is_due =
+comes_due (Some (Format spool slots)) source files disk link out outcome due (unread, files_unread, uncalled, was)
+    is_due =
     formatted_due source files disk link out spool slots outcome due was is_due
 comes_due (Some (Spool spool)) source files disk link out outcome due (unread, files_unread, uncalled, was) is_due =
     listed_due source files disk link out spool outcome due was is_due
-comes_due (Some (Make rounds)) source files disk link out outcome due (unread, files_unread, unused, uncalled, comes) is_due =
+comes_due (Some (Make rounds)) source files disk link out outcome due (unread, files_unread, unused, uncalled, comes)
+    is_due =
     make_due source files disk link out rounds outcome due comes is_due
 
 -- memory that runs out over the words hinders every outcome
-run_due : (asked : Option Asked) (source : SourceTold) (files : FilesTold) (disk : DiskTold) (link : LinkTold) (out : SinkTold) (outcome due : Outcome) →
-    RunComes asked source files disk link out outcome → IsDue asked source files disk link due → Comes source files disk link out outcome due
+run_due : (asked : Option Asked) (source : SourceTold) (files : FilesTold) (disk : DiskTold) (link : LinkTold)
+    (out : SinkTold) (outcome due : Outcome)
+    → RunComes asked source files disk link out outcome → IsDue asked source files disk link due
+    → Comes source files disk link out outcome due
 run_due asked source files disk link out outcome due (inl refused) is_due =
     inr (subst (Hinders source files disk link out) (sym refused.refused) tt)
 run_due asked source files disk link out outcome due (inr comes) is_due =
     comes_due asked source files disk link out outcome due comes is_due
 
-pub due_outcome : (words : List (List ℕ)) (source : SourceTold) (files : FilesTold) (disk : DiskTold) (link : LinkTold) (out err : SinkTold) (status : ℕ) (due : Outcome)
+pub due_outcome : (words : List (List ℕ)) (source : SourceTold) (files : FilesTold) (disk : DiskTold) (link : LinkTold)
+    (out err : SinkTold) (status : ℕ) (due : Outcome)
     → (run : IsRun words source files disk link out err status) → IsDue (asked_of words) source files disk link due
     → (run.outcome ≡ due) ⊎ Hinders source files disk link out run.outcome
 due_outcome words source files disk link out err status due run is_due =
@@ -226,17 +255,22 @@ due_outcome words source files disk link out err status due run is_due =
 
 -- ---- over objects that do not fail
 
-module _ (source : SourceTold) (files : FilesTold) (disk : DiskTold) (link : LinkTold) (out : SinkTold) (capture : List ℕ) (pieces : List Piece)
-    (told : source.before ≡ Some capture) (within : length capture ≤ 16777216) (reliable : source.health.reliable ≡ true)
+module _ (source : SourceTold) (files : FilesTold) (disk : DiskTold) (link : LinkTold) (out : SinkTold)
+    (capture : List ℕ) (pieces : List Piece)
+    (told : source.before ≡ Some capture) (within : length capture ≤ 16777216)
+    (reliable : source.health.reliable ≡ true)
     (reads : Reads capture pieces Whole) (room : length (lines_of pieces) ≤ out.health.room) where
   abbrev Ends : Outcome → Type 0
-  Ends outcome = (status_of outcome ≡ 71) ⊎ ((status_of outcome ≡ 0) × (out.after ≡ with_bytes out.before (lines_of pieces)))
+  Ends outcome =
+      (status_of outcome ≡ 71) ⊎ ((status_of outcome ≡ 0) × (out.after ≡ with_bytes out.before (lines_of pieces)))
 
-  by_result : (result : Result Ending Stop) (outcome : Outcome) → outcome ≡ outcome_of_show result → Shows out capture result → Ends outcome
+  by_result : (result : Result Ending Stop) (outcome : Outcome) → outcome ≡ outcome_of_show result
+      → Shows out capture result → Ends outcome
   by_result (Ok Whole) outcome is shows = rw is (inr (refl, (shows pieces Whole reads).1.received))
   by_result (Ok (Broken named)) outcome is shows = let no = (shows pieces Whole reads).0 in cc
   by_result (Err stop.NoMemory) outcome is shows = rw is (inl refl)
-  by_result (Err stop.WriteFailed) outcome is shows = let crowded = (shows pieces Whole reads).fault.crowded in absurd (omega arith)
+  by_result (Err stop.WriteFailed) outcome is shows =
+      let crowded = (shows pieces Whole reads).fault.crowded in absurd (omega arith)
 
   unread_ends : (outcome : Outcome) → InputRefuses 16777216 source outcome → Ends outcome
   unread_ends Longer was = let past = (read_of 16777216 source capture input.Longer told was).0 in absurd (omega arith)
@@ -266,9 +300,11 @@ module _ (source : SourceTold) (files : FilesTold) (disk : DiskTold) (link : Lin
   show_ends outcome (inr (files_unread, unused, uncalled, inl (refuses, untouched))) = unread_ends outcome refuses
   show_ends outcome (inr (files_unread, unused, uncalled, inr (whole, read, done))) =
       let same = (read_of 16777216 source capture (input.Whole whole) told read).1 in
-      by_result done.result outcome done.outcome_is (subst (λ (all : List ℕ). Shows out all done.result) same done.shown)
+      by_result done.result outcome done.outcome_is
+      (subst (λ (all : List ℕ). Shows out all done.result) same done.shown)
 
-pub whole_capture : (words : List (List ℕ)) (source : SourceTold) (files : FilesTold) (disk : DiskTold) (link : LinkTold) (out err : SinkTold) (status : ℕ)
+pub whole_capture : (words : List (List ℕ)) (source : SourceTold) (files : FilesTold) (disk : DiskTold)
+    (link : LinkTold) (out err : SinkTold) (status : ℕ)
     → IsRun words source files disk link out err status → asked_of words ≡ Some Show
     → (capture : List ℕ) (pieces : List Piece) → source.before ≡ Some capture → length capture ≤ 16777216
     → source.health.reliable ≡ true → Reads capture pieces Whole → length (lines_of pieces) ≤ out.health.room

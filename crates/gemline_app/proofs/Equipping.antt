@@ -234,7 +234,8 @@ module _ {D : Type 0} (members : disk.Ghosts D) where
 
   pub refused_as :
       (old : D) (why : Starting D) (outcome : Outcome) (d : D) → outcome ≡ outcome_of_start why
-      → d ≡ unstarted_disk why → StartRefuses (bytes_told (disk_told members old (unstarted_disk why))) (outcome_of_start why)
+      → d ≡ unstarted_disk why
+      → StartRefuses (bytes_told (disk_told members old (unstarted_disk why))) (outcome_of_start why)
       → StartRefuses (bytes_told (disk_told members old d)) outcome
   refused_as old why outcome d is same refuses =
       subst (λ (o : Outcome). StartRefuses (bytes_told (disk_told members old d)) o) (sym is)

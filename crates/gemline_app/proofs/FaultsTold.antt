@@ -57,7 +57,8 @@ by_listing disk out spool.DiskFailed was =
 by_listing disk out spool.WriteFailed was =
     record { read = refl; file = refl; on_disk = was.count; on_link = refl; write = was.written.1.1.fault.rose }
 
-spool_counts : (source : SourceTold) (files : FilesTold) (disk : DiskTold) (link : LinkTold) (out : SinkTold) (outcome : Outcome)
+spool_counts : (source : SourceTold) (files : FilesTold) (disk : DiskTold) (link : LinkTold) (out : SinkTold)
+    (outcome : Outcome)
     (Ends : SpoolEnd → Type 0) → IsUnread source → AreUnread files → IsUncalled link
     → ((ended : SpoolEnd) → Ends ended → CountsDisk disk out (outcome_of_spool ended)) → EndedAs Ends outcome
     → CountsAll source files disk link out outcome
@@ -103,7 +104,8 @@ make_counts rounds out outcome (inr was) =
 -- ---- all commands
 
 -- words that are refused touch nothing
-module _ (source : SourceTold) (files : FilesTold) (disk : DiskTold) (link : LinkTold) (out : SinkTold) (outcome : Outcome) where
+module _ (source : SourceTold) (files : FilesTold) (disk : DiskTold) (link : LinkTold) (out : SinkTold)
+    (outcome : Outcome) where
   stands : (refusal : Outcome) → IsRefused refusal source files disk link out outcome
       → CountsAll source files disk link out refusal → CountsAll source files disk link out outcome
   stands refusal refused counts = subst (CountsAll source files disk link out) (sym refused.refused) counts
@@ -126,8 +128,9 @@ module _ (source : SourceTold) (files : FilesTold) (disk : DiskTold) (link : Lin
     write = untouched out refused.written;
   })
 
-comes_counts : (asked : Option Asked) (source : SourceTold) (files : FilesTold) (disk : DiskTold) (link : LinkTold) (out : SinkTold) (outcome : Outcome) →
-    ComesFrom asked source files disk link out outcome → CountsFaults asked source files disk link out outcome
+comes_counts : (asked : Option Asked) (source : SourceTold) (files : FilesTold) (disk : DiskTold) (link : LinkTold)
+    (out : SinkTold) (outcome : Outcome)
+    → ComesFrom asked source files disk link out outcome → CountsFaults asked source files disk link out outcome
 comes_counts None source files disk link out outcome refused =
     all_told None source files disk link out outcome (usage_counts source files disk link out outcome refused)
 comes_counts (Some Show) source files disk link out outcome (unread, unused, uncalled, comes) =
@@ -149,9 +152,13 @@ comes_counts (Some (Replay plan schedule)) source files disk link out outcome (u
     let counts = replay_counts plan schedule files out outcome comes in
     all_told (Some (Replay plan schedule)) source files disk link out outcome
     (record {
-      read = subst (λ (b : Bool). IsCounted b source.health.faults source.health_after.faults) (sym counts.read) (source_stands source unread);
+      read =
+          subst (λ (b : Bool). IsCounted b source.health.faults source.health_after.faults) (sym counts.read)
+          (source_stands source unread);
       file = counts.file;
-      on_disk = subst (λ (b : Bool). IsCounted b disk.health.faults disk.health_after.faults) (sym counts.on_disk) unused.faults;
+      on_disk =
+          subst (λ (b : Bool). IsCounted b disk.health.faults disk.health_after.faults) (sym counts.on_disk)
+          unused.faults;
       on_link = subst (λ (b : Bool). IsCounted b link.health.faults link.health_after.faults) (sym counts.on_link)
           (link_stands link uncalled);
       write = counts.write;
@@ -174,13 +181,17 @@ comes_counts (Some (Make rounds)) source files disk link out outcome (unread, fi
     (written_only source files disk link out outcome (source_stands source unread)
     (others_stand files disk link files_unread unused uncalled) (make_counts rounds out outcome comes))
 
-run_counts : (asked : Option Asked) (source : SourceTold) (files : FilesTold) (disk : DiskTold) (link : LinkTold) (out : SinkTold) (outcome : Outcome) →
-    RunComes asked source files disk link out outcome → CountsFaults asked source files disk link out outcome
+run_counts : (asked : Option Asked) (source : SourceTold) (files : FilesTold) (disk : DiskTold) (link : LinkTold)
+    (out : SinkTold) (outcome : Outcome)
+    → RunComes asked source files disk link out outcome → CountsFaults asked source files disk link out outcome
 run_counts asked source files disk link out outcome (inl refused) =
     all_told asked source files disk link out outcome (memory_counts source files disk link out outcome refused)
-run_counts asked source files disk link out outcome (inr comes) = comes_counts asked source files disk link out outcome comes
+run_counts asked source files disk link out outcome (inr comes) =
+    comes_counts asked source files disk link out outcome comes
 
-pub faults_told : (words : List (List ℕ)) (source : SourceTold) (files : FilesTold) (disk : DiskTold) (link : LinkTold) (out err : SinkTold) (status : ℕ)
+pub faults_told : (words : List (List ℕ)) (source : SourceTold) (files : FilesTold) (disk : DiskTold) (link : LinkTold)
+    (out err : SinkTold) (status : ℕ)
     → (run : IsRun words source files disk link out err status)
     → CountsFaults (asked_of words) source files disk link out run.outcome
-faults_told words source files disk link out err status run = run_counts (asked_of words) source files disk link out run.outcome run.comes
+faults_told words source files disk link out err status run =
+    run_counts (asked_of words) source files disk link out run.outcome run.comes

@@ -13,7 +13,8 @@ abbrev MeansFrom : Option ℕ → List ℕ → List ℕ → Type 0
 MeansFrom None bytes input = HexMeans bytes input
 MeansFrom (Some high) [] input = ⊥
 MeansFrom (Some high) (byte ∷ bytes) input =
-    (digit : ℕ) × (low : ℕ) × (rest : List ℕ) × (input ≡ digit ∷ rest) × (hex_digit_value digit ≡ Some low) × (byte ≡ 16 * high + low) × HexMeans bytes rest
+    (digit : ℕ) × (low : ℕ) × (rest : List ℕ) × (input ≡ digit ∷ rest) × (hex_digit_value digit ≡ Some low)
+    × (byte ≡ 16 * high + low) × HexMeans bytes rest
 
 -- no gap is a digit
 gap_or_digit : (c h : ℕ) → hex_digit_value c ≡ Some h → is_gap c ≡ false
@@ -39,7 +40,8 @@ with_gap [] c rest gap means = (gap, means)
 with_gap (b ∷ bytes) c rest gap (gaps, pair, tail, split, are, is, means) =
     (c ∷ gaps, pair, tail, ap (λ (all : List ℕ). c ∷ all) split, (gap, are), is, means)
 
-with_high : (bytes : List ℕ) (c h : ℕ) (rest : List ℕ) → hex_digit_value c ≡ Some h → MeansFrom (Some h) bytes rest → HexMeans bytes (c ∷ rest)
+with_high : (bytes : List ℕ) (c h : ℕ) (rest : List ℕ) → hex_digit_value c ≡ Some h → MeansFrom (Some h) bytes rest
+    → HexMeans bytes (c ∷ rest)
 with_high [] c h rest digit means = absurd means
 with_high (b ∷ bytes) c h rest digit (second, low, tail, split, is_low, is_byte, means) =
     ([], c ∷ second ∷ [], tail, ap (λ (all : List ℕ). c ∷ all) split, tt, (h, low, digit, is_low, is_byte), means)
@@ -49,25 +51,34 @@ step : (high : Option ℕ) (c : ℕ) (next : Option ℕ) (put bytes rest : List 
     MeansFrom next bytes rest → MeansFrom high (put ++ bytes) (c ∷ rest)
 step high c next put bytes rest is means = go high (hex_digit_value c) (is_gap c) refl refl is
   where
-    shifted : (high' : Option ℕ) (next' : Option ℕ) (put' : List ℕ) → does next' put' ≡ does next put → MeansFrom high' (put' ++ bytes) (c ∷ rest)
+    shifted : (high' : Option ℕ) (next' : Option ℕ) (put' : List ℕ) → does next' put' ≡ does next put
+        → MeansFrom high' (put' ++ bytes) (c ∷ rest)
         → MeansFrom high' (put ++ bytes) (c ∷ rest)
-    shifted high' next' put' same means' = subst (λ (p : List ℕ). MeansFrom high' (p ++ bytes) (c ∷ rest)) (same_put next' next put' put same) means'
+    shifted high' next' put' same means' =
+        subst (λ (p : List ℕ). MeansFrom high' (p ++ bytes) (c ∷ rest)) (same_put next' next put' put same) means'
 
     moved : (next' : Option ℕ) (put' : List ℕ) → does next' put' ≡ does next put → MeansFrom next' bytes rest
-    moved next' put' same = subst (λ (n : Option ℕ). MeansFrom n bytes rest) (sym (same_next next' next put' put same)) means
+    moved next' put' same =
+        subst (λ (n : Option ℕ). MeansFrom n bytes rest) (sym (same_next next' next put' put same)) means
 
-    go : (first : Option ℕ) (value : Option ℕ) (gap : Bool) → hex_digit_value c ≡ value → is_gap c ≡ gap → after_digit first c ≡ does next put
+    go : (first : Option ℕ) (value : Option ℕ) (gap : Bool) → hex_digit_value c ≡ value → is_gap c ≡ gap
+        → after_digit first c ≡ does next put
         → MeansFrom first (put ++ bytes) (c ∷ rest)
-    go (Some h) None gap value is_it after = let none : after_digit (Some h) c ≡ None = ap (option_map (λ low. (None, (16 * h + low) ∷ []))) value in cc
+    go (Some h) None gap value is_it after =
+        let none : after_digit (Some h) c ≡ None = ap (option_map (λ low. (None, (16 * h + low) ∷ []))) value in cc
     go (Some h) (Some low) gap value is_it after =
-        let some : does None ((16 * h + low) ∷ []) ≡ does next put = sym (ap (option_map (λ low. (None, (16 * h + low) ∷ []))) value) ∙ after in
-        shifted (Some h) None ((16 * h + low) ∷ []) some (c, low, rest, refl, value, refl, moved None ((16 * h + low) ∷ []) some)
+        let some : does None ((16 * h + low) ∷ []) ≡ does next put =
+        sym (ap (option_map (λ low. (None, (16 * h + low) ∷ []))) value) ∙ after in
+        shifted (Some h) None ((16 * h + low) ∷ []) some
+        (c, low, rest, refl, value, refl, moved None ((16 * h + low) ∷ []) some)
     go None value true is_value gap after =
         let some : does None [] ≡ does next put = rw gap at after in
         shifted None None [] some (with_gap bytes c rest gap (moved None [] some))
-    go None None false is_value gap after = let none : after_digit None c ≡ None = rw gap (ap (option_map (λ high. (Some high, []))) is_value) in cc
+    go None None false is_value gap after =
+        let none : after_digit None c ≡ None = rw gap (ap (option_map (λ high. (Some high, []))) is_value) in cc
     go None (Some h) false is_value gap after =
-        let some : does (Some h) [] ≡ does next put = sym (rw gap (ap (option_map (λ high. (Some high, []))) is_value)) ∙ after in
+        let some : does (Some h) [] ≡ does next put =
+        sym (rw gap (ap (option_map (λ high. (Some high, []))) is_value)) ∙ after in
         shifted None (Some h) [] some (with_high bytes c h rest is_value (moved (Some h) [] some))
 
 -- what a byte in front has done, from what the input means
@@ -80,7 +91,8 @@ record Back (high : Option ℕ) (c : ℕ) (bytes rest : List ℕ) : Type 0 where
   means : MeansFrom next tail rest
 
 back_gaps : (c : ℕ) (bytes gaps rest : List ℕ) → is_gap c ≡ true → HexMeans bytes rest → Back None c bytes rest
-back_gaps c bytes gaps rest gap means = record { next = None; put = []; tail = bytes; after = rw gap refl; whole = refl; means = means }
+back_gaps c bytes gaps rest gap means =
+    record { next = None; put = []; tail = bytes; after = rw gap refl; whole = refl; means = means }
 
 back_pair : (c b : ℕ) (bytes pair tail rest : List ℕ) → c ∷ rest ≡ pair ++ tail → IsHexByte b pair → HexMeans bytes tail
     → Back None c (b ∷ bytes) rest
@@ -124,25 +136,30 @@ back None c (b ∷ bytes) rest (g ∷ gaps, pair, tail, split, are, is, means) =
 -- ---- the whole input
 
 abbrev Sound : List ℕ → Type 0
-Sound input = (high : Option ℕ) (at : ℕ) (bytes : List ℕ) → bytes_from high at input ≡ Ok bytes → MeansFrom high bytes input
+Sound input =
+    (high : Option ℕ) (at : ℕ) (bytes : List ℕ) → bytes_from high at input ≡ Ok bytes → MeansFrom high bytes input
 
-sound_step : (high : Option ℕ) (at c : ℕ) (rest bytes : List ℕ) → Sound rest → (after : Option (Option ℕ × List ℕ)) → after_digit high c ≡ after →
-    reading_behind at after (λ next. bytes_from next (at + 1) rest) ≡ Ok bytes → MeansFrom high bytes (c ∷ rest)
+sound_step : (high : Option ℕ) (at c : ℕ) (rest bytes : List ℕ) → Sound rest → (after : Option (Option ℕ × List ℕ))
+    → after_digit high c ≡ after
+    → reading_behind at after (λ next. bytes_from next (at + 1) rest) ≡ Ok bytes → MeansFrom high bytes (c ∷ rest)
 sound_step high at c rest bytes each None is read = cc
 sound_step high at c rest bytes each (Some (next, put)) is read = go (bytes_from next (at + 1) rest) refl read
   where
-    go : (later : Result (List ℕ) ℕ) → bytes_from next (at + 1) rest ≡ later → with_front put later ≡ Ok bytes → MeansFrom high bytes (c ∷ rest)
+    go : (later : Result (List ℕ) ℕ) → bytes_from next (at + 1) rest ≡ later → with_front put later ≡ Ok bytes
+        → MeansFrom high bytes (c ∷ rest)
     go (Err place) is_later whole = cc
     go (Ok more) is_later whole =
         let same : put ++ more ≡ bytes = cc in
-        subst (λ (all : List ℕ). MeansFrom high all (c ∷ rest)) same (step high c next put more rest is (each next (at + 1) more is_later))
+        subst (λ (all : List ℕ). MeansFrom high all (c ∷ rest)) same
+        (step high c next put more rest is (each next (at + 1) more is_later))
 
 sound : (input : List ℕ) → Sound input
 sound [] None at bytes read = let none : bytes ≡ [] = cc in subst (λ (all : List ℕ). HexMeans all []) (sym none) tt
 sound [] (Some h) at bytes read = cc
 sound (c ∷ rest) high at bytes read = sound_step high at c rest bytes (sound rest) (after_digit high c) refl read
 
-complete : (input : List ℕ) (high : Option ℕ) (at : ℕ) (bytes : List ℕ) → MeansFrom high bytes input → bytes_from high at input ≡ Ok bytes
+complete : (input : List ℕ) (high : Option ℕ) (at : ℕ) (bytes : List ℕ) → MeansFrom high bytes input
+    → bytes_from high at input ≡ Ok bytes
 complete [] None at [] means = refl
 complete [] None at (b ∷ bytes) ([], [], tail, split, are, is, means) = absurd is
 complete [] None at (b ∷ bytes) ([], x ∷ pair, tail, split, are, is, means) = cc
@@ -151,7 +168,8 @@ complete [] (Some h) at [] means = absurd means
 complete [] (Some h) at (b ∷ bytes) (digit, low, tail, split, is_low, is_byte, means) = cc
 complete (c ∷ rest) high at bytes means =
     let was = back high c bytes rest means in
-    ap (λ (after : Option (Option ℕ × List ℕ)). reading_behind at after (λ next. bytes_from next (at + 1) rest)) was.after
+    ap (λ (after : Option (Option ℕ × List ℕ)). reading_behind at after (λ next. bytes_from next (at + 1) rest))
+    was.after
     ∙ ap (with_front was.put) (complete rest was.next (at + 1) was.tail was.means)
     ∙ ap (λ (all : List ℕ). Ok all) (sym was.whole)
 
@@ -171,7 +189,8 @@ record Breaks (high : Option ℕ) (at : ℕ) (input : List ℕ) (place : ℕ) : 
   more : List ℕ
   bytes : List ℕ
   begins : MeansFrom high bytes (front ++ more)
-  ends : (next : ℕ) (tail later others : List ℕ) → rest ≡ next ∷ tail → MeansFrom high others (front ++ next ∷ later) → ⊥
+  ends : (next : ℕ) (tail later others : List ℕ) → rest ≡ next ∷ tail → MeansFrom high others (front ++ next ∷ later)
+      → ⊥
 
 -- some input goes on behind a first digit, or outside of pairs
 some_end : (high : Option ℕ) → (more : List ℕ) × (bytes : List ℕ) × MeansFrom high bytes more
@@ -179,13 +198,24 @@ some_end None = ([], [], tt)
 some_end (Some h) = (48 ∷ [], (16 * h + 0) ∷ [], (48, 0, [], refl, refl, refl, tt))
 
 break_here : (high : Option ℕ) (at place : ℕ) (input : List ℕ) → place ≡ at →
-    ((next : ℕ) (tail later others : List ℕ) → input ≡ next ∷ tail → MeansFrom high others (next ∷ later) → ⊥) → Breaks high at input place
+    ((next : ℕ) (tail later others : List ℕ) → input ≡ next ∷ tail → MeansFrom high others (next ∷ later) → ⊥)
+    → Breaks high at input place
 break_here high at place input placed none =
     let end = some_end high in
-    record { front = []; rest = input; split = refl; placed = placed ∙ sym (add-zero at); more = end.0; bytes = end.1; begins = end.2; ends = none }
+    record {
+      front = [];
+      rest = input;
+      split = refl;
+      placed = placed ∙ sym (add-zero at);
+      more = end.0;
+      bytes = end.1;
+      begins = end.2;
+      ends = none;
+    }
 
-break_behind : (high : Option ℕ) (at c place : ℕ) (rest : List ℕ) (next : Option ℕ) (put : List ℕ) → after_digit high c ≡ does next put →
-    Breaks next (at + 1) rest place → Breaks high at (c ∷ rest) place
+break_behind : (high : Option ℕ) (at c place : ℕ) (rest : List ℕ) (next : Option ℕ) (put : List ℕ)
+    → after_digit high c ≡ does next put
+    → Breaks next (at + 1) rest place → Breaks high at (c ∷ rest) place
 break_behind high at c place rest next put is later = record {
   front = c ∷ later.front;
   rest = later.rest;
@@ -198,14 +228,16 @@ break_behind high at c place rest next put is later = record {
       let was = back high c others (later.front ++ n ∷ behind_n) means in
       let both : does was.next was.put ≡ does next put = sym was.after ∙ is in
       let same = same_next was.next next was.put put both in
-      later.ends n tail behind_n was.tail split (subst (λ (o : Option ℕ). MeansFrom o was.tail (later.front ++ n ∷ behind_n)) same was.means);
+      later.ends n tail behind_n was.tail split
+      (subst (λ (o : Option ℕ). MeansFrom o was.tail (later.front ++ n ∷ behind_n)) same was.means);
 }
 
 abbrev Broken : List ℕ → Type 0
 Broken input = (high : Option ℕ) (at place : ℕ) → bytes_from high at input ≡ Err place → Breaks high at input place
 
-break_step : (high : Option ℕ) (at c place : ℕ) (rest : List ℕ) → Broken rest → (after : Option (Option ℕ × List ℕ)) → after_digit high c ≡ after →
-    reading_behind at after (λ next. bytes_from next (at + 1) rest) ≡ Err place → Breaks high at (c ∷ rest) place
+break_step : (high : Option ℕ) (at c place : ℕ) (rest : List ℕ) → Broken rest → (after : Option (Option ℕ × List ℕ))
+    → after_digit high c ≡ after
+    → reading_behind at after (λ next. bytes_from next (at + 1) rest) ≡ Err place → Breaks high at (c ∷ rest) place
 break_step high at c place rest each None is read =
     let same : place ≡ at = cc in
     break_here high at place (c ∷ rest) same (λ next tail later others split means.
@@ -217,7 +249,8 @@ break_step high at c place rest each None is read =
     cc)
 break_step high at c place rest each (Some (next, put)) is read = go (bytes_from next (at + 1) rest) refl read
   where
-    go : (later : Result (List ℕ) ℕ) → bytes_from next (at + 1) rest ≡ later → with_front put later ≡ Err place → Breaks high at (c ∷ rest) place
+    go : (later : Result (List ℕ) ℕ) → bytes_from next (at + 1) rest ≡ later → with_front put later ≡ Err place
+        → Breaks high at (c ∷ rest) place
     go (Ok more) is_later whole = cc
     go (Err found) is_later whole =
         let same : found ≡ place = cc in
@@ -249,7 +282,8 @@ read_break input at read =
     }
 
 -- bytes put in two parts
-pub with_front-append : (one two : List ℕ) (read : Result (List ℕ) ℕ) → with_front (one ++ two) read ≡ with_front one (with_front two read)
+pub with_front-append : (one two : List ℕ) (read : Result (List ℕ) ℕ)
+    → with_front (one ++ two) read ≡ with_front one (with_front two read)
 with_front-append one two (Ok more) = ap (λ (all : List ℕ). Ok all) (append_assoc one two more)
 with_front-append one two (Err at) = refl
 
@@ -276,17 +310,20 @@ compare (x ∷ a) (y ∷ b) rest_a rest_b same = go (compare a b rest_a rest_b t
     go : Compared a b rest_a rest_b → Compared (x ∷ a) (y ∷ b) rest_a rest_b
     go (Same long) = Same (ap (λ n. suc n) long)
     go (Further next tail later is whole) =
-        Further next tail later is (ap (λ (all : List ℕ). y ∷ all) whole ∙ ap (λ (c : ℕ). c ∷ a ++ next ∷ later) (sym heads))
+        Further next tail later is
+        (ap (λ (all : List ℕ). y ∷ all) whole ∙ ap (λ (c : ℕ). c ∷ a ++ next ∷ later) (sym heads))
     go (Shorter next tail later is whole) =
         Shorter next tail later is (ap (λ (all : List ℕ). x ∷ all) whole ∙ ap (λ (c : ℕ). c ∷ b ++ next ∷ later) heads)
 
 -- what begins an input can't stand behind a break
-behind_break : (input : List ℕ) (at : ℕ) (broken : IsHexBreak input at) (next : ℕ) (tail later front more bytes : List ℕ)
+behind_break : (input : List ℕ) (at : ℕ) (broken : IsHexBreak input at) (next : ℕ)
+    (tail later front more bytes : List ℕ)
     → broken.rest ≡ next ∷ tail →
     front ≡ broken.front ++ next ∷ later → HexMeans bytes (front ++ more) → ⊥
 behind_break input at broken next tail later front more bytes is whole means =
     broken.ends next tail (later ++ more) bytes is
-    (subst (HexMeans bytes) (ap (λ (all : List ℕ). all ++ more) whole ∙ append_assoc broken.front (next ∷ later) more) means)
+    (subst (HexMeans bytes) (ap (λ (all : List ℕ). all ++ more) whole ∙ append_assoc broken.front (next ∷ later) more)
+    means)
 
 pub one_break : (input : List ℕ) (at at' : ℕ) → IsHexBreak input at → IsHexBreak input at' → at ≡ at'
 one_break input at at' one other = go (compare one.front other.front one.rest other.rest (sym one.split ∙ other.split))
@@ -295,4 +332,5 @@ one_break input at at' one other = go (compare one.front other.front one.rest ot
     go (Same long) = one.placed ∙ long ∙ sym other.placed
     go (Further next tail later is whole) =
         absurd (behind_break input at one next tail later other.front other.more other.bytes is whole other.begins)
-    go (Shorter next tail later is whole) = absurd (behind_break input at' other next tail later one.front one.more one.bytes is whole one.begins)
+    go (Shorter next tail later is whole) =
+        absurd (behind_break input at' other next tail later one.front one.more one.bytes is whole one.begins)

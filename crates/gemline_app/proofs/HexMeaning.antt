@@ -8,7 +8,13 @@ use Rattle.secs_text.specs.Grammar.{IsHexByte}
 use Rattle.gemline_app.specs.HexInput.{HexMeans}
 
 pair_is : (b : ℕ) → IsByte b → IsHexByte b (slice_index upper_digits (b / 16) ∷ slice_index upper_digits (b % 16) ∷ [])
-pair_is b small = (b / 16, b % 16, IsDigits-upper_digits (b / 16) (omega arith), IsDigits-upper_digits (b % 16) (omega arith), omega arith)
+pair_is b small = (
+  b / 16,
+  b % 16,
+  IsDigits-upper_digits (b / 16) (omega arith),
+  IsDigits-upper_digits (b % 16) (omega arith),
+  omega arith,
+)
 
 pub hex_means : (bytes : List ℕ) → AllByRecursion IsByte bytes → HexMeans bytes (encode_upper bytes ++ 10 ∷ [])
 unfolding encode_with

@@ -14,13 +14,17 @@ use Rattle.gemline_app.specs.declared.outcome.Outcome.TheVariants.{Done, Usage, 
 use Rattle.gemline_app.proofs.ReplayDue.{Comes}
 
 -- what reading came to, where the source told its bytes
-pub read_of : (limit : ℕ) (source : SourceTold) (bytes : List ℕ) (answer : Input) → source.before ≡ Some bytes → WasRead limit source answer →
-    ReadsAllOf limit bytes source.after answer
-read_of limit source bytes answer told read = subst (λ (b : Option (List ℕ)). ReadsAll limit b source.after answer) told read.bytes
+pub read_of : (limit : ℕ) (source : SourceTold) (bytes : List ℕ) (answer : Input) → source.before ≡ Some bytes
+    → WasRead limit source answer
+    → ReadsAllOf limit bytes source.after answer
+read_of limit source bytes answer told read =
+    subst (λ (b : Option (List ℕ)). ReadsAll limit b source.after answer) told read.bytes
 
 -- what was not read
-pub unread_due : (limit : ℕ) (Asks : List ℕ → Outcome → Type 0) (source : SourceTold) (files : FilesTold) (disk : DiskTold) (link : LinkTold) (out : SinkTold) (outcome due : Outcome) →
-    InputRefuses limit source outcome → IsInputDue limit Asks source due → Comes source files disk link out outcome due
+pub unread_due : (limit : ℕ) (Asks : List ℕ → Outcome → Type 0) (source : SourceTold) (files : FilesTold)
+    (disk : DiskTold) (link : LinkTold) (out : SinkTold) (outcome due : Outcome)
+    → InputRefuses limit source outcome → IsInputDue limit Asks source due
+    → Comes source files disk link out outcome due
 unread_due limit Asks source files disk link out Longer due read (bytes, told, inl (past, is)) = inl (sym is)
 unread_due limit Asks source files disk link out Longer due read (bytes, told, inr (within, asks)) =
     let past = (read_of limit source bytes input.Longer told read).0 in absurd (omega arith)
@@ -47,13 +51,17 @@ unread_due limit Asks source files disk link out LinkFailed due was is_due = abs
 
 -- a command over the input, of which it is shown what it does with the whole of it
 pub input_due : (limit : ℕ) (Was : List ℕ → SinkTold → Outcome → Type 0) (Asks : List ℕ → Outcome → Type 0)
-    (source : SourceTold) (files : FilesTold) (disk : DiskTold) (link : LinkTold) (out : SinkTold) (outcome due : Outcome) →
-    ((bytes : List ℕ) → Was bytes out outcome → Asks bytes due → Comes source files disk link out outcome due) →
-    ComesOnInput limit Was source out outcome → IsInputDue limit Asks source due → Comes source files disk link out outcome due
+    (source : SourceTold) (files : FilesTold) (disk : DiskTold) (link : LinkTold) (out : SinkTold)
+    (outcome due : Outcome)
+    → ((bytes : List ℕ) → Was bytes out outcome → Asks bytes due → Comes source files disk link out outcome due)
+    → ComesOnInput limit Was source out outcome → IsInputDue limit Asks source due
+    → Comes source files disk link out outcome due
 input_due limit Was Asks source files disk link out outcome due each (inl (refuses, untouched)) is_due =
     unread_due limit Asks source files disk link out outcome due refuses is_due
-input_due limit Was Asks source files disk link out outcome due each (inr (whole, read, was)) (bytes, told, inl (past, is)) =
+input_due limit Was Asks source files disk link out outcome due each (inr (whole, read, was))
+    (bytes, told, inl (past, is)) =
     let within = (read_of limit source bytes (input.Whole whole) told read).0 in absurd (omega arith)
-input_due limit Was Asks source files disk link out outcome due each (inr (whole, read, was)) (bytes, told, inr (within, asks)) =
+input_due limit Was Asks source files disk link out outcome due each (inr (whole, read, was))
+    (bytes, told, inr (within, asks)) =
     let same = (read_of limit source bytes (input.Whole whole) told read).1 in
     each bytes (subst (λ (all : List ℕ). Was all out outcome) same was) asks

@@ -56,17 +56,24 @@ pub record CountsWrites (out : SinkTold) (outcome : Outcome) : Type 0 where
 pub untouched : (out : SinkTold) → IsUntouched out → out.health_after.faults ≡ out.health.faults
 untouched out is = ap (λ (h : SinkHealth). h.faults) is.health
 
-by_show : (out : SinkTold) (result : Result Ending Stop) → HasStopCause out result → CountsWrites out (outcome_of_show result)
+by_show : (out : SinkTold) (result : Result Ending Stop) → HasStopCause out result
+    → CountsWrites out (outcome_of_show result)
 by_show out (Ok Whole) cause = record { read = refl; file = refl; on_disk = refl; on_link = refl; write = cause }
-by_show out (Ok (Broken named)) cause = record { read = refl; file = refl; on_disk = refl; on_link = refl; write = cause }
-by_show out (Err stop.NoMemory) cause = record { read = refl; file = refl; on_disk = refl; on_link = refl; write = cause }
-by_show out (Err stop.WriteFailed) cause = record { read = refl; file = refl; on_disk = refl; on_link = refl; write = cause }
+by_show out (Ok (Broken named)) cause =
+    record { read = refl; file = refl; on_disk = refl; on_link = refl; write = cause }
+by_show out (Err stop.NoMemory) cause =
+    record { read = refl; file = refl; on_disk = refl; on_link = refl; write = cause }
+by_show out (Err stop.WriteFailed) cause =
+    record { read = refl; file = refl; on_disk = refl; on_link = refl; write = cause }
 
-pub shown_counts : (capture : List ℕ) (out : SinkTold) (outcome : Outcome) → WasShown capture out outcome → CountsWrites out outcome
+pub shown_counts : (capture : List ℕ) (out : SinkTold) (outcome : Outcome) → WasShown capture out outcome
+    → CountsWrites out outcome
 shown_counts capture out outcome was = subst (CountsWrites out) (sym was.outcome_is) (by_show out was.result was.cause)
 
-written_counts : (line : List ℕ) (out : SinkTold) (outcome : Outcome) → WasWritten line out outcome → CountsWrites out outcome
-written_counts line out Done was = record { read = refl; file = refl; on_disk = refl; on_link = refl; write = was.health.same }
+written_counts : (line : List ℕ) (out : SinkTold) (outcome : Outcome) → WasWritten line out outcome
+    → CountsWrites out outcome
+written_counts line out Done was =
+    record { read = refl; file = refl; on_disk = refl; on_link = refl; write = was.health.same }
 written_counts line out Usage was = absurd was
 written_counts line out (BadFrame named) was = absurd was
 written_counts line out (BadText at) was = absurd was
@@ -78,7 +85,8 @@ written_counts line out (FileLonger which) was = absurd was
 written_counts line out (FileFailed which) was = absurd was
 written_counts line out ReadFailed was = absurd was
 written_counts line out NoMemory was = absurd was
-written_counts line out WriteFailed was = record { read = refl; file = refl; on_disk = refl; on_link = refl; write = was.fault.rose }
+written_counts line out WriteFailed was =
+    record { read = refl; file = refl; on_disk = refl; on_link = refl; write = was.fault.rose }
 written_counts line out TurnsSpent was = absurd was
 written_counts line out NumbersSpent was = absurd was
 written_counts line out DiskFailed was = absurd was
@@ -142,7 +150,8 @@ hex_plain digits (BadPlan key what) was = absurd was
 hex_plain digits (BadScript number) was = absurd was
 hex_plain digits LinkFailed was = absurd was
 
-pub plain_counts : (out : SinkTold) (outcome : Outcome) → IsPlain outcome → out.health_after.faults ≡ out.health.faults → CountsWrites out outcome
+pub plain_counts : (out : SinkTold) (outcome : Outcome) → IsPlain outcome → out.health_after.faults ≡ out.health.faults
+    → CountsWrites out outcome
 plain_counts out outcome plain stands = record {
   read = plain.read;
   file = plain.file;
@@ -151,12 +160,14 @@ plain_counts out outcome plain stands = record {
   write = subst (λ (b : Bool). IsCounted b out.health.faults out.health_after.faults) (sym plain.write) stands;
 }
 
-pub spelled_counts : (text : List ℕ) (out : SinkTold) (outcome : Outcome) → WasSpelled text out outcome → CountsWrites out outcome
+pub spelled_counts : (text : List ℕ) (out : SinkTold) (outcome : Outcome) → WasSpelled text out outcome
+    → CountsWrites out outcome
 spelled_counts text out outcome (Ok line, answers, written) = written_counts line out outcome written
 spelled_counts text out outcome (Err refusal, refuses, (is, left)) =
     plain_counts out outcome (subst IsPlain (sym is) (text_plain text refusal refuses)) (untouched out left)
 
-pub printed_counts : (digits : List ℕ) (out : SinkTold) (outcome : Outcome) → WasPrinted digits out outcome → CountsWrites out outcome
+pub printed_counts : (digits : List ℕ) (out : SinkTold) (outcome : Outcome) → WasPrinted digits out outcome
+    → CountsWrites out outcome
 printed_counts digits out outcome (Ok line, answers, written) = written_counts line out outcome written
 printed_counts digits out outcome (Err refusal, refuses, (is, left)) =
     plain_counts out outcome (subst IsPlain (sym is) (hex_plain digits refusal refuses)) (untouched out left)
@@ -170,8 +181,9 @@ pub record OthersStand (files : FilesTold) (disk : DiskTold) (link : LinkTold) :
   pub on_link : link.health_after.faults ≡ link.health.faults
 
 module _ (source : SourceTold) (files : FilesTold) (disk : DiskTold) (link : LinkTold) (out : SinkTold) where
-  pub unread_counts : (limit : ℕ) → OthersStand files disk link → out.health_after.faults ≡ out.health.faults → (outcome : Outcome) → InputRefuses limit source outcome →
-      CountsAll source files disk link out outcome
+  pub unread_counts : (limit : ℕ) → OthersStand files disk link → out.health_after.faults ≡ out.health.faults
+      → (outcome : Outcome) → InputRefuses limit source outcome
+      → CountsAll source files disk link out outcome
   unread_counts limit stands left Done was = absurd was
   unread_counts limit stands left Usage was = absurd was
   unread_counts limit stands left (BadFrame named) was = absurd was
@@ -179,11 +191,29 @@ module _ (source : SourceTold) (files : FilesTold) (disk : DiskTold) (link : Lin
   unread_counts limit stands left (BadHex at) was = absurd was
   unread_counts limit stands left (BadItem fault) was = absurd was
   unread_counts limit stands left (BadLine number) was = absurd was
-  unread_counts limit stands left Longer was = record { read = was.cause.same; file = stands.file; on_disk = stands.on_disk; on_link = stands.on_link; write = left }
+  unread_counts limit stands left Longer was = record {
+    read = was.cause.same;
+    file = stands.file;
+    on_disk = stands.on_disk;
+    on_link = stands.on_link;
+    write = left;
+  }
   unread_counts limit stands left (FileLonger which) was = absurd was
   unread_counts limit stands left (FileFailed which) was = absurd was
-  unread_counts limit stands left ReadFailed was = record { read = was.cause.rose; file = stands.file; on_disk = stands.on_disk; on_link = stands.on_link; write = left }
-  unread_counts limit stands left NoMemory was = record { read = was.cause.same; file = stands.file; on_disk = stands.on_disk; on_link = stands.on_link; write = left }
+  unread_counts limit stands left ReadFailed was = record {
+    read = was.cause.rose;
+    file = stands.file;
+    on_disk = stands.on_disk;
+    on_link = stands.on_link;
+    write = left;
+  }
+  unread_counts limit stands left NoMemory was = record {
+    read = was.cause.same;
+    file = stands.file;
+    on_disk = stands.on_disk;
+    on_link = stands.on_link;
+    write = left;
+  }
   unread_counts limit stands left WriteFailed was = absurd was
   unread_counts limit stands left TurnsSpent was = absurd was
   unread_counts limit stands left NumbersSpent was = absurd was
@@ -195,21 +225,31 @@ module _ (source : SourceTold) (files : FilesTold) (disk : DiskTold) (link : Lin
   unread_counts limit stands left LinkFailed was = absurd was
 
   -- the source, the files, the disk and the link stand
-  pub written_only : (outcome : Outcome) → source.health_after.faults ≡ source.health.faults → OthersStand files disk link → CountsWrites out outcome
+  pub written_only : (outcome : Outcome) → source.health_after.faults ≡ source.health.faults
+      → OthersStand files disk link → CountsWrites out outcome
       → CountsAll source files disk link out outcome
   written_only outcome read stands counts = record {
     read = subst (λ (b : Bool). IsCounted b source.health.faults source.health_after.faults) (sym counts.read) read;
-    file = subst (λ (b : Bool). IsCounted b files.health.faults files.health_after.faults) (sym counts.file) stands.file;
-    on_disk = subst (λ (b : Bool). IsCounted b disk.health.faults disk.health_after.faults) (sym counts.on_disk) stands.on_disk;
-    on_link = subst (λ (b : Bool). IsCounted b link.health.faults link.health_after.faults) (sym counts.on_link) stands.on_link;
+    file =
+        subst (λ (b : Bool). IsCounted b files.health.faults files.health_after.faults) (sym counts.file) stands.file;
+    on_disk =
+        subst (λ (b : Bool). IsCounted b disk.health.faults disk.health_after.faults) (sym counts.on_disk)
+        stands.on_disk;
+    on_link =
+        subst (λ (b : Bool). IsCounted b link.health.faults link.health_after.faults) (sym counts.on_link)
+        stands.on_link;
     write = counts.write;
   }
 
-  pub input_counts : (limit : ℕ) (Was : List ℕ → SinkTold → Outcome → Type 0) (outcome : Outcome) → OthersStand files disk link →
-      ((bytes : List ℕ) → Was bytes out outcome → CountsWrites out outcome) → ComesOnInput limit Was source out outcome →
-      CountsAll source files disk link out outcome
-  input_counts limit Was outcome stands each (inl (refuses, left)) = unread_counts limit stands (untouched out left) outcome refuses
-  input_counts limit Was outcome stands each (inr (bytes, read, was)) = written_only outcome read.cause.same stands (each bytes was)
+  pub input_counts : (limit : ℕ) (Was : List ℕ → SinkTold → Outcome → Type 0) (outcome : Outcome)
+      → OthersStand files disk link
+      → ((bytes : List ℕ) → Was bytes out outcome → CountsWrites out outcome)
+      → ComesOnInput limit Was source out outcome
+      → CountsAll source files disk link out outcome
+  input_counts limit Was outcome stands each (inl (refuses, left)) =
+      unread_counts limit stands (untouched out left) outcome refuses
+  input_counts limit Was outcome stands each (inr (bytes, read, was)) =
+      written_only outcome read.cause.same stands (each bytes was)
 
 -- ---- the files
 
@@ -221,8 +261,9 @@ pub record CountsFiles (files : FilesTold) (out : SinkTold) (outcome : Outcome) 
   pub file : IsCounted (is_file_fault outcome) files.health.faults files.health_after.faults
   pub write : IsCounted (is_write_fault outcome) out.health.faults out.health_after.faults
 
-pub file_refused : (which : FileRole) (name : List ℕ) (files : FilesTold) (out : SinkTold) → out.health_after.faults ≡ out.health.faults →
-    (outcome : Outcome) → FileRefuses which name files outcome → CountsFiles files out outcome
+pub file_refused : (which : FileRole) (name : List ℕ) (files : FilesTold) (out : SinkTold)
+    → out.health_after.faults ≡ out.health.faults
+    → (outcome : Outcome) → FileRefuses which name files outcome → CountsFiles files out outcome
 file_refused which name files out left Done was = absurd was
 file_refused which name files out left Usage was = absurd was
 file_refused which name files out left (BadFrame named) was = absurd was
@@ -231,10 +272,13 @@ file_refused which name files out left (BadHex at) was = absurd was
 file_refused which name files out left (BadItem fault) was = absurd was
 file_refused which name files out left (BadLine number) was = absurd was
 file_refused which name files out left Longer was = absurd was
-file_refused which name files out left (FileLonger found) was = record { read = refl; on_disk = refl; on_link = refl; file = was.1.cause.same; write = left }
-file_refused which name files out left (FileFailed found) was = record { read = refl; on_disk = refl; on_link = refl; file = was.1.cause.rose; write = left }
+file_refused which name files out left (FileLonger found) was =
+    record { read = refl; on_disk = refl; on_link = refl; file = was.1.cause.same; write = left }
+file_refused which name files out left (FileFailed found) was =
+    record { read = refl; on_disk = refl; on_link = refl; file = was.1.cause.rose; write = left }
 file_refused which name files out left ReadFailed was = absurd was
-file_refused which name files out left NoMemory was = record { read = refl; on_disk = refl; on_link = refl; file = was.cause.same; write = left }
+file_refused which name files out left NoMemory was =
+    record { read = refl; on_disk = refl; on_link = refl; file = was.cause.same; write = left }
 file_refused which name files out left WriteFailed was = absurd was
 file_refused which name files out left TurnsSpent was = absurd was
 file_refused which name files out left NumbersSpent was = absurd was
@@ -246,7 +290,8 @@ file_refused which name files out left (BadScript number) was = absurd was
 file_refused which name files out left LinkFailed was = absurd was
 
 -- the files stand
-stand_files : (files : FilesTold) (out : SinkTold) (outcome : Outcome) → files.health_after.faults ≡ files.health.faults → CountsWrites out outcome
+stand_files : (files : FilesTold) (out : SinkTold) (outcome : Outcome)
+    → files.health_after.faults ≡ files.health.faults → CountsWrites out outcome
     → CountsFiles files out outcome
 stand_files files out outcome stands counts = record {
   read = counts.read;
@@ -258,28 +303,38 @@ stand_files files out outcome stands counts = record {
 
 by_end : (out : SinkTold) (plans : Plans) (schedule : Schedule) (ended : RunEnd) → Runs out plans schedule ended
     → CountsWrites out (outcome_of_end ended)
-by_end out plans schedule end.Whole (at, wrote) = record { read = refl; file = refl; on_disk = refl; on_link = refl; write = wrote.health.same }
-by_end out plans schedule end.Slip (at, wrote) = record { read = refl; file = refl; on_disk = refl; on_link = refl; write = wrote.health.same }
-by_end out plans schedule end.Turns (at, wrote) = record { read = refl; file = refl; on_disk = refl; on_link = refl; write = wrote.health.same }
-by_end out plans schedule end.NumbersSpent (at, wrote) = record { read = refl; file = refl; on_disk = refl; on_link = refl; write = wrote.health.same }
-by_end out plans schedule end.NoMemory part = record { read = refl; file = refl; on_disk = refl; on_link = refl; write = part.wrote.health.same }
-by_end out plans schedule end.WriteFailed short = record { read = refl; file = refl; on_disk = refl; on_link = refl; write = short.fault.rose }
+by_end out plans schedule end.Whole (at, wrote) =
+    record { read = refl; file = refl; on_disk = refl; on_link = refl; write = wrote.health.same }
+by_end out plans schedule end.Slip (at, wrote) =
+    record { read = refl; file = refl; on_disk = refl; on_link = refl; write = wrote.health.same }
+by_end out plans schedule end.Turns (at, wrote) =
+    record { read = refl; file = refl; on_disk = refl; on_link = refl; write = wrote.health.same }
+by_end out plans schedule end.NumbersSpent (at, wrote) =
+    record { read = refl; file = refl; on_disk = refl; on_link = refl; write = wrote.health.same }
+by_end out plans schedule end.NoMemory part =
+    record { read = refl; file = refl; on_disk = refl; on_link = refl; write = part.wrote.health.same }
+by_end out plans schedule end.WriteFailed short =
+    record { read = refl; file = refl; on_disk = refl; on_link = refl; write = short.fault.rose }
 
 left_of : (text : List ℕ) (out : SinkTold) (fault : ScheduleFault) → ScheduleRefuses text out fault → IsUntouched out
 left_of text out (schedule_fault.Line number) (at, left) = left
 left_of text out schedule_fault.NoMemory left = left
 
 schedule_plain : (fault : ScheduleFault) → IsPlain (schedule_refusal fault)
-schedule_plain (schedule_fault.Line number) = record { read = refl; file = refl; on_disk = refl; on_link = refl; write = refl }
-schedule_plain schedule_fault.NoMemory = record { read = refl; file = refl; on_disk = refl; on_link = refl; write = refl }
+schedule_plain (schedule_fault.Line number) =
+    record { read = refl; file = refl; on_disk = refl; on_link = refl; write = refl }
+schedule_plain schedule_fault.NoMemory =
+    record { read = refl; file = refl; on_disk = refl; on_link = refl; write = refl }
 
 text_counts :
     (plans : Plans) (text : List ℕ) (out : SinkTold) (outcome : Outcome)
     → TextRuns plans text out outcome → CountsWrites out outcome
 text_counts plans text out outcome runs = elim runs.because [
-  | inl (schedule, is, was) ↦ subst (CountsWrites out) (sym was.outcome_is) (by_end out plans schedule was.ended was.wrote)
+  | inl (schedule, is, was) ↦
+      subst (CountsWrites out) (sym was.outcome_is) (by_end out plans schedule was.ended was.wrote)
   | inr (fault, refuses, is) ↦
-      plain_counts out outcome (subst IsPlain (sym is) (schedule_plain fault)) (untouched out (left_of text out fault refuses))
+      plain_counts out outcome (subst IsPlain (sym is) (schedule_plain fault))
+      (untouched out (left_of text out fault refuses))
 ]
 
 schedule_counts :
@@ -291,8 +346,9 @@ schedule_counts plans name files out outcome (inr (text, was, runs)) =
     stand_files files out outcome was.cause.same (text_counts plans text out outcome runs)
 
 -- from a moment before on, up to which the files stood
-since_counts : (files later : FilesTold) (out : SinkTold) (outcome : Outcome) → later.health.faults ≡ files.health.faults →
-    later.health_after ≡ files.health_after → CountsFiles later out outcome → CountsFiles files out outcome
+since_counts : (files later : FilesTold) (out : SinkTold) (outcome : Outcome)
+    → later.health.faults ≡ files.health.faults
+    → later.health_after ≡ files.health_after → CountsFiles later out outcome → CountsFiles files out outcome
 since_counts files later out outcome since same counts = record {
   read = counts.read;
   on_disk = counts.on_disk;
@@ -307,9 +363,11 @@ pub plan_plain : (fault : ConfigFault) → IsPlain (plan_refusal fault)
 plan_plain (plan_fault.Key key what) = record { read = refl; file = refl; on_disk = refl; on_link = refl; write = refl }
 plan_plain plan_fault.NoMemory = record { read = refl; file = refl; on_disk = refl; on_link = refl; write = refl }
 
-pub replay_counts : (plan schedule : List ℕ) (files : FilesTold) (out : SinkTold) (outcome : Outcome) → ReplayComes plan schedule files out outcome
+pub replay_counts : (plan schedule : List ℕ) (files : FilesTold) (out : SinkTold) (outcome : Outcome)
+    → ReplayComes plan schedule files out outcome
     → CountsFiles files out outcome
-replay_counts plan schedule files out outcome (inl (inl refuses, left)) = file_refused role.Plan plan files out (untouched out left) outcome refuses
+replay_counts plan schedule files out outcome (inl (inl refuses, left)) =
+    file_refused role.Plan plan files out (untouched out left) outcome refuses
 replay_counts plan schedule files out outcome (inl (inr bad, left)) =
     stand_files files out outcome bad.read.cause.same
     (plain_counts out outcome (subst IsPlain (sym bad.refused) (plan_plain bad.fault)) (untouched out left))

@@ -64,9 +64,11 @@ by_run : (link : LinkTold) (out : SinkTold) (host left : Node HostOwn Kind) (roo
     → ended ≢ ending.DiskFailed
     → Does (before_run link out host) (after_run link out left room stop) how acts (Some ended)
     → CountsLink link out (outcome_of_ending ended)
-by_run link out host left room stop how acts ending.Stopped none (at, did) = made_counts link out host left room stop acts Done
+by_run link out host left room stop how acts ending.Stopped none (at, did) =
+    made_counts link out host left room stop acts Done
     (record { read = refl; file = refl; on_disk = refl; on_link = refl; write = refl }) did.made
-by_run link out host left room stop how acts ending.Closed none (at, did) = made_counts link out host left room stop acts Done
+by_run link out host left room stop how acts ending.Closed none (at, did) =
+    made_counts link out host left room stop acts Done
     (record { read = refl; file = refl; on_disk = refl; on_link = refl; write = refl }) did.made
 by_run link out host left room stop how acts ending.Turns none (at, did) =
     made_counts link out host left room stop acts TurnsSpent
@@ -124,7 +126,9 @@ module _ (source : SourceTold) (files : FilesTold) (disk : DiskTold) (link : Lin
   linked_only read file counts = record {
     read = subst (λ (b : Bool). IsCounted b source.health.faults source.health_after.faults) (sym counts.read) read;
     file = subst (λ (b : Bool). IsCounted b files.health.faults files.health_after.faults) (sym counts.file) file;
-    on_disk = subst (λ (b : Bool). IsCounted b disk.health.faults disk.health_after.faults) (sym counts.on_disk) unused.faults;
+    on_disk =
+        subst (λ (b : Bool). IsCounted b disk.health.faults disk.health_after.faults) (sym counts.on_disk)
+        unused.faults;
     on_link = counts.on_link;
     write = counts.write;
   }
@@ -136,7 +140,9 @@ module _ (source : SourceTold) (files : FilesTold) (disk : DiskTold) (link : Lin
     read = subst (λ (b : Bool). IsCounted b source.health.faults source.health_after.faults) (sym counts.read)
         (source_stands source unread);
     file = counts.file;
-    on_disk = subst (λ (b : Bool). IsCounted b disk.health.faults disk.health_after.faults) (sym counts.on_disk) unused.faults;
+    on_disk =
+        subst (λ (b : Bool). IsCounted b disk.health.faults disk.health_after.faults) (sym counts.on_disk)
+        unused.faults;
     on_link = subst (λ (b : Bool). IsCounted b link.health.faults link.health_after.faults) (sym counts.on_link)
         (link_stands link uncalled);
     write = counts.write;
@@ -144,7 +150,8 @@ module _ (source : SourceTold) (files : FilesTold) (disk : DiskTold) (link : Lin
 
   pub host_counts : HostComes plan polls source files link out outcome → CountsAll source files disk link out outcome
   host_counts (inl (inl refuses, unread, idle)) =
-      filed_only unread idle.uncalled (file_refused role.Plan plan files out (untouched out idle.written) outcome refuses)
+      filed_only unread idle.uncalled
+      (file_refused role.Plan plan files out (untouched out idle.written) outcome refuses)
   host_counts (inl (inr bad, unread, idle)) =
       linked_only (source_stands source unread) bad.read.cause.same
       (idle_counts link out outcome (subst IsPlain (sym bad.refused) (plan_plain bad.fault)) idle)

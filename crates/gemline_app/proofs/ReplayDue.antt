@@ -35,22 +35,26 @@ use Rattle.gemline_app.specs.declared.outcome.Outcome.{Outcome}
 use Rattle.gemline_app.specs.declared.outcome.Outcome.TheVariants.{Done, Usage, BadFrame, BadText, BadHex, BadItem, BadLine, Longer, FileLonger, FileFailed, ReadFailed, NoMemory, WriteFailed, TurnsSpent, NumbersSpent, Slip, DiskFailed, NotSpool, BadPlan, BadScript, LinkFailed}
 
 -- what reading a file came to, where the files tell its bytes
-told_answer : (limit : ℕ) (name bytes : List ℕ) (told : Option (List MemFile)) (answer : FileAnswer) → told_file name told ≡ Some bytes →
-    ReadsFile limit name told answer → ReadsFileOf limit (Some bytes) answer
+told_answer : (limit : ℕ) (name bytes : List ℕ) (told : Option (List MemFile)) (answer : FileAnswer)
+    → told_file name told ≡ Some bytes
+    → ReadsFile limit name told answer → ReadsFileOf limit (Some bytes) answer
 told_answer limit name bytes None answer is reads = cc
-told_answer limit name bytes (Some files) answer is reads = subst (λ (f : Option (List ℕ)). ReadsFileOf limit f answer) is reads
+told_answer limit name bytes (Some files) answer is reads =
+    subst (λ (f : Option (List ℕ)). ReadsFileOf limit f answer) is reads
 
 -- a file was longer than its limit, or its reading failed, or memory ran out
 abbrev pub Refused : FileRole → List ℕ → FilesTold → Outcome → Type 0
 Refused which bytes files outcome =
     ((outcome ≡ FileLonger which) × (file_limit which < length bytes))
-    ⊎ (((found : FileRole) × (outcome ≡ FileFailed found) × Rose files.health.faults files.health_after.faults) ⊎ (outcome ≡ NoMemory))
+    ⊎ (((found : FileRole) × (outcome ≡ FileFailed found) × Rose files.health.faults files.health_after.faults)
+    ⊎ (outcome ≡ NoMemory))
 
 longer_than : (limit : ℕ) (bytes found : List ℕ) → Some bytes ≡ Some found → limit < length found → limit < length bytes
 longer_than limit bytes found same past = let is : bytes ≡ found = cc in omega (arith, ap length is)
 
-pub refused : (which : FileRole) (name bytes : List ℕ) (files : FilesTold) (outcome : Outcome) → told_file name files.before ≡ Some bytes →
-    FileRefuses which name files outcome → Refused which bytes files outcome
+pub refused : (which : FileRole) (name bytes : List ℕ) (files : FilesTold) (outcome : Outcome)
+    → told_file name files.before ≡ Some bytes
+    → FileRefuses which name files outcome → Refused which bytes files outcome
 refused which name bytes files (FileLonger found) told (same, was) =
     let read = told_answer (file_limit which) name bytes files.before file.Longer told was.bytes in
     inl (ap (λ (w : FileRole). FileLonger w) same, longer_than (file_limit which) bytes read.0 read.1 read.2)
@@ -76,8 +80,9 @@ refused which name bytes files (BadScript number) told refuses = absurd refuses
 refused which name bytes files LinkFailed told refuses = absurd refuses
 
 -- a file that was read whole
-pub whole_is : (which : FileRole) (name bytes found : List ℕ) (files : FilesTold) → told_file name files.before ≡ Some bytes →
-    WasFile which name files (file.Whole found) → (bytes ≡ found) × (length bytes ≤ file_limit which)
+pub whole_is : (which : FileRole) (name bytes found : List ℕ) (files : FilesTold)
+    → told_file name files.before ≡ Some bytes
+    → WasFile which name files (file.Whole found) → (bytes ≡ found) × (length bytes ≤ file_limit which)
 whole_is which name bytes found files told was =
     let read = told_answer (file_limit which) name bytes files.before (file.Whole found) told was.bytes in
     let same : bytes ≡ found = go read.0 in
@@ -90,11 +95,13 @@ whole_is which name bytes found files told was =
 abbrev pub Comes : SourceTold → FilesTold → DiskTold → LinkTold → SinkTold → Outcome → Outcome → Type 0
 Comes source files disk link out outcome due = (outcome ≡ due) ⊎ Hinders source files disk link out outcome
 
-pub hindered : (source : SourceTold) (files : FilesTold) (disk : DiskTold) (link : LinkTold) (out : SinkTold) (outcome : Outcome) → outcome ≡ NoMemory → Hinders source files disk link out outcome
+pub hindered : (source : SourceTold) (files : FilesTold) (disk : DiskTold) (link : LinkTold) (out : SinkTold)
+    (outcome : Outcome) → outcome ≡ NoMemory → Hinders source files disk link out outcome
 hindered source files disk link out outcome is = subst (Hinders source files disk link out) (sym is) tt
 
-pub failed : (source : SourceTold) (files : FilesTold) (disk : DiskTold) (link : LinkTold) (out : SinkTold) (outcome : Outcome) (found : FileRole) → outcome ≡ FileFailed found →
-    Rose files.health.faults files.health_after.faults → Hinders source files disk link out outcome
+pub failed : (source : SourceTold) (files : FilesTold) (disk : DiskTold) (link : LinkTold) (out : SinkTold)
+    (outcome : Outcome) (found : FileRole) → outcome ≡ FileFailed found
+    → Rose files.health.faults files.health_after.faults → Hinders source files disk link out outcome
 failed source files disk link out outcome found is rose = subst (Hinders source files disk link out) (sym is) rose
 
 -- ---- a schedule that was carried out
@@ -141,15 +148,17 @@ ended_due source files disk link out plans schedule end.WriteFailed outcome due 
     inr (subst (Hinders source files disk link out) (sym is) short.fault.rose)
 
 text_due :
-    (source : SourceTold) (files : FilesTold) (disk : DiskTold) (link : LinkTold) (out : SinkTold) (plans : Plans) (text : List ℕ)
+    (source : SourceTold) (files : FilesTold) (disk : DiskTold) (link : LinkTold) (out : SinkTold) (plans : Plans)
+    (text : List ℕ)
     (outcome due : Outcome)
     → TextRuns plans text out outcome → ScheduleAsks plans text due → Comes source files disk link out outcome due
-text_due source files disk link out plans text outcome due runs (inl (schedule, is, is_due)) = elim (runs.only schedule is) [
-  | inl was ↦
-      ended_due source files disk link out plans schedule was.ended outcome due was.outcome_is was.wrote
-      (schedule-due plans schedule due is_due)
-  | inr memory ↦ inr (hindered source files disk link out outcome memory.0)
-]
+text_due source files disk link out plans text outcome due runs (inl (schedule, is, is_due)) =
+    elim (runs.only schedule is) [
+      | inl was ↦
+          ended_due source files disk link out plans schedule was.ended outcome due was.outcome_is was.wrote
+          (schedule-due plans schedule due is_due)
+      | inr memory ↦ inr (hindered source files disk link out outcome memory.0)
+    ]
 text_due source files disk link out plans text outcome due runs (inr (n, at, is_due)) = elim (runs.outside n at).0 [
   | inl named ↦ inl (named ∙ sym is_due)
   | inr memory ↦ inr (hindered source files disk link out outcome memory)
@@ -163,7 +172,8 @@ schedule_due :
     → later.health.faults ≡ files.health.faults → later.health_after ≡ files.health_after
     → told_file name later.before ≡ Some text → ScheduleComes plans name later out outcome
     → IsScheduleDue plans text due → Comes source files disk link out outcome due
-schedule_due source files later disk link out plans name text outcome due since same told (inl (refuses, untouched)) is_due =
+schedule_due source files later disk link out plans name text outcome due since same told (inl (refuses, untouched))
+    is_due =
     go (refused role.Schedule name text later outcome told refuses) is_due
   where
     go : Refused role.Schedule text later outcome → IsScheduleDue plans text due
@@ -175,7 +185,8 @@ schedule_due source files later disk link out plans name text outcome due since 
         (subst (λ (n : ℕ). Rose n files.health_after.faults) since
         (subst (λ h. Rose later.health.faults h.faults) same rose)))
     go (inr (inr memory)) due_is = inr (hindered source files disk link out outcome memory)
-schedule_due source files later disk link out plans name text outcome due since same told (inr (whole, was, runs)) is_due =
+schedule_due source files later disk link out plans name text outcome due since same told (inr (whole, was, runs))
+    is_due =
     go is_due
   where
     read : (text ≡ whole) × (length text ≤ file_limit role.Schedule)
@@ -209,7 +220,8 @@ one_fault one other same = cc
 pub is_no_memory : (key : List ℕ) (what : ConfigWhat) → plan_fault.Key key what ≢ plan_fault.NoMemory
 is_no_memory key what same = cc
 
-module _ (source : SourceTold) (files later : FilesTold) (disk : DiskTold) (link : LinkTold) (out : SinkTold) (bytes schedule : List ℕ)
+module _ (source : SourceTold) (files later : FilesTold) (disk : DiskTold) (link : LinkTold) (out : SinkTold)
+    (bytes schedule : List ℕ)
     (outcome due : Outcome) where
   -- a plan that is refused so, where it asks for this
   refusal_due :
@@ -235,7 +247,8 @@ module _ (source : SourceTold) (files later : FilesTold) (disk : DiskTold) (link
       (subst (λ (p : Plans). IsScheduleDue p text due) (one_plan meant plans (read.only (Ok meant) means)) rest)
 
 pub replay_due :
-    (source : SourceTold) (files : FilesTold) (disk : DiskTold) (link : LinkTold) (out : SinkTold) (plan schedule bytes : List ℕ)
+    (source : SourceTold) (files : FilesTold) (disk : DiskTold) (link : LinkTold) (out : SinkTold)
+    (plan schedule bytes : List ℕ)
     (outcome due : Outcome)
     → told_file plan files.before ≡ Some bytes → ReplayComes plan schedule files out outcome
     → IsPlanDue schedule files bytes due → Comes source files disk link out outcome due
@@ -269,6 +282,7 @@ replay_due source files disk link out plan schedule bytes outcome due told (inr 
     go : IsPlanDue schedule files bytes due → Comes source files disk link out outcome due
     go (inl (past, is_longer)) = let within = read.1 in absurd (omega arith)
     go (inr (within, asks)) =
-        plans_due source files (files_since files over.told over.health) disk link out over.are.bytes schedule outcome due
+        plans_due source files (files_since files over.told over.health) disk link out over.are.bytes schedule outcome
+        due
         over.plans over.are.read.cause.same refl over.are.read.same over.are.is over.rest
         (subst (λ (b : List ℕ). PlanAsks schedule files b due) read.0 asks)

@@ -34,11 +34,13 @@ runs_schedule plans text out schedule outcome reads is was = record {
       (ap (λ (events : List Event). record { events = events }) same) was);
 }
 
-refuses : (text : List ℕ) (out : SinkTold) (fault : ScheduleFault) → ReadsText text (Err fault) → IsUntouched out → ScheduleRefuses text out fault
+refuses : (text : List ℕ) (out : SinkTold) (fault : ScheduleFault) → ReadsText text (Err fault) → IsUntouched out
+    → ScheduleRefuses text out fault
 refuses text out (schedule_fault.Line number) reads untouched = (reads.line number refl, untouched)
 refuses text out schedule_fault.NoMemory reads untouched = untouched
 
-comes_only : (out : SinkTold) (fault named : ScheduleFault) → RefusesOnly {R = Schedule} named (Err fault) → IsUntouched out
+comes_only : (out : SinkTold) (fault named : ScheduleFault) → RefusesOnly {R = Schedule} named (Err fault)
+    → IsUntouched out
     → ComesOnly (schedule_refusal named) out (schedule_refusal fault)
 comes_only out fault named (inl same) untouched = (inl (ap schedule_refusal same), untouched)
 comes_only out fault named (inr memory) untouched = (inr (ap schedule_refusal memory), untouched)
@@ -56,7 +58,8 @@ refuses_text plans text out fault outcome reads untouched is =
 -- what was carried out over these plans
 pub replayed_over :
     (plans : Plans) (schedule : Schedule) (out : SinkTold) (ended : RunEnd) (outcome : Outcome)
-    → outcome ≡ outcome_of_end ended → Runs out plans schedule ended → IsSafe plans (log_of plans schedule) → WasReplayed plans schedule out outcome
+    → outcome ≡ outcome_of_end ended → Runs out plans schedule ended → IsSafe plans (log_of plans schedule)
+    → WasReplayed plans schedule out outcome
 replayed_over plans schedule out ended outcome is wrote safe = record {
   ended = ended;
   outcome_is = is;

@@ -60,7 +60,8 @@ returns-in_default-step g c =
           stopped _ _ _ _ _ _ _ _ c.events.invariant _ c.put.new.self.bytes.items _ c.step.new.lines _
           (after_event e.machine h.machine c.event-item.result (seen e.means h.means c.events.world))
           (after_events e.machine h.machine (drop (i + 1) c.args.schedule.now.events))
-          (seen e.means h.means c.step.new.self) c.step.result c.stop-in_default-step.result c.as_slice-in-events.ensures
+          (seen e.means h.means c.step.new.self) c.step.result c.stop-in_default-step.result
+          c.as_slice-in-events.ensures
           c.in-Done.ensures.passes c.truncate.ensures next c.in_default-step.not-Went
           (of_event (after_event e.machine h.machine c.event-item.result (seen e.means h.means c.events.world))
           (seen e.means h.means c.step.new.self) _ c.step.new.lines c.step.result c.step.ensures.powered

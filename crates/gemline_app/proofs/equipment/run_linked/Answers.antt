@@ -13,7 +13,8 @@ use Rattle.gemline_app.proofs.equipment.run_linked.Goals as goal
 pub returns-clause-runs : goal.returns-clause-runs
 returns-clause-runs g c in_state start next are =
     runs_from g.D.Disk c.args.equipment start next c.args.script.now.lines c.args.polls
-    c.run_started-ended.new.end.going c.run_started-ended.new.end.spent c.into_disk.result c.run_started-ended.ensures.sound c.into_disk.ensures
+    c.run_started-ended.new.end.going c.run_started-ended.new.end.spent c.into_disk.result
+    c.run_started-ended.ensures.sound c.into_disk.ensures
     (link_told g.L.Link c.args.link.now c.run_started-ended.new.link)
     (sink_told g.W.Sink c.args.out.now c.run_started-ended.new.out) c.run_started-ended.result
     (c.run_started-ended.ensures.runs in_state start next are)

@@ -13,4 +13,6 @@ returns-in-Ok c =
     (subst (λ (bytes : List ℕ). ItemAnswers bytes c.printed_item.result) c.as_slice.ensures c.printed_item.ensures)
 
 pub returns-in-Err : goal.returns-in-Err
-returns-in-Err c = subst (λ (refusal : Outcome). HexRefuses c.args.digits.now refusal) (sym c.refusal_of.ensures) (hex_refusal _ _ c.in-Err.ensures)
+returns-in-Err c =
+    subst (λ (refusal : Outcome). HexRefuses c.args.digits.now refusal) (sym c.refusal_of.ensures)
+    (hex_refusal _ _ c.in-Err.ensures)

@@ -4,8 +4,11 @@ use Rattle.std.proofs.Common.{Err, Ok, refl, ◌∙◌}
 use Rattle.gemline_app.proofs.spelling.spell.Goals as goal
 
 pub returns-in-Ok : goal.returns-in-Ok
-returns-in-Ok g c =
-    (Ok c.as_bytes.result.now, (c.in-Ok.ensures.0, c.in-Ok.ensures.1, c.as_bytes.ensures.value ∙ c.in-Ok.ensures.2), c.write_line.ensures)
+returns-in-Ok g c = (
+  Ok c.as_bytes.result.now,
+  (c.in-Ok.ensures.0, c.in-Ok.ensures.1, c.as_bytes.ensures.value ∙ c.in-Ok.ensures.2),
+  c.write_line.ensures,
+)
 
 pub returns-in-Err : goal.returns-in-Err
 returns-in-Err g c = (Err c.in-Err.refusal, c.in-Err.ensures, (refl, record { received = refl; health = refl }))

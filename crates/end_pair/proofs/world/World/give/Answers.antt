@@ -10,8 +10,10 @@ pub returns-then-not-is_under_way : goal.returns-then-not-is_under_way
 returns-then-not-is_under_way g c =
     let e = g.E.End in
     let h = g.H.End in
-    times_done (seen e.means h.means) (IsDark e.anew e.machine.restart h.means) (gives_times e.machine h.machine c.args.side) c.characters.left
-    c.characters.self c.characters.lines (given_times e.machine h.machine c.args.n c.args.side (seen e.means h.means c.args.self.now)) c.args.lines.now
+    times_done (seen e.means h.means) (IsDark e.anew e.machine.restart h.means)
+    (gives_times e.machine h.machine c.args.side) c.characters.left
+    c.characters.self c.characters.lines
+    (given_times e.machine h.machine c.args.n c.args.side (seen e.means h.means c.args.self.now)) c.args.lines.now
     (sym c.is_under_way.ensures ∙ c.if-not-is_under_way.true) c.characters.invariant
 
 pub returns-in_default : goal.returns-in_default
@@ -19,7 +21,8 @@ returns-in_default g c =
     let e = g.E.End in
     let h = g.H.End in
     let left : c.characters.left ≡ (c.characters.left - 1) + 1 = omega (arith, c.characters-test.true) in
-    times_stop (seen e.means h.means) (IsDark e.anew e.machine.restart h.means) (gives_times e.machine h.machine c.args.side) c.characters.left
+    times_stop (seen e.means h.means) (IsDark e.anew e.machine.restart h.means)
+    (gives_times e.machine h.machine c.args.side) c.characters.left
     (c.characters.left - 1) c.characters.self c.hand.new.self c.characters.lines c.hand.new.lines c.hand.result
     (given_times e.machine h.machine c.args.n c.args.side (seen e.means h.means c.args.self.now)) c.args.lines.now left
     c.in_default.not-Went c.hand.ensures c.characters.invariant
@@ -29,7 +32,8 @@ characters-preserved g c =
     let e = g.E.End in
     let h = g.H.End in
     let left : c.characters.left ≡ (c.characters.left - 1) + 1 = omega (arith, c.characters-test.true) in
-    times_on (seen e.means h.means) (IsDark e.anew e.machine.restart h.means) (gives_times e.machine h.machine c.args.side) c.characters.left
+    times_on (seen e.means h.means) (IsDark e.anew e.machine.restart h.means)
+    (gives_times e.machine h.machine c.args.side) c.characters.left
     (c.characters.left - 1) c.characters.self c.hand.new.self c.characters.lines c.hand.new.lines
     (given_times e.machine h.machine c.args.n c.args.side (seen e.means h.means c.args.self.now)) c.args.lines.now left
     c.in-Went.ensures c.characters.invariant
@@ -39,6 +43,8 @@ returns g c =
     let e = g.E.End in
     let h = g.H.End in
     let over : c.characters.left ≡ 0 = omega (arith, c.characters-test.false) in
-    times_over (seen e.means h.means) (IsDark e.anew e.machine.restart h.means) (gives_times e.machine h.machine c.args.side) c.characters.left
-    c.characters.self c.characters.lines (given_times e.machine h.machine c.args.n c.args.side (seen e.means h.means c.args.self.now)) c.args.lines.now over
+    times_over (seen e.means h.means) (IsDark e.anew e.machine.restart h.means)
+    (gives_times e.machine h.machine c.args.side) c.characters.left
+    c.characters.self c.characters.lines
+    (given_times e.machine h.machine c.args.n c.args.side (seen e.means h.means c.args.self.now)) c.args.lines.now over
     c.characters.invariant

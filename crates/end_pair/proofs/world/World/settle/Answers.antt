@@ -10,8 +10,10 @@ pub returns-then-is_quiet : goal.returns-then-is_quiet
 returns-then-is_quiet g c =
     let e = g.E.End in
     let h = g.H.End in
-    times_done (seen e.means h.means) (IsDark e.anew e.machine.restart h.means) (settles_times e.machine h.machine) c.characters.left
-    c.characters.self c.characters.lines (settled_times e.machine h.machine c.args.n (seen e.means h.means c.args.self.now)) c.args.lines.now
+    times_done (seen e.means h.means) (IsDark e.anew e.machine.restart h.means) (settles_times e.machine h.machine)
+    c.characters.left
+    c.characters.self c.characters.lines
+    (settled_times e.machine h.machine c.args.n (seen e.means h.means c.args.self.now)) c.args.lines.now
     (both_empty _ _ (sym c.is_quiet.ensures ∙ c.if-is_quiet.true)) c.characters.invariant
 
 pub returns-in_default : goal.returns-in_default
@@ -19,8 +21,10 @@ returns-in_default g c =
     let e = g.E.End in
     let h = g.H.End in
     let left : c.characters.left ≡ (c.characters.left - 1) + 1 = omega (arith, c.characters-test.true) in
-    times_stop (seen e.means h.means) (IsDark e.anew e.machine.restart h.means) (settles_times e.machine h.machine) c.characters.left
-    (c.characters.left - 1) c.characters.self c.settle_one.new.self c.characters.lines c.settle_one.new.lines c.settle_one.result
+    times_stop (seen e.means h.means) (IsDark e.anew e.machine.restart h.means) (settles_times e.machine h.machine)
+    c.characters.left
+    (c.characters.left - 1) c.characters.self c.settle_one.new.self c.characters.lines c.settle_one.new.lines
+    c.settle_one.result
     (settled_times e.machine h.machine c.args.n (seen e.means h.means c.args.self.now)) c.args.lines.now left
     c.in_default.not-Went c.settle_one.ensures c.characters.invariant
 
@@ -29,7 +33,8 @@ characters-preserved g c =
     let e = g.E.End in
     let h = g.H.End in
     let left : c.characters.left ≡ (c.characters.left - 1) + 1 = omega (arith, c.characters-test.true) in
-    times_on (seen e.means h.means) (IsDark e.anew e.machine.restart h.means) (settles_times e.machine h.machine) c.characters.left
+    times_on (seen e.means h.means) (IsDark e.anew e.machine.restart h.means) (settles_times e.machine h.machine)
+    c.characters.left
     (c.characters.left - 1) c.characters.self c.settle_one.new.self c.characters.lines c.settle_one.new.lines
     (settled_times e.machine h.machine c.args.n (seen e.means h.means c.args.self.now)) c.args.lines.now left
     c.in-Went.ensures c.characters.invariant
@@ -39,6 +44,8 @@ returns g c =
     let e = g.E.End in
     let h = g.H.End in
     let over : c.characters.left ≡ 0 = omega (arith, c.characters-test.false) in
-    times_over (seen e.means h.means) (IsDark e.anew e.machine.restart h.means) (settles_times e.machine h.machine) c.characters.left
-    c.characters.self c.characters.lines (settled_times e.machine h.machine c.args.n (seen e.means h.means c.args.self.now)) c.args.lines.now over
+    times_over (seen e.means h.means) (IsDark e.anew e.machine.restart h.means) (settles_times e.machine h.machine)
+    c.characters.left
+    c.characters.self c.characters.lines
+    (settled_times e.machine h.machine c.args.n (seen e.means h.means c.args.self.now)) c.args.lines.now over
     c.characters.invariant
