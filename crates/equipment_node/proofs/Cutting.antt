@@ -178,7 +178,8 @@ noted-front (suc at) notes =
 
 -- ---- how the code counts
 
-cut-over : (left : ℕ) (one : Note) (rest : List Note) → one.before_change ≡ false → cut_at left (one ∷ rest) ≡ one ∷ cut_at left rest
+cut-over : (left : ℕ) (one : Note) (rest : List Note) → one.before_change ≡ false
+    → cut_at left (one ∷ rest) ≡ one ∷ cut_at left rest
 cut-over zero one rest no_work = ap (λ (b : Bool). one ∷ (if b then [] else cut_at zero rest)) no_work
 cut-over (suc left) one rest no_work =
     ap (λ (b : Bool). one ∷ (if b then cut_at left rest else cut_at (suc left) rest)) no_work

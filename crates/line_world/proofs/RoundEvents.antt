@@ -98,7 +98,10 @@ s2f33-may =
                                             omega arith,
                                             (
                                               omega arith,
-                                              (omega arith, (omega arith, (omega arith, (omega arith, (omega arith, tt))))),
+                                              (
+                                                omega arith,
+                                                (omega arith, (omega arith, (omega arith, (omega arith, tt)))),
+                                              ),
                                             ),
                                           ),
                                         ),
@@ -165,7 +168,10 @@ s2f35-may =
                                             omega arith,
                                             (
                                               omega arith,
-                                              (omega arith, (omega arith, (omega arith, (omega arith, (omega arith, tt))))),
+                                              (
+                                                omega arith,
+                                                (omega arith, (omega arith, (omega arith, (omega arith, tt)))),
+                                              ),
                                             ),
                                           ),
                                         ),

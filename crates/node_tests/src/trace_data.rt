@@ -1,5 +1,5 @@
-//! What becomes of an S6F1: it is dropped, too long, granted or denied, or beside many open messages; and what its trace
-//! has no part in any more.
+//! What becomes of an S6F1: it is dropped, too long, granted or denied, or beside many open messages; and what its
+//! trace has no part in any more.
 
 use crate::played_host::{Case, ESTABLISHES, GOES_ONLINE, Given, REPORTS_ONE, Text, runs};
 use std::test::Fail;

@@ -188,7 +188,8 @@ module _ (begins active : Bool) (own : OwnView) (outcome : CommsOutcome) (activi
   left_own = with_ledger activity.next (with_comms outcome.next own)
 
   abbrev pub stores : Stores
-  stores = stores_all (overwrites own.tables) (filter_map (stored_of begins left_own) core.transactions.begun) activity.next
+  stores =
+      stores_all (overwrites own.tables) (filter_map (stored_of begins left_own) core.transactions.begun) activity.next
 
   abbrev pub last_own : OwnView
   last_own = with_ledger stores.next (without_open left_own core)
@@ -223,7 +224,8 @@ module _ (begins active : Bool) (own : OwnView) (outcome : CommsOutcome) (activi
       (node last_own core_ended) new out_ended out_active out_new result
       (carried_append printed_note (comms_lines own.comms.state outcome.next.state) (lines_commands activity.lines)
       (on_the_way core_ended out_ended)
-      ∙ ap (λ (w : Went (EndView Kind) Note). and_then w (carried printed_note (lines_commands activity.lines))) is.noted
+      ∙ ap (λ (w : Went (EndView Kind) Note). and_then w (carried printed_note (lines_commands activity.lines)))
+      is.noted
       ∙ noted_lines activity.lines core_ended out_noted out_active is.lines is.line)
       (subst
       (λ (commands : ToolCommands). Takes {A = A} (fixed_turn last_own commands) (node own_left core_ended) out_active

@@ -55,7 +55,8 @@ stored_went own (Some booked) core ledger_new out out_new (Ok done) is line =
     (λ (v : LedgerView). after_turn printed_note (booked_turn booked own) (on_the_way (node own core) out)
     ≡ Goes (on_the_way (node (with_ledger v own) core) out_new))
     (ap (λ (a : Account). a.ledger) account)
-    (ap (λ (w : Went (EndView Kind) Note). went_with (with_ledger booked.next own) (and_then w (all_done printed_note [])))
+    (ap
+    (λ (w : Went (EndView Kind) Note). went_with (with_ledger booked.next own) (and_then w (all_done printed_note [])))
     (lines_carried booked.lines (on_the_way core out))
     ∙ ap
     (λ (o : StepOut). Goes (on_the_way (node (with_ledger booked.next own) core) o))
@@ -87,7 +88,8 @@ pub carried_core :
     (own : OwnView) (commands : ToolCommands) (old middle : ToolNode) (out out_middle : StepOut)
     → HasTaken (fixed_turn own commands) old out middle out_middle
     → carried printed_note commands (on_the_way old.core out) ≡ Goes (on_the_way middle.core out_middle)
-carried_core own commands old middle out out_middle taken = go (carried printed_note commands (on_the_way old.core out)) taken
+carried_core own commands old middle out out_middle taken =
+    go (carried printed_note commands (on_the_way old.core out)) taken
   where
     core_of : Went ToolNode Note → Went (EndView Kind) Note
     core_of (Goes step) = Goes (core_step step)
@@ -201,7 +203,8 @@ stores_flag own lines true more old middle new out out_middle out_new result tak
     noted : Step (EndView Kind) Note
     noted = record (core_step (on_the_way old out)) { notes = out.notes ++ filter_map printed_note lines }
 
-    halted : went_with own (and_then (and_then (Goes noted) (carried printed_note (Halt ∷ []))) (all_done printed_note []))
+    halted : went_with own
+        (and_then (and_then (Goes noted) (carried printed_note (Halt ∷ []))) (all_done printed_note []))
         ≡ Goes (on_the_way middle out_middle)
     halted =
         sym (ap (λ (w : Went (EndView Kind) Note). went_with own (and_then w (all_done printed_note [])))

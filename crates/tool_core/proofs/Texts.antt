@@ -43,7 +43,8 @@ pub off_line :
     (report : List ℕ → Spooled) (going : Spooled → ToolTurn) (text : Answer) (own : OwnView) → is_online own ≡ false
     → judged_turn report going text own ≡ unreported_turn (spooled_name (report [])) own
 off_line report going text own none =
-    ap (λ (b : Bool). if b then text_turn report going text own else unreported_turn (spooled_name (report [])) own) none
+    ap (λ (b : Bool). if b then text_turn report going text own else unreported_turn (spooled_name (report [])) own)
+    none
 
 pub on_line :
     (report : List ℕ → Spooled) (going : Spooled → ToolTurn) (text : Answer) (own : OwnView) → is_online own ≡ true

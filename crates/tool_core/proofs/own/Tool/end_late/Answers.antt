@@ -15,7 +15,8 @@ returns-in-Ok-clause-does c =
     (replicate 64 (late_part late.Reply c.args.now)) (node_of c.args.self.now) (node_of c.end_some_late.new.self)
     (node_of c.end_some_late-in-Ok.new.self) c.args.out.now c.end_some_late.new.out c.end_some_late-in-Ok.new.out
     c.end_some_late-in-Ok.result c.in-Ok.ensures.does
-    (reached (Unit {0}) _ (node_of c.end_some_late-in-Ok.new.self) c.end_some_late-in-Ok.new.out c.end_some_late-in-Ok.result
+    (reached (Unit {0}) _ (node_of c.end_some_late-in-Ok.new.self) c.end_some_late-in-Ok.new.out
+    c.end_some_late-in-Ok.result
     c.end_some_late-in-Ok.ensures.does)
 
 pub returns-in-Err-clause-does : goal.returns-in-Err-clause-does

@@ -10,7 +10,8 @@ pub returns-in-Some-clause-does : goal.returns-in-Some-clause-does
 returns-in-Some-clause-does c =
     granted_sent c.args.system (own_of c.args.self.now.own)
     (with_waiting_data c.take_awaiting.new.kept.items (own_of c.args.self.now.own)) c.args.self.now.core
-    c.in-Some.waiting c.into_body.result c.trace_data.result (node_of c.send.new.self) c.args.out.now c.send.new.out c.send.result
+    c.in-Some.waiting c.into_body.result c.trace_data.result (node_of c.send.new.self) c.args.out.now c.send.new.out
+    c.send.result
     (ap (λ (left : List GrantView). with_waiting_data left (own_of c.args.self.now.own)) c.take_awaiting.ensures.rest)
     (sym c.in-Some.is ∙ c.take_awaiting.ensures.found) c.into_body.ensures.body c.trace_data.ensures c.send.ensures.does
 
