@@ -12,7 +12,13 @@ use std::test::Fail;
 
 /// Words behind `host`, a plan, a script, which call of the input, of the files, of the output and of the link
 /// fails, and the end.
-pub(crate) type Hosting = (&'static [&'static str], &'static [u8], Bytes, [u32; 4], End);
+pub(crate) type Hosting = (
+    &'static [&'static str],
+    &'static [u8],
+    Bytes,
+    [u32; 4],
+    End<'static>,
+);
 
 const HOST: &[&str] = &["host", "plan", "address"];
 

@@ -441,7 +441,7 @@ impl Link for AllCharacters {
 }
 
 /// Whether a disabled host that is given all characters within so many polls ends so.
-fn waits_out(alloc: Global, words: &'static [&'static str], end: End) -> bool {
+fn waits_out(alloc: Global, words: &'static [&'static str], end: End<'static>) -> bool {
     let mut link = AllCharacters {
         next: 0,
         sent: false,

@@ -213,7 +213,7 @@ pub(crate) fn output(alloc: Global, step: usize, fails: u32) -> TestOutput {
 pub(crate) type Bytes = (&'static [u8], &'static [u8], usize, &'static [u8]);
 
 /// The status that a run ends with, what its output received, and the line on the errors.
-pub(crate) type End = (u8, &'static str, &'static str);
+pub(crate) type End<'a> = (u8, &'a str, &'static str);
 
 pub(crate) fn words_of(alloc: Global, words: &[&str]) -> Result<Vec<String>, NoMemory> {
     let mut texts = Vec::new(alloc);
@@ -274,7 +274,12 @@ pub(crate) fn ends_so(
 }
 
 /// Words, an input, which call of the input, of the files and of the output fails, and the end.
-pub(crate) type Failing = (&'static [&'static str], &'static [u8], [u32; 3], End);
+pub(crate) type Failing = (
+    &'static [&'static str],
+    &'static [u8],
+    [u32; 3],
+    End<'static>,
+);
 
 /// Whether a run of which these calls fail ends so.
 pub(crate) fn is_failing(alloc: Global, case: &Failing) -> bool {

@@ -10,7 +10,7 @@ use std::alloc::Global;
 use std::test::Fail;
 
 /// A plan or a schedule, and how a replay of it ends.
-type Case = (Bytes, End);
+type Case = (Bytes, End<'static>);
 
 /// `replay` of a schedule over the empty plan.
 static SCHEDULES: [Case; 7] = [
@@ -123,6 +123,17 @@ pub(crate) const FIRST_MESSAGE: &str = "0 E start len=0 base=0\n0 H start\n0 E c
     0 H sent S1F14 00000000 01022101000100\n0 H tx 0605\n0 E tx 04\n\
     0 H tx 110000010E8001000000000102210100010000B6\n\
     0 E rx S1F14 00000000 01022101000100\n0 E comms COMMUNICATING\n0 E tx 06\n0 end\n";
+
+/// A whole trace: that of the first message, which goes on so where that ends.
+pub(crate) fn behind_first(alloc: Global, rest: &str) -> Result<String, NoMemory> {
+    let front = match FIRST_MESSAGE.strip_suffix("0 end\n") {
+        Some(front) => front,
+        None => FIRST_MESSAGE,
+    };
+    let mut trace = String::from_str(alloc, front)?;
+    trace.push_str(rest)?;
+    Ok(trace)
+}
 
 /// The same with another SOFTREV, to a host that isn't enabled.
 const DROPPED: &str = "0 E start len=0 base=0\n0 H start\n0 E comms WAIT-CRA\n\

@@ -25,7 +25,7 @@ pub(crate) const S1F1_LINES: &str =
     "0 BLOCK H>E dev=0 S1F1 W n=1 E sys=00000001 bytes=0\n0 MESSAGE H>E S1F1 W sys=00000001 -\n";
 
 /// An input, and how a command over it ends.
-type Case = (Bytes, End);
+type Case = (Bytes, End<'static>);
 
 /// `show`, up to the longest capture and past it.
 static SHOWS: [Case; 8] = [

@@ -6,7 +6,13 @@ use std::test::Fail;
 
 /// Words, the first bytes of a file of 16,384 and of its slot 1, which call of the disk and of the output fails, and
 /// the end.
-type Spooling = (&'static [&'static str], [&'static [u8]; 2], u32, u32, End);
+type Spooling = (
+    &'static [&'static str],
+    [&'static [u8]; 2],
+    u32,
+    u32,
+    End<'static>,
+);
 
 /// `format` and `spool`.
 static SPOOLS: [Spooling; 8] = [

@@ -17,7 +17,7 @@ type ToolCase = (
     [&'static [u8]; 2],
     &'static [u8],
     [u32; 3],
-    End,
+    End<'static>,
 );
 
 pub(crate) const EQUIPMENT: &[&str] = &["equipment", "plan", "address", "SPOOL"];
@@ -258,7 +258,7 @@ fn the_peer_closes_in_the_middle_of_a_frame(rt: HostRuntime) -> Result<(), Fail>
 }
 
 /// Which call of the disk fails, how the equipment ends, and what `spool` writes of its file then.
-type Storing = (u32, End, &'static str);
+type Storing = (u32, End<'static>, &'static str);
 
 /// Without a second try, so that T2 makes the spool active.
 const ONE_TRY: &[u8] = b"[line]\nrty = 0";

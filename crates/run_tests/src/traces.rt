@@ -4,7 +4,7 @@ ghost use Rattle.std.specs.Prelude.{IfOk};
 ghost use Rattle.gl_base.specs.Events.{AreLinkEvents};
 
 use crate::played_program::{FRONT, disk_with, words_of};
-use crate::replay_and_make::is_replayed;
+use crate::replay_and_make::{behind_first, is_replayed};
 use crate::tool_runs::{EQUIPMENT, tool_ends_so};
 use gl_base::{LinkEntry, LinkIn, MemLink, NoMemory, Row};
 use std::alloc::Global;
@@ -14,7 +14,7 @@ use std::test::Fail;
 const PLAN: &[u8] =
     b"[equipment]\ncontrol = \"remote\"\n[[variable]]\nvid = 1\nvalue = \"<U4 7>\"\n";
 
-/// A schedule, and its whole trace.
+/// A schedule, and its trace behind the first message of the tool.
 type Case = (&'static [u8], &'static str);
 
 /// The host asks for traces in a world.
@@ -41,23 +41,8 @@ const STARTS_ANEW: &[u8] =
     wait 1000\nsettle\ncut 1 old\nwait 500\nsettle\nwait 8000\n";
 
 /// Both samples go in one S6F1. The host knows none, and aborts it.
-const SEVEN_AND_NINE: &str = "0 E start len=0 base=0\n\
-    0 H start\n\
-    0 E comms WAIT-CRA\n\
-    0 E sent S1F13 W 00000000 0102410747454D4C494E45410131\n\
-    0 E tx 05\n\
-    0 H tx 04\n\
-    0 E tx 188000810D8001000000000102410747454D4C494E45410131044E\n\
-    0 H rx S1F13 W 00000000 0102410747454D4C494E45410131\n\
-    0 H comms COMMUNICATING\n\
-    0 H sent S1F14 00000000 01022101000100\n\
-    0 H tx 0605\n\
-    0 E tx 04\n\
-    0 H tx 110000010E8001000000000102210100010000B6\n\
-    0 E rx S1F14 00000000 01022101000100\n\
-    0 E comms COMMUNICATING\n\
-    0 E tx 06\n\
-    0 H sent S2F23 W 00000000 0105B104000000014106303030303031B10400000002B104000000020101B10400000001\n\
+const SEVEN_AND_NINE: &str =
+    "0 H sent S2F23 W 00000000 0105B104000000014106303030303031B10400000002B104000000020101B10400000001\n\
     0 H tx 05\n\
     0 E tx 04\n\
     0 H tx 2E000082178001000000000105B104000000014106303030303031B10400000002B104000000020101B104000000010564\n\
@@ -83,23 +68,8 @@ const SEVEN_AND_NINE: &str = "0 E start len=0 base=0\n\
     2000 end\n";
 
 /// Each is refused with a code of its own, and no sample is taken.
-const NONE_RAN: &str = "0 E start len=0 base=0\n\
-    0 H start\n\
-    0 E comms WAIT-CRA\n\
-    0 E sent S1F13 W 00000000 0102410747454D4C494E45410131\n\
-    0 E tx 05\n\
-    0 H tx 04\n\
-    0 E tx 188000810D8001000000000102410747454D4C494E45410131044E\n\
-    0 H rx S1F13 W 00000000 0102410747454D4C494E45410131\n\
-    0 H comms COMMUNICATING\n\
-    0 H sent S1F14 00000000 01022101000100\n\
-    0 H tx 0605\n\
-    0 E tx 04\n\
-    0 H tx 110000010E8001000000000102210100010000B6\n\
-    0 E rx S1F14 00000000 01022101000100\n\
-    0 E comms COMMUNICATING\n\
-    0 E tx 06\n\
-    0 H sent S2F23 W 00000000 0105B104000000014106303030303630B10400000002B104000000020101B10400000001\n\
+const NONE_RAN: &str =
+    "0 H sent S2F23 W 00000000 0105B104000000014106303030303630B10400000002B104000000020101B10400000001\n\
     0 H tx 05\n\
     0 E tx 04\n\
     0 H tx 2E000082178001000000000105B104000000014106303030303630B10400000002B104000000020101B104000000010569\n\
@@ -135,23 +105,8 @@ const NONE_RAN: &str = "0 E start len=0 base=0\n\
     9000 end\n";
 
 /// No trace runs behind the start.
-const STARTED_ANEW: &str = "0 E start len=0 base=0\n\
-    0 H start\n\
-    0 E comms WAIT-CRA\n\
-    0 E sent S1F13 W 00000000 0102410747454D4C494E45410131\n\
-    0 E tx 05\n\
-    0 H tx 04\n\
-    0 E tx 188000810D8001000000000102410747454D4C494E45410131044E\n\
-    0 H rx S1F13 W 00000000 0102410747454D4C494E45410131\n\
-    0 H comms COMMUNICATING\n\
-    0 H sent S1F14 00000000 01022101000100\n\
-    0 H tx 0605\n\
-    0 E tx 04\n\
-    0 H tx 110000010E8001000000000102210100010000B6\n\
-    0 E rx S1F14 00000000 01022101000100\n\
-    0 E comms COMMUNICATING\n\
-    0 E tx 06\n\
-    0 H sent S2F23 W 00000000 0105B104000000014106303030303031B10400000009B104000000010101B10400000001\n\
+const STARTED_ANEW: &str =
+    "0 H sent S2F23 W 00000000 0105B104000000014106303030303031B10400000009B104000000010101B10400000001\n\
     0 H tx 05\n\
     0 E tx 04\n\
     0 H tx 2E000082178001000000000105B104000000014106303030303031B10400000009B104000000010101B10400000001056A\n\
@@ -191,10 +146,15 @@ const STARTED_ANEW: &str = "0 E start len=0 base=0\n\
     9500 end\n";
 
 fn goes(alloc: Global, case: &Case) -> bool {
-    let (schedule, trace) = *case;
-    match words_of(alloc, &["replay", "plan", "schedule"]) {
-        Ok(words) => is_replayed(alloc, &words, PLAN, schedule, &(0, trace, "")),
-        Err(NoMemory) => false,
+    let (schedule, rest) = *case;
+    match (
+        words_of(alloc, &["replay", "plan", "schedule"]),
+        behind_first(alloc, rest),
+    ) {
+        (Ok(words), Ok(trace)) => {
+            is_replayed(alloc, &words, PLAN, schedule, &(0, trace.as_str(), ""))
+        }
+        _ => false,
     }
 }
 

@@ -1,5 +1,6 @@
 //! The world of a tool and its host: what schedules and rounds come to.
 
+use crate::replay_and_make::{FIRST_MESSAGE, behind_first};
 use equipment_node::EquipmentEnd;
 use equipment_tables::{EquipmentPlan, HostPlan};
 use gem_remote::RemotePlan;
@@ -14,6 +15,7 @@ use line_world::{Plans, RunEnd, World, make, run};
 use message_end::End;
 use secs_items::Item;
 use std::alloc::Global;
+use std::test::Fail;
 
 /// A line with this device, T2 and RTY.
 fn line(device: u16, t2: u32, rty: u8) -> LinePlan {
@@ -90,14 +92,14 @@ fn end_of_run(
 }
 
 /// A schedule, how its run ends, what is left, and the trace.
-type Case = (&'static [u8], RunEnd, Left, &'static [u8]);
+type Case<'a> = (&'static [u8], RunEnd, Left, &'a str);
 
 /// Whether a schedule is carried out so over these lines, into a sink with so much room.
 fn goes(alloc: Global, equipment: LinePlan, host: LinePlan, room: usize, case: &Case) -> bool {
     match (plans(alloc, equipment, host), MemSink::new(alloc, room)) {
         (Some(plans), Ok(mut out)) => {
             end_of_run(alloc, &plans, case.0, &mut out) == Some((case.1, case.2))
-                && out.bytes() == case.3
+                && out.bytes() == case.3.as_bytes()
         }
         _ => false,
     }
@@ -107,35 +109,14 @@ fn goes(alloc: Global, equipment: LinePlan, host: LinePlan, room: usize, case: &
 const BOTH_IDLE: Left = Some((Phase::Idle, None, Phase::Idle, None));
 
 /// The equipment establishes the communication.
-static ESTABLISHED: Case = (
-    b"settle",
-    RunEnd::Whole,
-    BOTH_IDLE,
-    b"0 E start len=0 base=0\n\
-        0 H start\n\
-        0 E comms WAIT-CRA\n\
-        0 E sent S1F13 W 00000000 0102410747454D4C494E45410131\n\
-        0 E tx 05\n\
-        0 H tx 04\n\
-        0 E tx 188000810D8001000000000102410747454D4C494E45410131044E\n\
-        0 H rx S1F13 W 00000000 0102410747454D4C494E45410131\n\
-        0 H comms COMMUNICATING\n\
-        0 H sent S1F14 00000000 01022101000100\n\
-        0 H tx 0605\n\
-        0 E tx 04\n\
-        0 H tx 110000010E8001000000000102210100010000B6\n\
-        0 E rx S1F14 00000000 01022101000100\n\
-        0 E comms COMMUNICATING\n\
-        0 E tx 06\n\
-        0 end\n",
-);
+static ESTABLISHED: Case<'static> = (b"settle", RunEnd::Whole, BOTH_IDLE, FIRST_MESSAGE);
 
 /// Nothing befalls them, so the equipment waits for an answer to its ENQ.
-static NOTHING: Case = (
+static NOTHING: Case<'static> = (
     b"",
     RunEnd::Whole,
     Some((Phase::AwaitEot, Some(10_000), Phase::Idle, None)),
-    b"0 E start len=0 base=0\n\
+    "0 E start len=0 base=0\n\
         0 H start\n\
         0 E comms WAIT-CRA\n\
         0 E sent S1F13 W 00000000 0102410747454D4C494E45410131\n\
@@ -180,11 +161,11 @@ fn a_slip_ends_the_trace(rt: HostRuntime) {
 }
 
 /// The host is of another device, so that no block is one for it.
-static FOREIGN: Case = (
+static FOREIGN: Case<'static> = (
     b"settle",
     RunEnd::Whole,
     Some((Phase::Idle, Some(45_000), Phase::Idle, None)),
-    b"0 E start len=0 base=0\n\
+    "0 E start len=0 base=0\n\
         0 H start\n\
         0 E comms WAIT-CRA\n\
         0 E sent S1F13 W 00000000 0102410747454D4C494E45410131\n\
@@ -204,31 +185,15 @@ fn ends_of_two_lines(rt: HostRuntime) {
 
 /// The host takes shorter messages than the equipment, so that a reply which goes out is too long for it: its question
 /// ends as when no reply comes.
-static TOO_LONG: Case = (
-    b"settle\n\
+const ASKS_FOR_MANY: &[u8] = b"settle\n\
         host send S1F11 W <L <U1 1> <U1 2> <U1 3> <U1 4> <U1 5> <U1 6> <U1 7> \
         <U1 8> <U1 9> <U1 10> <U1 11> <U1 12> <U1 13> <U1 14> \
         <U1 15> <U1 16> <U1 17> <U1 18> <U1 19> <U1 20> <U1 21>>\n\
-        settle",
-    RunEnd::Whole,
-    BOTH_IDLE,
-    b"0 E start len=0 base=0\n\
-        0 H start\n\
-        0 E comms WAIT-CRA\n\
-        0 E sent S1F13 W 00000000 0102410747454D4C494E45410131\n\
-        0 E tx 05\n\
-        0 H tx 04\n\
-        0 E tx 188000810D8001000000000102410747454D4C494E45410131044E\n\
-        0 H rx S1F13 W 00000000 0102410747454D4C494E45410131\n\
-        0 H comms COMMUNICATING\n\
-        0 H sent S1F14 00000000 01022101000100\n\
-        0 H tx 0605\n\
-        0 E tx 04\n\
-        0 H tx 110000010E8001000000000102210100010000B6\n\
-        0 E rx S1F14 00000000 01022101000100\n\
-        0 E comms COMMUNICATING\n\
-        0 E tx 06\n\
-        0 H sent S1F11 W 00000000 0115A50101A50102A50103A50104A50105A50106A50107A50108A50109A5010AA5010BA5\
+        settle";
+
+/// Behind the first message.
+const TOO_LONG: &str =
+    "0 H sent S1F11 W 00000000 0115A50101A50102A50103A50104A50105A50106A50107A50108A50109A5010AA5010BA5\
         010CA5010DA5010EA5010FA50110A50111A50112A50113A50114A50115\n\
         0 H tx 05\n\
         0 E tx 04\n\
@@ -257,19 +222,21 @@ static TOO_LONG: Case = (
         0 H toolong 8000010C800200000000\n\
         0 H t3 S1F11 W 00000000\n\
         0 H tx 06\n\
-        0 end\n",
-);
+        0 end\n";
 
 #[test]
-fn a_reply_is_too_long_for_the_host(rt: HostRuntime) {
+fn a_reply_is_too_long_for_the_host(rt: HostRuntime) -> Result<(), Fail> {
     let equipment = line(0, 10_000, 3);
     let mut host = equipment;
     host.max_body = 244;
-    assert!(rt; goes(rt.alloc(), equipment, host, 10_000, &TOO_LONG));
+    let trace = behind_first(rt.alloc(), TOO_LONG)?;
+    let case = (ASKS_FOR_MANY, RunEnd::Whole, BOTH_IDLE, trace.as_str());
+    assert!(rt; goes(rt.alloc(), equipment, host, 10_000, &case));
+    Ok(())
 }
 
 /// Nothing has gone out where there is no room.
-static NO_ROOM: Case = (b"settle", RunEnd::WriteFailed, None, b"");
+static NO_ROOM: Case<'static> = (b"settle", RunEnd::WriteFailed, None, "");
 
 #[test]
 fn a_sink_without_room_ends_the_run(rt: HostRuntime) {
