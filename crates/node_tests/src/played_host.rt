@@ -59,6 +59,11 @@ pub(crate) enum Text {
     Front(&'static [u8]),
 }
 
+pub(crate) const NOTHING: Text = Text::Whole(b"");
+
+/// What S2F23 of TRID 1 notes that is the host's first message.
+pub(crate) const TAKEN: Text = Text::Front(b"rx S2F23 W 00000001 0105A501014106303030303031A501");
+
 /// A step, or a message, at a moment.
 pub(crate) struct Case {
     pub(crate) now: u64,
@@ -87,6 +92,31 @@ pub(crate) static GOES_ONLINE: [Case; 1] = [Case {
     text: Text::Front(b"rx S1F17 W 00000000 -\n"),
 }];
 
+// Report 10 is linked to event 1.
+const IS_LINKED: Case = Case {
+    now: 0,
+    given: Given::Sent(
+        2,
+        35,
+        true,
+        2,
+        &[
+            0x01, 0x02, 0xA5, 0x01, 0x02, 0x01, 0x01, 0x01, 0x02, 0xA5, 0x01, 0x01, 0x01, 0x01,
+            0xA5, 0x01, 0x0A,
+        ],
+    ),
+    text: Text::Whole(
+        b"rx S2F35 W 00000002 0102A5010201010102A501010101A5010A\nsent S2F36 00000002 210100\n",
+    ),
+};
+
+// Event 1 is enabled.
+const IS_ENABLED: Case = Case {
+    now: 0,
+    given: Given::Sent(2, 37, true, 3, &[0x01, 0x02, 0x25, 0x01, 0x01, 0x01, 0x00]),
+    text: Text::Whole(b"rx S2F37 W 00000003 01022501010100\nsent S2F38 00000003 210100\n"),
+};
+
 // Event 1 reports variable 1.
 pub(crate) static REPORTS_ONE: [Case; 3] = [
     Case {
@@ -96,27 +126,8 @@ pub(crate) static REPORTS_ONE: [Case; 3] = [
             b"rx S2F33 W 00000001 0102A5010101010102A5010A0101A50101\nsent S2F34 00000001 210100\n",
         ),
     },
-    Case {
-        now: 0,
-        given: Given::Sent(
-            2,
-            35,
-            true,
-            2,
-            &[
-                0x01, 0x02, 0xA5, 0x01, 0x02, 0x01, 0x01, 0x01, 0x02, 0xA5, 0x01, 0x01, 0x01, 0x01,
-                0xA5, 0x01, 0x0A,
-            ],
-        ),
-        text: Text::Whole(
-            b"rx S2F35 W 00000002 0102A5010201010102A501010101A5010A\nsent S2F36 00000002 210100\n",
-        ),
-    },
-    Case {
-        now: 0,
-        given: Given::Sent(2, 37, true, 3, &[0x01, 0x02, 0x25, 0x01, 0x01, 0x01, 0x00]),
-        text: Text::Whole(b"rx S2F37 W 00000003 01022501010100\nsent S2F38 00000003 210100\n"),
-    },
+    IS_LINKED,
+    IS_ENABLED,
 ];
 
 // Event 1 reports variable 1 sixty times.
@@ -126,27 +137,8 @@ pub(crate) static REPORTS_MANY: [Case; 3] = [
         given: Given::Define(60),
         text: Text::Front(b"rx S2F33 W 00000001 0102A5010101010102A5010A013CA50101A50101"),
     },
-    Case {
-        now: 0,
-        given: Given::Sent(
-            2,
-            35,
-            true,
-            2,
-            &[
-                0x01, 0x02, 0xA5, 0x01, 0x02, 0x01, 0x01, 0x01, 0x02, 0xA5, 0x01, 0x01, 0x01, 0x01,
-                0xA5, 0x01, 0x0A,
-            ],
-        ),
-        text: Text::Whole(
-            b"rx S2F35 W 00000002 0102A5010201010102A501010101A5010A\nsent S2F36 00000002 210100\n",
-        ),
-    },
-    Case {
-        now: 0,
-        given: Given::Sent(2, 37, true, 3, &[0x01, 0x02, 0x25, 0x01, 0x01, 0x01, 0x00]),
-        text: Text::Whole(b"rx S2F37 W 00000003 01022501010100\nsent S2F38 00000003 210100\n"),
-    },
+    IS_LINKED,
+    IS_ENABLED,
 ];
 
 // It asks for a grant first where the report is of several blocks.
@@ -350,12 +342,9 @@ fn setting(alloc: Global, value: u32) -> Option<ToolCommand> {
     }
 }
 
-// S2F33: report 10 is so many times variable 1.
-fn definition(alloc: Global, count: u8) -> Option<Row<u8>> {
-    let front = [
-        0x01, 0x02, 0xA5, 0x01, 0x01, 0x01, 0x01, 0x01, 0x02, 0xA5, 0x01, 0x0A, 0x01, count,
-    ];
-    let Ok(mut body) = Row::of(alloc, &front) else {
+// A body that ends with so many times variable 1.
+fn naming(alloc: Global, front: &[u8], count: u8) -> Option<Row<u8>> {
+    let Ok(mut body) = Row::of(alloc, front) else {
         return None;
     };
     for _ in 0..count {
@@ -364,6 +353,14 @@ fn definition(alloc: Global, count: u8) -> Option<Row<u8>> {
         }
     }
     Some(body)
+}
+
+// S2F33: report 10 is so many times variable 1.
+fn definition(alloc: Global, count: u8) -> Option<Row<u8>> {
+    let front = [
+        0x01, 0x02, 0xA5, 0x01, 0x01, 0x01, 0x01, 0x01, 0x02, 0xA5, 0x01, 0x0A, 0x01, count,
+    ];
+    naming(alloc, &front, count)
 }
 
 fn defines(
@@ -394,15 +391,7 @@ fn tracing(alloc: Global, asked: [u8; 4]) -> Option<Row<u8>> {
         0x01, 0x05, 0xA5, 0x01, trid, 0x41, 0x06, 0x30, 0x30, 0x30, 0x30, 0x30, 0x31, 0xA5, 0x01,
         total, 0xA5, 0x01, group, 0x01, count,
     ];
-    let Ok(mut body) = Row::of(alloc, &front) else {
-        return None;
-    };
-    for _ in 0..count {
-        if body.extend(&[0xA5, 0x01, 0x01]).is_err() {
-            return None;
-        }
-    }
-    Some(body)
+    naming(alloc, &front, count)
 }
 
 fn traces(

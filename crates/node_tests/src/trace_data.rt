@@ -1,22 +1,26 @@
 //! What becomes of an S6F1: it is dropped, too long, granted or denied, or beside many open messages; and what its
 //! trace has no part in any more.
 
-use crate::played_host::{Case, ESTABLISHES, GOES_ONLINE, Given, REPORTS_ONE, Text, runs};
+use crate::played_host::{
+    Case, ESTABLISHES, GOES_ONLINE, Given, NOTHING, REPORTS_ONE, TAKEN, Text, runs,
+};
 use std::test::Fail;
 
-const NOTHING: Text = Text::Whole(b"");
+const IS_OFFLINE: Text = Text::Front(b"rx S1F15 W 00000014 -\ncontrol HOST-OFF-LINE\n");
+
+const DROPPED: Text = Text::Whole(b"dropped S6F1 W\n");
 
 // Off-line no trace is set, and those that run bring S6F1 that are dropped; disabled too.
 static IS_DROPPED: [Case; 6] = [
     Case {
         now: 0,
         given: Given::Trace(1, [1, 9, 1, 1]),
-        text: Text::Front(b"rx S2F23 W 00000001 0105A50101"),
+        text: TAKEN,
     },
     Case {
         now: 0,
         given: Given::Sent(1, 15, true, 20, &[]),
-        text: Text::Front(b"rx S1F15 W 00000014 -\ncontrol HOST-OFF-LINE\n"),
+        text: IS_OFFLINE,
     },
     Case {
         now: 0,
@@ -26,7 +30,7 @@ static IS_DROPPED: [Case; 6] = [
     Case {
         now: 1_000,
         given: Given::Time,
-        text: Text::Whole(b"dropped S6F1 W\n"),
+        text: DROPPED,
     },
     Case {
         now: 1_000,
@@ -36,7 +40,7 @@ static IS_DROPPED: [Case; 6] = [
     Case {
         now: 2_000,
         given: Given::Time,
-        text: Text::Whole(b"dropped S6F1 W\n"),
+        text: DROPPED,
     },
 ];
 
@@ -45,7 +49,7 @@ static IS_TOO_LONG: [Case; 4] = [
     Case {
         now: 0,
         given: Given::Trace(1, [1, 2, 1, 64]),
-        text: Text::Front(b"rx S2F23 W 00000001 0105A50101"),
+        text: TAKEN,
     },
     Case {
         now: 1_000,
@@ -55,12 +59,12 @@ static IS_TOO_LONG: [Case; 4] = [
     Case {
         now: 1_000,
         given: Given::Sent(1, 15, true, 20, &[]),
-        text: Text::Front(b"rx S1F15 W 00000014 -\ncontrol HOST-OFF-LINE\n"),
+        text: IS_OFFLINE,
     },
     Case {
         now: 2_000,
         given: Given::Time,
-        text: Text::Whole(b"dropped S6F1 W\n"),
+        text: DROPPED,
     },
 ];
 
@@ -69,7 +73,7 @@ static IS_NOT_STORED: [Case; 8] = [
     Case {
         now: 0,
         given: Given::Trace(1, [1, 9, 1, 0]),
-        text: Text::Front(b"rx S2F23 W 00000001 0105A50101"),
+        text: TAKEN,
     },
     Case {
         now: 0,
@@ -94,7 +98,7 @@ static IS_NOT_STORED: [Case; 8] = [
     Case {
         now: 1_000,
         given: Given::Time,
-        text: Text::Whole(b"dropped S6F1 W\n"),
+        text: DROPPED,
     },
     Case {
         now: 1_000,
@@ -113,7 +117,7 @@ static TIMES_OUT: [Case; 5] = [
     Case {
         now: 0,
         given: Given::Trace(1, [1, 1, 1, 0]),
-        text: Text::Front(b"rx S2F23 W 00000001 0105A50101"),
+        text: TAKEN,
     },
     Case {
         now: 1_000,
@@ -139,6 +143,20 @@ static TIMES_OUT: [Case; 5] = [
     },
 ];
 
+// 64 messages are open.
+const FILLS: Case = Case {
+    now: 0,
+    given: Given::Events(64),
+    text: Text::Front(b"event 1 0\nsent S6F11 W 00000001 "),
+};
+
+// One of these ends.
+const ENDS_ONE: Case = Case {
+    now: 1_000,
+    given: Given::Sent(6, 12, false, 1, &[0x21, 0x01, 0x00]),
+    text: Text::Whole(b"rx S6F12 00000001 210100\n"),
+};
+
 // Beside 64 open messages one is lost, and draws no number: the next one has that.
 static IS_LOST: [Case; 5] = [
     Case {
@@ -146,21 +164,13 @@ static IS_LOST: [Case; 5] = [
         given: Given::Trace(4, [1, 2, 1, 1]),
         text: Text::Front(b"rx S2F23 W 00000004 0105A50101"),
     },
-    Case {
-        now: 0,
-        given: Given::Events(64),
-        text: Text::Front(b"event 1 0\nsent S6F11 W 00000001 "),
-    },
+    FILLS,
     Case {
         now: 1_000,
         given: Given::Time,
         text: Text::Whole(b"full S6F1 W\n"),
     },
-    Case {
-        now: 1_000,
-        given: Given::Sent(6, 12, false, 1, &[0x21, 0x01, 0x00]),
-        text: Text::Whole(b"rx S6F12 00000001 210100\n"),
-    },
+    ENDS_ONE,
     Case {
         now: 2_000,
         given: Given::Time,
@@ -177,21 +187,13 @@ static IS_LOST_WITH_S6F5: [Case; 6] = [
         given: Given::Trace(4, [7, 2, 1, 42]),
         text: Text::Front(b"rx S2F23 W 00000004 0105A50107"),
     },
-    Case {
-        now: 0,
-        given: Given::Events(64),
-        text: Text::Front(b"event 1 0\nsent S6F11 W 00000001 "),
-    },
+    FILLS,
     Case {
         now: 1_000,
         given: Given::Time,
         text: Text::Whole(b"full S6F5 W\n"),
     },
-    Case {
-        now: 1_000,
-        given: Given::Sent(6, 12, false, 1, &[0x21, 0x01, 0x00]),
-        text: Text::Whole(b"rx S6F12 00000001 210100\n"),
-    },
+    ENDS_ONE,
     Case {
         now: 2_000,
         given: Given::Time,
@@ -231,14 +233,16 @@ static INQUIRES: [Case; 4] = [
     },
 ];
 
-static IS_GRANTED: [Case; 1] = [Case {
+const IS_GRANTED: Case = Case {
     now: 2_000,
     given: Given::Sent(6, 6, false, 1, &[0x21, 0x01, 0x00]),
     text: Text::Front(
         b"rx S6F6 00000001 210100\n\
           sent S6F1 W 00000002 0104B10400000007B104000000024100012AB10400000003",
     ),
-}];
+};
+
+static GRANTED: [Case; 1] = [IS_GRANTED];
 
 static IS_DENIED: [Case; 1] = [Case {
     now: 2_000,
@@ -288,6 +292,12 @@ static ENDS_WITH_ALL: [Case; 1] = [Case {
     text: Text::Whole(b"failed S6F5 W 00000001\ndropped S6F1 W\ncomms DISABLED\n"),
 }];
 
+const IS_NINE: Case = Case {
+    now: 2_000,
+    given: Given::Set(9),
+    text: Text::Whole(b"set 1\n"),
+};
+
 // Its trace ends while one waits: that goes as it was made, and is the last.
 static TRACE_ENDS: [Case; 4] = [
     Case {
@@ -298,19 +308,8 @@ static TRACE_ENDS: [Case; 4] = [
               sent S2F24 00000002 210100\n",
         ),
     },
-    Case {
-        now: 2_000,
-        given: Given::Set(9),
-        text: Text::Whole(b"set 1\n"),
-    },
-    Case {
-        now: 2_000,
-        given: Given::Sent(6, 6, false, 1, &[0x21, 0x01, 0x00]),
-        text: Text::Front(
-            b"rx S6F6 00000001 210100\n\
-              sent S6F1 W 00000002 0104B10400000007B104000000024100012AB10400000003",
-        ),
-    },
+    IS_NINE,
+    IS_GRANTED,
     Case {
         now: 9_000,
         given: Given::Time,
@@ -328,11 +327,7 @@ static TRACE_IS_SET_ANEW: [Case; 4] = [
               sent S2F24 00000002 210100\n",
         ),
     },
-    Case {
-        now: 2_000,
-        given: Given::Set(9),
-        text: Text::Whole(b"set 1\n"),
-    },
+    IS_NINE,
     Case {
         now: 3_000,
         given: Given::Time,
@@ -401,7 +396,7 @@ fn a_long_one_goes_by_grant(rt: HostRuntime) -> Result<(), Fail> {
     assert!(rt;
         runs(
             rt.alloc(),
-            &[&ESTABLISHES, &GOES_ONLINE, &INQUIRES, &IS_GRANTED]
+            &[&ESTABLISHES, &GOES_ONLINE, &INQUIRES, &GRANTED]
         )
     );
     Ok(())

@@ -1,12 +1,7 @@
 //! Traces: how S2F23 is answered, when samples are taken, and which S6F1 they bring.
 
-use crate::played_host::{Case, ESTABLISHES, GOES_ONLINE, Given, Text, runs};
+use crate::played_host::{Case, ESTABLISHES, GOES_ONLINE, Given, NOTHING, TAKEN, Text, runs};
 use std::test::Fail;
-
-// What a request notes that is taken.
-const TAKEN: Text = Text::Front(b"rx S2F23 W 00000001 0105A501014106303030303031A501");
-
-const NOTHING: Text = Text::Whole(b"");
 
 static IS_SEVEN: [Case; 1] = [Case {
     now: 0,
