@@ -3,3 +3,4 @@ pub mod Groups
 pub mod History
 pub mod Passes
 pub mod Reading
+pub mod Settling

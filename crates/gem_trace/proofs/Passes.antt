@@ -1,7 +1,8 @@
 -- The two passes of a step, over one trace and over all.
-use Rattle.std.proofs.Common.{◌≡◌, refl, sym, ◌∙◌, ap, arith, Bool, true, false, cond, ℕ, zero, suc, ◌+◌, ◌≤◌, ◌==◌, List, [], ◌∷◌, ◌++◌, count_by, drop, filter, length, map, nat_le, nat_lt, take, Option, Some, None}
+use Rattle.std.proofs.Common.{◌≡◌, refl, sym, ◌∙◌, ap, arith, Bool, true, false, cond, ◌&&◌, ℕ, zero, suc, ◌+◌, ◌≤◌, ◌==◌, List, [], ◌∷◌, ◌++◌, count_by, drop, filter, is_some, length, map, nat_le, nat_lt, take, Option, Some, None}
 use Rattle.std.specs.Prelude.{All}
 use Rattle.std.specs.List.{cons_option}
+use Rattle.std.specs.Option.{option_map}
 use Rattle.std.proofs.lemmas.Bool.{eqb-true, le-ltb, lt-ltb, ltb-true}
 use Rattle.std.proofs.lemmas.Bool.Decides.{nat_tests}
 use Rattle.std.proofs.lemmas.List.{length-append, length-map, length-take-le, take-append-le, take_all}
@@ -10,8 +11,8 @@ use Rattle.std.proofs.lemmas.List.Sums.{length-filter}
 use Rattle.secs_items.specs.declared.item.Item.{Item}
 use Rattle.gem_vars.specs.Tables.{VarsTable}
 use Rattle.gem_trace.specs.declared.trace.Trace.{Trace}
-use Rattle.gem_trace.specs.Kept.{IsKept, ends_next, goes_on, held_next, is_other, seen, settled, with_reading, with_taken}
-use Rattle.gem_trace.specs.Traces.{Running, after_samples, after_step, others, readings, with_sample}
+use Rattle.gem_trace.specs.Kept.{IsKept, bodies_read, body_front, body_read, brings_body, ends_next, goes_on, is_other, seen, settled, with_front, with_reading, with_taken}
+use Rattle.gem_trace.specs.Traces.{Running, after_samples, after_step, bodies_due, body_due, body_item, others, readings, with_sample}
 
 -- it goes on or has come to its last
 at_last :
@@ -34,8 +35,12 @@ shown t = cond (goes_on t) (Some (seen t)) None
 abbrev all_values : VarsTable → Trace → List Item
 all_values vars trace = take trace.held trace.values ++ readings vars trace.svids
 
-abbrev read_trace : VarsTable → Trace → Trace
-read_trace vars trace = record trace { values = take trace.held trace.values ++ readings vars trace.svids }
+abbrev front_by : Bool → Trace → Option (List Item)
+front_by ends trace = cond ends (Some (body_front trace.trid (trace.taken + 1))) None
+
+-- the trace with its sample, by whether an S6F1 is due with it
+abbrev read_trace : VarsTable → Trace → Bool → Trace
+read_trace vars trace ends = record trace { values = all_values vars trace; front = front_by ends trace }
 
 module _ (vars : VarsTable) (now : ℕ) (trace : Trace) (kept : IsKept trace) where
   held_long : length (take trace.held trace.values) ≡ trace.held
@@ -49,20 +54,18 @@ module _ (vars : VarsTable) (now : ℕ) (trace : Trace) (kept : IsKept trace) wh
 
   -- the first pass isn't seen
   pub reading_unseen : seen (with_reading vars now trace) ≡ seen trace
-  reading_unseen = go (nat_le trace.due now) (ends_next trace)
+  reading_unseen = go (nat_le trace.due now)
     where
-      go : (due ends : Bool) → seen (cond due (cond ends trace (read_trace vars trace)) trace) ≡ seen trace
-      go false ends = refl
-      go true true = refl
-      go true false = ap (λ (vs : List Item). record (seen trace) { values = vs }) held_front
+      go : (due : Bool) → seen (cond due (read_trace vars trace (ends_next trace)) trace) ≡ seen trace
+      go false = refl
+      go true = ap (λ (vs : List Item). record (seen trace) { values = vs }) held_front
 
   pub reading_kept : IsKept (with_reading vars now trace)
-  reading_kept = go (nat_le trace.due now) (ends_next trace)
+  reading_kept = go (nat_le trace.due now)
     where
-      go : (due ends : Bool) → IsKept (cond due (cond ends trace (read_trace vars trace)) trace)
-      go false ends = kept
-      go true true = kept
-      go true false = record {
+      go : (due : Bool) → IsKept (cond due (read_trace vars trace (ends_next trace)) trace)
+      go false = kept
+      go true = record {
         runs = kept.runs;
         group = kept.group;
         short = kept.short;
@@ -88,41 +91,37 @@ module _ (vars : VarsTable) (now : ℕ) (trace : Trace) (kept : IsKept trace) wh
       (Some (seen trace))) due
       ∙ ap (λ (b : Bool). cond (trace.taken + 1 == trace.total) None (Some (sampled (left_of b)))) is
 
-  -- a trace with these values, of which so many are held once it is taken
-  abbrev taking : List Item → ℕ → Trace
-  taking values held = record trace {
+  -- a trace with these values, once it is taken
+  abbrev taking : List Item → Trace
+  taking values = record trace {
     due = now + trace.period;
     taken = trace.taken + 1;
-    values = take held values;
-    held = held;
+    values = values;
+    held = length values;
+    front = None;
   }
 
   shown-is :
-      (values left : List Item) (held : ℕ) → take held (take held values) ≡ left
-      → shown (taking values held) ≡ cond (trace.taken + 1 == trace.total) None (Some (sampled left))
-  shown-is values left held is =
+      (values : List Item)
+      → shown (taking values) ≡ cond (trace.taken + 1 == trace.total) None (Some (sampled values))
+  shown-is values =
       let runs = kept.runs in
-      at_last (trace.taken + 1) trace.total (seen (taking values held)) (omega arith)
-      ∙ ap (λ (vs : List Item). cond (trace.taken + 1 == trace.total) None (Some (sampled vs))) is
+      at_last (trace.taken + 1) trace.total (seen (taking values)) (omega arith)
+      ∙ ap (λ (vs : List Item). cond (trace.taken + 1 == trace.total) None (Some (sampled vs)))
+      (take_all (length values) values (omega arith))
 
   -- both passes are a step of what is seen
   pub passes_one : shown (settled now (with_reading vars now trace)) ≡ after_step vars now (seen trace)
   passes_one = go (nat_le trace.due now) (ends_next trace) refl refl
     where
-      reading : Bool → Bool → Trace
-      reading due ends = cond due (cond ends trace (read_trace vars trace)) trace
-
       settles : Trace → Bool → Trace
       settles t due = cond due (with_taken now t) t
 
-      all : List Item
-      all = all_values vars trace
-
-      whole : take (length all) (take (length all) all) ≡ all
-      whole = ap (take (length all)) (take_all (length all) all (omega arith)) ∙ take_all (length all) all (omega arith)
+      left_by : Bool → List Item
+      left_by ends = cond (is_some (front_by ends trace)) [] (all_values vars trace)
 
       go : (due ends : Bool) → nat_le trace.due now ≡ due → ends_next trace ≡ ends
-          → shown (settled now (reading due ends)) ≡ after_step vars now (seen trace)
+          → shown (settled now (cond due (read_trace vars trace ends) trace)) ≡ after_step vars now (seen trace)
       go false ends due is =
           ap (λ (b : Bool). shown (settles trace b)) due
           ∙ ap (λ (b : Bool). cond b (Some (seen trace)) None) (lt-ltb trace.taken trace.total kept.runs)
@@ -130,31 +129,39 @@ module _ (vars : VarsTable) (now : ℕ) (trace : Trace) (kept : IsKept trace) wh
           (cond (trace.taken + 1 == trace.total) None (Some (with_sample vars now (seen trace))))
           (Some (seen trace))) due)
       go true true due is =
-          ap (λ (b : Bool). shown (settles trace b)) due
-          ∙ ap (λ (b : Bool). shown (taking trace.values (cond b 0 (length trace.values)))) is
-          ∙ shown-is trace.values [] 0 refl
+          ap (λ (b : Bool). shown (settles (read_trace vars trace true) b)) due
+          ∙ shown-is (left_by true)
           ∙ sym (after-is true due is)
       go true false due is =
-          ap (λ (b : Bool). shown (settles (read_trace vars trace) b)) due
-          ∙ ap (λ (b : Bool). shown (taking all (cond b 0 (length all)))) is
-          ∙ shown-is all all (length all) whole
+          ap (λ (b : Bool). shown (settles (read_trace vars trace false) b)) due
+          ∙ shown-is (left_by false)
           ∙ sym (after-is false due is)
+
+-- what the second pass brings is the S6F1 that is due
+body_is_due :
+    (vars : VarsTable) (now : ℕ) (trace : Trace)
+    → body_read now (with_reading vars now trace) ≡ body_due vars now (seen trace)
+body_is_due vars now trace = go (nat_le trace.due now) (ends_next trace) refl
+  where
+    body : Item
+    body = body_item trace.trid (trace.taken + 1) (all_values vars trace)
+
+    go : (due ends : Bool) → nat_le trace.due now ≡ due
+        → body_read now (cond due (read_trace vars trace ends) trace) ≡ cond (due && ends) (Some body) None
+    go false ends due =
+        ap (λ (b : Bool). cond b (option_map (with_front trace.values) trace.front) None) due
+    go true true due = ap (λ (b : Bool). cond b (Some body) None) due
+    go true false due = ap (λ (b : Bool). cond {A = Option Item} b None None) due
 
 settled_kept : (now : ℕ) (trace : Trace) → IsKept trace → goes_on (settled now trace) ≡ true → IsKept (settled now trace)
 settled_kept now trace kept = go (nat_le trace.due now)
   where
-    within : (b : Bool) → cond b 0 (length trace.values) ≤ length trace.values
-    within true = omega arith
-    within false = omega arith
-
     go : (b : Bool) → goes_on (cond b (with_taken now trace) trace) ≡ true → IsKept (cond b (with_taken now trace) trace)
     go true is = record {
       runs = ltb-true (trace.taken + 1) trace.total is;
       group = kept.group;
       short = kept.short;
-      held =
-          let long = length-take-le (held_next trace) trace.values (within (ends_next trace)) in
-          omega arith;
+      held = omega arith;
     }
     go false is = kept
 
@@ -182,6 +189,33 @@ passes_all vars now (trace ∷ traces) kept =
         → map seen (cond b (one ∷ rest) rest) ≡ cons_option (cond b (Some (seen one)) None) (map seen rest)
     go true = refl
     go false = refl
+
+pub bodies_are_due :
+    (vars : VarsTable) (now : ℕ) (traces : List Trace)
+    → bodies_read now (map (with_reading vars now) traces) ≡ bodies_due vars now (map seen traces)
+bodies_are_due vars now [] = refl
+bodies_are_due vars now (trace ∷ traces) =
+    ap (λ (o : Option Item). cons_option o (bodies_read now (map (with_reading vars now) traces)))
+    (body_is_due vars now trace)
+    ∙ ap (cons_option (body_due vars now (seen trace))) (bodies_are_due vars now traces)
+
+pub bodies_counted :
+    (now : ℕ) (traces : List Trace) → count_by (brings_body now) traces ≡ length (bodies_read now traces)
+bodies_counted now traces = sym (length-filter (brings_body now) traces) ∙ as-many traces
+  where
+    as-many : (ts : List Trace) → length (filter (brings_body now) ts) ≡ length (bodies_read now ts)
+    as-many [] = refl
+    as-many (trace ∷ ts) = go (nat_le trace.due now) trace.front (as-many ts)
+      where
+        bring : List Trace
+        bring = filter (brings_body now) ts
+
+        go : (due : Bool) (front : Option (List Item)) → length bring ≡ length (bodies_read now ts)
+            → length (cond (due && is_some front) (trace ∷ bring) bring)
+            ≡ length (cons_option (cond due (option_map (with_front trace.values) front) None) (bodies_read now ts))
+        go false front is = is
+        go true None is = is
+        go true (Some items) is = ap (λ n. suc n) is
 
 pub all_settled_kept :
     (now : ℕ) (traces : List Trace) → All IsKept traces → All IsKept (filter goes_on (map (settled now) traces))

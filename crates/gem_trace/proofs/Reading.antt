@@ -1,16 +1,12 @@
 -- The loop of the first pass.
-use Rattle.std.proofs.Common.{◌≡◌, refl, sym, ◌∙◌, ap, arith, subst, ℕ, ◌+◌, ◌<◌, ◌≤◌, List, [], ◌∷◌, ◌++◌, drop, get_or, length, map, take, Option, Some, None, OnErr, OnOk, Result, Ok, Err}
+use Rattle.std.proofs.Common.{◌≡◌, refl, sym, ◌∙◌, ap, arith, subst, ℕ, ◌+◌, ◌<◌, ◌≤◌, List, ◌++◌, drop, get_or, length, map, take, OnErr, OnOk, Result, Ok, Err}
 use Rattle.std.specs.Prelude.{All, set}
-use Rattle.std.specs.List.{cons_option}
-use Rattle.std.specs.Option.{option_to_list}
-use Rattle.std.proofs.lemmas.List.{append-nil, drop_all, drop_more, get_or_at, length-map, length-take, length-take-le, map-append, map-set, set-get_or, take_all, take_at, take_more}
-use Rattle.std.proofs.lemmas.List.Edits.{map_over_more}
-use Rattle.std.proofs.lemmas.List.Elements.{All-get_or, All-set, filter_map-append}
+use Rattle.std.proofs.lemmas.List.{append-nil, drop_all, drop_more, get_or_at, length-map, length-take, length-take-le, map-set, set-get_or, take_all, take_at}
+use Rattle.std.proofs.lemmas.List.Elements.{All-get_or, All-set}
 use Rattle.secs_items.specs.declared.item.Item.{Item}
 use Rattle.gem_vars.specs.Tables.{VarsTable}
 use Rattle.gem_trace.specs.declared.trace.Trace.{Trace}
 use Rattle.gem_trace.specs.Kept.{IsKept, seen, with_reading}
-use Rattle.gem_trace.specs.Traces.{bodies_due, body_due}
 use Rattle.gem_trace.proofs.Passes.{amid_kept, amid_unseen}
 
 -- an element that a loop has yet to change
@@ -45,67 +41,30 @@ on_err (Err error) holds = holds
 pub front_left : {X : Type 0} (xs ys zs : List X) → zs ≡ xs ++ ys → take (length xs) zs ≡ xs
 front_left xs ys zs is = ap (take (length xs)) is ∙ take_at xs ys (length xs) refl
 
-as_list : {A : Type 0} (o : Option A) → cons_option o [] ≡ option_to_list o
-as_list None = refl
-as_list (Some x) = refl
+-- ---- the first pass, of which nothing is seen
 
--- the traces up to a place are read, with the bodies of theirs that are due
-pub record AreRead (vars : VarsTable) (now : ℕ) (traces : List Trace) (i : ℕ) (running : List Trace) (bodies : List Item)
-    : Type 0 where
-  pub read : running ≡ map (with_reading vars now) (take i traces) ++ drop i traces
-  pub due : bodies ≡ bodies_due vars now (map seen (take i traces))
+module _ (vars : VarsTable) (now : ℕ) (traces : List Trace) (kept : All IsKept traces) (i : ℕ) (running : List Trace)
+    (are : running ≡ map (with_reading vars now) (take i traces) ++ drop i traces) where
+  pub read_unseen : map seen running ≡ map seen traces
+  read_unseen = ap (map seen) are ∙ amid_unseen vars now i traces kept
 
-module _ (vars : VarsTable) (now : ℕ) (traces : List Trace) where
-  pub none_read : (bodies : List Item) → bodies ≡ [] → AreRead vars now traces 0 traces bodies
-  none_read bodies is = record { read = refl; due = is }
+  pub read_kept : All IsKept running
+  read_kept = subst (All IsKept) (sym are) (amid_kept vars now i traces kept)
 
-  pub one_read :
-      (i : ℕ) (running : List Trace) (bodies more : List Item) (trace : Trace) → i < length traces
-      → AreRead vars now traces i running bodies → trace ≡ get_or running i trace
-      → more ≡ bodies ++ option_to_list (body_due vars now (seen trace))
-      → AreRead vars now traces (i + 1) (set running i (with_reading vars now trace)) more
-  one_read i running bodies more trace less are at is = record {
-    read = map_over_more (with_reading vars now) traces running i trace less are.read at;
-    due =
-        let same = left_at (with_reading vars now) traces running i trace less are.read at in
-        is ∙ ap (λ (bs : List Item). bs ++ option_to_list (body_due vars now (seen trace))) are.due
-        ∙ sym
-        (ap (λ (ts : List Trace). bodies_due vars now (map seen ts)) (take_more traces i trace less)
-        ∙ ap (λ (t : Trace). bodies_due vars now (map seen (take i traces ++ t ∷ []))) (sym same)
-        ∙ ap (bodies_due vars now) (map-append seen (take i traces) (trace ∷ []))
-        ∙ filter_map-append (body_due vars now) (map seen (take i traces)) (seen trace ∷ [])
-        ∙ ap (λ (bs : List Item). bodies_due vars now (map seen (take i traces)) ++ bs)
-        (as_list (body_due vars now (seen trace))));
-  }
-
-  pub all_read :
-      (i : ℕ) (running : List Trace) (bodies : List Item) → length traces ≤ i → AreRead vars now traces i running bodies
-      → (running ≡ map (with_reading vars now) traces) × (bodies ≡ bodies_due vars now (map seen traces))
-  all_read i running bodies all are = (
-    map_over_all (with_reading vars now) traces running i all are.read,
-    are.due ∙ ap (λ (ts : List Trace). bodies_due vars now (map seen ts)) (take_all i traces all),
-  )
-
-  -- one fails, of which nothing is seen
+  -- one fails
   pub one_failed :
-      (i : ℕ) (running : List Trace) (bodies : List Item) (trace left : Trace) → All IsKept traces
-      → AreRead vars now traces i running bodies → trace ≡ get_or running i trace → seen left ≡ seen trace
+      (trace left : Trace) → trace ≡ get_or running i trace → seen left ≡ seen trace
       → map seen (set running i left) ≡ map seen traces
-  one_failed i running bodies trace left kept are at same =
+  one_failed trace left at same =
       map-set seen running i left
       ∙ ap (set (map seen running) i) same
       ∙ sym (map-set seen running i trace)
       ∙ ap (λ (t : Trace). map seen (set running i t)) at
       ∙ ap (map seen) (set-get_or running i trace)
-      ∙ ap (map seen) are.read
-      ∙ amid_unseen vars now i traces kept
+      ∙ read_unseen
 
-  pub failed_kept :
-      (i : ℕ) (running : List Trace) (bodies : List Item) (left : Trace) → All IsKept traces
-      → AreRead vars now traces i running bodies → IsKept left → All IsKept (set running i left)
-  failed_kept i running bodies left kept are is =
-      All-set IsKept running i left is
-      (subst (All IsKept) (sym are.read) (amid_kept vars now i traces kept))
+  pub failed_kept : (left : Trace) → IsKept left → All IsKept (set running i left)
+  failed_kept left is = All-set IsKept running i left is read_kept
 
 -- ---- one trace, where its readings were put or memory ran out on the way
 

@@ -2,6 +2,7 @@
 //! collection; SEMI E5, stream 2 and stream 6).
 #![tactic(auto)]
 
+mod body;
 mod laws;
 mod period;
 mod request;

@@ -1,17 +1,19 @@
 //! One trace that runs: when its next sample is due, and what it brings. A step reads all samples that are due first,
-//! which may want memory, and takes them then; so it takes all of them or none.
+//! which may want memory, and takes them then, which wants none; so it takes all of them or none.
 
-ghost use Rattle.std.specs.Prelude.{◌≡◌, [], ◌∷◌, ◌+◌, ◌++◌, ◌<◌, ◌≤◌, ◌^◌, length, take, IfOk, OnErr, OnOk};
+ghost use Rattle.std.specs.Prelude.{◌≡◌, [], ◌∷◌, ◌+◌, ◌++◌, ◌<◌, ◌≤◌, ◌^◌, length, take, vec_capacity, IfOk, OnErr, OnOk};
 ghost use Rattle.std.specs.Option.{option_to_list};
 ghost use Rattle.gem_vars.specs.Listing.{value_item};
-ghost use Rattle.gem_trace.specs.Kept.{IsKept, ends_next, goes_on, held_next, is_other, seen, settled, with_reading};
-ghost use Rattle.gem_trace.specs.Traces.{body_due, body_item, first_trace, is_due, readings, values_with};
+ghost use Rattle.gem_trace.specs.Kept.{IsKept, body_read, brings_body, ends_next, front_due, goes_on, is_other, seen, settled, with_reading};
+ghost use Rattle.gem_trace.specs.Traces.{first_trace, is_due, readings};
 
+use crate::body::BodyFront;
 use crate::request::TraceRequest;
 use gem_vars::Vars;
 use gl_base::{NoMemory, Row};
 use secs_items::Item;
 use std::alloc::Global;
+use std::mem;
 
 /// A trace that runs, with what the host asked for.
 #[derive(Debug, Drop)]
@@ -30,6 +32,8 @@ pub(crate) struct Trace {
     pub(crate) values: Row<Item>,
     /// How many of the values are of samples taken.
     pub(crate) held: usize,
+    /// Where S6F1 is due with a sample that was read and isn't taken yet, what stands before the values in its body.
+    pub(crate) front: Option<BodyFront>,
 }
 
 impl Trace {
@@ -57,6 +61,7 @@ impl Trace {
             taken: 0,
             values: Row::new(alloc),
             held: 0,
+            front: None,
         })
     }
 
@@ -67,43 +72,50 @@ impl Trace {
         self.trid != trid
     }
 
-    /// Reads the sample where one is due at this moment. Where S6F1 is due with it, that is put behind the bodies, else
-    /// the sample's values stand behind those held. Nothing is seen of either.
-    pub(crate) fn read(
-        &mut self,
-        alloc: Global,
-        vars: &Vars,
-        now: u64,
-        bodies: &mut Row<Item>,
-    ) -> Result<(), NoMemory>
+    /// Reads the sample where one is due at this moment: its values stand behind those held, and where S6F1 is due with
+    /// it, its body is begun. Nothing is seen of either.
+    pub(crate) fn read(&mut self, alloc: Global, vars: &Vars, now: u64) -> Result<(), NoMemory>
         requires { IsKept self.old }
         ensures ok { OnOk result (self.new ≡ with_reading vars.now now self.old) }
-        ensures bodies { OnOk result (bodies.new
-            ≡ bodies.old ++ option_to_list (body_due vars.now now (seen self.old))) }
         ensures err { OnErr result (seen self.new ≡ seen self.old) }
         ensures kept { IsKept self.new }
     {
         if !self.is_due(now) {
             return Ok(());
         }
-        if self.ends_next() {
-            return bodies.push(self.body(alloc, vars)?);
-        }
+        let front = self.front_due(alloc)?;
         self.values.truncate(self.held);
-        put_readings(alloc, vars, self.svids.as_slice(), &mut self.values)
+        put_readings(alloc, vars, self.svids.as_slice(), &mut self.values)?;
+        self.front = front;
+        Ok(())
     }
 
-    /// Takes the sample that was read, where one is due at this moment.
-    pub(crate) fn settle(&mut self, now: u64)
+    /// Whether taking the sample that was read brings an S6F1 at this moment.
+    pub(crate) fn brings_body(&self, now: u64) -> bool
+        ensures { result ≡ brings_body now self.now }
+    {
+        self.is_due(now) && self.front.is_some()
+    }
+
+    /// Takes the sample that was read, where one is due at this moment. The values go into the body of the S6F1 that is
+    /// due with it, which is put behind the bodies.
+    pub(crate) fn settle(&mut self, alloc: Global, now: u64, bodies: &mut Vec<Item>)
         requires now { now < 2 ^ 62 }
         requires kept { IsKept self.old }
-        ensures { self.new ≡ settled now self.old }
+        requires room { length (bodies.old.items ++ option_to_list (body_read now self.old))
+            ≤ vec_capacity bodies.old }
+        ensures trace { self.new ≡ settled now self.old }
+        ensures bodies { bodies.new.items ≡ bodies.old.items ++ option_to_list (body_read now self.old) }
+        ensures capacity { vec_capacity bodies.new ≡ vec_capacity bodies.old }
     {
         if !self.is_due(now) {
             return;
         }
-        self.held = self.held_next();
-        self.values.truncate(self.held);
+        if let Some(front) = self.front.take() {
+            let values = mem::replace(&mut self.values, Row::new(alloc));
+            bodies.push_reserved(front.with_values(values));
+        }
+        self.held = self.values.len();
         self.taken += 1;
         self.due = now + self.period;
     }
@@ -122,18 +134,6 @@ impl Trace {
         self.due <= now
     }
 
-    // How many values are held once the next sample is taken: none behind an S6F1, else all.
-    fn held_next(&self) -> usize
-        requires { IsKept self.now }
-        ensures { result ≡ held_next self.now }
-    {
-        if self.ends_next() {
-            0
-        } else {
-            self.values.len()
-        }
-    }
-
     // Whether S6F1 is due with the next sample.
     fn ends_next(&self) -> bool
         requires { IsKept self.now }
@@ -145,33 +145,17 @@ impl Trace {
         number % self.group == 0 || number == total
     }
 
-    // The body of S6F1 with the next sample, which has these variables.
-    fn body(&self, alloc: Global, vars: &Vars) -> Result<Item, NoMemory>
+    // What stands before the values in the body of S6F1, where that is due with the next sample.
+    fn front_due(&self, alloc: Global) -> Result<Option<BodyFront>, NoMemory>
         requires { IsKept self.now }
-        ensures { IfOk result (λ body. body
-            ≡ body_item self.now.trid (self.now.taken + 1) (values_with vars.now (seen self.now))) }
+        ensures { IfOk result (λ front. front ≡ front_due self.now) }
     {
-        let mut values = first_copies(alloc, self.values.as_slice(), self.held)?;
-        put_readings(alloc, vars, self.svids.as_slice(), &mut values)?;
-        let mut items = Row::new(alloc);
-        items.push(Item::number(alloc, self.trid)?)?;
-        items.push(Item::number(alloc, self.taken + 1)?)?;
-        items.push(Item::text(alloc, &[])?)?;
-        items.push(Item::L(values))?;
-        Ok(Item::L(items))
+        if !self.ends_next() {
+            return Ok(None);
+        }
+        let front = BodyFront::of(alloc, self.trid, self.taken + 1)?;
+        Ok(Some(front))
     }
-}
-
-// Copies of so many items from the front.
-fn first_copies(alloc: Global, items: &[Item], count: usize) -> Result<Row<Item>, NoMemory>
-    requires { count ≤ length items.now }
-    ensures { IfOk result (λ row. row ≡ take count items.now) }
-{
-    let mut copies = Row::new(alloc);
-    for item in items.split_at(count).0 {
-        copies.push(item.copy(alloc)?)?;
-    }
-    Ok(copies)
 }
 
 // Puts the values of these variables behind the others, which stay in any case.

@@ -2,7 +2,7 @@
 
 ghost use Rattle.std.specs.Prelude.{◌≡◌, ◌≢◌, ◌^◌, ◌<◌, ◌≤◌, [], ◌∷◌, ◌++◌, All, length, map, vec_capacity, vec_len, IfOk, OnErr, OnOk};
 ghost use Rattle.gem_trace.specs.declared.request.Tiaack.TheVariants as tiaack;
-ghost use Rattle.gem_trace.specs.Kept.{IsKept, seen, settled, with_reading};
+ghost use Rattle.gem_trace.specs.Kept.{IsKept, bodies_read, seen, settled, with_reading};
 ghost use Rattle.gem_trace.specs.Settings.{answer_of, first_unknown, is_bad_group, is_full_for, tiaack_of};
 ghost use Rattle.gem_trace.specs.Traces.{after_samples, after_setting, bodies_due, deadline, first_trace, others};
 
@@ -220,41 +220,51 @@ fn take_samples(
     ensures err { OnErr result (map seen running.new.items ≡ map seen running.old.items) }
     ensures keeps { All IsKept running.new.items }
 {
-    let bodies = read_each(running.as_mut_slice(), alloc, vars, now)?;
-    settle_each(running.as_mut_slice(), now);
+    read_each(running.as_mut_slice(), alloc, vars, now)?;
+    let room = Vec::with_capacity(alloc, count_bodies(running.as_slice(), now))?;
+    let bodies = settle_each(running.as_mut_slice(), alloc, now, room);
     running.retain(|trace| trace.goes_on());
     Ok(bodies)
 }
 
-// Reads the sample of each trace that is due, and gives the bodies of the S6F1 that are due.
-fn read_each(
-    running: &mut [Trace],
-    alloc: Global,
-    vars: &Vars,
-    now: u64,
-) -> Result<Row<Item>, NoMemory>
+// Reads the sample of each trace that is due.
+fn read_each(running: &mut [Trace], alloc: Global, vars: &Vars, now: u64) -> Result<(), NoMemory>
     requires { All IsKept running.old }
     ensures ok { OnOk result (running.new ≡ map (with_reading vars.now now) running.old) }
-    ensures bodies { IfOk result (λ bodies. bodies ≡ bodies_due vars.now now (map seen running.old)) }
-    ensures err { OnErr result (map seen running.new ≡ map seen running.old) }
+    ensures unseen { map seen running.new ≡ map seen running.old }
     ensures keeps { All IsKept running.new }
 {
-    let mut bodies = Row::new(alloc);
     for i in 0..running.len() {
-        running[i].read(alloc, vars, now, &mut bodies)?;
+        running[i].read(alloc, vars, now)?;
     }
-    Ok(bodies)
+    Ok(())
 }
 
-// Takes each sample that was read.
-fn settle_each(running: &mut [Trace], now: u64)
+// How many S6F1 the samples that were read bring.
+#[tactic(auto, using(crate::proofs::Passes::bodies_counted))]
+fn count_bodies(running: &[Trace], now: u64) -> usize
+    ensures { result ≡ length (bodies_read now running.now) }
+{
+    running
+        .iter()
+        .filter(|trace| trace.brings_body(now))
+        .count()
+}
+
+// Takes each sample that was read, and gives the bodies of the S6F1 that are due, for which there is room.
+fn settle_each(running: &mut [Trace], alloc: Global, now: u64, room: Vec<Item>) -> Row<Item>
     requires now { now < 2 ^ 62 }
     requires kept { All IsKept running.old }
-    ensures { running.new ≡ map (settled now) running.old }
+    requires empty { room.items ≡ [] }
+    requires room { length (bodies_read now running.old) ≤ vec_capacity room }
+    ensures traces { running.new ≡ map (settled now) running.old }
+    ensures bodies { result ≡ bodies_read now running.old }
 {
+    let mut bodies = room;
     for i in 0..running.len() {
-        running[i].settle(now);
+        running[i].settle(alloc, now, &mut bodies);
     }
+    Row::from_vec(bodies)
 }
 
 fn is_bad_group(request: &TraceRequest) -> bool
