@@ -32,6 +32,7 @@ use Rattle.tool_step.specs.Own.{ToolCommands, ToolDuty}
 use Rattle.tool_law.specs.Putting.{where_goes}
 use Rattle.tool_law.specs.SpentSteps.{ends_spent}
 use Rattle.message_end.proofs.Parts.{OnEither, either-then}
+use Rattle.tool_law.proofs.CommandWalks.{AllAre, AllDo}
 use Rattle.tool_law.proofs.CoreSteps.{CoreStep}
 
 -- ---- what is drawn
@@ -117,12 +118,10 @@ IsFree Command.Halt = ⊥
 IsFree _ = Unit {0}
 
 abbrev pub AreFree : ToolCommands → Type 0
-AreFree [] = Unit {0}
-AreFree (command ∷ commands) = IsFree command × AreFree commands
+AreFree commands = AllAre IsFree commands
 
 abbrev pub AreFreeDuties : List ToolDuty → Type 0
-AreFreeDuties [] = Unit {0}
-AreFreeDuties (duty ∷ duties) = ((e : EndView Kind) → AreFree (duty e)) × AreFreeDuties duties
+AreFreeDuties duties = AllDo IsFree duties
 
 abbrev numbers_of : CoreStep → NumbersView
 numbers_of step = step.next.numbers
@@ -425,14 +424,6 @@ needs-both one two h k first second is more = record {
 pub free-need : (duties : List ToolDuty) → AreFreeDuties duties → Needs 0 false duties
 free-need [] free = needs-none 0
 free-need (duty ∷ duties) free = needs-behind 0 false duty duties free.0 (free-need duties free.1)
-
-pub free-both : (one two : List ToolDuty) → AreFreeDuties one → AreFreeDuties two → AreFreeDuties (one ++ two)
-free-both [] two first second = second
-free-both (duty ∷ one) two first second = (first.0, free-both one two first.1 second)
-
-pub both-free : (one two : ToolCommands) → AreFree one → AreFree two → AreFree (one ++ two)
-both-free [] two first second = second
-both-free (command ∷ one) two first second = (first.0, both-free one two first.1 second)
 
 -- ---- what draws none goes on
 

@@ -1,7 +1,6 @@
 -- That turns on replies, messages, characters and commands of the tool draw few.
 use Rattle.std.proofs.Common.{refl, arith, ◌+◌, ◌==◌, ◌&&◌, ◌||◌, not, Bool, true, false, ℕ, List, [], ◌∷◌, ◌++◌, length, Option, Some, None, if◌then◌else◌}
 use Rattle.std.specs.Option.{option_map}
-use Rattle.std.specs.Prelude.{flat_map}
 use Rattle.block_codec.specs.declared.header.Header.{Header}
 use Rattle.gem_alarms.specs.Alarms.{step_of}
 use Rattle.gem_alarms.specs.declared.alarms.AlarmStep.{AlarmStep}
@@ -36,8 +35,7 @@ use Rattle.trace_log.specs.Names.{Spooled, message_name}
 use Rattle.transact.specs.declared.transactions.Match.{Match}
 use Rattle.transact.specs.declared.transactions.Match.TheVariants.{Reply as Replied, Abort as Aborted, Stranger}
 use Rattle.transact.specs.Numbers.{next_number}
-use Rattle.transact.specs.declared.begun.Begun.{Begun}
-use Rattle.transact.specs.Transactions.{match_of, primary_of as primary_with_kind, system_of}
+use Rattle.transact.specs.Transactions.{match_of, primary_of as primary_with_kind}
 use Rattle.message_end.specs.declared.end.Took.{Took}
 use Rattle.message_end.specs.declared.end.Took.TheVariants as took
 use Rattle.message_end.specs.Calls.{answered_by, dropped_now, due_now, failed_at, took_at}
@@ -55,7 +53,7 @@ use Rattle.spool_ledger.specs.Unloading.{after_next, confirmed, fresh, next_numb
 use Rattle.tool_step.specs.declared.kind.Kind.{Kind}
 use Rattle.tool_step.specs.declared.kind.Kind.TheVariants as kind
 use Rattle.tool_step.specs.Codes.{is_accepted_in, is_granted_in}
-use Rattle.tool_step.specs.Messages.{answer_turn, control_answer_duties, control_request_turn, dropped_turn, error_turn, established_duties, established_turn, is_establish_request, is_online_request, known_turn, message_turn, offline_turn, own_s1f13_commands, own_s1f13_duty, own_s1f13_of, primary_turn, read_turn, request_turn, stray_turn}
+use Rattle.tool_step.specs.Messages.{answer_turn, control_answer_duties, control_request_turn, dropped_turn, error_turn, established_duties, established_turn, is_establish_request, is_online_request, known_turn, message_turn, offline_turn, own_s1f13_duty, primary_turn, read_turn, request_turn, stray_turn}
 use Rattle.tool_step.specs.Own.{OwnView, ToolDuty, event_report, is_communicating, is_enabled_in, is_local, is_online, quiet_turn, turn_before, turn_of, waiting_report, waiting_data, with_control, with_ledger, with_tables, with_tried, without_grant, without_waiting_data}
 use Rattle.tool_law.specs.Putting.{alarm_puts, block_timer_puts, changed_puts, character_puts, command_puts, dropped_puts, enabled_puts, event_puts, flow_puts, given_up_puts, lacks_number, line_timer_puts, loss_puts, matched_puts, message_puts, puts_none, reply_puts, reply_timer_puts, timeout_puts, took_puts}
 use Rattle.tool_step.specs.Replies.{block_timer, denied_turn, given_up_by_t4, given_up_turn, granted_turn, loss_turn, matched_turn, reply_timer, reply_turn, secondary_turn, timeout_turn}
@@ -65,9 +63,10 @@ use Rattle.tool_step.specs.Spooling.{booked_turn, dataid_in, end_of_spooling, gr
 use Rattle.tool_step.specs.States as states
 use Rattle.tool_step.specs.Step.{beginning, begun, character, flow_turn, is_spent, line_timer, long_turn, offer, took_turn}
 use Rattle.tool_step.specs.Tool.{alarm_line, alarm_report_turn, alarm_turn, attempted_turn, command_turn, enabled_turn, known_event_turn, online_turn, set_turn, told_turn, with_event}
-use Rattle.tool_law.proofs.Drawing.{AreFree, AreFreeDuties, Needs, Spends, free-both, free-need, free-spend, halt-spend, needs-as, needs-behind, needs-both, needs-more, needs-none, needs-one, or-false, primary-spend, draw-spend, both-free}
+use Rattle.tool_law.proofs.CommandWalks.{Does, abort-are, answers-are, are-both, control-noted, own-requests-are}
+use Rattle.tool_law.proofs.Drawing.{AreFree, AreFreeDuties, IsFree, Needs, Spends, free-need, free-spend, halt-spend, needs-as, needs-behind, needs-both, needs-more, needs-none, needs-one, or-false, primary-spend, draw-spend}
 use Rattle.tool_law.proofs.DrawnSamples.{granted-trace-need}
-use Rattle.tool_law.proofs.DrawnTurns.{one-needs, free-one, noted-free, booked-free, control-lines-free, control-free, error-spends, errors-need, comms-need, primary-need, going-need, event-need, abort-free, answers-free, NeedsFor, note-need, judged-need, report-need, left-need, leaving-need, failed-need}
+use Rattle.tool_law.proofs.DrawnTurns.{one-needs, free-one, common-free, noted-free, booked-free, control-free, error-spends, errors-need, comms-need, primary-need, going-need, event-need, NeedsFor, note-need, judged-need, report-need, left-need, leaving-need, failed-need}
 
 -- ---- a transaction ends without a reply
 
@@ -194,32 +193,17 @@ matched-need now Stranger message own e = needs-none 1
 
 -- ---- messages
 
-own-request-free : (asked : Kind) (system : ℕ) → AreFree (own_s1f13_commands asked system)
-own-request-free kind.Establish system = (tt, (tt, tt))
-own-request-free kind.Attempt system = tt
-own-request-free kind.Grant system = tt
-own-request-free kind.Report system = tt
-own-request-free kind.Unload system = tt
-own-request-free kind.UnloadGrant system = tt
-own-request-free kind.Trace system = tt
-own-request-free kind.TraceGrant system = tt
-
-own-requests-free : (begun : List (Begun Kind)) → AreFree (flat_map own_s1f13_of begun)
-own-requests-free [] = tt
-own-requests-free (one ∷ begun) =
-    both-free (own_s1f13_of one) (flat_map own_s1f13_of begun) (own-request-free one.kind (system_of one))
-    (own-requests-free begun)
-
 established-need : (now : ℕ) (message : Message) (own : OwnView)
     → Needs 1 false (established_turn now message own).duties
 established-need now message own =
     let turn = states.comms_turn comms_in.HostRequest now own in
     let answers = established_duties message own in
     needs-behind 1 false own_s1f13_duty (turn.duties ++ answers)
-    (λ e. own-requests-free e.transactions.begun)
+    (λ e. own-requests-are common-free e.transactions.begun)
     (needs-as (1 + 0) 1 false false (turn.duties ++ answers) (omega arith) refl
     (needs-both 1 0 false false turn.duties answers (comms-need comms_in.HostRequest now own)
-    (free-need answers (answers-free (sent.text_of own (established_of own.tables)) message))))
+    (free-need answers
+    (answers-are common-free (sent.text_of own (established_of own.tables)) message (λ body. tt)))))
 
 offline-need : (message : Message) (own : OwnView) → Needs 1 false (offline_turn message own).duties
 offline-need message own = go message.wait
@@ -227,25 +211,26 @@ offline-need message own = go message.wait
     go : (wait : Bool)
         → Needs 1 false
         (if wait then turn_of own (sent.abort_duty message ∷ []) else dropped_turn message own).duties
-    go true = free-one (sent.abort_duty message ∷ []) (abort-free message)
+    go true = free-one (sent.abort_duty message ∷ []) (abort-are common-free message)
     go false = note-need own (Happening.Dropped (message_name message))
 
 control-request-need : (input : ControlIn) (message : Message) (own : OwnView)
     → Needs 1 false (control_request_turn input message own).duties
 control-request-need input message own =
     free-one (control_request_turn input message own).duties (
-      (λ e. control-lines-free own.control.state (control_next own.control input).state),
+      (λ e. control-noted common-free own.control.state (control_next own.control input).state),
       go (control_step own.control input).output,
     )
   where
     go : (out : ControlOut) → AreFreeDuties (control_answer_duties out message own)
-    go (control_out.Ack code) = answers-free (sent.text_of own (code_item code)) message
-    go control_out.Abort = abort-free message
+    go (control_out.Ack code) = answers-are common-free (sent.text_of own (code_item code)) message (λ body. tt)
+    go control_out.Abort = abort-are common-free message
     go control_out.Nothing = tt
     go control_out.SendAttempt = tt
 
 rsda-free : (message : Message) (own : OwnView) → AreFreeDuties (rsda_duties message own)
-rsda-free message own = answers-free (sent.text_of own (code_item (rsda_of own.ledger))) message
+rsda-free message own =
+    answers-are common-free (sent.text_of own (code_item (rsda_of own.ledger))) message (λ body. tt)
 
 transmit-need : (message : Message) (own : OwnView) → Needs 1 false (transmit_turn message own).duties
 transmit-need message own = go (rsda_of own.ledger == 0)
@@ -266,7 +251,7 @@ purge-need message own = go (rsda_of own.ledger == 0)
         else turn_of own (rsda_duties message own)).duties
     go true =
         free-one ((booked_turn (all_out own.ledger) own).duties ++ rsda_duties message own)
-        (free-both (booked_turn (all_out own.ledger) own).duties (rsda_duties message own)
+        (are-both (Does IsFree) (booked_turn (all_out own.ledger) own).duties (rsda_duties message own)
         (booked-free (all_out own.ledger) own) (rsda-free message own))
     go false = free-one (rsda_duties message own) (rsda-free message own)
 
@@ -275,14 +260,15 @@ answer-need : (asks : TablesRequest) (message : Message) (own : OwnView)
 answer-need asks message own =
     free-one (answer_turn asks message own).duties (
       (λ e. noted-free (lines_of own.tables (is_local own) asks)),
-      answers-free (answer_of own.tables (is_local own) own.plan.line.max_body asks) message,
+      answers-are common-free (answer_of own.tables (is_local own) own.plan.line.max_body asks) message
+          (λ body. tt),
     )
 
 trace-request-need : (asked : TraceRequest) (now : ℕ) (message : Message) (own : OwnView)
     → Needs 1 false (trace_turn asked now message own).duties
 trace-request-need asked now message own =
     free-one (trace_turn asked now message own).duties
-    (answers-free (sent.text_of own (code_item (tiaack_code (tiaack_in asked own)))) message)
+    (answers-are common-free (sent.text_of own (code_item (tiaack_code (tiaack_in asked own)))) message (λ body. tt))
 
 request-need : (asks : Request) (now : ℕ) (message : Message) (own : OwnView)
     → Needs 1 false (request_turn asks now message own).duties
@@ -291,7 +277,7 @@ request-need request.GoOffline now message own = control-request-need control_in
 request-need request.GoOnline now message own = control-request-need control_in.RequestOnline message own
 request-need request.TransmitSpool now message own = transmit-need message own
 request-need request.PurgeSpool now message own = purge-need message own
-request-need request.Establish now message own = free-one (sent.abort_duty message ∷ []) (abort-free message)
+request-need request.Establish now message own = free-one (sent.abort_duty message ∷ []) (abort-are common-free message)
 request-need (request.Trace trid dsper total group svids) now message own =
     trace-request-need (record { trid = trid; dsper = dsper; total = total; group = group; svids = svids }) now message
     own
@@ -459,7 +445,7 @@ attempted-need control_out.SendAttempt own e = go (is_crowded_out true e)
         (λ f. Primary sent.online_request ∷ states.control_commands control_in.AttemptFailed own.control)
         (λ f.
         primary-spend sent.online_request (states.control_commands control_in.AttemptFailed own.control)
-        (control-lines-free own.control.state (control_next own.control control_in.AttemptFailed).state))
+        (control-noted common-free own.control.state (control_next own.control control_in.AttemptFailed).state))
     go false = primary-need own sent.online_request
 attempted-need control_out.Nothing own e = needs-none 1
 attempted-need (control_out.Ack code) own e = needs-none 1
@@ -470,7 +456,7 @@ online-need own e =
     let outcome = control_step own.control (control_in.Online (is_communicating own)) in
     needs-behind 1 false (λ f. states.control_lines own.control.state outcome.next.state)
     (attempted_turn outcome.output (with_control outcome.next own) e).duties
-    (λ f. control-lines-free own.control.state outcome.next.state)
+    (λ f. control-noted common-free own.control.state outcome.next.state)
     (attempted-need outcome.output (with_control outcome.next own) e)
 
 command-need : (command : ToolCommand) (now : ℕ) (own : OwnView) (e : EndView Kind)

@@ -3,31 +3,23 @@
 use Rattle.std.proofs.Common.{◌≡◌, refl, arith, ◌+◌, ◌||◌, nat_le, Bool, true, false, ℕ, List, [], ◌∷◌, ◌++◌, length, Option, Some, None, if◌then◌else◌}
 use Rattle.std.specs.List.{filter_map}
 use Rattle.std.specs.Option.{option_map_or}
-use Rattle.std.specs.Prelude.{flat_map, is_none}
+use Rattle.std.specs.Prelude.{is_none}
 use Rattle.block_codec.specs.declared.header.Header.{Header}
 use Rattle.gem_spool.specs.declared.spool.Room.{Room}
 use Rattle.gem_spool.specs.declared.spool.Room.TheVariants as room
 use Rattle.gem_states.specs.Comms.{CommsOutcome}
-use Rattle.gem_states.specs.Control.{ControlView, control_next}
+use Rattle.gem_states.specs.Control.{control_next}
 use Rattle.gem_states.specs.declared.comms.CommsIn.{CommsIn}
 use Rattle.gem_states.specs.declared.comms.CommsIn.TheVariants as comms_in
 use Rattle.gem_states.specs.declared.comms.CommsOut.{CommsOut}
 use Rattle.gem_states.specs.declared.comms.CommsOut.TheVariants as comms_out
-use Rattle.gem_states.specs.declared.comms.CommsState.{CommsState}
-use Rattle.gem_states.specs.declared.comms.CommsState.TheVariants as comms
 use Rattle.gem_states.specs.declared.control.ControlIn.{ControlIn}
-use Rattle.gem_states.specs.declared.control.ControlIn.TheVariants as control_in
-use Rattle.gem_states.specs.declared.control.ControlState.{ControlState}
-use Rattle.message_flow.specs.declared.message.Message.{Message}
-use Rattle.message_flow.specs.declared.waiting.Waiting.{Waiting}
-use Rattle.trace_log.specs.declared.names.Name.{Name}
 use Rattle.trace_log.specs.Log.{Happening}
 use Rattle.trace_log.specs.Names.{Spooled, spooled_name}
-use Rattle.transact.specs.declared.begun.Begun.{Begun}
 use Rattle.message_end.specs.declared.unsent.Unsent.{Unsent}
 use Rattle.message_end.specs.Core.{EndView}
-use Rattle.message_end.specs.Core.Command.{Abort, Answer, Halt, Note, Primary, Reply}
-use Rattle.message_end.specs.Endings.{ends_failed, ends_front, ends_one, ends_open, is_of_open, notes_failed}
+use Rattle.message_end.specs.Core.Command.{Answer, Halt, Note, Primary}
+use Rattle.message_end.specs.Endings.{ends_open}
 use Rattle.message_end.specs.Parts.{fixed_turn}
 use Rattle.equipment_tables.specs.declared.answers.Answer.{Answer as Text}
 use Rattle.equipment_tables.specs.declared.answers.Answer.TheVariants as answer
@@ -36,7 +28,6 @@ use Rattle.equipment_tables.specs.Tables.{overwrites}
 use Rattle.spool_ledger.specs.Ledger.{Booked, LedgerView, room_for}
 use Rattle.spool_ledger.specs.Storing.{stored, stored_by}
 use Rattle.tool_step.specs.declared.kind.Kind.{Kind}
-use Rattle.tool_step.specs.declared.kind.Kind.TheVariants as kind
 use Rattle.tool_step.specs.Own.{OwnView, ToolCommands, ToolDuty, ToolTurn, event_report, is_communicating, is_online, quiet_turn, with_ledger, with_comms}
 use Rattle.tool_law.specs.Putting.{Putting, failed_puts, is_at_end, lacks_number, leaving_puts, left_puts, puts, puts_none, report_puts, runs_out, text_puts}
 use Rattle.tool_step.specs.Reports.{judged_turn, report_turn, text_turn, unreported_turn}
@@ -44,7 +35,8 @@ use Rattle.tool_step.specs.Sent as sent
 use Rattle.tool_step.specs.Spooling.{Stores, booked_turn, is_spooled, lines_commands, stored_turn, stores_all, stores_behind, stores_commands, stores_none}
 use Rattle.tool_step.specs.States as states
 use Rattle.tool_step.specs.Step.{begun, failed_turn, is_spent}
-use Rattle.tool_law.proofs.Drawing.{AreFree, AreFreeDuties, Needs, Spends, both-free, free-need, free-spend, halt-spend, needs-as, needs-both, needs-none, needs-one, primary-spend, spend-behind, spends-as, spends-one}
+use Rattle.tool_law.proofs.CommandWalks.{HasCommon, are-both, comms-noted, control-noted, open-are}
+use Rattle.tool_law.proofs.Drawing.{AreFree, AreFreeDuties, IsFree, Needs, Spends, free-need, free-spend, halt-spend, needs-as, needs-both, needs-none, needs-one, primary-spend, spend-behind, spends-as, spends-one}
 
 -- ---- turns that draw none
 
@@ -61,22 +53,25 @@ noted-free (what ∷ lines) = (tt, noted-free lines)
 pub booked-free : (booked : Booked) (own : OwnView) → AreFreeDuties (booked_turn booked own).duties
 booked-free booked own = ((λ e. noted-free booked.lines), tt)
 
-pub comms-lines-free : (old new : CommsState) → AreFree (states.comms_lines old new)
-comms-lines-free old new = go (states.is_same_comms old new)
-  where
-    go : (same : Bool) → AreFree (if same then [] else Note (Happening.Comms (states.comms_named new)) ∷ [])
-    go true = tt
-    go false = (tt, tt)
-
-pub control-lines-free : (old new : ControlState) → AreFree (states.control_lines old new)
-control-lines-free old new = go (states.is_same_control old new)
-  where
-    go : (same : Bool) → AreFree (if same then [] else Note (Happening.Control (states.control_named new)) ∷ [])
-    go true = tt
-    go false = (tt, tt)
+pub common-free : HasCommon IsFree
+common-free = record {
+  comms = λ state. tt;
+  control = λ state. tt;
+  failed = λ title. tt;
+  dropped = λ name. tt;
+  denied = λ name. tt;
+  too_long = λ name. tt;
+  full = λ name. tt;
+  ends = λ system. tt;
+  removes = λ system. tt;
+  recalls = λ header. tt;
+  drops = tt;
+  aborts = tt;
+}
 
 pub control-free : (input : ControlIn) (own : OwnView) → AreFreeDuties (states.control_turn input own).duties
-control-free input own = ((λ e. control-lines-free own.control.state (control_next own.control input).state), tt)
+control-free input own =
+    ((λ e. control-noted common-free own.control.state (control_next own.control input).state), tt)
 
 -- ---- what is sent
 
@@ -120,7 +115,7 @@ comms-need input now own =
     (λ e.
     spend-behind 1 false (states.comms_lines own.comms.state outcome.next.state)
     (states.request_commands outcome.output own)
-    (comms-lines-free own.comms.state outcome.next.state) (request-spends outcome.output own))
+    (comms-noted common-free own.comms.state outcome.next.state) (request-spends outcome.output own))
 
 pub primary-need : (own : OwnView) (unsent : Unsent Kind) → Needs 1 false (fixed_turn own (Primary unsent ∷ [])).duties
 primary-need own unsent = needs-one 1 false (λ e. Primary unsent ∷ []) (λ e. primary-spend unsent [] tt)
@@ -143,30 +138,6 @@ event-need dataid body own e = go (nat_le (length body) 244)
         (if alone then sent.going_turn (event_report body) own e else sent.grant_turn dataid body own e).duties
     go true = going-need (event_report body) own e
     go false = asking-need (sent.text_of own (sent.grant_item dataid (length body))) body own e
-
--- ---- replies
-
-replied-free : (message : Message) (name : Name) (commands : ToolCommands) (e : EndView Kind) → AreFree commands
-    → AreFree (sent.reply_commands message name commands e)
-replied-free message name commands e is = go message.wait (sent.has_room e)
-  where
-    go : (wait room : Bool)
-        → AreFree (if wait then if room then commands else Note (Happening.Full name) ∷ [] else [])
-    go true true = is
-    go true false = (tt, tt)
-    go false room = tt
-
-pub abort-free : (message : Message) → AreFreeDuties (sent.abort_duty message ∷ [])
-abort-free message = ((λ e. replied-free message (sent.abort_name message) (Abort ∷ []) e (tt, tt)), tt)
-
-pub answers-free : (text : Text) (message : Message) → AreFreeDuties (sent.answer_duties text message)
-answers-free (answer.Body body) message =
-    ((λ e. replied-free message (sent.reply_name message) (Reply body ∷ []) e (tt, tt)), tt)
-answers-free answer.TooLong message = ((λ e. go message.wait), abort-free message)
-  where
-    go : (wait : Bool) → AreFree (if wait then Note (Happening.TooLong (sent.reply_name message)) ∷ [] else [])
-    go true = (tt, tt)
-    go false = tt
 
 -- ---- messages that are put
 
@@ -266,53 +237,6 @@ report-need report text own e =
 
 -- ---- all open messages end
 
-unless-free : (found : Option Spooled) (commands : ToolCommands) → AreFree commands
-    → AreFree (states.unless_stored found commands)
-unless-free None commands is = is
-unless-free (Some message) commands is = tt
-
-ending-free : (control : ControlView) (found : Option Spooled) (lost : Kind) (header : Header)
-    → AreFree (states.ending_commands control found lost header)
-ending-free control found kind.Establish header = (tt, tt)
-ending-free control found kind.Attempt header =
-    (tt, control-lines-free control.state (control_next control control_in.AttemptFailed).state)
-ending-free control found kind.Report header = unless-free found (notes_failed header) (tt, tt)
-ending-free control found kind.Grant header = (tt, unless-free found states.notes_unsent (tt, tt))
-ending-free control found kind.Unload header = (tt, tt)
-ending-free control found kind.UnloadGrant header = (tt, (tt, tt))
-ending-free control found kind.Trace header = (tt, tt)
-ending-free control found kind.TraceGrant header = (tt, (tt, tt))
-
-begun-free : (spools : Bool) (own : OwnView) (begun : List (Begun Kind))
-    → AreFree (flat_map (ends_one (states.ends_report spools own)) begun)
-begun-free spools own [] = tt
-begun-free spools own (first ∷ begun) = (
-  tt,
-  (
-    tt,
-    both-free (states.ends_report spools own first) (flat_map (ends_one (states.ends_report spools own)) begun)
-        (ending-free own.control (states.stored_of spools own first) first.kind first.header)
-        (begun-free spools own begun),
-  ),
-)
-
-fronts-free : (waiting : List Waiting) → AreFree (flat_map ends_front waiting)
-fronts-free [] = tt
-fronts-free (first ∷ waiting) = (tt, (tt, fronts-free waiting))
-
-failed-free : (was_open : Bool) (header : Header) (e : EndView Kind) → AreFree (ends_failed was_open header e)
-failed-free true header e = tt
-failed-free false header e = (tt, (tt, tt))
-
-pub open-free : (spools : Bool) (own : OwnView) (e : EndView Kind) (failed : Option Header)
-    → AreFreeDuties (ends_open (states.ends_report spools own) e failed)
-open-free spools own e None =
-    ((λ f. begun-free spools own f.transactions.begun), ((λ f. fronts-free f.outgoing.waiting), tt))
-open-free spools own e (Some header) = (
-  (λ f. begun-free spools own f.transactions.begun),
-  ((λ f. failed-free (is_of_open e header) header f), ((λ f. fronts-free f.outgoing.waiting), tt)),
-)
-
 -- with so many for what is asked behind it
 pub left-need :
     (most : ℕ) (outcome : CommsOutcome) (failed : Option Header) (own : OwnView) (e : EndView Kind)
@@ -340,8 +264,8 @@ left-need most outcome failed own e asks = go (states.is_same_comms own.comms.st
         spend-behind most stores.is_spent
         (states.comms_lines own.comms.state outcome.next.state ++ lines_commands activity.lines)
         (stores_commands stores (states.request_commands outcome.output own))
-        (both-free (states.comms_lines own.comms.state outcome.next.state) (lines_commands activity.lines)
-        (comms-lines-free own.comms.state outcome.next.state) (noted-free activity.lines))
+        (are-both IsFree (states.comms_lines own.comms.state outcome.next.state) (lines_commands activity.lines)
+        (comms-noted common-free own.comms.state outcome.next.state) (noted-free activity.lines))
         (stores-spend most stores (states.request_commands outcome.output own) asks)
 
     opens : List ToolDuty
@@ -354,7 +278,7 @@ left-need most outcome failed own e asks = go (states.is_same_comms own.comms.st
         (omega arith) (stores-end (overwrites own.tables) messages activity.next)
         (needs-both 0 most false stores.is_spent opens
         ((λ later. states.left_commands outcome activity stores own) ∷ [])
-        (free-need opens (open-free spools left e failed))
+        (free-need opens (open-are common-free spools left e failed))
         (needs-one most stores.is_spent (λ later. states.left_commands outcome activity stores own) (λ later. behind)))
 
     go : (same : Bool)

@@ -1,3 +1,4 @@
+pub mod CommandWalks
 pub mod CoreSteps
 pub mod Drawing
 pub mod DrawnReplies
@@ -6,6 +7,7 @@ pub mod DrawnTurns
 pub mod KeptSteps
 pub mod Lawful
 pub mod LawfulLosses
+pub mod LedgerLines
 pub mod MildCommands
 pub mod QuietCommands
 pub mod QuietMessages
@@ -21,4 +23,5 @@ pub mod TriedCourse
 pub mod TriedDoings
 pub mod TriedParts
 pub mod TriedSteps
+pub mod TurnWalks
 pub mod WorkLines

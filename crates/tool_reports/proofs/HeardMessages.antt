@@ -37,13 +37,16 @@ use Rattle.tool_step.specs.Own.{OwnView, ToolTurn, is_communicating, is_enabled_
 use Rattle.tool_step.specs.Replies.{granted_turn, loss_turn, matched_turn, reply_turn, secondary_turn}
 use Rattle.tool_step.specs.Spooling.{grant_given_turn}
 use Rattle.spool_ledger.specs.Unloading.{confirmed}
+use Rattle.tool_law.proofs.TurnWalks.{nothing-of, dropped-of, stray-of, offline-of, error-of}
+use Rattle.tool_law.proofs.LedgerLines.{confirmed-lines}
+use Rattle.tool_reports.proofs.SilentCommands.{common-silent}
 use Rattle.tool_reports.proofs.LeavingReports.{leave-given-keeps, loss-keeps}
 use Rattle.tool_reports.specs.Reported.{past_in}
 use Rattle.tool_step.specs.States as states
 use Rattle.tool_reports.proofs.HeldReports.{Any, any-lasts, Ends, Free, Keeps, KeepsAt, granted-keeps, led-at, noted-so, plain, plain-at, so_far}
 use Rattle.tool_reports.proofs.QuietReports.{Holds}
 use Rattle.tool_reports.proofs.PlainSamples.{granted-trace-plain}
-use Rattle.tool_reports.proofs.PlainTurns.{booked-plain, comms-plain, confirmed-quiet, control-plain, dropped-plain, error-plain, nothing-plain, offline-plain, stays, stray-plain}
+use Rattle.tool_reports.proofs.PlainTurns.{spool-quiet, states-stay, stays, itself, booked-plain, comms-plain, control-plain}
 use Rattle.tool_step.specs.Sampling.{granted_trace_turn}
 use Rattle.tool_reports.proofs.QuietNotes.{one-behind}
 use Rattle.tool_law.proofs.CoreSteps.{CoreStep}
@@ -65,7 +68,8 @@ module _
     errs : (function : ℕ) → (function % 2 == 1) ≡ true → (header : Header) → KeptBy (error_turn function header own)
     errs function odd header =
         plain plan said before own (error_turn function header own)
-        (error-plain Free tt Any any-lasts function odd header own) step holds
+        (error-of (common-silent Free tt Any any-lasts) states-stay function (λ body. (refl, odd)) header own) step
+        holds
 
     -- the step behind the note of the request
     abbrev next : CoreStep
@@ -206,10 +210,11 @@ module _
             ((established-plain plan fits looked said before) message Any any-lasts (may-establish message is) now own) it tt holds
         go false is true offline =
             plain plan said before own (stray_turn now message own)
-            (stray-plain Free tt Any any-lasts now message own) step holds
+            (stray-of (common-silent Free tt Any any-lasts) states-stay (λ body. (refl, refl)) now message own) step
+            holds
         go false is false true =
             plain plan said before own (offline_turn message own)
-            (offline-plain Free tt Any any-lasts message own) step holds
+            (offline-of (common-silent Free tt Any any-lasts) states-stay message own) step holds
         go false is false false = known-keeps now header
 
   -- ---- a reply
@@ -241,7 +246,7 @@ module _
   replied-keeps now kind.Report system body own e = loss-keeps plan said before now kind.Report system own e
   replied-keeps now kind.Unload system body own e =
       plain plan said before own (reply_turn now kind.Unload system body own e)
-      (booked-plain Free tt Any any-lasts own (confirmed own.ledger) (confirmed-quiet own.ledger))
+      (booked-plain Free tt Any any-lasts own (confirmed own.ledger) (confirmed-lines spool-quiet own.ledger))
   replied-keeps now kind.UnloadGrant system body own e = go (is_granted_in body)
     where
       go : (granted : Bool)
@@ -259,7 +264,7 @@ module _
       go true =
           plain plan said before own (granted_trace_turn (waiting_data system own) (without_waiting_data system own))
           (granted-trace-plain Free tt Any any-lasts own (without_waiting_data system own)
-          (stays Free tt Any any-lasts own (without_waiting_data system own) refl refl refl refl refl)
+          (stays own (without_waiting_data system own) refl refl refl refl refl)
           (waiting_data system own))
       go false = loss-keeps plan said before now kind.TraceGrant system own e
 
@@ -271,7 +276,7 @@ module _
       loss-keeps plan said before now kind message.system own e
   matched-keeps now match.Stranger message own e =
       plain plan said before own (matched_turn now match.Stranger message own e)
-      (nothing-plain Free tt Any any-lasts own)
+      (nothing-of own own (itself own))
 
   secondary-keeps :
       (now : ℕ) (header : Header) (message : Message) (own : OwnView) (e : EndView Kind)
@@ -299,6 +304,6 @@ module _
       go : (disabled odd : Bool)
           → Ends plan said before (turn_by disabled odd).own (all_done Some (turn_by disabled odd).duties step)
       go true odd = plain plan said before own (dropped_turn message own)
-          (dropped-plain Free tt Any any-lasts message own) step holds
+          (dropped-of (common-silent Free tt Any any-lasts) states-stay message own) step holds
       go false true = primary-keeps message own earlier step it newest holds now header
       go false false = secondary-keeps now header message own e step holds

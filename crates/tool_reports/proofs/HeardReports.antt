@@ -6,12 +6,8 @@ use Rattle.gem_shapes.specs.declared.primary.Primary.TheVariants as primary
 use Rattle.gem_shapes.specs.declared.request.Request.{Request}
 use Rattle.gem_shapes.specs.declared.request.Request.TheVariants as request
 use Rattle.gem_shapes.specs.declared.request.TablesRequest.{TablesRequest}
-use Rattle.gem_states.specs.Control.{control_step}
-use Rattle.gem_states.specs.declared.comms.CommsIn.TheVariants as comms_in
 use Rattle.gem_states.specs.declared.control.ControlIn.{ControlIn}
 use Rattle.gem_states.specs.declared.control.ControlIn.TheVariants as control_in
-use Rattle.gem_states.specs.declared.control.ControlOut.{ControlOut}
-use Rattle.gem_states.specs.declared.control.ControlOut.TheVariants as control_out
 use Rattle.gem_trace.specs.declared.request.TraceRequest.{TraceRequest}
 use Rattle.message_flow.specs.declared.message.Message.{Message}
 use Rattle.trace_log.specs.declared.commands.ToolCommand.{ToolCommand}
@@ -24,12 +20,12 @@ use Rattle.message_end.specs.Duties.{all_done}
 use Rattle.equipment_tables.specs.declared.answers.Answer.{Answer as Text}
 use Rattle.equipment_tables.specs.declared.answers.Answer.TheVariants as answer
 use Rattle.equipment_tables.specs.declared.plan.EquipmentPlan.{EquipmentPlan}
-use Rattle.equipment_tables.specs.Answers.{answer_of, established_of, event_item, lines_of, report_item_of, spelled_body}
+use Rattle.equipment_tables.specs.Answers.{answer_of, event_item, lines_of, report_item_of, spelled_body}
 use Rattle.equipment_tables.specs.Laws.{TablesAreLookedBackFor}
 use Rattle.equipment_tables.specs.Plan.{EquipmentPlanFits}
 use Rattle.equipment_tables.specs.Requests.{asked_by, request_of}
 use Rattle.equipment_tables.specs.Tables.{TablesState, asked_after}
-use Rattle.tool_step.specs.Messages.{answer_turn, control_answer_duties, control_request_turn, established_duties, established_turn, request_turn}
+use Rattle.tool_step.specs.Messages.{answer_turn, control_request_turn, established_turn, request_turn}
 use Rattle.tool_step.specs.Own.{OwnView, ToolCommands, ToolDuty, ToolTurn, is_local, turn_before, turn_of, with_ledger, with_tables}
 use Rattle.tool_step.specs.Spooling.{booked_turn, purge_turn, rsda_duties, transmit_turn}
 use Rattle.spool_ledger.specs.Activity.{rsda_of}
@@ -38,15 +34,17 @@ use Rattle.spool_ledger.specs.Unloading.{fresh, with_unload}
 use Rattle.tool_reports.specs.Reported.{HoldsItsValues, IsTextOf, count_of, count_of_events, is_of, past_in, reports_in, tables_in}
 use Rattle.tool_step.specs.Sampling.{tiaack_code, tiaack_in, trace_turn}
 use Rattle.tool_step.specs.Sent as sent
-use Rattle.tool_step.specs.States as states
+use Rattle.tool_law.proofs.CommandWalks.{abort-are, long-are, answers-are}
+use Rattle.tool_law.proofs.TurnWalks.{before-of, established-of, control-request-of}
+use Rattle.tool_law.proofs.LedgerLines.{all-out-lines}
 use Rattle.tool_reports.proofs.HeldReports.{Any, any-lasts, Ends, noted-so, plain-at, so_far}
 use Rattle.tool_reports.proofs.QuietReports.{Holds, IsSpelledSo, holds-as, spelled-so}
-use Rattle.tool_reports.proofs.PlainTurns.{IsPlain, count_waiting, answers-silent, abort-silent, all-out-quiet, before-plain, booked-plain, booked-stays, comms-plain, control-lines, itself, long-silent, own-requests-silent, stays}
+use Rattle.tool_reports.proofs.PlainTurns.{spool-quiet, states-stay, lines-silent, IsPlain, stays, itself, booked-stays, booked-plain, count_waiting}
 use Rattle.tool_reports.proofs.QuietNotes.{AreSettled, IsAsBefore, never-live, quiet-note, settled-more}
-use Rattle.tool_reports.proofs.SilentCommands.{AreSilentDuties, both-duties}
+use Rattle.tool_reports.proofs.SilentCommands.{common-silent, AreSilentDuties}
 use Rattle.message_end.proofs.Parts.{either-then}
 use Rattle.tool_law.proofs.CoreSteps.{CoreStep}
-use Rattle.tool_reports.proofs.HostReports.{AsksOf, asks-none, MayReply, other-silent, lines-quiet, noted-silent, IsNamed, requested, event_asked, report_asked}
+use Rattle.tool_reports.proofs.HostReports.{AsksOf, asks-none, MayReply, other-silent, lines-quiet, IsNamed, requested, event_asked, report_asked}
 
 module _
     (plan : EquipmentPlan) (fits : EquipmentPlanFits plan) (looked : TablesAreLookedBackFor)
@@ -87,43 +85,37 @@ module _
 
     answers-of : (text : Text) → SilentOf (sent.answer_duties text message)
     answers-of text =
-        answers-silent (AsksOf message) (asks-none message) Fact lasts text message
+        answers-are (common-silent (AsksOf message) (asks-none message) Fact lasts) text message
         (other-silent message Fact lasts may)
-
-    control-answer : (out : ControlOut) (own : OwnView) → SilentOf (control_answer_duties out message own)
-    control-answer (control_out.Ack code) own = answers-of (sent.text_of own (code_item code))
-    control-answer control_out.Abort own = abort-silent (AsksOf message) (asks-none message) Fact lasts message
-    control-answer control_out.Nothing own = tt
-    control-answer control_out.SendAttempt own = tt
 
     control-request-plain : (input : ControlIn) (own : OwnView)
         → Plain (with_tables own.tables own) (control_request_turn input message own)
-    control-request-plain input own = record {
-      silent = (
-        (λ e asks.
-            control-lines (AsksOf message) (asks-none message) Fact lasts own.control.state
-            (control_step own.control input).next.state),
-        control-answer (control_step own.control input).output own,
-      );
-      less = record {
-        plan_is = refl;
-        tables_are = refl;
-        events_are = refl;
-        fewer = (itself (AsksOf message) (asks-none message) Fact lasts own).fewer;
-        live = λ one has is. has;
-      };
-    }
+    control-request-plain input own =
+        let is : Plain own (control_request_turn input message own) =
+        control-request-of (common-silent (AsksOf message) (asks-none message) Fact lasts) states-stay input message
+        (other-silent message Fact lasts may) own
+        in
+        record {
+          duties = is.duties;
+          keeps = record {
+            plan_is = refl;
+            tables_are = refl;
+            events_are = refl;
+            fewer = is.keeps.fewer;
+            live = is.keeps.live;
+          };
+        }
 
     answer-plain : (asks : TablesRequest) (own : OwnView)
         → Plain (requested (request.OfTables asks) own) (answer_turn asks message own)
     answer-plain asks own = record {
-      silent = (
-        (λ e silent.
-            noted-silent (AsksOf message) (asks-none message) Fact lasts (lines_of own.tables (is_local own) asks)
+      duties = (
+        (λ e.
+            lines-silent (AsksOf message) (asks-none message) Fact lasts (lines_of own.tables (is_local own) asks)
             (lines-quiet own.tables (is_local own) asks)),
         answers-of (answer_of own.tables (is_local own) own.plan.line.max_body asks),
       );
-      less = itself (AsksOf message) (asks-none message) Fact lasts (requested (request.OfTables asks) own);
+      keeps = itself (requested (request.OfTables asks) own);
     }
 
     -- S6F23
@@ -140,10 +132,10 @@ module _
             → Plain own
             (if may then turn_of begins (rsda_duties message own) else turn_of own (rsda_duties message own))
         go true = record {
-          silent = rsda-of own;
-          less = booked-stays (AsksOf message) (asks-none message) Fact lasts own (with_unload (Some fresh) own.ledger);
+          duties = rsda-of own;
+          keeps = booked-stays own (with_unload (Some fresh) own.ledger);
         }
-        go false = record { silent = rsda-of own; less = itself (AsksOf message) (asks-none message) Fact lasts own }
+        go false = record { duties = rsda-of own; keeps = itself own }
 
     purge-plain : (own : OwnView) → Plain own (purge_turn message own)
     purge-plain own = go (rsda_of own.ledger == 0)
@@ -153,19 +145,17 @@ module _
             (if may then turn_before (rsda_duties message own) (booked_turn (all_out own.ledger) own)
             else turn_of own (rsda_duties message own))
         go true =
-            before-plain (AsksOf message) (asks-none message) Fact lasts own (rsda_duties message own)
+            before-of own (rsda_duties message own)
             (booked_turn (all_out own.ledger) own) (rsda-of own)
             (booked-plain (AsksOf message) (asks-none message) Fact lasts own (all_out own.ledger)
-            (all-out-quiet own.ledger))
-        go false = record { silent = rsda-of own; less = itself (AsksOf message) (asks-none message) Fact lasts own }
+            (all-out-lines spool-quiet own.ledger))
+        go false = record { duties = rsda-of own; keeps = itself own }
 
     -- S2F23
     trace-plain : (asked : TraceRequest) (now : ℕ) (own : OwnView) → Plain own (trace_turn asked now message own)
     trace-plain asked now own = record {
-      silent = answers-of (sent.text_of own (code_item (tiaack_code (tiaack_in asked own))));
-      less =
-          stays (AsksOf message) (asks-none message) Fact lasts own (trace_turn asked now message own).own refl refl
-          refl refl refl;
+      duties = answers-of (sent.text_of own (code_item (tiaack_code (tiaack_in asked own))));
+      keeps = stays own (trace_turn asked now message own).own refl refl refl refl refl;
     }
 
     request-plain : (asks : Request) (now : ℕ) (own : OwnView)
@@ -174,8 +164,8 @@ module _
     request-plain request.GoOffline now own = control-request-plain control_in.RequestOffline own
     request-plain request.GoOnline now own = control-request-plain control_in.RequestOnline own
     request-plain request.Establish now own = record {
-      silent = abort-silent (AsksOf message) (asks-none message) Fact lasts message;
-      less = itself (AsksOf message) (asks-none message) Fact lasts own;
+      duties = abort-are (common-silent (AsksOf message) (asks-none message) Fact lasts) message;
+      keeps = itself own;
     }
     request-plain request.TransmitSpool now own = transmit-plain own
     request-plain request.PurgeSpool now own = purge-plain own
@@ -184,17 +174,8 @@ module _
 
     pub established-plain : (now : ℕ) (own : OwnView) → Plain own (established_turn now message own)
     established-plain now own =
-        let greeted = comms-plain (AsksOf message) (asks-none message) Fact lasts comms_in.HostRequest now own in
-        record {
-          silent = (
-            (λ e asks.
-                own-requests-silent (AsksOf message) (asks-none message) Fact lasts e.transactions.begun),
-            both-duties (AsksOf message) (asks-none message) Fact lasts
-                (states.comms_turn comms_in.HostRequest now own).duties (established_duties message own)
-                greeted.silent (answers-of (sent.text_of own (established_of own.tables))),
-          );
-          less = greeted.less;
-        }
+        established-of (common-silent (AsksOf message) (asks-none message) Fact lasts) states-stay
+        (λ body. (refl, refl)) message (other-silent message Fact lasts may) now own
 
     -- a turn of which nothing is said, behind the primary
     pub request-keeps :
@@ -296,7 +277,7 @@ module _
           plain-at plan said before (AsksOf message) (asks-none message) Any any-lasts own
           (record { own = own; duties = duties })
           step
-          (record { silent = are; less = itself (AsksOf message) (asks-none message) Any any-lasts own }) asks tt holds
+          (record { duties = are; keeps = itself own }) asks tt holds
 
       commands_by : List ℕ → Bool → Bool → ToolCommands
       commands_by body wait room =
@@ -321,7 +302,7 @@ module _
           (loud body is message.wait (sent.has_room step.next) refl) (λ next at. at)
       by_text answer.TooLong is =
           silent (sent.long_duties message)
-          (long-silent (AsksOf message) (asks-none message) Any any-lasts message)
+          (long-are (common-silent (AsksOf message) (asks-none message) Any any-lasts) message)
 
   -- S6F15 and S6F19, noted just now
   pub event-answer :

@@ -39,7 +39,7 @@ use Rattle.tool_reports.specs.Reported.{Happened, IsKeptReport, count_of_events,
 use Rattle.tool_step.specs.Sent as sent
 use Rattle.tool_reports.proofs.PlainTurns.{AreQuietLines, IsPlain, booked-stays, ungranted}
 use Rattle.tool_reports.proofs.QuietNotes.{AreSettled, IsAsBefore, IsQuietNote, one, one-behind, quiet-note, settled-more}
-use Rattle.tool_reports.proofs.SilentCommands.{AreSilent, IsQuietly, IsSilent, carried-quietly, done-quietly}
+use Rattle.tool_reports.proofs.SilentCommands.{IsSilent, AreSilent, IsQuietly, carried-quietly, done-quietly}
 use Rattle.message_end.proofs.Parts.{OnEither, either-then, either-less}
 use Rattle.tool_law.proofs.CoreSteps.{CoreStep}
 use Rattle.tool_reports.proofs.QuietReports.{Holds, HasSpare, holds-less, holds-as, equal-bytes, of-event, report-sent, with-live, found-waiting, granted-spare, has-found}
@@ -96,10 +96,10 @@ module _ (plan : EquipmentPlan) (said : List ToolCommand) (before : List Happeni
       either-less (IsQuietly Asks none Fact lasts before step) (IsQuietly Asks none Fact lasts before step)
       (λ next. Holds plan said turn.own next.next.drawn (so_far next)) (λ next. AreSettled plan (so_far next))
       (all_done Some turn.duties step)
-      (done-quietly Asks none Fact lasts before turn.duties step plain.silent asks fact)
+      (done-quietly Asks none Fact lasts before turn.duties step plain.duties asks fact)
       (λ next quiet.
       holds-less plan said own turn.own (so_far next) (quietly-holds own step next quiet.notes quiet.drawn holds)
-      plain.less)
+      plain.keeps)
       (λ next quiet. quiet.notes.keeps plan holds.settled)
 
   pub plain : (own : OwnView) (turn : ToolTurn) → IsPlain Free tt Any any-lasts own turn → Keeps own turn
@@ -367,7 +367,7 @@ module _ (plan : EquipmentPlan) (said : List ToolCommand) (before : List Happeni
           (λ next. Holds plan said kept next.next.drawn (so_far next)) (carried Some (lines_commands booked.lines) step)
           (all_done Some [])
           (lines-at kept booked.lines step are
-          (holds-less plan said own kept (so_far step) holds (booked-stays Free tt Any any-lasts own booked.next)))
+          (holds-less plan said own kept (so_far step) holds (booked-stays own booked.next)))
           (λ next at. at)
         where
           kept : OwnView

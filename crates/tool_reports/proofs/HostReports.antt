@@ -1,5 +1,5 @@
 -- What a message of the host leaves of what holds.
-use Rattle.std.proofs.Common.{◌≡◌, refl, sym, ap, subst, ◌∙◌, Bool, true, false, not, ℕ, ◌%◌, ◌==◌, ◌&&◌, List, [], ◌∷◌, map, Option, Some, None, if◌then◌else◌}
+use Rattle.std.proofs.Common.{◌≡◌, refl, sym, ap, subst, ◌∙◌, Bool, true, false, not, ℕ, ◌%◌, ◌==◌, ◌&&◌, List, ◌∷◌, Option, Some, None, if◌then◌else◌}
 use Rattle.std.proofs.lemmas.Bool.{eqb-true}
 use Rattle.gem_shapes.specs.Primaries.{has_function, primaries, primary_with, stream_and_function}
 use Rattle.gem_shapes.specs.declared.primary.Primary.{Primary}
@@ -13,7 +13,7 @@ use Rattle.trace_log.specs.declared.names.Title.{Title}
 use Rattle.trace_log.specs.Log.{Happening, Past}
 use Rattle.trace_log.specs.Names.{title_of}
 use Rattle.message_end.specs.Core.{reply_function, reply_of}
-use Rattle.message_end.specs.Core.Command.{Note, Reply}
+use Rattle.message_end.specs.Core.Command.{Reply}
 use Rattle.message_end.proofs.Members.{found-in}
 use Rattle.equipment_tables.specs.Answers.{lines_of}
 use Rattle.equipment_tables.specs.Tables.{TablesState, asked_after}
@@ -23,7 +23,8 @@ use Rattle.tool_step.specs.Own.{OwnView, is_local, with_tables}
 use Rattle.tool_reports.specs.Reported.{past_in, reports_in}
 use Rattle.tool_reports.proofs.HeldReports.{Any}
 use Rattle.tool_reports.proofs.QuietNotes.{IsAsBefore, IsNone, never-live, none-of, none-sent, IsQuietNote, settled-more}
-use Rattle.tool_reports.proofs.SilentCommands.{AreSilent}
+use Rattle.tool_law.proofs.CommandWalks.{AllAre}
+use Rattle.tool_reports.proofs.SilentCommands.{IsSilent}
 
 -- ---- who asks
 
@@ -49,15 +50,12 @@ pub other-silent :
     (message : Message) (Fact : List Happening → Type 0)
     (lasts : (old new : List Happening) → IsAsBefore old new → Fact old → Fact new)
     → MayReply Fact message → (body : List ℕ)
-    → AreSilent (AsksOf message) (asks-none message) Fact lasts (Reply body ∷ [])
-other-silent message Fact lasts may body = (
-  λ title asks notes fact.
-      subst
-      (λ (t : Title).
-      IsAsBefore notes (Happening.Sent (reply_of t (reply_function t.name.function) body) ∷ notes))
-      (sym (asks title refl).0) (may body notes (asks title refl).1 fact),
-  tt,
-)
+    → IsSilent (AsksOf message) (asks-none message) Fact lasts (Reply body)
+other-silent message Fact lasts may body = λ title asks notes fact.
+    subst
+    (λ (t : Title).
+    IsAsBefore notes (Happening.Sent (reply_of t (reply_function t.name.function) body) ∷ notes))
+    (sym (asks title refl).0) (may body notes (asks title refl).1 fact)
 
 -- the message is the newest entry of the history
 abbrev pub IsNewest : Message → List Happening → Type 0
@@ -128,23 +126,11 @@ may-establish message is body notes waits any =
 
 -- ---- what is noted on the way
 
-abbrev AreQuietNotes : List Happening → Type 0
-AreQuietNotes [] = Unit {0}
-AreQuietNotes (what ∷ lines) = IsQuietNote what × AreQuietNotes lines
-
 pub lines-quiet : (t : TablesState) (is_local : Bool) (request : TablesRequest)
-    → AreQuietNotes (lines_of t is_local request)
+    → AllAre IsQuietNote (lines_of t is_local request)
 lines-quiet =
-    lines_hold AreQuietNotes tt (λ name. (tt, tt))
+    lines_hold (AllAre IsQuietNote) tt (λ name. (tt, tt))
     (λ tid text lines rest. (tt, rest))
-
-pub noted-silent :
-    (Asks : Option Title → Type 0) (none : Asks None) (Fact : List Happening → Type 0)
-    (lasts : (old new : List Happening) → IsAsBefore old new → Fact old → Fact new) (lines : List Happening)
-    → AreQuietNotes lines → AreSilent Asks none Fact lasts (map Note lines)
-noted-silent Asks none Fact lasts [] quiet = tt
-noted-silent Asks none Fact lasts (what ∷ lines) quiet =
-    (quiet.0, noted-silent Asks none Fact lasts lines quiet.1)
 
 pub record IsNamed (p : Primary) (message : Message) : Type 0 where
   pub stream : message.stream ≡ (stream_and_function p).0

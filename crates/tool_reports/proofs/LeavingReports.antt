@@ -41,12 +41,15 @@ use Rattle.tool_reports.specs.Reported.{count_of_events, is_answer, is_live, is_
 use Rattle.tool_step.specs.Sent as sent
 use Rattle.tool_step.specs.Spooling.{Stores, dataid_in, grant_given_turn, inquiry_turn, let_go_turn, lines_commands, needs_grant, sent_turn, stores_all, stores_commands, taking_turn, tried_turn, unload_part, unload_request, unloaded, unloaded_own, unloading_turn, waiting_text, stopped_turn}
 use Rattle.tool_step.specs.States as states
+use Rattle.tool_law.proofs.CommandWalks.{are-both, errors-are, comms-noted, request-are, open-are}
+use Rattle.tool_law.proofs.TurnWalks.{nothing-of, fixed-of, denied-of}
+use Rattle.tool_law.proofs.LedgerLines.{activated-lines}
 use Rattle.tool_reports.proofs.HeldReports.{Any, any-lasts, Ends, Free, Keeps, KeepsAt, all-kept, led-at, noted-so, plain, quietly-holds, silent-at, so_far, stores-at, stores-said}
 use Rattle.tool_reports.proofs.QuietReports.{Holds, holds-as, holds-less}
 use Rattle.tool_reports.proofs.PlainSamples.{untraced-plain}
-use Rattle.tool_reports.proofs.PlainTurns.{IsNoMore, booked-stays, comms-lines-silent, control-plain, count_waiting, denied-plain, activated-quiet, errors-silent, fixed-plain, itself, lines-silent, nothing-plain, open-silent, request-commands-silent, stays, ungranted, unreported, tried-stays}
+use Rattle.tool_reports.proofs.PlainTurns.{spool-quiet, states-stay, lines-silent, IsNoMore, stays, itself, booked-stays, tried-stays, control-plain, count_waiting, ungranted, unreported}
 use Rattle.tool_reports.proofs.QuietNotes.{AreSettled, one-behind, quiet-note, settled-more}
-use Rattle.tool_reports.proofs.SilentCommands.{AreSilent, AreSilentDuties, IsQuietly, both-silent, done-quietly}
+use Rattle.tool_reports.proofs.SilentCommands.{common-silent, IsSilent, AreSilent, AreSilentDuties, IsQuietly, done-quietly}
 use Rattle.message_end.proofs.Parts.{either-then, either-less}
 use Rattle.tool_law.proofs.CoreSteps.{CoreStep}
 
@@ -101,7 +104,7 @@ module _ (plan : EquipmentPlan) (said : List ToolCommand) (before : List Happeni
       (all_done Some (ends_open (states.ends_report spools left) e failed) step)
       (all_done Some ((λ later. states.left_commands outcome activity stores own) ∷ []))
       (duties-at own (ends_open (states.ends_report spools left) e failed) step
-      (open-silent Free tt Any any-lasts spools left e failed) holds)
+      (open-are (common-silent Free tt Any any-lasts) spools left e failed) holds)
       (λ next at. behind next at))
     where
       activity : Booked
@@ -135,11 +138,11 @@ module _ (plan : EquipmentPlan) (said : List ToolCommand) (before : List Happeni
 
       first-silent : AreSilent Free tt Any any-lasts first
       first-silent =
-          both-silent Free tt Any any-lasts (states.comms_lines own.comms.state outcome.next.state)
+          are-both (IsSilent Free tt Any any-lasts) (states.comms_lines own.comms.state outcome.next.state)
           (lines_commands activity.lines)
-          (comms-lines-silent Free tt Any any-lasts own.comms.state outcome.next.state)
+          (comms-noted (common-silent Free tt Any any-lasts) own.comms.state outcome.next.state)
           (lines-silent Free tt Any any-lasts activity.lines
-          (activated-quiet enabled (with_unload None own.ledger)))
+          (activated-lines spool-quiet enabled (with_unload None own.ledger)))
 
       puts : (step : CoreStep) → HoldsAt own step → Ends plan said before own (carried Some rest step)
       puts step holds =
@@ -148,7 +151,7 @@ module _ (plan : EquipmentPlan) (said : List ToolCommand) (before : List Happeni
           (filter_map (states.stored_of spools left) e.transactions.begun) activity.next (so_far plan said before step)
           (all-kept plan said before own left step.next.drawn (so_far plan said before step) spools
           e.transactions.begun refl refl holds))
-          (request-commands-silent Free tt Any any-lasts outcome.output own) holds
+          (request-are (common-silent Free tt Any any-lasts) (λ body. (refl, refl)) outcome.output own) holds
 
       behind : (step : CoreStep) → HoldsAt own step
           → Ends plan said before last_own
@@ -192,23 +195,24 @@ module _ (plan : EquipmentPlan) (said : List ToolCommand) (before : List Happeni
       (control-plain Free tt Any any-lasts control_in.AttemptFailed own)
   loss-keeps now kind.Grant system own e =
       plain plan said before own (loss_turn now kind.Grant system own e)
-      (denied-plain Free tt Any any-lasts own (without_grant system own) (ungranted own system))
+      (denied-of (common-silent Free tt Any any-lasts) states-stay own (without_grant system own)
+      (ungranted own system))
   loss-keeps now kind.Report system own e = λ step holds.
       holds-less plan said own (without_report system own) (so_far plan said before step) holds (unreported own system)
   loss-keeps now kind.Unload system own e = λ step holds.
       holds-less plan said own (unloaded_own own) (so_far plan said before step) holds
-      (booked-stays Free tt Any any-lasts own (with_unload None own.ledger))
+      (booked-stays own (with_unload None own.ledger))
   loss-keeps now kind.UnloadGrant system own e =
       plain plan said before own (loss_turn now kind.UnloadGrant system own e)
-      (denied-plain Free tt Any any-lasts own (unloaded_own own)
-      (booked-stays Free tt Any any-lasts own (with_unload None own.ledger)))
+      (denied-of (common-silent Free tt Any any-lasts) states-stay own (unloaded_own own)
+      (booked-stays own (with_unload None own.ledger)))
   loss-keeps now kind.Trace system own e =
       plain plan said before own (loss_turn now kind.Trace system own e)
-      (nothing-plain Free tt Any any-lasts own)
+      (nothing-of own own (itself own))
   loss-keeps now kind.TraceGrant system own e =
       plain plan said before own (loss_turn now kind.TraceGrant system own e)
       (untraced-plain Free tt Any any-lasts own (without_waiting_data system own)
-      (stays Free tt Any any-lasts own (without_waiting_data system own) refl refl refl refl refl))
+      (stays own (without_waiting_data system own) refl refl refl refl refl))
 
   pub timeout-keeps :
       (now : ℕ) (primary : Option (Header × Kind)) (own : OwnView) (e : EndView Kind)
@@ -216,7 +220,7 @@ module _ (plan : EquipmentPlan) (said : List ToolCommand) (before : List Happeni
   timeout-keeps now None own e step holds = holds
   timeout-keeps now (Some primary) own e step holds =
       before-at own (sent.error_duty 9 primary.0 lost.own ∷ []) lost step
-      (errors-silent Free tt Any any-lasts 9 refl primary.0 lost.own)
+      (errors-are (common-silent Free tt Any any-lasts) 9 (λ body. (refl, refl)) primary.0 lost.own)
       (loss-keeps now primary.1 primary.0.system own e step) holds
     where
       lost : ToolTurn
@@ -338,8 +342,8 @@ module _ (plan : EquipmentPlan) (said : List ToolCommand) (before : List Happeni
       go (Some number) is = by number is (is_crowded_out (is_some unsent.kind) step.next)
 
   kept-or-ended : (crowded : Bool) (own : OwnView) → IsNoMore own (if crowded then unloaded_own own else own)
-  kept-or-ended true own = booked-stays Free tt Any any-lasts own (with_unload None own.ledger)
-  kept-or-ended false own = itself Free tt Any any-lasts own
+  kept-or-ended true own = booked-stays own (with_unload None own.ledger)
+  kept-or-ended false own = itself own
 
   unloading-keeps :
       (message : Spooled) → (message.function % 2 == 1) ≡ true → (own : OwnView) (e : EndView Kind)
@@ -355,11 +359,11 @@ module _ (plan : EquipmentPlan) (said : List ToolCommand) (before : List Happeni
       → Keeps plan said before own (inquiry_turn asked own e)
   leave-keeps (answer.Body asked) own e =
       plain plan said before own (inquiry_turn (answer.Body asked) own e)
-      (fixed-plain Free tt Any any-lasts own (if is_crowded_out true e then unloaded_own own else own)
+      (fixed-of own (if is_crowded_out true e then unloaded_own own else own)
       (Primary (unload_request asked) ∷ []) (kept-or-ended (is_crowded_out true e) own) ((refl, refl), tt))
   leave-keeps answer.TooLong own e = λ step holds.
       holds-less plan said own (unloaded_own own) (so_far plan said before step) holds
-      (booked-stays Free tt Any any-lasts own (with_unload None own.ledger))
+      (booked-stays own (with_unload None own.ledger))
 
   out-keeps :
       (message : Spooled) → (message.function % 2 == 1) ≡ true → (own : OwnView) (e : EndView Kind)
@@ -389,7 +393,7 @@ module _ (plan : EquipmentPlan) (said : List ToolCommand) (before : List Happeni
       (so_far plan said before (noted Some (Happening.Try number system) next))
       (noted-so plan said before own (Happening.Try number system) next
       (tried-note own step.next.drawn number system (so_far plan said before step) holds))
-      (tried-stays Free tt Any any-lasts own (taken_up number system (waiting_text message) own.ledger).next system))
+      (tried-stays own (taken_up number system (waiting_text message) own.ledger).next system))
     where
       tried_own : OwnView
       tried_own = with_tried system (with_ledger (taken_up number system (waiting_text message) own.ledger).next own)
@@ -411,7 +415,7 @@ module _ (plan : EquipmentPlan) (said : List ToolCommand) (before : List Happeni
       held : HoldsAt on step
       held =
           holds-less plan said own on (so_far plan said before step) holds
-          (booked-stays Free tt Any any-lasts own (after_next most own.ledger))
+          (booked-stays own (after_next most own.ledger))
 
       go : (number : Option ℕ) (oldest : Option Spooled)
           → IfSome oldest (λ message. (message.function % 2 == 1) ≡ true)
@@ -443,4 +447,4 @@ module _ (plan : EquipmentPlan) (said : List ToolCommand) (before : List Happeni
       go (Some body) =
           unloading-keeps (event_report body) refl (with_ledger (with_each let_go own.ledger) own) e step
           (holds-less plan said own (with_ledger (with_each let_go own.ledger) own) (so_far plan said before step) holds
-          (booked-stays Free tt Any any-lasts own (with_each let_go own.ledger)))
+          (booked-stays own (with_each let_go own.ledger)))

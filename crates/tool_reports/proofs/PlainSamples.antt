@@ -15,7 +15,8 @@ use Rattle.tool_step.specs.Reports.{unreported_turn}
 use Rattle.tool_step.specs.Sampling.{first_turn, granted_trace_turn, data_inquiry_own, data_inquiry_turn, made_part, sampled_text_turn, sampled_turn, sampling, trace_data, trace_data_turn, trace_grant_turn, trace_inquiry, trace_name, trace_sent_turn, denied_data_turn, with_data_inquiry, with_made}
 use Rattle.tool_step.specs.Sent as sent
 use Rattle.tool_step.specs.Spooling.{dataid_in}
-use Rattle.tool_reports.proofs.PlainTurns.{IsNoMore, IsPlain, fixed-plain, stays}
+use Rattle.tool_law.proofs.TurnWalks.{nothing-of, fixed-of, note-of}
+use Rattle.tool_reports.proofs.PlainTurns.{IsPlain, IsNoMore, stays, itself}
 use Rattle.tool_reports.proofs.QuietNotes.{IsAsBefore, IsQuietNote}
 
 module _
@@ -23,27 +24,25 @@ module _
     (lasts : (old new : List Happening) → IsAsBefore old new → Fact old → Fact new) where
   pub sampling-plain : (now : ℕ) (own : OwnView) (e : EndView Kind)
       → IsPlain Asks none Fact lasts own (sampling now own e)
-  sampling-plain now own e = record {
-    silent = tt;
-    less = stays Asks none Fact lasts own (sampling now own e).own refl refl refl refl refl;
-  }
+  sampling-plain now own e =
+      nothing-of own (sampling now own e).own (stays own (sampling now own e).own refl refl refl refl refl)
 
   -- of an own that keeps no more
   module _ (own other : OwnView) (less : IsNoMore own other) where
     noted-plain : (what : Happening) → IsQuietNote what
         → IsPlain Asks none Fact lasts own (fixed_turn other (Note what ∷ []))
-    noted-plain what quiet = fixed-plain Asks none Fact lasts own other (Note what ∷ []) less (quiet, tt)
+    noted-plain what quiet = note-of own other what less quiet
 
     sent-plain : (body : List ℕ) → IsPlain Asks none Fact lasts own (trace_sent_turn body other)
     sent-plain body =
-        fixed-plain Asks none Fact lasts own other (Primary (trace_data body) ∷ []) less ((refl, refl), tt)
+        fixed-of own other (Primary (trace_data body) ∷ []) less ((refl, refl), tt)
 
     pub untraced-plain : IsPlain Asks none Fact lasts own (denied_data_turn other)
     untraced-plain = noted-plain (Happening.Denied trace_name) tt
 
     pub granted-trace-plain : (waiting : Option (List ℕ))
         → IsPlain Asks none Fact lasts own (granted_trace_turn waiting other)
-    granted-trace-plain None = record { silent = tt; less = less }
+    granted-trace-plain None = nothing-of own other less
     granted-trace-plain (Some body) = sent-plain body
 
     inquired-less : (body : List ℕ) (e : EndView Kind) → IsNoMore own (data_inquiry_own body other e)
@@ -64,9 +63,9 @@ module _
     inquired-plain : (asked : Text) (body : List ℕ) (e : EndView Kind)
         → IsPlain Asks none Fact lasts own (data_inquiry_turn asked body other e)
     inquired-plain (answer.Body text) body e =
-        fixed-plain Asks none Fact lasts own (data_inquiry_own body other e) (Primary (trace_inquiry text) ∷ [])
+        fixed-of own (data_inquiry_own body other e) (Primary (trace_inquiry text) ∷ [])
         (inquired-less body e) ((refl, refl), tt)
-    inquired-plain answer.TooLong body e = record { silent = tt; less = less }
+    inquired-plain answer.TooLong body e = nothing-of own other less
 
     data-plain : (body : List ℕ) (e : EndView Kind)
         → IsPlain Asks none Fact lasts own (trace_data_turn body other e)
@@ -103,7 +102,7 @@ module _
   made-plain own e = go own.tracing.made
     where
       go : (made : List Item) → IsPlain Asks none Fact lasts own (first_turn made own e)
-      go [] = record { silent = tt; less = stays Asks none Fact lasts own own refl refl refl refl refl }
+      go [] = nothing-of own own (itself own)
       go (item ∷ items) =
           sampled-plain own (with_made items own)
-          (stays Asks none Fact lasts own (with_made items own) refl refl refl refl refl) item e
+          (stays own (with_made items own) refl refl refl refl refl) item e

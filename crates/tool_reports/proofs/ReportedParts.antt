@@ -37,6 +37,9 @@ use Rattle.tool_reports.specs.Histories.{with_command}
 use Rattle.tool_step.specs.Sampling.{made_part, sample_parts, sampling}
 use Rattle.tool_step.specs.Sent as sent
 use Rattle.tool_step.specs.States as states
+use Rattle.tool_law.proofs.CommandWalks.{errors-are}
+use Rattle.tool_law.proofs.TurnWalks.{nothing-of, fixed-of, led-of, error-of}
+use Rattle.tool_law.proofs.LedgerLines.{rested-lines}
 use Rattle.tool_law.proofs.Lawful.{split-change}
 use Rattle.tool_reports.specs.Reported.{Reported, due_behind}
 use Rattle.tool_step.specs.Spooling.{end_of_spooling, unload_part}
@@ -49,11 +52,11 @@ use Rattle.tool_reports.proofs.HeldReports.{Any, any-lasts, Ends, Free, Keeps, K
 use Rattle.tool_reports.proofs.QuietReports.{Holds}
 use Rattle.tool_reports.proofs.LeavingReports.{by-t4-keeps, given-up-keeps, leaving-keeps, timeout-keeps, unload-keeps}
 use Rattle.tool_reports.proofs.PlainSamples.{made-plain, sampling-plain}
-use Rattle.tool_reports.proofs.PlainTurns.{IsPlain, booked-plain, comms-plain, error-plain, errors-silent, fixed-plain, itself, led-plain, nothing-plain, rested-quiet}
+use Rattle.tool_reports.proofs.PlainTurns.{spool-quiet, states-stay, IsPlain, itself, booked-plain, comms-plain}
 use Rattle.tool_reports.proofs.QuietNotes.{AreSettled, adds-quiet, one-behind}
 use Rattle.message_end.proofs.Parts.{OnEither, either-then}
 use Rattle.tool_law.proofs.CoreSteps.{CoreStep}
-use Rattle.tool_reports.proofs.SilentCommands.{told-drawn, told-quiet}
+use Rattle.tool_reports.proofs.SilentCommands.{common-silent, told-drawn, told-quiet}
 use Rattle.message_end.proofs.Growing.{behind-both}
 
 asks-newest : (message : Message) → AsksOf message (asked_by message)
@@ -253,16 +256,16 @@ module _ (plan : EquipmentPlan) (fits : EquipmentPlanFits plan) (looked : Tables
         → Ends plan said before (flow_turn now header came own e).own
         (all_done Some (flow_turn now header came own e).duties next)
     came-keeps now header flow.Part own e old next is =
-        plain plan said before own (quiet_turn own) (nothing-plain Free tt Any any-lasts own) next
+        plain plan said before own (quiet_turn own) (nothing-of own own (itself own)) next
     came-keeps now header (flow.Whole message check) own e old next is =
         message-keeps plan fits looked said before now header message own e (so_far plan said before old) next
         (subst (λ (s : CoreStep). AsksOf message s.next.asked) (sym is) (asks-newest message))
         (ap (λ (s : CoreStep). so_far plan said before s) is ∙ one-behind old.notes (Happening.Received message) before)
     came-keeps now header flow.Duplicate own e old next is =
-        plain plan said before own (quiet_turn own) (nothing-plain Free tt Any any-lasts own) next
+        plain plan said before own (quiet_turn own) (nothing-of own own (itself own)) next
     came-keeps now header (flow.Foreign address) own e old next is =
         plain plan said before own (turn_of own (sent.error_duty 1 header own ∷ []))
-        (error-plain Free tt Any any-lasts 1 refl header own) next
+        (error-of (common-silent Free tt Any any-lasts) states-stay 1 (λ body. (refl, refl)) header own) next
     came-keeps now header flow.Unexpected own e old next is = given-up-keeps plan said before now header own e next
     came-keeps now header flow.TooLong own e old next is = go (is_spent e)
       where
@@ -272,7 +275,7 @@ module _ (plan : EquipmentPlan) (fits : EquipmentPlanFits plan) (looked : Tables
             (all_done Some (long_turn spent header own (given_up_turn now header own e)).duties next)
         go true =
             plain plan said before own (fixed_turn own (Halt ∷ []))
-            (fixed-plain Free tt Any any-lasts own own (Halt ∷ []) (itself Free tt Any any-lasts own) (tt, tt)) next
+            (fixed-of own own (Halt ∷ []) (itself own) (tt, tt)) next
         go false = λ holds.
             either-then (λ last. Holds plan said own last.next.drawn (so_far plan said before last))
             (λ last. AreSettled plan (so_far plan said before last))
@@ -281,7 +284,7 @@ module _ (plan : EquipmentPlan) (fits : EquipmentPlanFits plan) (looked : Tables
             (carried Some (sent.error_duty 11 header own next.next) next)
             (all_done Some (given_up_turn now header own e).duties)
             (silent-at plan said before own (sent.error_duty 11 header own next.next) next
-            ((errors-silent Free tt Any any-lasts 11 refl header own).0 next.next tt) holds)
+            ((errors-are (common-silent Free tt Any any-lasts) 11 (λ body. (refl, refl)) header own).0 next.next) holds)
             (λ last at. given-up-keeps plan said before now header own e last at)
     came-keeps now header flow.Crowded own e old next is = given-up-keeps plan said before now header own e next
 
@@ -309,7 +312,7 @@ module _ (plan : EquipmentPlan) (fits : EquipmentPlanFits plan) (looked : Tables
             → Holds plan said own (next event.Failed).next.drawn (so_far plan said before (next event.Failed))
             → Ends plan said before (took_turn now (failed_as header) own e).own
             (all_done Some (took_turn now (failed_as header) own e).duties (next event.Failed))
-        failed None = plain plan said before own (quiet_turn own) (nothing-plain Free tt Any any-lasts own)
+        failed None = plain plan said before own (quiet_turn own) (nothing-of own own (itself own))
             (next event.Failed)
         failed (Some header) = failed-keeps now (Some header) own e (next event.Failed)
 
@@ -318,11 +321,11 @@ module _ (plan : EquipmentPlan) (fits : EquipmentPlanFits plan) (looked : Tables
             → Ends plan said before (took_turn now (took_by step.next happened) own e).own
             (all_done Some (took_turn now (took_by step.next happened) own e).duties (next happened))
         go event.Nothing =
-            plain plan said before own (quiet_turn own) (nothing-plain Free tt Any any-lasts own) (next event.Nothing)
+            plain plan said before own (quiet_turn own) (nothing-of own own (itself own)) (next event.Nothing)
         go event.Sent =
-            plain plan said before own (quiet_turn own) (nothing-plain Free tt Any any-lasts own) (next event.Sent)
+            plain plan said before own (quiet_turn own) (nothing-of own own (itself own)) (next event.Sent)
         go (event.Refused cause) =
-            plain plan said before own (quiet_turn own) (nothing-plain Free tt Any any-lasts own)
+            plain plan said before own (quiet_turn own) (nothing-of own own (itself own))
             (next (event.Refused cause))
         go event.Failed = failed (held_header step.next.line.held)
         go (event.Arrived block) =
@@ -347,20 +350,20 @@ module _ (plan : EquipmentPlan) (fits : EquipmentPlanFits plan) (looked : Tables
         as_begun : (turn : ToolTurn) → IsPlain Free tt Any any-lasts (begun own) turn
             → IsPlain Free tt Any any-lasts own turn
         as_begun turn is = record {
-          silent = is.silent;
-          less = record {
-            plan_is = is.less.plan_is;
-            tables_are = is.less.tables_are;
-            events_are = is.less.events_are;
-            fewer = is.less.fewer;
-            live = is.less.live;
+          duties = is.duties;
+          keeps = record {
+            plan_is = is.keeps.plan_is;
+            tables_are = is.keeps.tables_are;
+            events_are = is.keeps.events_are;
+            fewer = is.keeps.fewer;
+            live = is.keeps.live;
           };
         }
 
         go : (over : Bool)
             → IsPlain Free tt Any any-lasts own (if over then quiet_turn (begun own)
             else states.comms_turn comms_in.Enable now (begun own))
-        go true = as_begun (quiet_turn (begun own)) (nothing-plain Free tt Any any-lasts (begun own))
+        go true = as_begun (quiet_turn (begun own)) (nothing-of (begun own) (begun own) (itself (begun own)))
         go false =
             as_begun (states.comms_turn comms_in.Enable now (begun own))
             (comms-plain Free tt Any any-lasts comms_in.Enable now
@@ -401,12 +404,12 @@ module _ (plan : EquipmentPlan) (fits : EquipmentPlanFits plan) (looked : Tables
 
     pub offer-plain : (now : ℕ) (own : OwnView) (e : EndView Kind) → IsPlain Free tt Any any-lasts own (offer now own e)
     offer-plain now own e =
-        led-plain Free tt Any any-lasts own (Offer now) (fixed_turn own []) (tt, tt)
-        (fixed-plain Free tt Any any-lasts own own [] (itself Free tt Any any-lasts own) tt)
+        led-of own (Offer now) (fixed_turn own []) tt
+        (fixed-of own own [] (itself own) tt)
 
     pub closes-plain : (own : OwnView) (e : EndView Kind) → IsPlain Free tt Any any-lasts own (closes own e)
     closes-plain own e =
-        fixed-plain Free tt Any any-lasts own own (CloseStep ∷ []) (itself Free tt Any any-lasts own) (tt, tt)
+        fixed-of own own (CloseStep ∷ []) (itself own) (tt, tt)
 
   -- some parts, and others behind them
   parts-then :
@@ -427,7 +430,7 @@ module _ (plan : EquipmentPlan) (fits : EquipmentPlanFits plan) (looked : Tables
       (after_turn Some (input_part input now step.next.own step.next.core) step)
   input-keeps said before (Char byte) now step holds = char-keeps said before byte now step holds
   input-keeps said before Time now step holds =
-      plain-part said before (input_part Time now) (λ own e. nothing-plain Free tt Any any-lasts own) step holds
+      plain-part said before (input_part Time now) (λ own e. nothing-of own own (itself own)) step holds
   input-keeps said before (Told command) now step holds =
       of-ends (command ∷ said) before (told_turn command now step.next.own step.next.core) step
       (told-keeps plan fits looked said before command now step.next.own step.next.core (core_step step) holds)
@@ -471,7 +474,7 @@ module _ (plan : EquipmentPlan) (fits : EquipmentPlanFits plan) (looked : Tables
           plain-part said before end_of_spooling
               (λ own e.
               booked-plain Free tt Any any-lasts own (rested (is_communicating own) own.ledger)
-              (rested-quiet (is_communicating own) own.ledger)),
+              (rested-lines spool-quiet (is_communicating own) own.ledger)),
           (
             plain-part said before (offer now) (offer-plain said before now),
             (plain-part said before closes (closes-plain said before), tt),

@@ -38,7 +38,6 @@ use Rattle.tool_reports.specs.Reported.{Reported}
 use Rattle.tool_law.specs.Sound.{AllCanBeSent, CanBeSent}
 use Rattle.tool_law.proofs.SpoolSound.{new-good}
 use Rattle.tool_step.specs.Step.{begun, first_parts, last_parts}
-use Rattle.tool_reports.proofs.HeldReports.{Any, any-lasts, Free}
 use Rattle.tool_reports.proofs.QuietReports.{Holds, holds-as, holds-less}
 use Rattle.tool_reports.proofs.PlainTurns.{booked-stays}
 use Rattle.tool_reports.proofs.QuietNotes.{AreSettled, quiet-note, settled-more}
@@ -74,7 +73,7 @@ module _ (plan : EquipmentPlan) (fits : EquipmentPlanFits plan) (looked : Tables
       → FileEnds said before went → FileEnds said before (settled_went went)
   settled-so said before (Goes step) at =
       holds-less plan said step.next.node.own (settled_own step.next.node.own) (noted_behind step.notes before) at
-      (booked-stays Free tt Any any-lasts step.next.node.own (carried_out step.next.node.own.ledger))
+      (booked-stays step.next.node.own (carried_out step.next.node.own.ledger))
   settled-so said before (Spent step) at = at
 
   pub odd-of : (oldest : Option Spooled) → IfSome oldest CanBeSent

@@ -31,6 +31,7 @@ use Rattle.tool_step.specs.Own.{ToolCommands, ToolDuty}
 use Rattle.tool_reports.specs.Reported.{is_answer, is_of}
 use Rattle.tool_reports.proofs.QuietNotes.{AddsQuiet, Follows, follows, none-of, none-sent, quiet-note, IsAsBefore, IsQuietNote, as-before-both, as-it-was}
 use Rattle.message_end.proofs.Parts.{OnEither, either-then, either-less}
+use Rattle.tool_law.proofs.CommandWalks.{AllAre, AllDo, HasCommon}
 use Rattle.tool_law.proofs.CoreSteps.{CoreStep}
 
 never : (b : Bool) → (b && false) ≡ false
@@ -54,22 +55,26 @@ module _
   IsSilent _ = Unit {0}
 
   abbrev pub AreSilent : ToolCommands → Type 0
-  AreSilent [] = Unit {0}
-  AreSilent (command ∷ commands) = IsSilent command × AreSilent commands
+  AreSilent commands = AllAre IsSilent commands
 
   abbrev pub AreSilentDuties : List ToolDuty → Type 0
-  AreSilentDuties [] = Unit {0}
-  AreSilentDuties (duty ∷ duties) = ((e : EndView Kind) → Asks e.asked → AreSilent (duty e)) × AreSilentDuties duties
+  AreSilentDuties duties = AllDo IsSilent duties
 
-  pub both-silent : (first second : ToolCommands) → AreSilent first → AreSilent second → AreSilent (first ++ second)
-  both-silent [] second one two = two
-  both-silent (command ∷ first) second one two = (one.0, both-silent first second one.1 two)
-
-  pub both-duties :
-      (first second : List ToolDuty) → AreSilentDuties first → AreSilentDuties second
-      → AreSilentDuties (first ++ second)
-  both-duties [] second one two = two
-  both-duties (duty ∷ first) second one two = (one.0, both-duties first second one.1 two)
+  pub common-silent : HasCommon IsSilent
+  common-silent = record {
+    comms = λ state. tt;
+    control = λ state. tt;
+    failed = λ title. tt;
+    dropped = λ name. tt;
+    denied = λ name. tt;
+    too_long = λ name. tt;
+    full = λ name. tt;
+    ends = λ system. tt;
+    removes = λ system. tt;
+    recalls = λ header. tt;
+    drops = tt;
+    aborts = tt;
+  }
 
   module _ (before : List Happening) where
     -- a note of another step, read behind those before
@@ -293,7 +298,7 @@ module _
         record { notes = as-it-was (noted_behind step.notes before); drawn = refl; asks = asks }
     done-quietly (duty ∷ duties) step silent asks fact =
         either-then (IsQuietly step) (IsQuietly step) (IsQuietly step) (carried Some (duty step.next) step)
-        (all_done Some duties) (carried-quietly (duty step.next) step (silent.0 step.next asks) asks fact)
+        (all_done Some duties) (carried-quietly (duty step.next) step (silent.0 step.next) asks fact)
         (λ next first.
         quietly-more step next (all_done Some duties next) first (done-quietly duties next silent.1 first.asks
         (lasts (noted_behind step.notes before) (noted_behind next.notes before) first.notes fact)))

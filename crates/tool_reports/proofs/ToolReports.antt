@@ -10,12 +10,8 @@ use Rattle.gem_alarms.specs.declared.alarms.AlarmStep.{AlarmStep}
 use Rattle.gem_alarms.specs.declared.alarms.AlarmStep.TheVariants as alarm_step
 use Rattle.gem_alarms.specs.Alarms.{AlarmTable, alarm_in, step_for, step_of, with_set}
 use Rattle.gem_reports.specs.Reporting.{is_enabled_in, is_planned}
-use Rattle.gem_states.specs.Control.{control_next, control_step}
 use Rattle.gem_states.specs.declared.comms.CommsIn.TheVariants as comms_in
-use Rattle.gem_states.specs.declared.control.ControlIn.{ControlIn}
 use Rattle.gem_states.specs.declared.control.ControlIn.TheVariants as control_in
-use Rattle.gem_states.specs.declared.control.ControlOut.{ControlOut}
-use Rattle.gem_states.specs.declared.control.ControlOut.TheVariants as control_out
 use Rattle.gem_tables.specs.Rows.{with_row}
 use Rattle.gem_vars.specs.declared.settings.Setting.{Setting}
 use Rattle.gem_vars.specs.Settings.{refusal_of}
@@ -38,7 +34,7 @@ use Rattle.equipment_tables.specs.Past.{tables_at}
 use Rattle.equipment_tables.specs.Plan.{EquipmentPlanFits}
 use Rattle.equipment_tables.specs.Tables.{TablesState, after_command, alarm_after, set_by}
 use Rattle.tool_step.specs.declared.kind.Kind.{Kind}
-use Rattle.tool_step.specs.Own.{OwnView, ToolTurn, event_report, is_communicating, is_online, quiet_turn, with_control, with_tables}
+use Rattle.tool_step.specs.Own.{OwnView, ToolTurn, event_report, is_communicating, is_online, quiet_turn, with_tables}
 use Rattle.tool_step.specs.Reports.{judged_turn, made_turn, text_turn, unreported_turn}
 use Rattle.tool_step.specs.Spooling.{is_spooled, stored_turn}
 use Rattle.trace_log.specs.Names.{Spooled}
@@ -46,11 +42,13 @@ use Rattle.message_end.specs.Own.{Has}
 use Rattle.tool_reports.specs.Reported.{Happened, IsReported, brought_by, commands_in, due_behind, events_in, is_brought, is_reported_by, next_dataid, past_in, reports_in, tables_in, tries_in}
 use Rattle.tool_step.specs.Sent as sent
 use Rattle.tool_step.specs.States as states
-use Rattle.tool_step.specs.Tool.{alarm_report_turn, alarm_turn, attempt_turn, attempted_turn, command_turn, enabled_turn, known_event_turn, online_turn, refused_turn, set_turn, told_turn, with_event}
+use Rattle.tool_step.specs.Tool.{alarm_report_turn, alarm_turn, command_turn, enabled_turn, known_event_turn, refused_turn, set_turn, told_turn, with_event}
+use Rattle.tool_law.proofs.TurnWalks.{nothing-of, fixed-of, note-of, online-of}
+use Rattle.tool_reports.proofs.SilentCommands.{common-silent}
 use Rattle.tool_reports.proofs.HeldReports.{Any, any-lasts, Ends, Free, noted-so, plain, reports-at, so_far, stored-keeps}
 use Rattle.tool_reports.proofs.QuietReports.{HasSpare, Holds, brought-settled, due-of, event-noted, event-spare, holds-less, waits-as, with-waiting}
 use Rattle.tool_reports.proofs.LeavingReports.{leaving-keeps}
-use Rattle.tool_reports.proofs.PlainTurns.{IsPlain, at-most, comms-plain, control-lines, control-plain, count_waiting, fixed-plain, itself, note-plain, nothing-plain, report-plain}
+use Rattle.tool_reports.proofs.PlainTurns.{states-stay, IsPlain, itself, report-plain, comms-plain, control-plain, count_waiting, at-most}
 use Rattle.tool_reports.proofs.QuietNotes.{one-behind, settled-more}
 use Rattle.tool_law.proofs.CoreSteps.{CoreStep}
 
@@ -166,63 +164,6 @@ recorded command = Happening.Recorded (Past.Commanded command)
 module _
     (plan : EquipmentPlan) (fits : EquipmentPlanFits plan) (looked : TablesAreLookedBackFor)
     (said : List ToolCommand) (before : List Happening) where
-  attempt-plain : (own : OwnView) (e : EndView Kind) → IsPlain Free tt Any any-lasts own (attempt_turn own e)
-  attempt-plain own e = go (is_crowded_out true e)
-    where
-      go : (crowded : Bool)
-          → IsPlain Free tt Any any-lasts own
-          (if crowded then
-          fixed_turn (with_control (control_next own.control control_in.AttemptFailed) own)
-          (Primary sent.online_request ∷ states.control_commands control_in.AttemptFailed own.control)
-          else fixed_turn own (Primary sent.online_request ∷ []))
-      go true = record {
-        silent = (
-          (λ f asks. (
-            (refl, refl),
-            control-lines Free tt Any any-lasts own.control.state (control_next own.control
-                control_in.AttemptFailed).state,
-          )),
-          tt,
-        );
-        less = record {
-          plan_is = refl;
-          tables_are = refl;
-          events_are = refl;
-          fewer = (itself Free tt Any any-lasts own).fewer;
-          live = λ one has is. has;
-        };
-      }
-      go false = fixed-plain Free tt Any any-lasts own own (Primary sent.online_request ∷ [])
-          (itself Free tt Any any-lasts own) ((refl, refl), tt)
-
-  attempted-plain : (out : ControlOut) (own : OwnView) (e : EndView Kind)
-      → IsPlain Free tt Any any-lasts own (attempted_turn out own e)
-  attempted-plain control_out.SendAttempt own e = attempt-plain own e
-  attempted-plain control_out.Nothing own e = nothing-plain Free tt Any any-lasts own
-  attempted-plain (control_out.Ack code) own e = nothing-plain Free tt Any any-lasts own
-  attempted-plain control_out.Abort own e = nothing-plain Free tt Any any-lasts own
-
-  online-plain : (own : OwnView) (e : EndView Kind) → IsPlain Free tt Any any-lasts own (online_turn own e)
-  online-plain own e =
-      let rest = attempted-plain (control_step own.control input).output
-      (with_control (control_step own.control input).next own) e in
-      record {
-        silent = (
-          (λ f asks. control-lines Free tt Any any-lasts own.control.state (control_step own.control input).next.state),
-          rest.silent,
-        );
-        less = record {
-          plan_is = rest.less.plan_is;
-          tables_are = rest.less.tables_are;
-          events_are = rest.less.events_are;
-          fewer = rest.less.fewer;
-          live = rest.less.live;
-        };
-      }
-    where
-      input : ControlIn
-      input = control_in.Online (is_communicating own)
-
   -- ---- an event
 
   asked-keeps :
@@ -234,8 +175,8 @@ module _
   asked-keeps (answer.Body asked) text own e step holds spare =
       plain plan said before (sent.granted_own text own e)
       (fixed_turn (sent.granted_own text own e) (Primary (sent.grant_request asked) ∷ []))
-      (fixed-plain Free tt Any any-lasts (sent.granted_own text own e) (sent.granted_own text own e)
-      (Primary (sent.grant_request asked) ∷ []) (itself Free tt Any any-lasts (sent.granted_own text own e))
+      (fixed-of (sent.granted_own text own e) (sent.granted_own text own e)
+      (Primary (sent.grant_request asked) ∷ []) (itself (sent.granted_own text own e))
       ((refl, refl), tt))
       step (go (is_crowded_out true e))
     where
@@ -288,7 +229,7 @@ module _
       go false true = event-keeps dataid text own e step holds spare
       go false false =
           plain plan said before own (unreported_turn states.event_name own)
-          (note-plain Free tt Any any-lasts own (Happening.Dropped states.event_name) tt) step holds
+          (note-of own own (Happening.Dropped states.event_name) (itself own) tt) step holds
 
   text-keeps :
       (dataid : ℕ) (text : Text) (own : OwnView) (e : EndView Kind) (step : CoreStep)
@@ -304,7 +245,7 @@ module _
       by_text (answer.Body body) is = made-keeps dataid body own e step holds (spare body is)
       by_text answer.TooLong is =
           plain plan said before own (fixed_turn own (Note (Happening.TooLong states.event_name) ∷ []))
-          (note-plain Free tt Any any-lasts own (Happening.TooLong states.event_name) tt) step holds
+          (note-of own own (Happening.TooLong states.event_name) (itself own) tt) step holds
 
       online_turn_by : Bool → ToolTurn
       online_turn_by b =
@@ -314,7 +255,7 @@ module _
       online true = by_text text refl
       online false =
           plain plan said before own (unreported_turn states.event_name own)
-          (note-plain Free tt Any any-lasts own (Happening.Dropped states.event_name) tt) step holds
+          (note-of own own (Happening.Dropped states.event_name) (itself own) tt) step holds
 
 -- ---- a command as it is noted, in a step before which the tool has said this
 
@@ -503,7 +444,7 @@ module _
       go true =
           report-plain Free tt Any any-lasts sent.alarm_report (λ body. (refl, refl)) (λ body. refl)
           (sent.text_of changed (alarm_item_of changed.tables alid)) changed e
-      go false = nothing-plain Free tt Any any-lasts changed
+      go false = nothing-of changed changed (itself changed)
 
   -- ---- events
 
@@ -537,7 +478,7 @@ module _
           (event-spare plan said own ceid own.plan.line.max_body body (so_far plan said before step) holds is text))
       go false is =
           plain plan (tool.Event ceid ∷ said) before (with_event own) (quiet_turn (with_event own))
-          (nothing-plain Free tt Any any-lasts (with_event own)) next noted_event
+          (nothing-of (with_event own) (with_event own) (itself (with_event own))) next noted_event
 
   -- ---- all of them
 
@@ -562,7 +503,7 @@ module _
       (other-noted tool.Disable own (so_far plan said before step) refl refl holds))
   told-keeps tool.Online now own e step holds =
       other-keeps tool.Online own (command_turn tool.Online now own e) step refl refl
-      (online-plain plan fits looked said before own e) holds
+      (online-of (common-silent Free tt Any any-lasts) states-stay (refl, refl) own e) holds
   told-keeps tool.Offline now own e step holds =
       other-keeps tool.Offline own (command_turn tool.Offline now own e) step refl refl
       (control-plain Free tt Any any-lasts control_in.Offline own) holds

@@ -37,6 +37,7 @@ use Rattle.tool_step.specs.declared.kind.Kind.{Kind}
 use Rattle.tool_step.specs.Own.{ToolCommands, ToolDuty}
 use Rattle.tool_reports.specs.Reported.{past_in}
 use Rattle.message_end.proofs.Parts.{OnEither}
+use Rattle.tool_law.proofs.CommandWalks.{AllAre, AllDo}
 use Rattle.tool_law.proofs.CoreSteps.{CoreStep}
 use Rattle.tool_spool.proofs.UnloadOpen.{IsLess, asks_grant, ends-less, last-open, less-both, timed-same, unloads_in, with_open}
 
@@ -153,12 +154,10 @@ IsCalm hears (Command.Take byte now) = hears ≡ true
 IsCalm hears _ = Unit {0}
 
 abbrev pub AreCalm : Bool → ToolCommands → Type 0
-AreCalm hears [] = Unit {0}
-AreCalm hears (command ∷ commands) = IsCalm hears command × AreCalm hears commands
+AreCalm hears commands = AllAre (IsCalm hears) commands
 
 abbrev pub AreCalmDuties : Bool → List ToolDuty → Type 0
-AreCalmDuties hears [] = Unit {0}
-AreCalmDuties hears (duty ∷ duties) = ((e : EndView Kind) → AreCalm hears (duty e)) × AreCalmDuties hears duties
+AreCalmDuties hears duties = AllDo (IsCalm hears) duties
 
 -- a reply carries nothing of the spool
 even-reply : (function : ℕ) → (function % 2 == 1) ≡ true → (reply_function function % 2 == 1) ≡ false

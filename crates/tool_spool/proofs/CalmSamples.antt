@@ -7,7 +7,7 @@ use Rattle.secs_items.specs.declared.item.Item.{Item}
 use Rattle.trace_log.specs.Log.{Happening}
 use Rattle.transact.specs.Numbers.{next_number}
 use Rattle.message_end.specs.Core.{EndView, is_crowded_out}
-use Rattle.message_end.specs.Core.Command.{Note, Primary}
+use Rattle.message_end.specs.Core.Command.{Primary}
 use Rattle.equipment_tables.specs.declared.answers.Answer.{Answer as Text}
 use Rattle.equipment_tables.specs.declared.answers.Answer.TheVariants as answer
 use Rattle.tool_step.specs.declared.kind.Kind.{Kind}
@@ -16,7 +16,8 @@ use Rattle.tool_step.specs.Reports.{unreported_turn}
 use Rattle.tool_step.specs.Sampling.{first_turn, granted_trace_turn, data_inquiry_own, data_inquiry_turn, made_part, sampled_text_turn, sampled_turn, sampling, tiaack_code, tiaack_in, trace_data, trace_data_turn, trace_grant_turn, trace_inquiry, trace_name, trace_sent_turn, trace_turn, denied_data_turn, with_data_inquiry, with_made}
 use Rattle.tool_step.specs.Sent as sent
 use Rattle.tool_step.specs.Spooling.{dataid_in}
-use Rattle.tool_spool.proofs.CalmParts.{IsCalmTurn, answers-calm, fixed-calm, like-as, likes, nothing-calm, too-long-calm, unreported-calm}
+use Rattle.tool_law.proofs.TurnWalks.{fixed-of, note-of, nothing-of}
+use Rattle.tool_spool.proofs.CalmParts.{IsCalmTurn, answers-calm, common-calm, like-as, likes, too-long-calm, unreported-calm}
 use Rattle.tool_spool.proofs.ShelvedTurns.{IsLikeIt}
 
 -- ---- S2F23
@@ -25,30 +26,31 @@ pub trace-calm : (asked : TraceRequest) (now : ℕ) (message : Message) (own : O
     → IsCalmTurn own (trace_turn asked now message own)
 trace-calm asked now message own = record {
   duties = answers-calm (sent.text_of own (code_item (tiaack_code (tiaack_in asked own)))) message;
-  like = like-as own (trace_turn asked now message own).own refl refl;
+  keeps = like-as own (trace_turn asked now message own).own refl refl;
 }
 
 -- ---- samples
 
 pub sampling-calm : (now : ℕ) (own : OwnView) (e : EndView Kind) → IsCalmTurn own (sampling now own e)
-sampling-calm now own e = record { duties = tt; like = like-as own (sampling now own e).own refl refl }
+sampling-calm now own e =
+    nothing-of own (sampling now own e).own (like-as own (sampling now own e).own refl refl)
 
 -- ---- S6F1
 
 trace-sent-calm : (body : List ℕ) (own : OwnView) → IsCalmTurn own (trace_sent_turn body own)
-trace-sent-calm body own = fixed-calm own own (Primary (trace_data body) ∷ []) (likes own) (refl, tt)
+trace-sent-calm body own = fixed-of own own (Primary (trace_data body) ∷ []) (likes own) (refl, tt)
 
 inquired-calm : (asked : Text) (body : List ℕ) (own : OwnView) (e : EndView Kind)
     → IsCalmTurn own (data_inquiry_turn asked body own e)
 inquired-calm (answer.Body text) body own e =
-    fixed-calm own (data_inquiry_own body own e) (Primary (trace_inquiry text) ∷ [])
+    fixed-of own (data_inquiry_own body own e) (Primary (trace_inquiry text) ∷ [])
     (go (is_crowded_out true e) (next_number e.numbers)) (refl, tt)
   where
     go : (crowded : Bool) (next : Option ℕ) → IsLikeIt own (if crowded then own else with_data_inquiry next body own)
     go true next = likes own
     go false None = likes own
     go false (Some system) = like-as own (with_data_inquiry (Some system) body own) refl refl
-inquired-calm answer.TooLong body own e = nothing-calm own
+inquired-calm answer.TooLong body own e = nothing-of own own (likes own)
 
 data-calm : (body : List ℕ) (own : OwnView) (e : EndView Kind) → IsCalmTurn own (trace_data_turn body own e)
 data-calm body own e = go (nat_le (length body) 244)
@@ -79,14 +81,14 @@ sampled-calm item own e = go (is_online own)
 with-less : (own other : OwnView) (turn : ToolTurn) → IsLikeIt own other → IsCalmTurn other turn → IsCalmTurn own turn
 with-less own other turn first is = record {
   duties = is.duties;
-  like = record { ledger = is.like.ledger ∙ first.ledger; reports = λ are. is.like.reports (first.reports are) };
+  keeps = record { ledger = is.keeps.ledger ∙ first.ledger; reports = λ are. is.keeps.reports (first.reports are) };
 }
 
 pub made-calm : (own : OwnView) (e : EndView Kind) → IsCalmTurn own (made_part own e)
 made-calm own e = go own.tracing.made
   where
     go : (made : List Item) → IsCalmTurn own (first_turn made own e)
-    go [] = nothing-calm own
+    go [] = nothing-of own own (likes own)
     go (item ∷ items) =
         with-less own (with_made items own) (sampled_turn item (with_made items own) e)
         (like-as own (with_made items own) refl refl) (sampled-calm item (with_made items own) e)
@@ -95,10 +97,10 @@ made-calm own e = go own.tracing.made
 
 pub untraced-calm : (own other : OwnView) → IsLikeIt own other → IsCalmTurn own (denied_data_turn other)
 untraced-calm own other like =
-    fixed-calm own other (Note (Happening.Denied trace_name) ∷ []) like (((λ told. tt), λ notes. refl), tt)
+    note-of own other (Happening.Denied trace_name) like (common-calm.denied trace_name)
 
 pub granted-trace-calm : (waiting : Option (List ℕ)) (own other : OwnView) → IsLikeIt own other
     → IsCalmTurn own (granted_trace_turn waiting other)
-granted-trace-calm None own other like = record { duties = tt; like = like }
+granted-trace-calm None own other like = nothing-of own other like
 granted-trace-calm (Some body) own other like =
     with-less own other (trace_sent_turn body other) like (trace-sent-calm body other)

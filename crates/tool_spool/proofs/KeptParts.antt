@@ -49,12 +49,14 @@ use Rattle.tool_step.specs.Spooling.{end_of_spooling, unload_part}
 use Rattle.tool_step.specs.States as states
 use Rattle.tool_step.specs.Step.{begun, beginning, character, delay_timer, failed_turn, first_parts, flow_turn, input_part, is_spent, last_parts, late_parts, line_timer, long_turn, offer, took_turn}
 use Rattle.tool_spool.proofs.CalmSamples.{made-calm, sampling-calm}
-use Rattle.tool_spool.proofs.CalmParts.{IsCalmTurn, closes-calm, comms-calm, error-turn-calm, errors-calm, fixed-calm, like-as, likes, offer-calm}
+use Rattle.tool_spool.proofs.CalmParts.{IsCalmTurn, closes-calm, comms-calm, error-turn-calm, errors-calm, like-as, likes, offer-calm}
 use Rattle.tool_spool.proofs.CalmTurns.{IsCalmRun, carry-run}
+use Rattle.tool_law.proofs.LedgerLines.{rested-lines}
+use Rattle.tool_law.proofs.TurnWalks.{fixed-of, nothing-of}
 use Rattle.tool_reports.proofs.HeldReports.{Any, Free, any-lasts}
 use Rattle.tool_reports.proofs.LeavingReports.{unload-keeps as unload-reports}
 use Rattle.tool_reports.proofs.PlainSamples.{made-plain, sampling-plain}
-use Rattle.tool_reports.proofs.PlainTurns.{booked-plain, comms-plain, rested-quiet}
+use Rattle.tool_reports.proofs.PlainTurns.{spool-quiet, booked-plain, comms-plain}
 use Rattle.tool_reports.proofs.QuietNotes.{AreSettled, one-behind}
 use Rattle.tool_reports.proofs.ReportedParts.{HoldsStep, NodeEnds, NodeStep, PartKeeps, begin-plain, closes-plain, input-keeps as input-reports, of-turn as of-reports, offer-plain, plain-part, t3-keeps, t4-keeps, tick-keeps}
 use Rattle.tool_spool.proofs.ShelvedTurns.{Ends, IsSpentAt, Shelves, run-keeps, spent-as}
@@ -105,10 +107,13 @@ module _ (plan : EquipmentPlan) (fits : EquipmentPlanFits plan) (looked : Tables
         go : (over : Bool)
             → IsCalmTurn own
             (if over then quiet_turn (begun own) else states.comms_turn comms_in.Enable now (begun own))
-        go true = record { duties = tt; like = like-as own (begun own) refl refl }
+        go true = nothing-of own (begun own) (like-as own (begun own) refl refl)
         go false =
             let comms = comms-calm comms_in.Enable now (begun own) in
-            record { duties = comms.duties; like = record { ledger = comms.like.ledger; reports = comms.like.reports } }
+            record {
+              duties = comms.duties;
+              keeps = record { ledger = comms.keeps.ledger; reports = comms.keeps.reports };
+            }
 
     given-up-turns :
         (now : ℕ) (header : Header) (own : OwnView) (e : EndView Kind) (step : CoreStep)
@@ -180,7 +185,7 @@ module _ (plan : EquipmentPlan) (fits : EquipmentPlanFits plan) (looked : Tables
         go : (spent : Bool) → Turns (long_turn spent header own (given_up_turn now header own e)) next
         go true =
             calm-turn plan slots list base before own (fixed_turn own (Halt ∷ [])) next
-            (fixed-calm own own (Halt ∷ []) (likes own) (tt, tt)) holds.shelves
+            (fixed-of own own (Halt ∷ []) (likes own) (tt, tt)) holds.shelves
         go false =
             either-then Stays (IsRight plan slots list base before given) (ShelvesAt plan slots list base before given)
             (carried Some (sent.error_duty 11 header own next.next) next)
@@ -462,7 +467,7 @@ module _ (plan : EquipmentPlan) (fits : EquipmentPlanFits plan) (looked : Tables
         (plain-part plan fits looked said before end_of_spooling
         (λ own e.
         booked-plain Free tt Any any-lasts own (rested (is_communicating own) own.ledger)
-        (rested-quiet (is_communicating own) own.ledger)))
+        (rested-lines spool-quiet (is_communicating own) own.ledger)))
         (λ at holds. rest-keeps plan slots list base before at.next.own at.next.core (core_step at) holds.shelves) one
         so.0)
         (rested-works one.next.own one.next.core ∙ so.1))

@@ -29,7 +29,6 @@ use Rattle.tool_step.specs.Own.{OwnView}
 use Rattle.tool_spool.specs.InPairs.{AreInPairs, changes_in}
 use Rattle.tool_spool.specs.SpoolKept.{policy_of}
 use Rattle.tool_step.specs.Step.{begun, end_plan, first_parts, last_parts}
-use Rattle.tool_reports.proofs.HeldReports.{Any, Free, any-lasts}
 use Rattle.tool_reports.proofs.QuietReports.{Holds, holds-less}
 use Rattle.tool_spool.specs.MadeRoom.{IsRoomUsed}
 use Rattle.tool_spool.proofs.FromStarts.{KeepsOn}
@@ -93,7 +92,7 @@ module _ (plan : EquipmentPlan) (fits : EquipmentPlanFits plan) (looked : Tables
   settled-both said base before step both = (
     (
       holds-less plan said step.next.node.own (settled_own step.next.node.own) (noted_behind step.notes before) both.0
-          (booked-stays Free tt Any any-lasts step.next.node.own (carried_out step.next.node.own.ledger)),
+          (booked-stays step.next.node.own (carried_out step.next.node.own.ledger)),
       record {
         is = one-call plan slots step.next.list base Call.TakeWorks step.next.node.own.ledger both.1.is tt;
         all = both.1.all;

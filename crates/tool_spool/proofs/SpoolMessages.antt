@@ -64,7 +64,9 @@ use Rattle.tool_spool.specs.SpoolKept.{is_purge, policy_of}
 use Rattle.tool_step.specs.States as states
 use Rattle.tool_step.specs.Tool.{alarm_report_turn, alarm_turn, command_turn, enabled_turn, known_event_turn, online_turn, refused_turn, set_turn, told_turn, with_event}
 use Rattle.tool_spool.proofs.CalmSamples.{granted-trace-calm, trace-calm}
-use Rattle.tool_spool.proofs.CalmParts.{abort-calm, answer-calm, comms-calm, control-calm, control-request-calm, dropped-calm, error-turn-calm, established-calm, event-calm, fixed-calm, going-calm, like-as, likes, offline-calm, online-calm, refused-calm, rsda-calm, stray-calm, unreported-like}
+use Rattle.tool_law.proofs.CommandWalks.{abort-are}
+use Rattle.tool_law.proofs.TurnWalks.{dropped-of, established-of, fixed-of, offline-of, online-of, stray-of}
+use Rattle.tool_spool.proofs.CalmParts.{answer-calm, comms-calm, common-calm, control-calm, control-request-calm, error-turn-calm, event-calm, going-calm, like-as, likes, refused-calm, rsda-calm, states-like, unreported-like}
 use Rattle.tool_spool.proofs.KeptLedger.{one-call}
 use Rattle.tool_spool.proofs.KeptUnload.{MayConfirm}
 use Rattle.tool_reports.proofs.QuietNotes.{one-behind}
@@ -382,7 +384,7 @@ module _ (plan : EquipmentPlan) (slots : ℕ) (list : List Put) (base before : L
           (rsda-calm message own) holds
   asked-turn request.Establish now message own step is newest holds =
       calm-keeps plan slots list base before false own own (sent.abort_duty message ∷ []) step (likes own)
-      (abort-calm message) holds
+      (abort-are common-calm message) holds
 
   read-keeps :
       (now : ℕ) (header : Header) (message : Message) (own : OwnView) (step : CoreStep) → IsNewest message step
@@ -447,12 +449,14 @@ module _ (plan : EquipmentPlan) (slots : ℕ) (list : List Put) (base before : L
           else if offline then offline_turn message own else known_turn now header message own) step
       go true silent offline =
           calm-turn plan slots list base before own (established_turn now message own) step
-          (established-calm now message own) holds.shelves
+          (established-of common-calm states-like (λ body. refl) message (λ body. tt) now own) holds.shelves
       go false true offline =
-          calm-turn plan slots list base before own (stray_turn now message own) step (stray-calm now message own)
+          calm-turn plan slots list base before own (stray_turn now message own) step
+          (stray-of common-calm states-like (λ body. refl) now message own)
           holds.shelves
       go false false true =
-          calm-turn plan slots list base before own (offline_turn message own) step (offline-calm message own)
+          calm-turn plan slots list base before own (offline_turn message own) step
+          (offline-of common-calm states-like message own)
           holds.shelves
       go false false false = known-keeps now header message own step newest holds
 
@@ -470,7 +474,8 @@ module _ (plan : EquipmentPlan) (slots : ℕ) (list : List Put) (base before : L
           (if disabled then dropped_turn message own else if odd then primary_turn now header message own
           else secondary_turn now header message own e) step
       go true odd is =
-          calm-turn plan slots list base before own (dropped_turn message own) step (dropped-calm message own)
+          calm-turn plan slots list base before own (dropped_turn message own) step
+          (dropped-of common-calm states-like message own)
           holds.shelves
       go false true is =
           primary-keeps now header message own step
@@ -498,7 +503,7 @@ module _ (plan : EquipmentPlan) (slots : ℕ) (list : List Put) (base before : L
           calm-turn plan slots list base before own (refused_turn own) step (refused-calm own) holds
       go None =
           calm-turn plan slots list base before own (set_turn None vid value own) step
-          (fixed-calm own (with_tables (set_after vid value own.tables) own) (Note (Happening.Set vid) ∷ [])
+          (fixed-of own (with_tables (set_after vid value own.tables) own) (Note (Happening.Set vid) ∷ [])
           (like-as own (with_tables (set_after vid value own.tables) own) refl refl)
           (((λ told. tt), λ notes. refl), tt)) holds
   command-keeps (tool.Event ceid) now own e step holds at = go (is_planned own.tables.reports ceid)
@@ -554,7 +559,7 @@ module _ (plan : EquipmentPlan) (slots : ℕ) (list : List Put) (base before : L
       go alarm_step.Unknown = calm-turn plan slots list base before own (refused_turn own) step (refused-calm own) holds
       go alarm_step.Same =
           calm-turn plan slots list base before own (alarm_turn alarm_step.Same alid is_set own e) step
-          (fixed-calm own own (Note (Happening.Alarm alid is_set) ∷ []) (likes own)
+          (fixed-of own own (Note (Happening.Alarm alid is_set) ∷ []) (likes own)
           (((λ told. tt), λ notes. refl), tt)) holds
       go (alarm_step.Changed enabled) = by enabled
   command-keeps tool.Enable now own e step holds at =
@@ -564,7 +569,8 @@ module _ (plan : EquipmentPlan) (slots : ℕ) (list : List Put) (base before : L
       leaving-keeps plan slots list base before comms_in.Disable None now own e step
       (record { shelves = holds; at = at })
   command-keeps tool.Online now own e step holds at =
-      calm-turn plan slots list base before own (online_turn own e) step (online-calm own e) holds
+      calm-turn plan slots list base before own (online_turn own e) step
+      (online-of common-calm states-like refl own e) holds
   command-keeps tool.Offline now own e step holds at =
       calm-turn plan slots list base before own (states.control_turn control_in.Offline own) step
       (control-calm control_in.Offline own) holds

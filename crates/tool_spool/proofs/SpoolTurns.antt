@@ -49,13 +49,15 @@ use Rattle.tool_spool.specs.SpoolKept.{policy_of}
 use Rattle.tool_step.specs.States as states
 use Rattle.tool_spool.proofs.CalmCommands.{AreCalm, AreCalmDuties}
 use Rattle.tool_spool.proofs.CalmSamples.{untraced-calm}
-use Rattle.tool_spool.proofs.CalmParts.{IsCalmTurn, comms-lines-calm, control-calm, denied-calm, errors-calm, likes, like-as, open-calm, request-calm, too-long-calm, unreported-calm, unreported-like}
+use Rattle.tool_spool.proofs.CalmParts.{IsCalmTurn, common-calm, control-calm, errors-calm, like-as, likes, states-like, too-long-calm, unreported-calm, unreported-like}
 use Rattle.tool_spool.proofs.CalmTurns.{IsCalmRun, IsReady, carried-run, done-run, ready-behind, runs-both}
 use Rattle.tool_reports.proofs.QuietReports.{has-found}
 use Rattle.tool_spool.proofs.KeptLedger.{IsKeptBy, IsPutWell}
 use Rattle.tool_spool.proofs.KeptUnload.{activated-kept, activated-unload}
-use Rattle.tool_law.proofs.Drawing.{Any, both-free, duties-go, free-goes, goes-either}
-use Rattle.tool_law.proofs.DrawnTurns.{comms-lines-free, noted-free, open-free}
+use Rattle.tool_law.proofs.CommandWalks.{are-both, comms-noted, open-are, request-are}
+use Rattle.tool_law.proofs.Drawing.{Any, IsFree, duties-go, free-goes, goes-either}
+use Rattle.tool_law.proofs.DrawnTurns.{common-free, noted-free}
+use Rattle.tool_law.proofs.TurnWalks.{denied-of}
 use Rattle.message_end.proofs.Growing.{behind-both}
 use Rattle.tool_spool.proofs.ShelvedTurns.{ArePutWell, Ends, IsSpentAt, Shelves, booked-keeps, calm-keeps, like-it, lines-carried, once, put-keeps, run-keeps, same-under, spent-at, stores-kept, stores-unload}
 use Rattle.message_end.proofs.Parts.{OnEither, either-then, either-less}
@@ -253,7 +255,7 @@ module _ (plan : EquipmentPlan) (slots : ℕ) (list : List Put) (base before : L
   pub calm-turn : (own : OwnView) (turn : ToolTurn) (step : CoreStep) → IsCalmTurn own turn → ShelvesAt own step
       → TurnEnds turn step
   calm-turn own turn step calm holds =
-      calm-keeps plan slots list base before false own turn.own turn.duties step calm.like calm.duties holds
+      calm-keeps plan slots list base before false own turn.own turn.duties step calm.keeps calm.duties holds
 
   pub calm-at : (own : OwnView) (commands : ToolCommands) (step : CoreStep) → AreCalm false commands → HoldsAt own step
       → EndsAt own (carried Some commands step)
@@ -354,10 +356,10 @@ module _ (plan : EquipmentPlan) (slots : ℕ) (list : List Put) (base before : L
       → OnEither (IsEnded step) (IsCalmRun false before step)
       (all_done Some (ends_open (states.ends_report spools left) e failed) step)
   open-ended spools left e None step ready =
-      begun-ended spools left (ends_waiting ∷ []) step (open-calm spools left e None) ready
+      begun-ended spools left (ends_waiting ∷ []) step (open-are common-calm spools left e None) ready
   open-ended spools left e (Some header) step ready =
       begun-ended spools left (ends_failed (is_of_open e header) header ∷ ends_waiting ∷ []) step
-      (open-calm spools left e (Some header)) ready
+      (open-are common-calm spools left e (Some header)) ready
 
   parted-keeps :
       (outcome : CommsOutcome) (spools enabled : Bool) (failed : Option Header) (own : OwnView) (e : EndView Kind)
@@ -369,7 +371,7 @@ module _ (plan : EquipmentPlan) (slots : ℕ) (list : List Put) (base before : L
       (either-then (HoldsAt (unloaded_own own)) (IsRight last_own) (ShelvesAt last_own) (all_done Some opens step)
       (all_done Some ((λ later. states.left_commands outcome activity stores own) ∷ []))
       (goes-either (HoldsAt (unloaded_own own)) Any (IsRight last_own) (all_done Some opens step)
-      (duties-go opens step (open-free spools left e failed))
+      (duties-go opens step (open-are common-free spools left e failed))
       (either-less (IsEnded step) (IsCalmRun false before step) (HoldsAt (unloaded_own own)) Any
       (all_done Some opens step)
       (open-ended spools left e failed step (record { drawn = holds.shelves.drawn; asks = holds.shelves.asks }))
@@ -423,9 +425,9 @@ module _ (plan : EquipmentPlan) (slots : ℕ) (list : List Put) (base before : L
           (goes-either (HoldsAt (unloaded_own own)) (IsRight (unloaded_own own)) (IsRight on)
           (carried Some (states.comms_lines own.comms.state outcome.next.state) next)
           (free-goes (states.comms_lines own.comms.state outcome.next.state) next
-          (comms-lines-free own.comms.state outcome.next.state))
+          (comms-noted common-free own.comms.state outcome.next.state))
           (calm-at (unloaded_own own) (states.comms_lines own.comms.state outcome.next.state) next
-          (comms-lines-calm own.comms.state outcome.next.state) at))
+          (comms-noted common-calm own.comms.state outcome.next.state) at))
           (λ mid kept.
           lines-at (unloaded_own own) activity.next activity.lines mid
           (activated-kept plan slots list base (with_unload None own.ledger) (so_far mid) kept.shelves.is
@@ -438,7 +440,8 @@ module _ (plan : EquipmentPlan) (slots : ℕ) (list : List Put) (base before : L
           (IsRight last_own)
           (carried Some rest next)
           (stores-at on messages (states.request_commands outcome.output own) next
-          (all-well left spools e.transactions.begun holds.shelves.reports) (request-calm outcome.output own) at)
+          (all-well left spools e.transactions.begun holds.shelves.reports)
+          (request-are common-calm (λ body. refl) outcome.output own) at)
           (λ last kept.
           like-it plan slots list base before (with_ledger stores.next on) last_own last.next (so_far last)
           (record { ledger = refl; reports = λ are one has. absurd has }) kept.shelves)
@@ -453,8 +456,8 @@ module _ (plan : EquipmentPlan) (slots : ℕ) (list : List Put) (base before : L
           (carried Some rest)
           (goes-either (HoldsAt on) (IsRight on) (IsRight last_own) (carried Some first next)
           (free-goes first next
-          (both-free (states.comms_lines own.comms.state outcome.next.state) (lines_commands activity.lines)
-          (comms-lines-free own.comms.state outcome.next.state) (noted-free activity.lines)))
+          (are-both IsFree (states.comms_lines own.comms.state outcome.next.state) (lines_commands activity.lines)
+          (comms-noted common-free own.comms.state outcome.next.state) (noted-free activity.lines)))
           (first-at next at))
           (λ mid kept. rest-at mid kept))
 
@@ -491,7 +494,8 @@ module _ (plan : EquipmentPlan) (slots : ℕ) (list : List Put) (base before : L
       holds.shelves
   loss-keeps now kind.Grant system own e step none holds =
       calm-turn own (loss_turn now kind.Grant system own e) step
-      (denied-calm own (without_grant system own) (like-as own (without_grant system own) refl refl)) holds.shelves
+      (denied-of common-calm states-like own (without_grant system own)
+      (like-as own (without_grant system own) refl refl)) holds.shelves
   loss-keeps now kind.Report system own e step none holds =
       like-it plan slots list base before own (without_report system own) step.next (so_far step)
       (unreported-like own system) holds.shelves
@@ -499,7 +503,7 @@ module _ (plan : EquipmentPlan) (slots : ℕ) (list : List Put) (base before : L
       end-keeps plan slots list base before own step.next (so_far step) (none false refl) holds.shelves
   loss-keeps now kind.UnloadGrant system own e step none holds =
       calm-turn (unloaded_own own) (loss_turn now kind.UnloadGrant system own e) step
-      (denied-calm (unloaded_own own) (unloaded_own own) (likes (unloaded_own own)))
+      (denied-of common-calm states-like (unloaded_own own) (unloaded_own own) (likes (unloaded_own own)))
       (end-keeps plan slots list base before own step.next (so_far step) (none true refl) holds.shelves)
   loss-keeps now kind.Trace system own e step none holds = holds.shelves
   loss-keeps now kind.TraceGrant system own e step none holds =

@@ -32,6 +32,7 @@ use Rattle.message_end.specs.Duties.{all_done}
 use Rattle.message_end.proofs.Parts.{OnEither, either-then}
 use Rattle.tool_step.specs.declared.kind.Kind.{Kind}
 use Rattle.tool_step.specs.Own.{ToolCommands, ToolDuty}
+use Rattle.tool_law.proofs.CommandWalks.{AllAre, AllDo, HasCommon}
 use Rattle.tool_law.proofs.CoreSteps.{CoreStep}
 use Rattle.tool_law.proofs.TriedSteps.{offer-notes}
 use Rattle.tool_reports.specs.Reported.{tries_in}
@@ -49,21 +50,26 @@ IsIdleCommand Command.CloseStep = ⊥
 IsIdleCommand _ = Unit {0}
 
 abbrev pub AreIdle : ToolCommands → Type 0
-AreIdle [] = Unit {0}
-AreIdle (command ∷ commands) = IsIdleCommand command × AreIdle commands
+AreIdle commands = AllAre IsIdleCommand commands
 
 abbrev pub AreIdleDuties : List ToolDuty → Type 0
-AreIdleDuties [] = Unit {0}
-AreIdleDuties (duty ∷ duties) = ((e : EndView Kind) → AreIdle (duty e)) × AreIdleDuties duties
+AreIdleDuties duties = AllDo IsIdleCommand duties
 
-pub both-idle : (first second : ToolCommands) → AreIdle first → AreIdle second → AreIdle (first ++ second)
-both-idle [] second one two = two
-both-idle (command ∷ first) second one two = (one.0, both-idle first second one.1 two)
-
-pub both-duties : (first second : List ToolDuty) → AreIdleDuties first → AreIdleDuties second
-    → AreIdleDuties (first ++ second)
-both-duties [] second one two = two
-both-duties (duty ∷ first) second one two = (one.0, both-duties first second one.1 two)
+pub common-idle : HasCommon IsIdleCommand
+common-idle = record {
+  comms = λ state. tt;
+  control = λ state. tt;
+  failed = λ title. tt;
+  dropped = λ name. tt;
+  denied = λ name. tt;
+  too_long = λ name. tt;
+  full = λ name. tt;
+  ends = λ system. tt;
+  removes = λ system. tt;
+  recalls = λ header. tt;
+  drops = tt;
+  aborts = tt;
+}
 
 -- ---- what they send
 

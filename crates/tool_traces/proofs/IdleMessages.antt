@@ -2,7 +2,6 @@
 use Rattle.std.proofs.Common.{refl, ◌∙◌, arith, ◌==◌, Bool, true, false, ℕ, List, [], ◌∷◌, Option, Some, None, if◌then◌else◌}
 use Rattle.std.specs.List.{find}
 use Rattle.std.specs.Option.{option_map}
-use Rattle.std.specs.Prelude.{flat_map}
 use Rattle.block_codec.specs.declared.header.Header.{Header}
 use Rattle.gem_alarms.specs.Alarms.{step_of}
 use Rattle.gem_alarms.specs.declared.alarms.AlarmStep.{AlarmStep}
@@ -10,12 +9,9 @@ use Rattle.gem_alarms.specs.declared.alarms.AlarmStep.TheVariants as alarm_step
 use Rattle.gem_reports.specs.Reporting.{is_enabled_in, is_planned}
 use Rattle.gem_shapes.specs.Answers.{code_item}
 use Rattle.gem_shapes.specs.declared.request.TablesRequest.{TablesRequest}
-use Rattle.gem_states.specs.Control.{control_next, control_step}
 use Rattle.gem_states.specs.declared.comms.CommsIn.TheVariants as comms_in
 use Rattle.gem_states.specs.declared.control.ControlIn.{ControlIn}
 use Rattle.gem_states.specs.declared.control.ControlIn.TheVariants as control_in
-use Rattle.gem_states.specs.declared.control.ControlOut.{ControlOut}
-use Rattle.gem_states.specs.declared.control.ControlOut.TheVariants as control_out
 use Rattle.gem_vars.specs.declared.settings.Setting.{Setting}
 use Rattle.gem_vars.specs.Settings as settings
 use Rattle.message_flow.specs.declared.message.Message.{Message}
@@ -23,14 +19,13 @@ use Rattle.secs_items.specs.declared.item.Item.{Item}
 use Rattle.trace_log.specs.declared.commands.ToolCommand.{ToolCommand}
 use Rattle.trace_log.specs.declared.commands.ToolCommand.TheVariants as tool
 use Rattle.trace_log.specs.Log.{Happening}
-use Rattle.trace_log.specs.Names.{Spooled, message_name}
-use Rattle.transact.specs.declared.begun.Begun.{Begun}
-use Rattle.transact.specs.Transactions.{primary_of, system_of}
+use Rattle.trace_log.specs.Names.{Spooled}
+use Rattle.transact.specs.Transactions.{primary_of}
 use Rattle.message_end.specs.Calls.{answered_by, dropped_now, due_now}
 use Rattle.message_end.specs.Core.{EndView, is_crowded_out}
-use Rattle.message_end.specs.Core.Command.{DropDue, Expire, GiveUp, Note, Primary}
+use Rattle.message_end.specs.Core.Command.{DropDue, Expire, GiveUp, Note}
 use Rattle.message_end.specs.Parts.{core_after, fixed_turn}
-use Rattle.equipment_tables.specs.Answers.{alarm_item_of, answer_of, established_of, event_item, lines_of}
+use Rattle.equipment_tables.specs.Answers.{alarm_item_of, answer_of, event_item, lines_of}
 use Rattle.equipment_tables.specs.Tables.{alarm_after}
 use Rattle.equipment_tables.proofs.Lines.{lines_hold}
 use Rattle.spool_ledger.specs.Activity.{rsda_of}
@@ -39,16 +34,19 @@ use Rattle.spool_ledger.specs.Unloading.{confirmed, fresh, let_go, waiting_in, w
 use Rattle.tool_step.specs.declared.kind.Kind.{Kind}
 use Rattle.tool_step.specs.declared.kind.Kind.TheVariants as kind
 use Rattle.tool_step.specs.Grants.{GrantView}
-use Rattle.tool_step.specs.Messages.{answer_turn, control_answer_duties, control_request_turn, dropped_turn, error_turn, established_duties, established_turn, offline_turn, own_s1f13_commands, own_s1f13_of, stray_turn}
-use Rattle.tool_step.specs.Own.{OwnView, ToolTurn, event_report, is_communicating, is_granted_by, is_local, turn_before, turn_of, waiting_report, with_control, with_ledger, with_tables, without_grant, without_report, without_waiting_data}
+use Rattle.tool_step.specs.Messages.{answer_turn, control_request_turn, dropped_turn, error_turn, established_turn, offline_turn, stray_turn}
+use Rattle.tool_step.specs.Own.{OwnView, ToolTurn, event_report, is_granted_by, is_local, turn_before, turn_of, waiting_report, with_ledger, with_tables, without_grant, without_report, without_waiting_data}
 use Rattle.tool_step.specs.Replies.{block_timer, given_up_by_t4, given_up_turn, granted_turn, loss_turn, reply_timer, timeout_turn}
 use Rattle.tool_step.specs.Sampling.{trace_name}
 use Rattle.tool_step.specs.Sent as sent
 use Rattle.tool_step.specs.Spooling.{booked_turn, confirmed_turn, grant_given_turn, let_go_turn, purge_turn, rsda_duties, transmit_turn, unloaded_own, unloading_turn}
 use Rattle.tool_step.specs.States as states
-use Rattle.tool_step.specs.Tool.{alarm_line, alarm_report_turn, alarm_turn, attempted_turn, command_turn, enabled_turn, known_event_turn, online_turn, set_turn, with_event}
-use Rattle.tool_traces.proofs.IdleCommands.{AreIdle, AreIdleDuties, both-duties, both-idle}
-use Rattle.tool_traces.proofs.IdleTurns.{AreIdleLines, IsIdleTurn, IsOtherReport, KeepsTraces, abort-idle, all-out-lines, answers-idle, before-idle, behind-idle, booked-idle, comms-idle, confirmed-lines, control-idle, control-lines, errors-idle, event-idle, fixed-idle, going-idle, itself, judged-idle, kept, leaving-idle, led-idle, lines-idle, note-idle, nothing-idle, report-idle, untraced-kept}
+use Rattle.tool_step.specs.Tool.{alarm_line, alarm_report_turn, alarm_turn, command_turn, enabled_turn, known_event_turn, set_turn, with_event}
+use Rattle.tool_law.proofs.CommandWalks.{abort-are}
+use Rattle.tool_law.proofs.LedgerLines.{all-out-lines, confirmed-lines}
+use Rattle.tool_law.proofs.TurnWalks.{before-of, control-request-of, dropped-of, error-of, established-of, led-of, note-of, nothing-of, offline-of, online-of, stray-of}
+use Rattle.tool_traces.proofs.IdleCommands.{AreIdleDuties, common-idle}
+use Rattle.tool_traces.proofs.IdleTurns.{AreIdleLines, IsIdleTurn, IsOtherReport, KeepsTraces, answers-idle, booked-idle, comms-idle, control-idle, errors-idle, event-idle, going-idle, itself, judged-idle, kept, leaving-idle, lines-idle, report-idle, spool-idle, traces-stay, untraced-kept}
 
 both-keep : (one two three : OwnView) → KeepsTraces one two → KeepsTraces two three → KeepsTraces one three
 both-keep one two three first second = record {
@@ -69,52 +67,52 @@ pub loss-idle : (now : ℕ) (lost : Kind) (system : ℕ) (own : OwnView) (e : En
 loss-idle now kind.Establish system own e = leaving-idle comms_in.Denied None now own e
 loss-idle now kind.Attempt system own e = control-idle control_in.AttemptFailed own
 loss-idle now kind.Grant system own e =
-    note-idle own (without_grant system own) (Happening.Denied states.event_name)
+    note-of own (without_grant system own) (Happening.Denied states.event_name)
     (kept own (without_grant system own) refl) tt
 loss-idle now kind.Report system own e =
-    nothing-idle own (without_report system own) (kept own (without_report system own) refl)
-loss-idle now kind.Unload system own e = nothing-idle own (unloaded_own own) (kept own (unloaded_own own) refl)
+    nothing-of own (without_report system own) (kept own (without_report system own) refl)
+loss-idle now kind.Unload system own e = nothing-of own (unloaded_own own) (kept own (unloaded_own own) refl)
 loss-idle now kind.UnloadGrant system own e =
-    note-idle own (unloaded_own own) (Happening.Denied states.event_name) (kept own (unloaded_own own) refl) tt
-loss-idle now kind.Trace system own e = nothing-idle own own (itself own)
+    note-of own (unloaded_own own) (Happening.Denied states.event_name) (kept own (unloaded_own own) refl) tt
+loss-idle now kind.Trace system own e = nothing-of own own (itself own)
 loss-idle now kind.TraceGrant system own e =
-    note-idle own (without_waiting_data system own) (Happening.Denied trace_name) (untraced-kept own system) tt
+    note-of own (without_waiting_data system own) (Happening.Denied trace_name) (untraced-kept own system) tt
 
 timeout-idle : (now : ℕ) (found : Option (Header × Kind)) (own : OwnView) (e : EndView Kind)
     → IsIdleTurn own (timeout_turn now found own e)
-timeout-idle now None own e = nothing-idle own own (itself own)
+timeout-idle now None own e = nothing-of own own (itself own)
 timeout-idle now (Some primary) own e =
     let lost = loss_turn now primary.1 primary.0.system own e in
-    before-idle own (sent.error_duty 9 primary.0 lost.own ∷ []) lost (errors-idle 9 primary.0 lost.own)
+    before-of own (sent.error_duty 9 primary.0 lost.own ∷ []) lost (errors-idle 9 primary.0 lost.own)
     (loss-idle now primary.1 primary.0.system own e)
 
 pub reply-timer-idle : (now : ℕ) (own : OwnView) (e : EndView Kind) → IsIdleTurn own (reply_timer now own e)
 reply-timer-idle now own e =
-    led-idle own (Expire now) (timeout_turn now (due_now e now) own (core_after (Expire now) e)) tt
+    led-of own (Expire now) (timeout_turn now (due_now e now) own (core_after (Expire now) e)) tt
     (timeout-idle now (due_now e now) own (core_after (Expire now) e))
 
 pub given-up-idle : (now : ℕ) (header : Header) (own : OwnView) (e : EndView Kind)
     → IsIdleTurn own (given_up_turn now header own e)
 given-up-idle now header own e =
-    led-idle own (GiveUp header)
+    led-of own (GiveUp header)
     (timeout_turn now (option_map primary_of (answered_by e header)) own (core_after (GiveUp header) e)) tt
     (timeout-idle now (option_map primary_of (answered_by e header)) own (core_after (GiveUp header) e))
 
 by-t4-idle : (now : ℕ) (found : Option Header) (own : OwnView) (e : EndView Kind)
     → IsIdleTurn own (given_up_by_t4 now found own e)
-by-t4-idle now None own e = nothing-idle own own (itself own)
+by-t4-idle now None own e = nothing-of own own (itself own)
 by-t4-idle now (Some header) own e = given-up-idle now header own e
 
 pub block-timer-idle : (now : ℕ) (own : OwnView) (e : EndView Kind) → IsIdleTurn own (block_timer now own e)
 block-timer-idle now own e =
-    led-idle own (DropDue now) (given_up_by_t4 now (dropped_now e now) own (core_after (DropDue now) e)) tt
+    led-of own (DropDue now) (given_up_by_t4 now (dropped_now e now) own (core_after (DropDue now) e)) tt
     (by-t4-idle now (dropped_now e now) own (core_after (DropDue now) e))
 
 -- ---- replies
 
 granted-idle : (found : Option GrantView) (own : OwnView) (e : EndView Kind)
     → IsIdleTurn own (granted_turn (option_map (λ (one : GrantView). event_report one.body) found) own e)
-granted-idle None own e = nothing-idle own own (itself own)
+granted-idle None own e = nothing-of own own (itself own)
 granted-idle (Some waiting) own e = going-idle (event_report waiting.body) refl own e
 
 pub grant-idle : (system : ℕ) (own : OwnView) (e : EndView Kind)
@@ -136,7 +134,7 @@ pub given-idle : (own : OwnView) (e : EndView Kind) → IsIdleTurn own (grant_gi
 given-idle own e = go (waiting_in own.ledger.unload)
   where
     go : (waiting : Option (List ℕ)) → IsIdleTurn own (let_go_turn waiting own e)
-    go None = nothing-idle own own (itself own)
+    go None = nothing-of own own (itself own)
     go (Some body) =
         after-idle own (with_ledger (with_each let_go own.ledger) own)
         (unloading_turn (event_report body) (with_ledger (with_each let_go own.ledger) own) e)
@@ -144,77 +142,33 @@ given-idle own e = go (waiting_in own.ledger.unload)
         (unloading-idle (event_report body) refl (with_ledger (with_each let_go own.ledger) own) e)
 
 pub confirmed-idle : (own : OwnView) → IsIdleTurn own (confirmed_turn own)
-confirmed-idle own = booked-idle own (confirmed own.ledger) (confirmed-lines own.ledger)
+confirmed-idle own = booked-idle own (confirmed own.ledger) (confirmed-lines spool-idle own.ledger)
 
 -- ---- requests that aren't carried out
-
-own-request-idle : (lost : Kind) (system : ℕ) → AreIdle (own_s1f13_commands lost system)
-own-request-idle kind.Establish system = (tt, (tt, tt))
-own-request-idle kind.Attempt system = tt
-own-request-idle kind.Grant system = tt
-own-request-idle kind.Report system = tt
-own-request-idle kind.Unload system = tt
-own-request-idle kind.UnloadGrant system = tt
-own-request-idle kind.Trace system = tt
-own-request-idle kind.TraceGrant system = tt
-
-own-requests-idle : (begun : List (Begun Kind)) → AreIdle (flat_map own_s1f13_of begun)
-own-requests-idle [] = tt
-own-requests-idle (one ∷ begun) =
-    both-idle (own_s1f13_of one) (flat_map own_s1f13_of begun) (own-request-idle one.kind (system_of one))
-    (own-requests-idle begun)
 
 pub established-idle : (now : ℕ) (message : Message) (own : OwnView)
     → IsIdleTurn own (established_turn now message own)
 established-idle now message own =
-    let turn = states.comms_turn comms_in.HostRequest now own in
-    let met = comms-idle comms_in.HostRequest now own in
-    record {
-      duties = (
-        (λ e. own-requests-idle e.transactions.begun),
-        both-duties turn.duties (established_duties message own) met.duties
-            (answers-idle (sent.text_of own (established_of own.tables)) message),
-      );
-      keeps = met.keeps;
-    }
+    established-of common-idle traces-stay (λ body. refl) message (λ body. tt) now own
 
 pub dropped-idle : (message : Message) (own : OwnView) → IsIdleTurn own (dropped_turn message own)
-dropped-idle message own = note-idle own own (Happening.Dropped (message_name message)) (itself own) tt
+dropped-idle message own = dropped-of common-idle traces-stay message own
 
 pub stray-idle : (now : ℕ) (message : Message) (own : OwnView) → IsIdleTurn own (stray_turn now message own)
-stray-idle now message own =
-    led-idle own (Note (Happening.Dropped (message_name message)))
-    (states.comms_turn comms_in.OtherMessage now own) tt (comms-idle comms_in.OtherMessage now own)
+stray-idle now message own = stray-of common-idle traces-stay (λ body. refl) now message own
 
 pub offline-idle : (message : Message) (own : OwnView) → IsIdleTurn own (offline_turn message own)
-offline-idle message own = go message.wait
-  where
-    go : (wait : Bool)
-        → IsIdleTurn own
-        (if wait then turn_of own (sent.abort_duty message ∷ []) else dropped_turn message own)
-    go true = record { duties = abort-idle message; keeps = itself own }
-    go false = dropped-idle message own
+offline-idle message own = offline-of common-idle traces-stay message own
 
 pub error-idle : (function : ℕ) (header : Header) (own : OwnView) → IsIdleTurn own (error_turn function header own)
-error-idle function header own = record { duties = errors-idle function header own; keeps = itself own }
+error-idle function header own = error-of common-idle traces-stay function (λ body. refl) header own
 
 -- ---- requests that are carried out
 
 pub control-request-idle : (input : ControlIn) (message : Message) (own : OwnView)
     → IsIdleTurn own (control_request_turn input message own)
-control-request-idle input message own = record {
-  duties = (
-    (λ e. control-lines own.control.state (control_next own.control input).state),
-    go (control_step own.control input).output,
-  );
-  keeps = kept own (control_request_turn input message own).own refl;
-}
-  where
-    go : (out : ControlOut) → AreIdleDuties (control_answer_duties out message own)
-    go (control_out.Ack code) = answers-idle (sent.text_of own (code_item code)) message
-    go control_out.Abort = abort-idle message
-    go control_out.Nothing = tt
-    go control_out.SendAttempt = tt
+control-request-idle input message own =
+    control-request-of common-idle traces-stay input message (λ body. tt) own
 
 rsda-idle : (message : Message) (own : OwnView) → AreIdleDuties (rsda_duties message own)
 rsda-idle message own = answers-idle (sent.text_of own (code_item (rsda_of own.ledger))) message
@@ -240,8 +194,8 @@ purge-idle message own = go (rsda_of own.ledger == 0)
         (if may then turn_before (rsda_duties message own) (booked_turn (all_out own.ledger) own)
         else turn_of own (rsda_duties message own))
     go true =
-        before-idle own (rsda_duties message own) (booked_turn (all_out own.ledger) own) (rsda-idle message own)
-        (booked-idle own (all_out own.ledger) (all-out-lines own.ledger))
+        before-of own (rsda_duties message own) (booked_turn (all_out own.ledger) own) (rsda-idle message own)
+        (booked-idle own (all_out own.ledger) (all-out-lines spool-idle own.ledger))
     go false = record { duties = rsda-idle message own; keeps = itself own }
 
 pub answer-idle : (asked : TablesRequest) (message : Message) (own : OwnView)
@@ -258,18 +212,18 @@ answer-idle asked message own = record {
 }
 
 pub abort-turn-idle : (message : Message) (own : OwnView) → IsIdleTurn own (turn_of own (sent.abort_duty message ∷ []))
-abort-turn-idle message own = record { duties = abort-idle message; keeps = itself own }
+abort-turn-idle message own = record { duties = abort-are common-idle message; keeps = itself own }
 
 -- ---- the tool's commands
 
 refused-idle : (own : OwnView) → IsIdleTurn own (fixed_turn own (Note Happening.Refused ∷ []))
-refused-idle own = note-idle own own Happening.Refused (itself own) tt
+refused-idle own = note-of own own Happening.Refused (itself own) tt
 
 set-idle : (refusal : Option Setting) (vid : ℕ) (value : Item) (own : OwnView)
     → IsIdleTurn own (set_turn refusal vid value own)
 set-idle (Some refusal) vid value own = refused-idle own
 set-idle None vid value own =
-    note-idle own (set_turn None vid value own).own (Happening.Set vid)
+    note-of own (set_turn None vid value own).own (Happening.Set vid)
     (kept own (set_turn None vid value own).own refl) tt
 
 enabled-idle : (enabled : Bool) (ceid dataid : ℕ) (own : OwnView) (e : EndView Kind)
@@ -278,13 +232,13 @@ enabled-idle true ceid dataid own e =
     judged-idle event_report (λ body. refl)
     (λ (message : Spooled). sent.event_turn dataid message.body own e)
     (sent.text_of own (event_item own.tables ceid dataid)) own (λ body. event-idle dataid body own e)
-enabled-idle false ceid dataid own e = nothing-idle own own (itself own)
+enabled-idle false ceid dataid own e = nothing-of own own (itself own)
 
 event-command-idle : (known : Bool) (ceid : ℕ) (own : OwnView) (e : EndView Kind)
     → IsIdleTurn own (known_event_turn known ceid own e)
 event-command-idle false ceid own e = refused-idle own
 event-command-idle true ceid own e =
-    led-idle own (Note (Happening.Event ceid own.events))
+    led-of own (Note (Happening.Event ceid own.events))
     (enabled_turn (is_enabled_in own.tables.reports ceid) ceid own.events (with_event own) e) tt
     (after-idle own (with_event own)
     (enabled_turn (is_enabled_in own.tables.reports ceid) ceid own.events (with_event own) e)
@@ -295,51 +249,20 @@ alarm-report-idle : (enabled : Bool) (alid : ℕ) (own : OwnView) (e : EndView K
     → IsIdleTurn own (alarm_report_turn enabled alid own e)
 alarm-report-idle true alid own e =
     report-idle sent.alarm_report (λ body. refl) (λ body. refl) (sent.text_of own (alarm_item_of own.tables alid)) own e
-alarm-report-idle false alid own e = nothing-idle own own (itself own)
+alarm-report-idle false alid own e = nothing-of own own (itself own)
 
 alarm-idle : (found : AlarmStep) (alid : ℕ) (is_set : Bool) (own : OwnView) (e : EndView Kind)
     → IsIdleTurn own (alarm_turn found alid is_set own e)
 alarm-idle alarm_step.Unknown alid is_set own e = refused-idle own
 alarm-idle alarm_step.Same alid is_set own e =
-    note-idle own own (Happening.Alarm alid is_set) (itself own) tt
+    note-of own own (Happening.Alarm alid is_set) (itself own) tt
 alarm-idle (alarm_step.Changed enabled) alid is_set own e =
-    led-idle own (alarm_line alid is_set)
+    led-of own (alarm_line alid is_set)
     (alarm_report_turn enabled alid (with_tables (alarm_after alid is_set own.tables) own) e) tt
     (after-idle own (with_tables (alarm_after alid is_set own.tables) own)
     (alarm_report_turn enabled alid (with_tables (alarm_after alid is_set own.tables) own) e)
     (kept own (with_tables (alarm_after alid is_set own.tables) own) refl)
     (alarm-report-idle enabled alid (with_tables (alarm_after alid is_set own.tables) own) e))
-
-attempted-idle : (out : ControlOut) (own : OwnView) (e : EndView Kind)
-    → IsIdleTurn own (attempted_turn out own e)
-attempted-idle control_out.SendAttempt own e = go (is_crowded_out true e)
-  where
-    go : (crowded : Bool)
-        → IsIdleTurn own
-        (if crowded then
-        fixed_turn (with_control (control_next own.control control_in.AttemptFailed) own)
-        (Primary sent.online_request ∷ states.control_commands control_in.AttemptFailed own.control)
-        else fixed_turn own (Primary sent.online_request ∷ []))
-    go true =
-        fixed-idle own (with_control (control_next own.control control_in.AttemptFailed) own)
-        (Primary sent.online_request ∷ states.control_commands control_in.AttemptFailed own.control)
-        (kept own (with_control (control_next own.control control_in.AttemptFailed) own) refl)
-        (refl, control-lines own.control.state (control_next own.control control_in.AttemptFailed).state)
-    go false = fixed-idle own own (Primary sent.online_request ∷ []) (itself own) (refl, tt)
-attempted-idle control_out.Nothing own e = nothing-idle own own (itself own)
-attempted-idle control_out.Abort own e = nothing-idle own own (itself own)
-attempted-idle (control_out.Ack code) own e = nothing-idle own own (itself own)
-
-online-idle : (own : OwnView) (e : EndView Kind) → IsIdleTurn own (online_turn own e)
-online-idle own e =
-    let outcome = control_step own.control (control_in.Online (is_communicating own)) in
-    behind-idle own (states.control_lines own.control.state outcome.next.state)
-    (attempted_turn outcome.output (with_control outcome.next own) e)
-    (control-lines own.control.state outcome.next.state)
-    (after-idle own (with_control outcome.next own)
-    (attempted_turn outcome.output (with_control outcome.next own) e)
-    (kept own (with_control outcome.next own) refl)
-    (attempted-idle outcome.output (with_control outcome.next own) e))
 
 pub command-idle : (command : ToolCommand) (now : ℕ) (own : OwnView) (e : EndView Kind)
     → IsIdleTurn own (command_turn command now own e)
@@ -350,7 +273,7 @@ command-idle (tool.Alarm alid is_set) now own e =
     alarm-idle (step_of own.tables.alarms alid is_set) alid is_set own e
 command-idle tool.Enable now own e = comms-idle comms_in.Enable now own
 command-idle tool.Disable now own e = leaving-idle comms_in.Disable None now own e
-command-idle tool.Online now own e = online-idle own e
+command-idle tool.Online now own e = online-of common-idle traces-stay refl own e
 command-idle tool.Offline now own e = control-idle control_in.Offline own
 command-idle tool.Local now own e = control-idle control_in.ToLocal own
 command-idle tool.Remote now own e = control-idle control_in.ToRemote own

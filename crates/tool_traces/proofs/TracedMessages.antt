@@ -54,7 +54,8 @@ use Rattle.tool_law.proofs.CoreSteps.{CoreStep}
 use Rattle.tool_reports.specs.Sampled.{setting_by, setting_in, setting_of}
 use Rattle.tool_traces.proofs.IdleMessages.{abort-turn-idle, answer-idle, command-idle, confirmed-idle, control-request-idle, dropped-idle, error-idle, established-idle, given-idle, given-up-idle, grant-idle, loss-idle, offline-idle, purge-idle, stray-idle, transmit-idle}
 use Rattle.tool_traces.proofs.IdleNotes.{Reads, reads-asked}
-use Rattle.tool_traces.proofs.IdleTurns.{IsIdleTurn, answers-idle, comms-idle, control-idle, errors-idle, fixed-idle, itself, kept, leaving-idle, led-idle, nothing-idle}
+use Rattle.tool_law.proofs.TurnWalks.{fixed-of, led-of, nothing-of}
+use Rattle.tool_traces.proofs.IdleTurns.{IsIdleTurn, answers-idle, comms-idle, control-idle, errors-idle, itself, kept, leaving-idle}
 use Rattle.tool_traces.proofs.TracedTurns.{FewSent, Keeps, Traced, granted-keeps, idle-keeps, led-keeps}
 
 module _ (before : List Happening) (look : Look) (past : List TraceEntry) (due : List Item)
@@ -307,7 +308,7 @@ module _ (before : List Happening) (look : Look) (past : List TraceEntry) (due :
           (loss-idle look.now kind.Grant system own e)
   reply-keeps kind.Report system body own e =
       idle-keeps before look run Fresh due own (quiet_turn (without_report system own))
-      (nothing-idle own (without_report system own) (kept own (without_report system own) refl))
+      (nothing-of own (without_report system own) (kept own (without_report system own) refl))
   reply-keeps kind.Unload system body own e =
       idle-keeps before look run Fresh due own (confirmed_turn own) (confirmed-idle own)
   reply-keeps kind.UnloadGrant system body own e = go (is_granted_in body)
@@ -320,7 +321,7 @@ module _ (before : List Happening) (look : Look) (past : List TraceEntry) (due :
           idle-keeps before look run Fresh due own (loss_turn look.now kind.UnloadGrant system own e)
           (loss-idle look.now kind.UnloadGrant system own e)
   reply-keeps kind.Trace system body own e =
-      idle-keeps before look run Fresh due own (quiet_turn own) (nothing-idle own own (itself own))
+      idle-keeps before look run Fresh due own (quiet_turn own) (nothing-of own own (itself own))
   reply-keeps kind.TraceGrant system body own e = go (is_granted_in body)
     where
       go : (granted : Bool)
@@ -339,7 +340,7 @@ module _ (before : List Happening) (look : Look) (past : List TraceEntry) (due :
       idle-keeps before look run Fresh due own (loss_turn look.now answered message.system own e)
       (loss-idle look.now answered message.system own e)
   matched-keeps match.Stranger message own e =
-      idle-keeps before look run Fresh due own (quiet_turn own) (nothing-idle own own (itself own))
+      idle-keeps before look run Fresh due own (quiet_turn own) (nothing-of own own (itself own))
 
   secondary-keeps : (header : Header) (message : Message) (own : OwnView) (e : EndView Kind)
       → Keeps before look run Fresh due own (secondary_turn look.now header message own e)
@@ -366,15 +367,15 @@ module _ (before : List Happening) (look : Look) (past : List TraceEntry) (due :
 
   long-idle : (spent : Bool) (header : Header) (own : OwnView) (turn : ToolTurn) → IsIdleTurn own turn
       → IsIdleTurn own (long_turn spent header own turn)
-  long-idle true header own turn is = fixed-idle own own (Halt ∷ []) (itself own) (tt, tt)
+  long-idle true header own turn is = fixed-of own own (Halt ∷ []) (itself own) (tt, tt)
   long-idle false header own turn is =
       record { duties = ((errors-idle 11 header own).0, is.duties); keeps = is.keeps }
 
   flow-takes : (header : Header) (came : Flow) (own : OwnView) (e : EndView Kind) → own.tables.vars ≡ look.vars
       → Takes own (flow_turn look.now header came own e)
-  flow-takes header flow.Part own e vars = of-idle own (quiet_turn own) (nothing-idle own own (itself own))
+  flow-takes header flow.Part own e vars = of-idle own (quiet_turn own) (nothing-of own own (itself own))
   flow-takes header (flow.Whole message check) own e vars = message-takes header message own e vars
-  flow-takes header flow.Duplicate own e vars = of-idle own (quiet_turn own) (nothing-idle own own (itself own))
+  flow-takes header flow.Duplicate own e vars = of-idle own (quiet_turn own) (nothing-of own own (itself own))
   flow-takes header (flow.Foreign address) own e vars =
       of-idle own (turn_of own (sent.error_duty 1 header own ∷ []))
       (record { duties = errors-idle 1 header own; keeps = itself own })
@@ -388,7 +389,7 @@ module _ (before : List Happening) (look : Look) (past : List TraceEntry) (due :
 
   took-takes : (found : Took) (own : OwnView) (e : EndView Kind) → own.tables.vars ≡ look.vars
       → Takes own (took_turn look.now found own e)
-  took-takes took.Nothing own e vars = of-idle own (quiet_turn own) (nothing-idle own own (itself own))
+  took-takes took.Nothing own e vars = of-idle own (quiet_turn own) (nothing-of own own (itself own))
   took-takes (took.Failed header) own e vars =
       of-idle own (failed_turn look.now (Some header) own e)
       (leaving-idle comms_in.SendFailed (Some header) look.now own e)
@@ -401,7 +402,7 @@ module _ (before : List Happening) (look : Look) (past : List TraceEntry) (due :
       either-then (IsFresh own) Few (IsFollowed turn.own) (carried Some (Take byte look.now ∷ []) step)
       (all_done Some turn.duties)
       (led-keeps before look run Fresh due own (Take byte look.now) (quiet_turn own) tt
-      (idle-keeps before look run Fresh due own (quiet_turn own) (nothing-idle own own (itself own))) step so)
+      (idle-keeps before look run Fresh due own (quiet_turn own) (nothing-of own own (itself own))) step so)
       (λ next now_so. takes next now_so)
 
   -- ---- what a step is given
@@ -411,8 +412,8 @@ module _ (before : List Happening) (look : Look) (past : List TraceEntry) (due :
   input-takes (Char byte) own e vars =
       led-takes own byte (took_turn look.now (took_at e byte look.now) own (core_after (Take byte look.now) e))
       (took-takes (took_at e byte look.now) own (core_after (Take byte look.now) e) vars)
-  input-takes Time own e vars = of-idle own (quiet_turn own) (nothing-idle own own (itself own))
+  input-takes Time own e vars = of-idle own (quiet_turn own) (nothing-of own own (itself own))
   input-takes (Told command) own e vars =
       of-idle own (told_turn command look.now own e)
-      (led-idle own (Note (Happening.Recorded (Past.Commanded command))) (command_turn command look.now own e) tt
+      (led-of own (Note (Happening.Recorded (Past.Commanded command))) (command_turn command look.now own e) tt
       (command-idle command look.now own e))

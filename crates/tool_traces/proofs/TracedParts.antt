@@ -47,7 +47,9 @@ use Rattle.tool_reports.proofs.QuietNotes.{one-behind}
 use Rattle.tool_traces.proofs.IdleCommands.{ReadsStep}
 use Rattle.tool_traces.proofs.IdleMessages.{after-idle, block-timer-idle, reply-timer-idle}
 use Rattle.tool_traces.proofs.IdleNotes.{AreSound, Reads, amid-more, idle-note, reads-idle}
-use Rattle.tool_traces.proofs.IdleTurns.{IsIdleTurn, KeepsTraces, booked-idle, comms-idle, fixed-idle, itself, kept, leaving-idle, led-idle, nothing-idle, rested-lines}
+use Rattle.tool_law.proofs.LedgerLines.{rested-lines}
+use Rattle.tool_law.proofs.TurnWalks.{fixed-of, led-of, nothing-of}
+use Rattle.tool_traces.proofs.IdleTurns.{IsIdleTurn, KeepsTraces, booked-idle, comms-idle, itself, kept, leaving-idle, spool-idle}
 use Rattle.tool_traces.proofs.TracedMessages.{Follows, Fresh, input-takes, run}
 use Rattle.tool_traces.proofs.TracedTurns.{FewSent, Keeps, Traced, counted-both, few-of, idle-keeps, made-keeps, sampled-so, still}
 use Rattle.tool_traces.proofs.StepParts.{AllKeep, NodeStep, as-node, begin-tables, both-keep, by-t4-tables, counted-then, failed-tables, made-tables, many-keep, parts-then, timeout-tables}
@@ -140,11 +142,11 @@ module _ (before : List Happening) (look : Look) (past : List TraceEntry) (due :
 
   tick-idle : (now : ℕ) (own : OwnView) (e : EndView Kind) → IsIdleTurn own (line_timer now own e)
   tick-idle now own e =
-      led-idle own (Tick now) (failed_turn now (failed_at e now) own (core_after (Tick now) e)) tt
+      led-of own (Tick now) (failed_turn now (failed_at e now) own (core_after (Tick now) e)) tt
       (go (failed_at e now))
     where
       go : (failed : Option Header) → IsIdleTurn own (failed_turn now failed own (core_after (Tick now) e))
-      go None = nothing-idle own own (itself own)
+      go None = nothing-of own own (itself own)
       go (Some header) = leaving-idle comms_in.SendFailed (Some header) now own (core_after (Tick now) e)
 
   begin-idle : (now : ℕ) (own : OwnView) (e : EndView Kind) → IsIdleTurn own (beginning now own e)
@@ -153,7 +155,7 @@ module _ (before : List Happening) (look : Look) (past : List TraceEntry) (due :
       go : (over : Bool)
           → IsIdleTurn own
           (if over then quiet_turn (begun own) else states.comms_turn comms_in.Enable now (begun own))
-      go true = nothing-idle own (begun own) (kept own (begun own) refl)
+      go true = nothing-of own (begun own) (kept own (begun own) refl)
       go false =
           after-idle own (begun own) (states.comms_turn comms_in.Enable now (begun own))
           (kept own (begun own) refl) (comms-idle comms_in.Enable now (begun own))
@@ -419,7 +421,7 @@ module _ (before : List Happening) (look : Look) (past : List TraceEntry) (due :
   out-well message system own e step drawn tried so = go (needs_grant message)
     where
       inquiry : (text : Text) → IsIdleTurn own (inquiry_turn text own e)
-      inquiry answer.TooLong = nothing-idle own (unloaded_own own) (kept own (unloaded_own own) refl)
+      inquiry answer.TooLong = nothing-of own (unloaded_own own) (kept own (unloaded_own own) refl)
       inquiry (answer.Body text) = record { duties = ((λ f. (refl, tt)), tt); keeps = crowds (is_crowded_out true e) }
         where
           crowds : (crowded : Bool) → KeepsTraces own (if crowded then unloaded_own own else own)
@@ -523,11 +525,11 @@ module _ (before : List Happening) (look : Look) (past : List TraceEntry) (due :
           idle-part end_of_spooling
               (λ own e.
               booked-idle own (rested (is_communicating own) own.ledger)
-              (rested-lines (is_communicating own) own.ledger)),
+              (rested-lines spool-idle (is_communicating own) own.ledger)),
           (
             idle-part (offer now)
                 (λ own e.
-                led-idle own (Offer now) (fixed_turn own []) tt (fixed-idle own own [] (itself own) tt)),
+                led-of own (Offer now) (fixed_turn own []) tt (fixed-of own own [] (itself own) tt)),
             tt,
           ),
         ),

@@ -36,7 +36,8 @@ use Rattle.tool_reports.proofs.QuietNotes.{counted, counted-last, one}
 use Rattle.tool_reports.proofs.QuietReports.{IsSpelledSo, found-waiting, spelled-so}
 use Rattle.tool_traces.proofs.IdleCommands.{IsIdleCommand, IsOdd, ReadsStep, carried-idle, done-idle}
 use Rattle.tool_traces.proofs.IdleNotes.{IsIdleNote, Reads, idle-note, reads-idle, reads-sent}
-use Rattle.tool_traces.proofs.IdleTurns.{IsIdleTurn, KeepsTraces, fixed-idle, itself, note-idle, untraced-kept}
+use Rattle.tool_law.proofs.TurnWalks.{fixed-of, note-of}
+use Rattle.tool_traces.proofs.IdleTurns.{IsIdleTurn, KeepsTraces, itself, untraced-kept}
 
 -- how many of these have this text
 abbrev pub count_items : List ℕ → List Item → ℕ
@@ -216,7 +217,7 @@ module _ (before : List Happening) (look : Look) (run : List Running)
   inquired-keeps (answer.Body inquiry) text own e step spare =
       idle-keeps (data_inquiry_own text own e)
       (fixed_turn (data_inquiry_own text own e) (Primary (trace_inquiry inquiry) ∷ []))
-      (fixed-idle (data_inquiry_own text own e) (data_inquiry_own text own e) (Primary (trace_inquiry inquiry) ∷ [])
+      (fixed-of (data_inquiry_own text own e) (data_inquiry_own text own e) (Primary (trace_inquiry inquiry) ∷ [])
       (itself (data_inquiry_own text own e)) (refl, tt)) step
       (go (is_crowded_out true e) (next_number e.numbers))
     where
@@ -258,7 +259,7 @@ module _ (before : List Happening) (look : Look) (run : List Running)
       noted-keeps : (what : Happening) → IsIdleNote what
           → Ends own (all_done Some (fixed_turn own (Note what ∷ [])).duties step)
       noted-keeps what idle =
-          idle-keeps own (fixed_turn own (Note what ∷ [])) (note-idle own own what (itself own) idle) step so
+          idle-keeps own (fixed_turn own (Note what ∷ [])) (note-of own own what (itself own) idle) step so
 
       by : (text : List ℕ) (communicating : Bool) → sent.text_of own item ≡ answer.Body text
           → Ends (if communicating then trace_data_turn text own e else unreported_turn trace_name own).own
