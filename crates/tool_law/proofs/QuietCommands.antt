@@ -50,7 +50,8 @@ use Rattle.spool_ledger.specs.declared.ledger.Stand.{Stand}
 use Rattle.spool_ledger.specs.Ledger.{Booked}
 use Rattle.spool_ledger.specs.Storing.{stored}
 use Rattle.tool_step.specs.Tool.{alarm_line, alarm_report_turn, alarm_turn, attempt_turn, attempted_turn, command_turn, enabled_turn, known_event_turn, online_turn, set_turn, told_turn, with_event}
-use Rattle.tool_law.proofs.MildCommands.{IsSpelled, one-note, may-ask, can-event, can-alarm, can-text, may-attempt, control-lines}
+use Rattle.tool_law.proofs.CommandWalks.{control-noted}
+use Rattle.tool_law.proofs.MildCommands.{IsSpelled, one-note, may-ask, can-event, can-alarm, can-text, common-mild, may-attempt}
 use Rattle.tool_law.proofs.QuietTurns.{Sound, Quiet, text-is, kept, fixed-quiet, nothing-quiet, note-quiet, led-quiet, booked-quiet, comms-quiet, control-quiet, leaving-quiet}
 use Rattle.tool_law.proofs.QuietMessages.{error-quiet, timeout-quiet, given-up-quiet, going-quiet, error-is-quiet, message-quiet}
 
@@ -78,7 +79,7 @@ module _ (plan : EquipmentPlan) (TriedIs : Option ℕ → Type 0) (fits : Equipm
     flow-quiet now header flow.TooLong own e sound = go (is_spent e)
       where
         go : (spent : Bool) → (Quiet plan TriedIs fits slots stood) (long_turn spent header own (given_up_turn now header own e))
-        go true = (fixed-quiet plan TriedIs fits slots stood) own (Halt ∷ []) sound (record { calls = (tt, tt); may = (tt, tt) })
+        go true = (fixed-quiet plan TriedIs fits slots stood) own (Halt ∷ []) sound ((tt, tt), tt)
         go false = record {
           quiet = (
             (λ f. (error-quiet plan TriedIs fits slots stood) 11 (record { byte = omega arith; odd = refl }) header own sound f),
@@ -105,7 +106,7 @@ module _ (plan : EquipmentPlan) (TriedIs : Option ℕ → Type 0) (fits : Equipm
       where
         go : (found : Option Booked) → IfSome found (IsGoodBooked slots stood)
             → (Quiet plan TriedIs fits slots stood) (option_map_or (λ (booked : Booked). booked_turn booked own) found (fixed_turn own (Halt ∷ [])))
-        go None good = (fixed-quiet plan TriedIs fits slots stood) own (Halt ∷ []) sound (record { calls = (tt, tt); may = (tt, tt) })
+        go None good = (fixed-quiet plan TriedIs fits slots stood) own (Halt ∷ []) sound ((tt, tt), tt)
         go (Some booked) good = (booked-quiet plan TriedIs fits slots stood) booked own sound good
 
     made-quiet :
@@ -178,7 +179,7 @@ module _ (plan : EquipmentPlan) (TriedIs : Option ℕ → Type 0) (fits : Equipm
     asking-quiet (text.Body asked) may body is own e sound =
         (fixed-quiet plan TriedIs fits slots stood) (sent.granted_own body own e) (Primary (sent.grant_request asked) ∷ [])
         (asked-sound body is own e sound)
-        (record { calls = (tt, tt); may = (may-ask asked may, tt) })
+        ((tt, may-ask asked may), tt)
     asking-quiet text.TooLong may body is own e sound = (nothing-quiet plan TriedIs fits slots stood) own sound
 
     event-quiet :
@@ -238,14 +239,15 @@ module _ (plan : EquipmentPlan) (TriedIs : Option ℕ → Type 0) (fits : Equipm
             (Primary sent.online_request ∷ states.control_commands control_in.AttemptFailed own.control)
             else fixed_turn own (Primary sent.online_request ∷ []))
         go true =
-            let lines = control-lines own.control.state (control_next own.control control_in.AttemptFailed).state in
+            let lines =
+            control-noted common-mild own.control.state (control_next own.control control_in.AttemptFailed).state in
             (fixed-quiet plan TriedIs fits slots stood) (with_control (control_next own.control control_in.AttemptFailed) own)
             (Primary sent.online_request ∷ states.control_commands control_in.AttemptFailed own.control)
             ((kept plan TriedIs fits slots stood) own (with_control (control_next own.control control_in.AttemptFailed) own) sound refl refl refl refl
             refl refl)
-            (record { calls = (tt, lines.calls); may = (may-attempt, lines.may) })
+            ((tt, may-attempt), lines)
         go false = (fixed-quiet plan TriedIs fits slots stood) own (Primary sent.online_request ∷ []) sound
-            (record { calls = (tt, tt); may = (may-attempt, tt) })
+            ((tt, may-attempt), tt)
 
     attempted-quiet : (out : ControlOut) (own : OwnView) (e : EndView Kind) → (Sound plan TriedIs fits slots stood) own
         → (Quiet plan TriedIs fits slots stood) (attempted_turn out own e)
@@ -260,7 +262,10 @@ module _ (plan : EquipmentPlan) (TriedIs : Option ℕ → Type 0) (fits : Equipm
         (with_control (control_step own.control input).next own) e
         ((kept plan TriedIs fits slots stood) own (with_control (control_step own.control input).next own) sound refl refl refl refl refl refl) in
         record {
-          quiet = ((λ f. control-lines own.control.state (control_step own.control input).next.state), rest.quiet);
+          quiet = (
+            (λ f. control-noted common-mild own.control.state (control_step own.control input).next.state),
+            rest.quiet,
+          );
           sound = rest.sound;
         }
       where
@@ -313,5 +318,5 @@ module _ (plan : EquipmentPlan) (TriedIs : Option ℕ → Type 0) (fits : Equipm
     pub t3-quiet : (now : ℕ) (own : OwnView) (e : EndView Kind) → (Sound plan TriedIs fits slots stood) own → (Quiet plan TriedIs fits slots stood) (reply_timer now own e)
     t3-quiet now own e sound =
         (led-quiet plan TriedIs fits slots stood) (Expire now) (timeout_turn now (due_now e now) own (core_after (Expire now) e))
-        (record { calls = (tt, tt); may = (tt, tt) })
+        ((tt, tt), tt)
         ((timeout-quiet plan TriedIs fits slots stood) now (due_now e now) own (core_after (Expire now) e) sound)

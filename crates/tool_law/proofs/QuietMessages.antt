@@ -1,7 +1,7 @@
 -- Turns on errors, replies and requests keep what is kept sound.
 use Rattle.std.proofs.Common.{refl, arith, Bool, true, false, not, ℕ, ◌==◌, ◌&&◌, List, [], ◌∷◌, length, Option, Some, None, if◌then◌else◌}
 use Rattle.std.specs.Option.{option_map}
-use Rattle.std.specs.Prelude.{IfSome, flat_map}
+use Rattle.std.specs.Prelude.{IfSome}
 use Rattle.block_codec.specs.declared.header.Header.{Header}
 use Rattle.gem_shapes.specs.Answers.{code_item}
 use Rattle.gem_shapes.specs.Primaries.{is_known, is_known_stream}
@@ -22,8 +22,7 @@ use Rattle.trace_log.specs.Names.{Spooled, message_name}
 use Rattle.transact.specs.declared.transactions.Match.{Match}
 use Rattle.transact.specs.declared.transactions.Match.TheVariants as match
 use Rattle.transact.specs.Numbers.{next_number}
-use Rattle.transact.specs.declared.begun.Begun.{Begun}
-use Rattle.transact.specs.Transactions.{match_of, primary_of as primary_with_kind, system_of}
+use Rattle.transact.specs.Transactions.{match_of, primary_of as primary_with_kind}
 use Rattle.message_end.specs.Calls.{answered_by}
 use Rattle.message_end.specs.Core.{EndView, IsText, is_crowded_out}
 use Rattle.message_end.specs.Core.Command.{Abort, Answer, Draw, DrawnPrimary, GiveUp, Note, Primary, Remove, Reply}
@@ -36,7 +35,7 @@ use Rattle.equipment_tables.specs.declared.plan.EquipmentPlan.{EquipmentPlan}
 use Rattle.equipment_tables.specs.Answers.{answer_of, established_of, lines_of, reply_to}
 use Rattle.tool_step.specs.Codes.{is_accepted_in, is_granted_in}
 use Rattle.tool_step.specs.Own.{OwnView, event_report, is_communicating, is_enabled_in as is_comms_enabled, is_local, is_online, turn_before, turn_of, waiting_report, waiting_data, with_control, with_ledger, with_tables, with_tried, without_grant, without_report, without_waiting_data}
-use Rattle.tool_step.specs.Messages.{answer_turn, control_answer_duties, control_request_turn, dropped_turn, error_turn, established_duties, established_turn, is_establish_request, is_online_request, known_turn, message_turn, offline_turn, own_s1f13_commands, own_s1f13_of, primary_turn, read_turn, request_turn, stray_turn}
+use Rattle.tool_step.specs.Messages.{answer_turn, control_answer_duties, control_request_turn, dropped_turn, error_turn, established_duties, established_turn, is_establish_request, is_online_request, known_turn, message_turn, offline_turn, primary_turn, read_turn, request_turn, stray_turn}
 use Rattle.equipment_tables.specs.Plan.{EquipmentPlanFits}
 use Rattle.tool_step.specs.Replies.{given_up_by_t4, given_up_turn, granted_turn, loss_turn, matched_turn, reply_turn, secondary_turn, timeout_turn}
 use Rattle.equipment_tables.specs.Requests.{request_of}
@@ -53,10 +52,11 @@ use Rattle.spool_ledger.specs.declared.ledger.Stand.{Stand}
 use Rattle.spool_ledger.specs.Storing.{all_out}
 use Rattle.spool_ledger.specs.Unloading.{after_next, confirmed, fresh, let_go, next_number as next_unloaded, taken_up, waiting_in, with_each, with_unload}
 use Rattle.tool_step.specs.Live.{ReportView}
-use Rattle.tool_law.proofs.TriedSteps.{IsMild}
-use Rattle.tool_law.proofs.MildCommands.{IsSpelled, joined, none-quiet, one-note, sent-quiet, may-report, may-unload, may-ask-unload, can-event, IsOdd, may-tell, control-lines, abort-quiet, body-quiet, long-quiet, lines-plain, lines-quiet}
+use Rattle.tool_law.proofs.CommandWalks.{Does, abort-are, are-both, control-noted, long-are, own-requests-are}
+use Rattle.tool_law.proofs.TriedSteps.{IsMild, IsMildCommand}
+use Rattle.tool_law.proofs.MildCommands.{IsSpelled, one-note, sent-quiet, may-report, may-unload, may-ask-unload, can-event, common-mild, IsOdd, may-tell, body-quiet, lines-plain, lines-quiet}
 use Rattle.tool_law.proofs.QuietSamples.{granted-trace-quiet, waiting-trace-is}
-use Rattle.tool_law.proofs.QuietTurns.{Sound, Quiet, AreQuiet, text-is, kept, ungranted, unreported, untraced, booked-sound, unloaded-sound, waiting-can, kept-or-ended, fixed-quiet, nothing-quiet, note-quiet, led-quiet, both-quiet, before-quiet, booked-quiet, comms-quiet, control-quiet, leaving-quiet}
+use Rattle.tool_law.proofs.QuietTurns.{Sound, Quiet, AreQuiet, text-is, kept, ungranted, unreported, untraced, booked-sound, unloaded-sound, waiting-can, kept-or-ended, fixed-quiet, nothing-quiet, note-quiet, led-quiet, before-quiet, booked-quiet, comms-quiet, control-quiet, leaving-quiet}
 
 module _ (plan : EquipmentPlan) (TriedIs : Option ℕ → Type 0) (fits : EquipmentPlanFits plan) (slots : ℕ)
     (stood : Stand)
@@ -77,7 +77,7 @@ module _ (plan : EquipmentPlan) (TriedIs : Option ℕ → Type 0) (fits : Equipm
         go true true = sent-quiet (sent.error_primary function) (may-tell function odd) body
             ((text-is plan TriedIs fits slots stood) own sound (sent.error_item header))
         go true false = one-note (Happening.Full (sent.error_name function)) tt
-        go false room = none-quiet
+        go false room = tt
 
     errors-quiet :
         (function : ℕ) → IsOdd function → (header : Header) (own : OwnView) → (Sound plan TriedIs fits slots stood) own
@@ -87,7 +87,7 @@ module _ (plan : EquipmentPlan) (TriedIs : Option ℕ → Type 0) (fits : Equipm
     answers-quiet : (answer : Text) → IsSpelled answer → (message : Message)
         → (AreQuiet plan TriedIs fits slots stood) (sent.answer_duties answer message)
     answers-quiet (text.Body body) is message = ((λ e. body-quiet body message e is), tt)
-    answers-quiet text.TooLong is message = ((λ e. long-quiet message), ((λ e. abort-quiet message e), tt))
+    answers-quiet text.TooLong is message = long-are common-mild message
 
     -- ---- what comes of the equipment's own transactions
 
@@ -127,7 +127,7 @@ module _ (plan : EquipmentPlan) (TriedIs : Option ℕ → Type 0) (fits : Equipm
     given-up-quiet now header own e sound =
         (led-quiet plan TriedIs fits slots stood) (GiveUp header) (timeout_turn now (option_map primary_with_kind (answered_by e header)) own
         (core_after (GiveUp header) e))
-        (record { calls = (tt, tt); may = (tt, tt) })
+        ((tt, tt), tt)
         (timeout-quiet now (option_map primary_with_kind (answered_by e header)) own
         (core_after (GiveUp header) e) sound)
 
@@ -165,7 +165,7 @@ module _ (plan : EquipmentPlan) (TriedIs : Option ℕ → Type 0) (fits : Equipm
     going-quiet message can own e sound =
         (fixed-quiet plan TriedIs fits slots stood) (sent.live_own message own e) (Primary (sent.live_report message) ∷ [])
         (live-sound message can own e sound)
-        (record { calls = (tt, tt); may = (may-report message can, tt) })
+        ((tt, may-report message can), tt)
 
     -- ---- messages of the spool
 
@@ -175,7 +175,7 @@ module _ (plan : EquipmentPlan) (TriedIs : Option ℕ → Type 0) (fits : Equipm
     unloading-quiet message can own e sound =
         (fixed-quiet plan TriedIs fits slots stood) (if is_crowded_out true e then unloaded_own own else own) (DrawnPrimary (unloaded message) ∷ [])
         ((kept-or-ended plan TriedIs fits slots stood) (is_crowded_out true e) own sound)
-        (record { calls = (tt, tt); may = (may-unload message can, tt) })
+        ((tt, may-unload message can), tt)
 
     leave-quiet :
         (asked : Text) → IsSpelled asked → (own : OwnView) (e : EndView Kind) → (Sound plan TriedIs fits slots stood) own
@@ -183,7 +183,7 @@ module _ (plan : EquipmentPlan) (TriedIs : Option ℕ → Type 0) (fits : Equipm
     leave-quiet (text.Body asked) is own e sound =
         (fixed-quiet plan TriedIs fits slots stood) (if is_crowded_out true e then unloaded_own own else own) (Primary (unload_request asked) ∷ [])
         ((kept-or-ended plan TriedIs fits slots stood) (is_crowded_out true e) own sound)
-        (record { calls = (tt, tt); may = (may-ask-unload asked is, tt) })
+        ((tt, may-ask-unload asked is), tt)
     leave-quiet text.TooLong is own e sound = (nothing-quiet plan TriedIs fits slots stood) (unloaded_own own) ((unloaded-sound plan TriedIs fits slots stood) own sound)
 
     pub out-quiet :
@@ -340,26 +340,10 @@ module _ (plan : EquipmentPlan) (TriedIs : Option ℕ → Type 0) (fits : Equipm
     secondary-quiet now header message own e sound =
         (led-quiet plan TriedIs fits slots stood) (Answer header) (matched_turn now (match_of header (answered_by e header)) message own
         (core_after (Answer header) e))
-        (record { calls = (tt, tt); may = (tt, tt) })
+        ((tt, tt), tt)
         (matched-quiet now (match_of header (answered_by e header)) message own (core_after (Answer header) e) sound)
 
     -- ---- requests
-
-    own-request-quiet : (kind : Kind) (system : ℕ) → IsMild (own_s1f13_commands kind system)
-    own-request-quiet kind.Establish system = record { calls = (tt, (tt, tt)); may = (tt, (tt, tt)) }
-    own-request-quiet kind.Attempt system = none-quiet
-    own-request-quiet kind.Grant system = none-quiet
-    own-request-quiet kind.Report system = none-quiet
-    own-request-quiet kind.Unload system = none-quiet
-    own-request-quiet kind.UnloadGrant system = none-quiet
-    own-request-quiet kind.Trace system = none-quiet
-    own-request-quiet kind.TraceGrant system = none-quiet
-
-    own-requests-quiet : (begun : List (Begun Kind)) → IsMild (flat_map own_s1f13_of begun)
-    own-requests-quiet [] = none-quiet
-    own-requests-quiet (one ∷ begun) =
-        joined (own_s1f13_of one) (flat_map own_s1f13_of begun) (own-request-quiet one.kind (system_of one))
-        (own-requests-quiet begun)
 
     established-quiet :
         (now : ℕ) (message : Message) (own : OwnView) → (Sound plan TriedIs fits slots stood) own → (Quiet plan TriedIs fits slots stood) (established_turn now message own)
@@ -367,8 +351,9 @@ module _ (plan : EquipmentPlan) (TriedIs : Option ℕ → Type 0) (fits : Equipm
         let greeted = (comms-quiet plan TriedIs fits slots stood) comms_in.HostRequest now own sound in
         record {
           quiet = (
-            (λ e. own-requests-quiet e.transactions.begun),
-            (both-quiet plan TriedIs fits slots stood) (states.comms_turn comms_in.HostRequest now own).duties (established_duties message own)
+            (λ e. own-requests-are common-mild e.transactions.begun),
+            are-both (Does IsMildCommand) (states.comms_turn comms_in.HostRequest now own).duties
+                (established_duties message own)
                 greeted.quiet
                 (answers-quiet (sent.text_of own (established_of own.tables))
                 ((text-is plan TriedIs fits slots stood) own sound (established_of own.tables)) message),
@@ -377,7 +362,7 @@ module _ (plan : EquipmentPlan) (TriedIs : Option ℕ → Type 0) (fits : Equipm
         }
 
     abort-is-quiet : (message : Message) → (AreQuiet plan TriedIs fits slots stood) (sent.abort_duty message ∷ [])
-    abort-is-quiet message = ((λ e. abort-quiet message e), tt)
+    abort-is-quiet message = abort-are common-mild message
 
     control-answer-quiet :
         (out : ControlOut) (message : Message) (own : OwnView) → (Sound plan TriedIs fits slots stood) own
@@ -393,7 +378,7 @@ module _ (plan : EquipmentPlan) (TriedIs : Option ℕ → Type 0) (fits : Equipm
         → (Quiet plan TriedIs fits slots stood) (control_request_turn input message own)
     control-request-quiet input message own sound = record {
       quiet = (
-        (λ e. control-lines own.control.state (control_step own.control input).next.state),
+        (λ e. control-noted common-mild own.control.state (control_step own.control input).next.state),
         control-answer-quiet (control_step own.control input).output message own sound,
       );
       sound = (kept plan TriedIs fits slots stood) own (with_control (control_step own.control input).next own) sound refl refl refl refl refl refl;

@@ -47,7 +47,7 @@ module _ (plan : EquipmentPlan) (TriedIs : Option ℕ → Type 0) (fits : Equipm
         → (Quiet plan TriedIs fits slots stood) (trace_sent_turn body own)
     trace-sent-quiet body is own sound =
         (fixed-quiet plan TriedIs fits slots stood) own (Primary (trace_data body) ∷ []) sound
-        (record { calls = (tt, tt); may = (may-trace body is, tt) })
+        ((tt, may-trace body is), tt)
 
     inquired-sound : (body : List ℕ) → IsText body → (own : OwnView) (e : EndView Kind)
         → (Sound plan TriedIs fits slots stood) own
@@ -76,7 +76,7 @@ module _ (plan : EquipmentPlan) (TriedIs : Option ℕ → Type 0) (fits : Equipm
     inquired-quiet (text.Body asked) may body is own e sound =
         (fixed-quiet plan TriedIs fits slots stood) (data_inquiry_own body own e) (Primary (trace_inquiry asked) ∷ [])
         (inquired-sound body is own e sound)
-        (record { calls = (tt, tt); may = (may-inquire asked may, tt) })
+        ((tt, may-inquire asked may), tt)
     inquired-quiet text.TooLong may body is own e sound = (nothing-quiet plan TriedIs fits slots stood) own sound
 
     data-quiet : (body : List ℕ) → IsText body → (own : OwnView) (e : EndView Kind)

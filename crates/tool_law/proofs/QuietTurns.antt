@@ -1,5 +1,5 @@
 -- Turns of the states, and of open messages that end, keep what is kept sound.
-use Rattle.std.proofs.Common.{◌≡◌, ◌+◌, refl, sym, subst, ◌∙◌, Bool, true, false, ℕ, ◌≤◌, ◌&&◌, List, [], ◌∷◌, ◌++◌, All, Option, Some, None, if◌then◌else◌}
+use Rattle.std.proofs.Common.{◌≡◌, refl, sym, subst, ◌∙◌, Bool, true, false, ℕ, ◌≤◌, ◌&&◌, List, [], ◌∷◌, ◌++◌, All, Option, Some, None, if◌then◌else◌}
 use Rattle.std.specs.List.{cons_option, filter_map, find}
 use Rattle.std.specs.Option.{option_map}
 use Rattle.std.specs.Prelude.{IfSome}
@@ -20,7 +20,7 @@ use Rattle.transact.specs.declared.begun.Begun.{Begun}
 use Rattle.transact.specs.Transactions.{system_of}
 use Rattle.message_end.specs.Core.{Command, EndView, IsText}
 use Rattle.message_end.specs.Core.Command.{Answer, Halt, Note}
-use Rattle.message_end.specs.Endings.{ends_open, is_of_open}
+use Rattle.message_end.specs.Endings.{ends_open}
 use Rattle.message_end.specs.Parts.{fixed_turn, led_turn}
 use Rattle.tool_step.specs.Grants.{GrantView}
 use Rattle.tool_step.specs.declared.kind.Kind.{Kind}
@@ -42,8 +42,9 @@ use Rattle.spool_ledger.specs.Unloading.{with_unload}
 use Rattle.tool_step.specs.Live.{ReportView}
 use Rattle.tool_law.proofs.TriedDoings.{IsFine}
 use Rattle.tool_law.proofs.TriedParts.{IsMildTurn}
-use Rattle.tool_law.proofs.TriedSteps.{AreMildDuties, IsMild}
-use Rattle.tool_law.proofs.MildCommands.{IsSpelled, spelled, none-quiet, one-note, joined, sent-quiet, may-establish, can-event, comms-lines, control-lines, begun-quiet, fronts-quiet, failed-quiet, lines-quiet}
+use Rattle.tool_law.proofs.CommandWalks.{Does, are-both, comms-noted, control-noted, open-are}
+use Rattle.tool_law.proofs.TriedSteps.{AreMildDuties, IsMild, IsMildCommand}
+use Rattle.tool_law.proofs.MildCommands.{IsSpelled, can-event, common-mild, lines-quiet, may-establish, one-note, sent-quiet, spelled}
 
 module _ (plan : EquipmentPlan) (TriedIs : Option ℕ → Type 0) (fits : EquipmentPlanFits plan) (slots : ℕ)
     (stood : Stand)
@@ -183,14 +184,10 @@ module _ (plan : EquipmentPlan) (TriedIs : Option ℕ → Type 0) (fits : Equipm
     pub led-quiet : (lead : Command Kind) (turn : ToolTurn) → IsMild (lead ∷ []) → Quiet turn → Quiet (led_turn lead turn)
     led-quiet lead turn first is = record { quiet = ((λ e. first), is.quiet); sound = is.sound }
 
-    pub both-quiet : (first second : List ToolDuty) → AreQuiet first → AreQuiet second → AreQuiet (first ++ second)
-    both-quiet [] second one two = two
-    both-quiet (duty ∷ first) second one two = (one.0, both-quiet first second one.1 two)
-
     pub before-quiet : (duties : List ToolDuty) (turn : ToolTurn) → AreQuiet duties → Quiet turn
         → Quiet (turn_before duties turn)
     before-quiet duties turn last is =
-        record { quiet = both-quiet turn.duties duties is.quiet last; sound = is.sound }
+        record { quiet = are-both (Does IsMildCommand) turn.duties duties is.quiet last; sound = is.sound }
 
     pub booked-quiet : (booked : Booked) (own : OwnView) → Sound own → IsGoodBooked slots stood booked
         → Quiet (booked_turn booked own)
@@ -204,14 +201,15 @@ module _ (plan : EquipmentPlan) (TriedIs : Option ℕ → Type 0) (fits : Equipm
     request-quiet comms_out.SendRequest own sound =
         sent-quiet sent.establish_request may-establish (sent.text_of own (identity_of own.tables))
         (text-is own sound (identity_of own.tables))
-    request-quiet comms_out.Nothing own sound = none-quiet
-    request-quiet comms_out.Answer own sound = none-quiet
+    request-quiet comms_out.Nothing own sound = tt
+    request-quiet comms_out.Answer own sound = tt
 
     comms-commands : (outcome : CommsOutcome) (own : OwnView) → Sound own
         → IsMild (states.comms_commands outcome own)
     comms-commands outcome own sound =
-        joined (states.comms_lines own.comms.state outcome.next.state) (states.request_commands outcome.output own)
-        (comms-lines own.comms.state outcome.next.state) (request-quiet outcome.output own sound)
+        are-both IsMildCommand (states.comms_lines own.comms.state outcome.next.state)
+        (states.request_commands outcome.output own)
+        (comms-noted common-mild own.comms.state outcome.next.state) (request-quiet outcome.output own sound)
 
     pub comms-quiet : (input : CommsIn) (now : ℕ) (own : OwnView) → Sound own → Quiet (states.comms_turn input now own)
     comms-quiet input now own sound =
@@ -224,16 +222,7 @@ module _ (plan : EquipmentPlan) (TriedIs : Option ℕ → Type 0) (fits : Equipm
     control-quiet input own sound =
         fixed-quiet (with_control (control_next own.control input) own) (states.control_commands input own.control)
         (kept own (with_control (control_next own.control input) own) sound refl refl refl refl refl refl)
-        (control-lines own.control.state (control_next own.control input).state)
-
-    open-quiet : (spools : Bool) (own : OwnView) (e : EndView Kind) (failed : Option Header)
-        → AreQuiet (ends_open (states.ends_report spools own) e failed)
-    open-quiet spools own e None =
-        ((λ f. begun-quiet spools own f.transactions.begun), ((λ f. fronts-quiet f.outgoing.waiting), tt))
-    open-quiet spools own e (Some header) = (
-      (λ f. begun-quiet spools own f.transactions.begun),
-      ((λ f. failed-quiet (is_of_open e header) header f), ((λ f. fronts-quiet f.outgoing.waiting), tt)),
-    )
+        (control-noted common-mild own.control.state (control_next own.control input).state)
 
     -- what is put as the communication is left
     one-stored : (own : OwnView) (message : Option Spooled) → IfSome message CanBeSent
@@ -276,11 +265,11 @@ module _ (plan : EquipmentPlan) (TriedIs : Option ℕ → Type 0) (fits : Equipm
     stores-quiet : (stores : Stores) (more : ToolCommands) → IsGoodStores slots stood stores → IsMild more
         → IsMild (stores_commands stores more)
     stores-quiet stores more good is =
-        joined (lines_commands stores.lines) (if stores.is_spent then Halt ∷ [] else more)
+        are-both IsMildCommand (lines_commands stores.lines) (if stores.is_spent then Halt ∷ [] else more)
         (lines-quiet stores.lines good.plain) (go stores.is_spent)
       where
         go : (spent : Bool) → IsMild (if spent then Halt ∷ [] else more)
-        go true = record { calls = (tt, tt); may = (tt, tt) }
+        go true = ((tt, tt), tt)
         go false = is
 
     parted-quiet :
@@ -289,9 +278,9 @@ module _ (plan : EquipmentPlan) (TriedIs : Option ℕ → Type 0) (fits : Equipm
         → Quiet (states.parted_turn outcome spools activity failed own e)
     parted-quiet outcome spools activity failed own e sound good = record {
       quiet =
-          both-quiet (ends_open (states.ends_report spools left) e failed)
+          are-both (Does IsMildCommand) (ends_open (states.ends_report spools left) e failed)
           ((λ later. states.left_commands outcome activity stores own) ∷ [])
-          (open-quiet spools left e failed) ((λ f. last), tt);
+          (open-are common-mild spools left e failed) ((λ f. last), tt);
       sound = booked-sound (states.without_open left e) stores.next (opened left e left-sound) put.next;
     }
       where
@@ -315,10 +304,12 @@ module _ (plan : EquipmentPlan) (TriedIs : Option ℕ → Type 0) (fits : Equipm
 
         last : IsMild (states.left_commands outcome activity stores own)
         last =
-            joined (states.comms_lines own.comms.state outcome.next.state ++ lines_commands activity.lines)
+            are-both IsMildCommand
+            (states.comms_lines own.comms.state outcome.next.state ++ lines_commands activity.lines)
             (stores_commands stores (states.request_commands outcome.output own))
-            (joined (states.comms_lines own.comms.state outcome.next.state) (lines_commands activity.lines)
-            (comms-lines own.comms.state outcome.next.state) (lines-quiet activity.lines good.plain))
+            (are-both IsMildCommand (states.comms_lines own.comms.state outcome.next.state)
+            (lines_commands activity.lines)
+            (comms-noted common-mild own.comms.state outcome.next.state) (lines-quiet activity.lines good.plain))
             (stores-quiet stores (states.request_commands outcome.output own) put
             (request-quiet outcome.output own sound))
 

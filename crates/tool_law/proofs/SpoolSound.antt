@@ -28,17 +28,13 @@ use Rattle.tool_step.specs.Equipment.{settled_list}
 use Rattle.spool_works.specs.Found.{spooled_of}
 use Rattle.tool_law.specs.Sound.{AllCanBeSent, CanBeSent, IsGoodLedger, PutsGood}
 use Rattle.tool_step.specs.Spooling.{Stores, stores_all, stores_behind, stores_none}
+use Rattle.tool_law.proofs.CommandWalks.{AllAre, are-both}
 use Rattle.tool_law.proofs.TriedDoings.{IsFine}
 
 -- ---- lines
 
 abbrev pub AllPlain : List Happening → Type 0
-AllPlain [] = Unit {0}
-AllPlain (what ∷ lines) = IsFine what × AllPlain lines
-
-pub plain-both : (one two : List Happening) → AllPlain one → AllPlain two → AllPlain (one ++ two)
-plain-both [] two first second = second
-plain-both (what ∷ one) two first second = (first.0, plain-both one two first.1 second)
+AllPlain lines = AllAre IsFine lines
 
 pub All-snoc : {A : Type 0} (P : A → Type 0) (xs : List A) (last : A) → All P xs → P last → All P (xs ++ last ∷ [])
 All-snoc P [] last all is = All-cons P last [] is all
@@ -123,7 +119,7 @@ module _ {slots : ℕ} {stood : Stand} where
       let later = more booked.next is.next in
       record {
         next = later.next;
-        plain = plain-both booked.lines (call booked.next).lines is.plain later.plain;
+        plain = are-both IsFine booked.lines (call booked.next).lines is.plain later.plain;
       }
 
   quiet-good : (v : LedgerView) → IsGoodLedger slots stood v → IsGoodBooked slots stood (quiet v)
@@ -219,7 +215,8 @@ module _ {slots : ℕ} {stood : Stand} where
           let later = more booked.next so.next in
           record {
             next = later.next;
-            plain = plain-both booked.lines (stores_all overwrites messages booked.next).lines so.plain later.plain;
+            plain =
+                are-both IsFine booked.lines (stores_all overwrites messages booked.next).lines so.plain later.plain;
           }
 
   -- ---- the unload

@@ -202,9 +202,8 @@ module _ (plan : EndPlan) (base : ℕ) (fits : LinePlanFits plan.line) (doings :
   commands-at tries Called [] step mild at = at
   commands-at tries Called (command ∷ commands) step mild at =
       either-then (TriedAt tries Called) (TriedAt tries Called) (TriedAt tries Called) (carry Some command step)
-      (carried Some commands) (carry-at tries Called command step mild.calls.0 mild.may.0 at)
-      (λ next so.
-      commands-at tries Called commands next (record { calls = mild.calls.1; may = mild.may.1 }) so)
+      (carried Some commands) (carry-at tries Called command step mild.0.0 mild.0.1 at)
+      (λ next so. commands-at tries Called commands next mild.1 so)
 
   pub duties-at :
       (tries : List ℕ) (Called : List LineCall → Type 0) (duties : List ToolDuty) (step : CoreStep)

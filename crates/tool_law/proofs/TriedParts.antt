@@ -381,4 +381,4 @@ module _ (plan : EndPlan) (base : ℕ) (fits : LinePlanFits plan.line) (doings :
             ∙ sym (append_assoc newer at.core.called.decided (taking_calls input now));
         decisions = decided-both newer at.core.called.decided (offer-decided newer is) at.core.called.decisions;
       }))
-      (record { quiet = ((λ e. record { calls = tt; may = tt }), tt); sound = at.held })
+      (record { quiet = ((λ e. tt), tt); sound = at.held })

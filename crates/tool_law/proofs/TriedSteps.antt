@@ -22,12 +22,13 @@ use Rattle.transact.specs.Numbers.{next_number}
 use Rattle.transact.specs.Transactions as transactions
 use Rattle.transact.specs.Transactions.{is_answered_by}
 use Rattle.message_end.specs.declared.unsent.Unsent.{Unsent}
-use Rattle.message_end.specs.Core.{Command, EndView, MayCarryAll, Went, answers, at_first, calls, carried, carry, drawn_primary, draws, drops, gives, held_header, is_crowded_out, judges, keeps_drawn, noted, offers, primary_of, queues, replies, reply_function, reply_of, sends, takes, takes_back, tells, times_out, unsent_name, with_asked, with_assembly, with_end, with_outgoing}
+use Rattle.message_end.specs.Core.{Command, EndView, MayCarry, Went, answers, at_first, calls, carried, carry, drawn_primary, draws, drops, gives, held_header, is_crowded_out, judges, keeps_drawn, noted, offers, primary_of, queues, replies, reply_function, reply_of, sends, takes, takes_back, tells, times_out, unsent_name, with_asked, with_assembly, with_end, with_outgoing}
 use Rattle.message_end.specs.Core.Went.{Goes, Spent}
-use Rattle.message_end.proofs.Parts.{AllStayOff, IsQuiet, OnEither, StaysOff, either-then}
+use Rattle.message_end.proofs.Parts.{IsQuiet, OnEither, StaysOff, either-then}
 use Rattle.spool_law.specs.Shelf.{change_of}
 use Rattle.tool_step.specs.declared.kind.Kind.{Kind}
 use Rattle.tool_step.specs.Own.{ToolCommands, ToolDuty}
+use Rattle.tool_law.proofs.CommandWalks.{AllAre, AllDo}
 use Rattle.tool_law.proofs.CoreSteps.{CoreStep}
 use Rattle.tool_law.proofs.TriedDoings.{AreNoTries, IsNoTry, both-no}
 
@@ -38,8 +39,7 @@ IsFree (Command.Note what) = IsNoTry (change_of what)
 IsFree _ = Unit {0}
 
 abbrev pub AreFree : ToolCommands → Type 0
-AreFree [] = Unit {0}
-AreFree (command ∷ commands) = IsFree command × AreFree commands
+AreFree commands = AllAre IsFree commands
 
 -- no try is noted so far
 abbrev pub NotesFree : CoreStep → Type 0
@@ -448,13 +448,12 @@ StaysMild (Command.More count) = ⊥
 StaysMild Command.CloseStep = ⊥
 StaysMild _ = Unit {0}
 
-abbrev pub AllStayMild : ToolCommands → Type 0
-AllStayMild [] = Unit {0}
-AllStayMild (command ∷ commands) = StaysMild command × AllStayMild commands
+-- such a command that may be carried out
+abbrev pub IsMildCommand : Command Kind → Type 0
+IsMildCommand command = StaysMild command × MayCarry command
 
-pub record IsMild (commands : ToolCommands) : Type 0 where
-  pub calls : AllStayMild commands
-  pub may : MayCarryAll commands
+abbrev pub IsMild : ToolCommands → Type 0
+IsMild commands = AllAre IsMildCommand commands
 
 pub mild-off : (command : Command Kind) → StaysMild command → StaysOff command × IsFree command
 mild-off (Command.Note what) mild = (tt, mild)
@@ -478,19 +477,18 @@ mild-off Command.DropFront mild = (tt, tt)
 mild-off Command.CloseStep mild = absurd mild
 mild-off Command.Halt mild = (tt, tt)
 
-all-mild : (commands : ToolCommands) → AllStayMild commands → AllStayOff commands × AreFree commands
-all-mild [] mild = (tt, tt)
+all-mild : (commands : ToolCommands) → IsMild commands → IsQuiet commands × AreFree commands
+all-mild [] mild = (record { calls = tt; may = tt }, tt)
 all-mild (command ∷ commands) mild =
-    let first = mild-off command mild.0 in
+    let first = mild-off command mild.0.0 in
     let rest = all-mild commands mild.1 in
-    ((first.0, rest.0), (first.1, rest.1))
+    (record { calls = (first.0, rest.0.calls); may = (mild.0.1, rest.0.may) }, (first.1, rest.1))
 
 pub mild-quiet : (commands : ToolCommands) → IsMild commands → IsQuiet commands
-mild-quiet commands is = record { calls = (all-mild commands is.calls).0; may = is.may }
+mild-quiet commands is = (all-mild commands is).0
 
 pub mild-free : (commands : ToolCommands) → IsMild commands → AreFree commands
-mild-free commands is = (all-mild commands is.calls).1
+mild-free commands is = (all-mild commands is).1
 
 abbrev pub AreMildDuties : List ToolDuty → Type 0
-AreMildDuties [] = Unit {0}
-AreMildDuties (duty ∷ duties) = ((e : EndView Kind) → IsMild (duty e)) × AreMildDuties duties
+AreMildDuties duties = AllDo IsMildCommand duties
