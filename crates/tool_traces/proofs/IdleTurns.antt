@@ -21,7 +21,7 @@ use Rattle.spool_ledger.specs.Storing.{stored}
 use Rattle.spool_ledger.specs.Unloading.{with_unload}
 use Rattle.tool_step.specs.declared.kind.Kind.{Kind}
 use Rattle.tool_step.specs.Grants.{GrantView}
-use Rattle.tool_step.specs.Own.{OwnView, ToolCommands, ToolTurn, TracingView, event_report, is_granted_by, quiet_turn, with_comms, with_ledger, without_waiting_data}
+use Rattle.tool_step.specs.Own.{OwnView, ToolCommands, ToolTurn, TracingView, event_report, is_granted_by, quiet_turn, with_comms, with_ledger, with_report, without_waiting_data}
 use Rattle.tool_step.specs.Reports.{judged_turn, report_turn}
 use Rattle.tool_step.specs.Sent as sent
 use Rattle.tool_step.specs.Spooling.{Stores, booked_turn, lines_commands, stored_turn, stores_all, stores_behind, stores_commands, stores_none}
