@@ -84,7 +84,7 @@ module _ {Is : Command Kind → Type 0} (common : HasCommon Is) where
 
   -- ---- what is sent
 
-  pub sent-are : (unsent : List ℕ → Unsent Kind) → ((body : List ℕ) → Is (Primary (unsent body))) → (text : Text)
+  sent-are : (unsent : List ℕ → Unsent Kind) → ((body : List ℕ) → Is (Primary (unsent body))) → (text : Text)
       → Are (sent.primary_commands unsent text)
   sent-are unsent is (answer.Body body) = (is body, tt)
   sent-are unsent is answer.TooLong = tt
@@ -164,7 +164,7 @@ module _ {Is : Command Kind → Type 0} (common : HasCommon Is) where
   unless-are None commands are = are
   unless-are (Some message) commands are = tt
 
-  pub ending-are : (control : ControlView) (stored : Option Spooled) (lost : Kind) (header : Header)
+  ending-are : (control : ControlView) (stored : Option Spooled) (lost : Kind) (header : Header)
       → Are (states.ending_commands control stored lost header)
   ending-are control stored lost header = go lost
     where

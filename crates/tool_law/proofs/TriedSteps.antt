@@ -22,9 +22,9 @@ use Rattle.transact.specs.Numbers.{next_number}
 use Rattle.transact.specs.Transactions as transactions
 use Rattle.transact.specs.Transactions.{is_answered_by}
 use Rattle.message_end.specs.declared.unsent.Unsent.{Unsent}
-use Rattle.message_end.specs.Core.{Command, EndView, MayCarry, Went, answers, at_first, calls, carried, carry, drawn_primary, draws, drops, gives, held_header, is_crowded_out, judges, keeps_drawn, noted, offers, primary_of, queues, replies, reply_function, reply_of, sends, takes, takes_back, tells, times_out, unsent_name, with_asked, with_assembly, with_end, with_outgoing}
+use Rattle.message_end.specs.Core.{Command, EndView, MayCarry, Went, answers, at_first, calls, carry, drawn_primary, draws, drops, gives, held_header, is_crowded_out, judges, keeps_drawn, noted, offers, primary_of, queues, replies, reply_function, reply_of, sends, takes, takes_back, tells, times_out, unsent_name, with_asked, with_assembly, with_end, with_outgoing}
 use Rattle.message_end.specs.Core.Went.{Goes, Spent}
-use Rattle.message_end.proofs.Parts.{IsQuiet, OnEither, StaysOff, either-then}
+use Rattle.message_end.proofs.Parts.{OnEither, StaysOff}
 use Rattle.spool_law.specs.Shelf.{change_of}
 use Rattle.tool_step.specs.declared.kind.Kind.{Kind}
 use Rattle.tool_step.specs.Own.{ToolCommands, ToolDuty}
@@ -37,9 +37,6 @@ use Rattle.tool_law.proofs.TriedDoings.{AreNoTries, IsNoTry, both-no}
 abbrev pub IsFree : Command Kind → Type 0
 IsFree (Command.Note what) = IsNoTry (change_of what)
 IsFree _ = Unit {0}
-
-abbrev pub AreFree : ToolCommands → Type 0
-AreFree commands = AllAre IsFree commands
 
 -- no try is noted so far
 abbrev pub NotesFree : CoreStep → Type 0
@@ -194,14 +191,6 @@ carry-free (Command.Remove primary system) step free so = so
 carry-free Command.DropFront step free so = so
 carry-free Command.CloseStep step free so = one-free Happening.StepEnded step.notes tt so
 carry-free Command.Halt step free so = so
-
-pub carried-free :
-    (commands : ToolCommands) (step : CoreStep) → AreFree commands → NotesFree step
-    → OnEither NotesFree NotesFree (carried Some commands step)
-carried-free [] step free so = so
-carried-free (command ∷ commands) step free so =
-    either-then NotesFree NotesFree NotesFree (carry Some command step) (carried Some commands)
-    (carry-free command step free.0 so) (λ next now_so. carried-free commands next free.1 now_so)
 
 -- ---- a command behind what was noted and written before
 
@@ -476,19 +465,6 @@ mild-off (Command.Remove primary system) mild = (tt, tt)
 mild-off Command.DropFront mild = (tt, tt)
 mild-off Command.CloseStep mild = absurd mild
 mild-off Command.Halt mild = (tt, tt)
-
-all-mild : (commands : ToolCommands) → IsMild commands → IsQuiet commands × AreFree commands
-all-mild [] mild = (record { calls = tt; may = tt }, tt)
-all-mild (command ∷ commands) mild =
-    let first = mild-off command mild.0.0 in
-    let rest = all-mild commands mild.1 in
-    (record { calls = (first.0, rest.0.calls); may = (mild.0.1, rest.0.may) }, (first.1, rest.1))
-
-pub mild-quiet : (commands : ToolCommands) → IsMild commands → IsQuiet commands
-mild-quiet commands is = (all-mild commands is).0
-
-pub mild-free : (commands : ToolCommands) → IsMild commands → AreFree commands
-mild-free commands is = (all-mild commands is).1
 
 abbrev pub AreMildDuties : List ToolDuty → Type 0
 AreMildDuties duties = AllDo IsMildCommand duties

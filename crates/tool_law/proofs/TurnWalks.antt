@@ -28,7 +28,7 @@ use Rattle.spool_ledger.specs.Ledger.{Booked, LedgerView}
 use Rattle.spool_ledger.specs.Storing.{stored}
 use Rattle.tool_step.specs.declared.kind.Kind.{Kind}
 use Rattle.tool_step.specs.Messages.{control_answer_duties, control_request_turn, dropped_turn, error_turn, established_duties, established_turn, offline_turn, stray_turn}
-use Rattle.tool_step.specs.Own.{OwnView, ToolCommands, ToolDuty, ToolTurn, event_report, is_communicating, is_online, quiet_turn, turn_before, turn_behind, turn_of, with_comms, with_control, with_ledger, with_report}
+use Rattle.tool_step.specs.Own.{OwnView, ToolCommands, ToolDuty, ToolTurn, event_report, is_communicating, is_online, quiet_turn, turn_before, turn_of, with_comms, with_control, with_ledger, with_report}
 use Rattle.tool_step.specs.Replies.{denied_turn}
 use Rattle.tool_step.specs.Reports.{judged_turn, text_turn, unreported_turn}
 use Rattle.tool_step.specs.Sent as sent
@@ -68,10 +68,6 @@ module _ {Is : Command Kind → Type 0} {Keeps : OwnView → OwnView → Type 0}
   pub led-of : (own : OwnView) (lead : Command Kind) (turn : ToolTurn) → Is lead → IsTurnOf Is Keeps own turn
       → IsTurnOf Is Keeps own (led_turn lead turn)
   led-of own lead turn first is = record { duties = ((λ e. (first, tt)), is.duties); keeps = is.keeps }
-
-  pub behind-of : (own : OwnView) (commands : ToolCommands) (turn : ToolTurn) → AllAre Is commands
-      → IsTurnOf Is Keeps own turn → IsTurnOf Is Keeps own (turn_behind commands turn)
-  behind-of own commands turn first is = record { duties = ((λ e. first), is.duties); keeps = is.keeps }
 
   pub before-of : (own : OwnView) (duties : List ToolDuty) (turn : ToolTurn) → AllDo Is duties
       → IsTurnOf Is Keeps own turn → IsTurnOf Is Keeps own (turn_before duties turn)
