@@ -40,7 +40,7 @@ use Rattle.message_end.specs.declared.end.Took.{Took}
 use Rattle.message_end.specs.declared.end.Took.TheVariants as took
 use Rattle.message_end.specs.Calls.{answered_by, dropped_now, due_now, failed_at, took_at}
 use Rattle.message_end.specs.Core.{Command, EndView, is_crowded_out}
-use Rattle.message_end.specs.Core.Command.{Abort, Answer, Draw, DropDue, Expire, GiveUp, Halt, Note, Primary, Remove, Take, Tick}
+use Rattle.message_end.specs.Core.Command.{Answer, Draw, DropDue, Expire, GiveUp, Halt, Note, Primary, Remove, Take, Tick}
 use Rattle.message_end.specs.Parts.{closes, core_after, fixed_turn, leads, led_turn}
 use Rattle.equipment_tables.specs.declared.answers.Answer.{Answer as Text}
 use Rattle.equipment_tables.specs.declared.answers.Answer.TheVariants as answer

@@ -18,7 +18,7 @@ use Rattle.trace_log.specs.Log.{Happening}
 use Rattle.trace_log.specs.Names.{Spooled, spooled_name}
 use Rattle.message_end.specs.declared.unsent.Unsent.{Unsent}
 use Rattle.message_end.specs.Core.{EndView}
-use Rattle.message_end.specs.Core.Command.{Answer, Halt, Note, Primary}
+use Rattle.message_end.specs.Core.Command.{Halt, Note, Primary}
 use Rattle.message_end.specs.Endings.{ends_open}
 use Rattle.message_end.specs.Parts.{fixed_turn}
 use Rattle.equipment_tables.specs.declared.answers.Answer.{Answer as Text}
@@ -34,7 +34,7 @@ use Rattle.tool_step.specs.Reports.{judged_turn, report_turn, text_turn, unrepor
 use Rattle.tool_step.specs.Sent as sent
 use Rattle.tool_step.specs.Spooling.{Stores, booked_turn, is_spooled, lines_commands, stored_turn, stores_all, stores_behind, stores_commands, stores_none}
 use Rattle.tool_step.specs.States as states
-use Rattle.tool_step.specs.Step.{begun, failed_turn, is_spent}
+use Rattle.tool_step.specs.Step.{failed_turn}
 use Rattle.tool_law.proofs.CommandWalks.{HasCommon, are-both, comms-noted, control-noted, open-are}
 use Rattle.tool_law.proofs.Drawing.{AreFree, AreFreeDuties, IsFree, Needs, Spends, free-need, free-spend, halt-spend, needs-as, needs-both, needs-none, needs-one, primary-spend, spend-behind, spends-as, spends-one}
 

@@ -20,7 +20,7 @@ use Rattle.equipment_tables.specs.declared.answers.Answer.TheVariants as text
 use Rattle.tool_step.specs.declared.kind.Kind.{Kind}
 use Rattle.equipment_tables.specs.declared.plan.EquipmentPlan.{EquipmentPlan}
 use Rattle.equipment_tables.specs.Answers.{has_bytes, lines_of, spelled_body}
-use Rattle.tool_step.specs.Own.{OwnView, event_report, is_local}
+use Rattle.tool_step.specs.Own.{OwnView, event_report}
 use Rattle.tool_step.specs.Sampling.{trace_data, trace_inquiry}
 use Rattle.tool_step.specs.Sent as sent
 use Rattle.tool_law.specs.Sound.{CanBeSent, IsSound}

@@ -27,7 +27,7 @@ use Rattle.message_end.specs.declared.end.Took.{Took}
 use Rattle.message_end.specs.declared.end.Took.TheVariants as took
 use Rattle.message_end.specs.Calls.{due_now}
 use Rattle.message_end.specs.Core.{EndView, IsText, is_crowded_out}
-use Rattle.message_end.specs.Core.Command.{Abort, Expire, Halt, Note, Primary}
+use Rattle.message_end.specs.Core.Command.{Expire, Halt, Note, Primary}
 use Rattle.message_end.specs.Parts.{core_after, fixed_turn}
 use Rattle.equipment_tables.specs.declared.answers.Answer.{Answer as Text}
 use Rattle.equipment_tables.specs.declared.answers.Answer.TheVariants as text

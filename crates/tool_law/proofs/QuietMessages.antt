@@ -25,7 +25,7 @@ use Rattle.transact.specs.Numbers.{next_number}
 use Rattle.transact.specs.Transactions.{match_of, primary_of as primary_with_kind}
 use Rattle.message_end.specs.Calls.{answered_by}
 use Rattle.message_end.specs.Core.{EndView, IsText, is_crowded_out}
-use Rattle.message_end.specs.Core.Command.{Abort, Answer, Draw, DrawnPrimary, GiveUp, Note, Primary, Remove, Reply}
+use Rattle.message_end.specs.Core.Command.{Answer, Draw, DrawnPrimary, GiveUp, Note, Primary, Remove}
 use Rattle.message_end.specs.Parts.{core_after, leads}
 use Rattle.equipment_tables.specs.declared.answers.Answer.{Answer as Text}
 use Rattle.equipment_tables.specs.declared.answers.Answer.TheVariants as text
@@ -45,7 +45,6 @@ use Rattle.tool_law.specs.Sound.{CanBeSent}
 use Rattle.tool_step.specs.Spooling.{booked_turn, dataid_in, end_of_spooling, grant_given_turn, inquiry_turn, let_go_turn, needs_grant, purge_turn, rsda_duties, sent_turn, stopped_turn, taking_turn, transmit_turn, tried_turn, unload_part, unload_request, unloaded, unloaded_own, unloading_turn, waiting_text}
 use Rattle.tool_law.proofs.SpoolSound.{All-snoc, all-out-good, confirmed-good, let-go-good, next-good, rested-good, taken-good, unload-good}
 use Rattle.tool_step.specs.States as states
-use Rattle.tool_step.specs.Step.{begun}
 use Rattle.equipment_tables.specs.Tables.{most_transmitted, tables_after}
 use Rattle.spool_ledger.specs.Activity.{rested, rsda_of}
 use Rattle.spool_ledger.specs.declared.ledger.Stand.{Stand}

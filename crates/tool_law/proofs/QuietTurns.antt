@@ -19,7 +19,7 @@ use Rattle.trace_log.specs.Names.{Spooled}
 use Rattle.transact.specs.declared.begun.Begun.{Begun}
 use Rattle.transact.specs.Transactions.{system_of}
 use Rattle.message_end.specs.Core.{Command, EndView, IsText}
-use Rattle.message_end.specs.Core.Command.{Answer, Halt, Note}
+use Rattle.message_end.specs.Core.Command.{Halt, Note}
 use Rattle.message_end.specs.Endings.{ends_open}
 use Rattle.message_end.specs.Parts.{fixed_turn, led_turn}
 use Rattle.tool_step.specs.Grants.{GrantView}
@@ -34,7 +34,7 @@ use Rattle.tool_law.specs.Sound.{CanBeSent, IsGoodLedger, IsHeld}
 use Rattle.tool_step.specs.Spooling.{Stores, booked_turn, is_spooled, lines_commands, stores_all, stores_commands, unloaded_own}
 use Rattle.tool_law.proofs.SpoolSound.{IsGoodBooked, IsGoodStores, activated-good, stores-good, unload-good}
 use Rattle.tool_step.specs.States as states
-use Rattle.tool_step.specs.Step.{begun, is_spent}
+use Rattle.tool_step.specs.Step.{begun}
 use Rattle.equipment_tables.specs.Tables.{may_spool, overwrites}
 use Rattle.spool_ledger.specs.declared.ledger.Stand.{Stand}
 use Rattle.spool_ledger.specs.Ledger.{Booked, LedgerView}

@@ -1,5 +1,5 @@
 -- That the calls of a step write few bytes.
-use Rattle.std.proofs.Common.{arith, ℕ, ◌+◌, ◌&&◌, not, Bool, true, false, List, [], ◌∷◌, ◌++◌, All, map, if◌then◌else◌}
+use Rattle.std.proofs.Common.{arith, ℕ, ◌&&◌, not, Bool, true, false, List, [], ◌∷◌, ◌++◌, All, map, if◌then◌else◌}
 use Rattle.std.proofs.lemmas.List.Elements.{All-head, All-tail}
 use Rattle.gem_spool.specs.declared.works.Work.{Work}
 use Rattle.gem_spool.specs.declared.works.Work.TheVariants as work
