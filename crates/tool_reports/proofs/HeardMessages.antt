@@ -21,7 +21,7 @@ use Rattle.transact.specs.declared.transactions.Match.TheVariants as match
 use Rattle.transact.specs.Transactions.{match_of}
 use Rattle.message_end.specs.Calls.{answered_by}
 use Rattle.message_end.specs.Core.{EndView, noted}
-use Rattle.message_end.specs.Core.Command.{Answer, Reply}
+use Rattle.message_end.specs.Core.Command.{Answer}
 use Rattle.message_end.specs.Duties.{all_done}
 use Rattle.message_end.specs.Parts.{core_after}
 use Rattle.equipment_tables.specs.declared.plan.EquipmentPlan.{EquipmentPlan}

@@ -19,7 +19,7 @@ use Rattle.equipment_tables.specs.Answers.{lines_of}
 use Rattle.equipment_tables.specs.Tables.{TablesState, asked_after}
 use Rattle.equipment_tables.proofs.Lines.{lines_hold}
 use Rattle.tool_step.specs.Messages.{is_establish_request}
-use Rattle.tool_step.specs.Own.{OwnView, is_local, with_tables}
+use Rattle.tool_step.specs.Own.{OwnView, with_tables}
 use Rattle.tool_reports.specs.Reported.{past_in, reports_in}
 use Rattle.tool_reports.proofs.HeldReports.{Any}
 use Rattle.tool_reports.proofs.QuietNotes.{IsAsBefore, IsNone, never-live, none-of, none-sent, IsQuietNote, settled-more}

@@ -22,7 +22,6 @@ use Rattle.tool_step.specs.Reports.{report_turn}
 use Rattle.tool_step.specs.Spooling.{booked_turn, lines_commands, stored_turn}
 use Rattle.equipment_tables.specs.Tables.{overwrites}
 use Rattle.spool_ledger.specs.Ledger.{Booked, LedgerView}
-use Rattle.spool_ledger.specs.Storing.{stored}
 use Rattle.tool_step.specs.Sent as sent
 use Rattle.tool_step.specs.States as states
 use Rattle.tool_reports.proofs.QuietNotes.{IsAsBefore, IsQuietNote, counted}

@@ -37,7 +37,7 @@ use Rattle.tool_reports.specs.LookedBack.{HasSetSoFar, HasWhatWasSet, SetsInStep
 use Rattle.tool_reports.specs.Reported.{Reported}
 use Rattle.tool_law.specs.Sound.{AllCanBeSent, CanBeSent}
 use Rattle.tool_law.proofs.SpoolSound.{new-good}
-use Rattle.tool_step.specs.Step.{begun, first_parts, last_parts}
+use Rattle.tool_step.specs.Step.{first_parts, last_parts}
 use Rattle.tool_reports.proofs.QuietReports.{Holds, holds-as, holds-less}
 use Rattle.tool_reports.proofs.PlainTurns.{booked-stays}
 use Rattle.tool_reports.proofs.QuietNotes.{AreSettled, quiet-note, settled-more}

@@ -1,6 +1,6 @@
 -- What is said of the tables, in one example that can be followed by hand: the host enables an alarm, and then the tool
 -- disables the communication.
-use Rattle.std.specs.Prelude.{◌≡◌, ℕ, Bool, true, false, List, [], ◌∷◌, Some, None}
+use Rattle.std.specs.Prelude.{◌≡◌, Bool, true, false, List, [], ◌∷◌, Some, None}
 use Rattle.gem_alarms.specs.declared.alarm.Alarm.{Alarm}
 use Rattle.gem_alarms.specs.declared.plan.AlarmPlan.{AlarmPlan}
 use Rattle.gem_shapes.specs.declared.request.Request.TheVariants.{OfTables}
