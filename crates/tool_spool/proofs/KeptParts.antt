@@ -1,5 +1,5 @@
 -- That each part of a step keeps the spool.
-use Rattle.std.proofs.Common.{◌≡◌, refl, sym, ap, subst, ◌∙◌, ◌+◌, ◌==◌, ◌%◌, ◌||◌, not, Bool, true, false, ℕ, zero, suc, List, [], ◌∷◌, ◌++◌, replicate, Option, Some, None, if◌then◌else◌}
+use Rattle.std.proofs.Common.{◌≡◌, refl, sym, ap, subst, ◌∙◌, ◌==◌, ◌%◌, ◌||◌, not, Bool, true, false, ℕ, zero, suc, List, [], ◌∷◌, ◌++◌, replicate, Option, Some, None, if◌then◌else◌}
 use Rattle.std.specs.List.{find}
 use Rattle.std.specs.Option.{option_map}
 use Rattle.std.specs.Prelude.{IfSome, slice_get}
@@ -20,7 +20,7 @@ use Rattle.transact.specs.declared.begun.Begun.{Begun}
 use Rattle.transact.specs.Transactions as transactions
 use Rattle.transact.specs.Transactions.{is_answered_by, primary_of as primary_with_kind}
 use Rattle.message_end.specs.Calls.{answered_by, dropped_now, failed_as, failed_at, took_by}
-use Rattle.message_end.specs.Core.{EndView, Went, at_first, calls, carried, drops, held_header, judges, noted, takes, takes_back, tells, times_out, with_assembly, with_end}
+use Rattle.message_end.specs.Core.{EndView, Went, at_first, calls, carried, drops, held_header, judges, takes, takes_back, tells, times_out, with_assembly, with_end}
 use Rattle.message_end.specs.Core.Command.{DropDue, Expire, GiveUp, Halt, Take, Tick}
 use Rattle.message_end.specs.Core.Went.{Goes, Spent}
 use Rattle.message_end.specs.Course.{noted_behind}

@@ -17,7 +17,6 @@ use Rattle.secs_items.specs.Checking.{Checking, check_of}
 use Rattle.trace_log.specs.Log.{Happening}
 use Rattle.trace_log.specs.Names.{Spooled}
 use Rattle.transact.specs.Numbers.{next_number}
-use Rattle.transact.specs.Transactions as transactions
 use Rattle.message_end.specs.Core.{EndView, Step, Went, and_then, carried, carry, draws, is_crowded_out, noted, sends, unsent_name}
 use Rattle.message_end.specs.Core.Command.{Draw, Note, Primary}
 use Rattle.message_end.specs.Core.Went.{Goes, Spent}
@@ -36,7 +35,6 @@ use Rattle.tool_step.specs.Replies.{loss_turn, timeout_turn}
 use Rattle.tool_step.specs.Sent as sent
 use Rattle.tool_step.specs.Spooling.{dataid_in, end_of_spooling, inquiry_turn, needs_grant, sent_turn, stopped_turn, taking_turn, tried_turn, unload_part, unloaded_own, unloading_turn}
 use Rattle.tool_step.specs.States as states
-use Rattle.tool_step.specs.Step.{begun}
 use Rattle.message_end.proofs.Parts.{OnEither}
 use Rattle.tool_law.proofs.CoreSteps.{CoreStep}
 use Rattle.tool_spool.proofs.UnloadOpen.{HasHeader}

@@ -1,4 +1,4 @@
-use Rattle.std.proofs.Common.{◌≡◌, refl, inl, arith, ◌<◌, ◌≤◌, zero, suc, Bool, true, false, ℕ, [], ◌∷◌, ◌++◌, drop, None}
+use Rattle.std.proofs.Common.{◌≡◌, refl, inl, arith, ◌<◌, zero, suc, Bool, true, false, ℕ, [], ◌++◌, drop, None}
 use Rattle.spool_law.specs.Shelf.{IsFoundOf, stored_if}
 use Rattle.trace_log.specs.declared.names.Cause.TheVariants as cause
 use Rattle.trace_log.specs.Names.{Spooled}

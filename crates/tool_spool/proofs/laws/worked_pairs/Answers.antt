@@ -1,4 +1,4 @@
-use Rattle.std.proofs.Common.{◌≡◌, refl, ◌∙◌, ap, arith, ℕ, [], ◌∷◌}
+use Rattle.std.proofs.Common.{◌≡◌, refl, ap, arith, ℕ}
 use Rattle.trace_log.specs.declared.names.Cause.{Cause}
 use Rattle.trace_log.specs.declared.names.Cause.TheVariants as cause
 use Rattle.spool_law.specs.Shelf.{Change}
