@@ -31,7 +31,7 @@ use Rattle.transact.specs.declared.begun.Begun.{Begun}
 use Rattle.transact.specs.declared.transactions.Match.TheVariants as match
 use Rattle.transact.specs.Transactions.{is_answered_by, match_of, without_first as without}
 use Rattle.message_end.specs.Core.{EndView, answers, at_first, is_crowded_out, noted}
-use Rattle.message_end.specs.Core.Command.{Answer, Note}
+use Rattle.message_end.specs.Core.Command.{Answer}
 use Rattle.message_end.specs.Own.{Has}
 use Rattle.message_end.specs.Parts.{core_after}
 use Rattle.message_end.proofs.Members.{found-in}
@@ -65,7 +65,7 @@ use Rattle.tool_step.specs.States as states
 use Rattle.tool_step.specs.Tool.{alarm_report_turn, alarm_turn, command_turn, enabled_turn, known_event_turn, online_turn, refused_turn, set_turn, told_turn, with_event}
 use Rattle.tool_spool.proofs.CalmSamples.{granted-trace-calm, trace-calm}
 use Rattle.tool_law.proofs.CommandWalks.{abort-are}
-use Rattle.tool_law.proofs.TurnWalks.{dropped-of, established-of, fixed-of, offline-of, online-of, stray-of}
+use Rattle.tool_law.proofs.TurnWalks.{dropped-of, established-of, note-of, offline-of, online-of, stray-of}
 use Rattle.tool_spool.proofs.CalmParts.{answer-calm, comms-calm, common-calm, control-calm, control-request-calm, error-turn-calm, event-calm, going-calm, like-as, likes, refused-calm, rsda-calm, states-like, unreported-like}
 use Rattle.tool_spool.proofs.KeptLedger.{one-call}
 use Rattle.tool_spool.proofs.KeptUnload.{MayConfirm}
@@ -452,12 +452,10 @@ module _ (plan : EquipmentPlan) (slots : ℕ) (list : List Put) (base before : L
           (established-of common-calm states-like (λ body. refl) message (λ body. tt) now own) holds.shelves
       go false true offline =
           calm-turn plan slots list base before own (stray_turn now message own) step
-          (stray-of common-calm states-like (λ body. refl) now message own)
-          holds.shelves
+          (stray-of common-calm states-like (λ body. refl) now message own) holds.shelves
       go false false true =
           calm-turn plan slots list base before own (offline_turn message own) step
-          (offline-of common-calm states-like message own)
-          holds.shelves
+          (offline-of common-calm states-like message own) holds.shelves
       go false false false = known-keeps now header message own step newest holds
 
   -- a whole message was received just now, the last block of which has this header
@@ -475,8 +473,7 @@ module _ (plan : EquipmentPlan) (slots : ℕ) (list : List Put) (base before : L
           else secondary_turn now header message own e) step
       go true odd is =
           calm-turn plan slots list base before own (dropped_turn message own) step
-          (dropped-of common-calm states-like message own)
-          holds.shelves
+          (dropped-of common-calm states-like message own) holds.shelves
       go false true is =
           primary-keeps now header message own step
           (record {
@@ -503,9 +500,9 @@ module _ (plan : EquipmentPlan) (slots : ℕ) (list : List Put) (base before : L
           calm-turn plan slots list base before own (refused_turn own) step (refused-calm own) holds
       go None =
           calm-turn plan slots list base before own (set_turn None vid value own) step
-          (fixed-of own (with_tables (set_after vid value own.tables) own) (Note (Happening.Set vid) ∷ [])
+          (note-of own (with_tables (set_after vid value own.tables) own) (Happening.Set vid)
           (like-as own (with_tables (set_after vid value own.tables) own) refl refl)
-          (((λ told. tt), λ notes. refl), tt)) holds
+          ((λ told. tt), λ notes. refl)) holds
   command-keeps (tool.Event ceid) now own e step holds at = go (is_planned own.tables.reports ceid)
     where
       next : CoreStep
@@ -559,8 +556,7 @@ module _ (plan : EquipmentPlan) (slots : ℕ) (list : List Put) (base before : L
       go alarm_step.Unknown = calm-turn plan slots list base before own (refused_turn own) step (refused-calm own) holds
       go alarm_step.Same =
           calm-turn plan slots list base before own (alarm_turn alarm_step.Same alid is_set own e) step
-          (fixed-of own own (Note (Happening.Alarm alid is_set) ∷ []) (likes own)
-          (((λ told. tt), λ notes. refl), tt)) holds
+          (note-of own own (Happening.Alarm alid is_set) (likes own) ((λ told. tt), λ notes. refl)) holds
       go (alarm_step.Changed enabled) = by enabled
   command-keeps tool.Enable now own e step holds at =
       calm-turn plan slots list base before own (states.comms_turn comms_in.Enable now own) step
