@@ -5,7 +5,7 @@ use Rattle.disk_base.specs.Settle.{LogsBoth}
 use Rattle.disk_base.specs.Story.{Story}
 use Rattle.disk_base.specs.declared.disk.DiskAnswer.{DiskAnswer}
 use Rattle.disk_base.specs.declared.disk.DiskAnswer.TheVariants.{Done, Failed}
-use Rattle.gate_cell.specs.Cell.{copy_bytes, spare_place}
+use Rattle.gate_cell.specs.Cell.{cell_in, copy_bytes, spare_place}
 use Rattle.gate_cell.specs.Holds.{IsRead}
 use Rattle.gate_cell.specs.declared.cell.CellAnswer.{CellAnswer}
 use Rattle.gate_cell.specs.declared.cell.CellAnswer.TheVariants.{Value}
@@ -26,9 +26,9 @@ ReadsCell s at cell.Failed = Unit {0}
 abbrev pub LogsPreparing : Story → ℕ → ℕ → Type 0 → Option (List DiskCall) → Option (List DiskCall) → DiskAnswer →
     Type 0
 LogsPreparing s at value Crowded before after Done =
-    LogsBoth (spare_place s.now.bytes at) (copy_bytes value) Crowded (with_call (read_call (at + 16) 1 Done) before)
+    LogsBoth (spare_place at (cell_in s.now.bytes at)) (copy_bytes value) Crowded (with_call (read_call (at + 16) 1 Done) before)
     after Done
 LogsPreparing s at value Crowded before after Failed =
     Logs (read_call (at + 16) 1) Crowded before after Failed
-    ⊎ LogsBoth (spare_place s.now.bytes at) (copy_bytes value) Crowded
+    ⊎ LogsBoth (spare_place at (cell_in s.now.bytes at)) (copy_bytes value) Crowded
     (with_call (read_call (at + 16) 1 Done) before) after Failed

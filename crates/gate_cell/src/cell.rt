@@ -8,8 +8,8 @@ ghost use Rattle.disk_base.specs.Listed.{AsListed};
 ghost use Rattle.disk_base.specs.SameDisk.{IsSameDisk};
 ghost use Rattle.disk_base.specs.Story.{Story};
 ghost use Rattle.gate_cell.specs.Calls.{ReadsCell, call_answer};
-ghost use Rattle.gate_cell.specs.Cell.{copy_bytes as bytes_of, copy_of as number_in, copy_place as place_of};
-ghost use Rattle.gate_cell.specs.Cell.{names_second as is_odd, value_of as number_named};
+ghost use Rattle.gate_cell.specs.Cell.{cell_of, copy_bytes as bytes_of, copy_of as number_in, copy_place as place_of};
+ghost use Rattle.gate_cell.specs.Cell.{names_second as is_odd};
 
 use disk_base::{Disk, DiskAnswer};
 
@@ -56,7 +56,7 @@ fn copy_of(cell: &[u8; 17], second: bool) -> u64
 
 // The number in the copy that the gate names.
 fn value_of(cell: &[u8; 17]) -> u64
-    ensures { result ≡ number_named cell.now }
+    ensures { result ≡ (cell_of cell.now).value }
 {
     copy_of(cell, names_second(cell[16]))
 }

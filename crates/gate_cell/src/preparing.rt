@@ -1,12 +1,12 @@
 //! The first half of a change: the new value goes into the copy that doesn't count.
 
-ghost use Rattle.std.specs.Prelude.{◌≡◌, ◌+◌, ◌<◌, ◌≤◌, false, None, Some, IfOk};
+ghost use Rattle.std.specs.Prelude.{◌≡◌, ◌+◌, ◌<◌, ◌≤◌, false, not, None, Some, IfOk};
 ghost use Rattle.disk_base.specs.Faults.{GoesAsListed, HasCause, IsCrowded};
 ghost use Rattle.disk_base.specs.Listed.{AsListed};
 ghost use Rattle.disk_base.specs.SameDisk.{IsSameDisk};
 ghost use Rattle.disk_base.specs.Story.{Story};
 ghost use Rattle.gate_cell.specs.Calls.{LogsPreparing};
-ghost use Rattle.gate_cell.specs.Cell.{cell_in, spare_is_second};
+ghost use Rattle.gate_cell.specs.Cell.{cell_in};
 ghost use Rattle.gate_cell.specs.Ready.{IsCell, IsReady, OnDisk, Prepares};
 
 use crate::cell::{copy_bytes, copy_place, names_second};
@@ -24,7 +24,7 @@ pub fn prepare<D: Disk>(disk: D, at: u64, value: u64) -> Result<Prepared<D>, D>
     ensures untold { D.told disk ≡ None → OnDisk (λ w. w.disk) result (λ after answer. D.told after ≡ None) }
     ensures value { IfOk result (λ w. (w.at ≡ at) × IsReady at value (D.told w.disk)) }
     ensures second { (s : Story) → D.told disk ≡ Some s →
-        IfOk result (λ w. w.second ≡ spare_is_second (cell_in s.now.bytes at)) }
+        IfOk result (λ w. w.second ≡ not (cell_in s.now.bytes at).second) }
     ensures size { OnDisk (λ w. w.disk) result (λ after answer. D.size_is after ≡ D.size_is disk) }
     ensures calls { (s : Story) → D.told disk ≡ Some s → OnDisk (λ w. w.disk) result (λ after answer.
         LogsPreparing s at value (IsCrowded (D.health disk) 3 8) (D.calls disk) (D.calls after) answer) }

@@ -15,7 +15,7 @@ use Rattle.gem_spool.specs.declared.spool.PutAnswer.{PutAnswer}
 use Rattle.gem_spool.specs.declared.spool.PutAnswer.TheVariants as answer
 use Rattle.gem_spool.specs.declared.spool.Room.{Room}
 use Rattle.gem_spool.specs.declared.spool.Room.TheVariants as room
-use Rattle.spool_slots.specs.Changes.{Drops, Ends, HoldsThrough, IsSame, IsSameOr, Reserves, Seals, Stages, with_message}
+use Rattle.spool_slots.specs.Changes.{Drops, Ends, HoldsThrough, IsSame, IsSameOr, Reserves, Seals, Stages, shut_for, with_message, without_some}
 use Rattle.spool_slots.specs.File.{SpoolFile, StandsFor, file_in}
 use Rattle.spool_slots.specs.Losses.{IsSure, LeavesByGate, file_left, gate_counts}
 use Rattle.spool_slots.specs.Slot.{Message}
@@ -143,9 +143,14 @@ abbrev pub DropsSome : {D : Type 0} → disk.Ghosts D → ℕ → SpoolView D �
 DropsSome {D} members zero v w = w ≡ v
 DropsSome {D} members (suc n) v w = (u : SpoolView D) × DropsSome members n v u × Drops members u (Ok w)
 
--- the file without its first messages
-abbrev pub without_some : ℕ → SpoolFile → SpoolFile
-without_some n file = record { slots = file.slots; mark = file.mark; list = drop n file.list }
+-- the file without any message, each of whose slots was closed
+abbrev pub emptied : SpoolFile → SpoolFile
+emptied file = record {
+  slots = file.slots;
+  gates = shut_for file.slots file.list file.gates;
+  mark = file.mark;
+  list = [];
+}
 
 -- bytes that stand for the list with at most so many first messages gone
 abbrev pub IsRest : ℕ → List ℕ → List ℕ → Type 0
@@ -175,7 +180,7 @@ Purges {D} members v (Ok w) =
     × DropsSome members v.len v w
     × (w ≡ in_hand w.disk (record (known_of v) { first = v.next; len = 0 }))
     × ((s t : Story) → members.told v.disk ≡ Some s → members.told w.disk ≡ Some t →
-    Ends t (record { slots = (file_in s.now.bytes).slots; mark = (file_in s.now.bytes).mark; list = [] }))
+    Ends t (emptied (file_in s.now.bytes)))
 Purges {D} members v (Err spent) =
     HasPurged members v spent.disk Failed
     × ((n : ℕ) × (u : SpoolView D) × DropsSome members n v u × Drops members u (Err (dropping.Failed spent))

@@ -1,6 +1,6 @@
 -- What a list of works does to the spool of the equipment (this profile).
 use Rattle.std.specs.Prelude.{◌≡◌, ◌⊎◌, ℕ, ◌+◌, ◌*◌, ◌-◌, ◌%◌, ◌<◌, ◌≤◌}
-use Rattle.std.specs.Prelude.{Bool, true, false, List, [], ◌∷◌, ◌++◌, drop, fold, length, take, Option, Some, None, Result, Ok, Err}
+use Rattle.std.specs.Prelude.{Bool, true, false, List, [], ◌∷◌, ◌++◌, drop, fold, length, set, take, Option, Some, None, Result, Ok, Err}
 use Rattle.std.specs.List.{slice_get}
 use Rattle.disk_base.specs.Faults.{HasCause}
 use Rattle.disk_base.specs.Story.{Story}
@@ -8,9 +8,9 @@ use Rattle.disk_base.specs.Through.{EachImage, GoesThrough}
 use Rattle.disk_base.specs.declared.disk.Disk as disk
 use Rattle.disk_base.specs.declared.disk.DiskAnswer.{DiskAnswer}
 use Rattle.disk_base.specs.declared.disk.DiskAnswer.TheVariants.{Done, Failed}
-use Rattle.gem_spool.specs.Spool.{HasList, PurgesAll, Stores, room_in, without_some}
+use Rattle.gem_spool.specs.Spool.{HasList, PurgesAll, Stores, room_in}
 use Rattle.gem_spool.specs.declared.count.Count.{Count}
-use Rattle.gem_spool.specs.Standing.{Standing, Stands, count_of, file_of}
+use Rattle.gem_spool.specs.Standing.{Standing, Stands, count_in, count_of}
 use Rattle.gem_spool.specs.declared.spool.GemSpool.{GemSpool}
 use Rattle.gem_spool.specs.declared.spool.PutAnswer.{PutAnswer}
 use Rattle.gem_spool.specs.declared.spool.PutAnswer.TheVariants as answer
@@ -18,8 +18,8 @@ use Rattle.gem_spool.specs.declared.spool.Room.TheVariants as room
 use Rattle.gem_spool.specs.declared.works.Undone.{Undone}
 use Rattle.gem_spool.specs.declared.works.Work.{Work}
 use Rattle.gem_spool.specs.declared.works.Work.TheVariants as work
-use Rattle.spool_slots.specs.Changes.{Drops}
-use Rattle.spool_slots.specs.File.{StandsFor}
+use Rattle.spool_slots.specs.Changes.{Drops, shut_for, with_mark_moved, without_some}
+use Rattle.spool_slots.specs.File.{SpoolFile, StandsFor}
 use Rattle.spool_slots.specs.Slot.{Message}
 use Rattle.spool_slots.specs.declared.states.Dropping.TheVariants as dropping
 use Rattle.spool_slots.specs.declared.states.Spent.{Spent}
@@ -48,13 +48,22 @@ list_after next list work.Purge = []
 abbrev pub count_after : Count → Work → Count
 count_after c one = record { slots = c.slots; next = next_after c.next one; len = len_after c.len one }
 
-abbrev pub standing_after : Standing → Work → Standing
-standing_after st one = record {
-  slots = st.slots;
-  next = next_after st.next one;
-  mark = st.mark;
-  list = list_after st.next st.list one;
+-- which slots are open: that of a message that is put, and no more those of messages that leave
+abbrev pub gates_after : ℕ → SpoolFile → Work → List Bool
+gates_after next file (work.Put stream function body) = set file.gates (next % file.slots) true
+gates_after next file work.DropOldest = shut_for file.slots (take 1 file.list) file.gates
+gates_after next file work.Purge = shut_for file.slots file.list file.gates
+
+abbrev pub file_after : ℕ → SpoolFile → Work → SpoolFile
+file_after next file one = record {
+  slots = file.slots;
+  gates = gates_after next file one;
+  mark = file.mark;
+  list = list_after next file.list one;
 }
+
+abbrev pub standing_after : Standing → Work → Standing
+standing_after st one = record { next = next_after st.next one; file = file_after st.next st.file one }
 
 -- the same behind the other calls
 abbrev pub standing_after_put : PutAnswer → Standing → ℕ → ℕ → List ℕ → Standing
@@ -68,7 +77,7 @@ standing_after_confirm true st = standing_after st work.DropOldest
 standing_after_confirm false st = st
 
 abbrev pub reserved : Standing → Standing
-reserved st = record { slots = st.slots; next = st.next; mark = st.mark + 4096; list = st.list }
+reserved st = record { next = st.next; file = with_mark_moved st.file }
 
 abbrev pub standing_after_reserve : Option ℕ → Standing → Standing
 standing_after_reserve (Some base) st = reserved st
@@ -116,42 +125,46 @@ DoesAll {D} members g (one ∷ works) h = (u : GemSpool D) × Does members g one
 
 -- bytes stand for the list before a work, or amid it: a purge has taken some first messages off
 abbrev pub IsAmid : Standing → Work → List ℕ → Type 0
-IsAmid st (work.Put stream function body) image = StandsFor image (file_of st)
-IsAmid st work.DropOldest image = StandsFor image (file_of st)
-IsAmid st work.Purge image = (n : ℕ) × (n ≤ length st.list) × StandsFor image (without_some n (file_of st))
+IsAmid st (work.Put stream function body) image = StandsFor image st.file
+IsAmid st work.DropOldest image = StandsFor image st.file
+IsAmid st work.Purge image = (n : ℕ) × (n ≤ length st.file.list) × StandsFor image (without_some n st.file)
 
 -- bytes stand for what some first works make, or amid the next one
 abbrev pub IsOnWay : Standing → List Work → List ℕ → Type 0
-IsOnWay st [] image = StandsFor image (file_of st)
+IsOnWay st [] image = StandsFor image st.file
 IsOnWay st (one ∷ works) image = IsAmid st one image ⊎ IsOnWay (standing_after st one) works image
 
 -- how many calls of the disk a work makes, and how many bytes it writes
-abbrev pub calls_of : Count → Work → ℕ
-calls_of c (work.Put stream function body) = 4
-calls_of c work.DropOldest = 2
-calls_of c work.Purge = 2 * c.len
+abbrev pub calls_of : Standing → Work → ℕ
+calls_of st (work.Put stream function body) = 4
+calls_of st work.DropOldest = 2
+calls_of st work.Purge = 2 * length st.file.list
 
-abbrev pub bytes_of : Count → Work → ℕ
-bytes_of c (work.Put stream function body) = length body + 15
-bytes_of c work.DropOldest = 1
-bytes_of c work.Purge = c.len
+abbrev pub bytes_of : Standing → Work → ℕ
+bytes_of st (work.Put stream function body) = length body + 15
+bytes_of st work.DropOldest = 1
+bytes_of st work.Purge = length st.file.list
 
-abbrev pub all_calls : Count → List Work → ℕ
-all_calls c [] = 0
-all_calls c (one ∷ works) = calls_of c one + all_calls (count_after c one) works
+abbrev pub all_calls : Standing → List Work → ℕ
+all_calls st [] = 0
+all_calls st (one ∷ works) = calls_of st one + all_calls (standing_after st one) works
 
-abbrev pub all_bytes : Count → List Work → ℕ
-all_bytes c [] = 0
-all_bytes c (one ∷ works) = bytes_of c one + all_bytes (count_after c one) works
+abbrev pub all_bytes : Standing → List Work → ℕ
+all_bytes st [] = 0
+all_bytes st (one ∷ works) = bytes_of st one + all_bytes (standing_after st one) works
 
--- at every moment till then a crash leaves what some of these works make; a fault was counted where a call failed
+-- at every moment till then a crash leaves what some of these works make; a fault was counted where a call failed. The
+-- numbers of the list say how many calls that are, and how many bytes
 pub record GoesOn {D : Type 0} (members : disk.Ghosts D) (g : GemSpool D) (works : List Work) (after : D)
     (said : DiskAnswer) : Type 0 where
   pub images : (st : Standing) → Stands members g.spool st → (s : Story) → members.told g.spool.disk ≡ Some s →
       GoesThrough s (members.told after) (IsOnWay st works)
-  pub cause : HasCause (members.health g.spool.disk) (members.health after) (all_calls (count_of g.spool) works)
-      (all_bytes (count_of g.spool) works) ((members.health g.spool.disk).room < all_bytes (count_of g.spool) works)
-      said
+  pub made : ℕ
+  pub wrote : ℕ
+  pub cause : HasCause (members.health g.spool.disk) (members.health after) made wrote
+      ((members.health g.spool.disk).room < wrote) said
+  pub are : (st : Standing) → count_of g.spool ≡ count_in st →
+      (made ≡ all_calls st works) × (wrote ≡ all_bytes st works)
 
 -- the device behind a reserve
 abbrev pub reserve_disk : {D : Type 0} → Result (GemSpool D × Option ℕ) (Spent D) → D
@@ -160,7 +173,7 @@ reserve_disk (Err spent) = spent.disk
 
 -- amid a reserve bytes stand for the list with the old mark or the new one
 abbrev pub IsMarked : Standing → List ℕ → Type 0
-IsMarked st image = StandsFor image (file_of st) ⊎ StandsFor image (file_of (reserved st))
+IsMarked st image = StandsFor image st.file ⊎ StandsFor image (reserved st).file
 
 -- ---- the call
 

@@ -1,6 +1,6 @@
 -- What each call does to the spool on the disk (this profile).
-use Rattle.std.specs.Prelude.{◌≡◌, ◌⊎◌, ◌==◌, not, ℕ, ◌+◌, ◌*◌, ◌/◌, ◌^◌, ◌%◌, ◌-◌, ◌<◌, ◌≤◌, List, [], ◌∷◌, ◌++◌, length, drop}
-use Rattle.std.specs.Prelude.{Option, Some, Result, Ok, Err}
+use Rattle.std.specs.Prelude.{◌≡◌, ◌⊎◌, ◌==◌, Bool, true, false, not, ℕ, ◌+◌, ◌*◌, ◌/◌, ◌^◌, ◌%◌, ◌-◌, ◌<◌, ◌≤◌}
+use Rattle.std.specs.Prelude.{List, [], ◌∷◌, ◌++◌, length, take, drop, set, Option, Some, Result, Ok, Err}
 use Rattle.std.specs.Int.{w32, w64, to_be_bytes}
 use Rattle.std.specs.List.{slice_get}
 use Rattle.std.specs.Option.{option_map}
@@ -17,12 +17,12 @@ use Rattle.disk_base.specs.declared.disk.Disk as disk
 use Rattle.disk_base.specs.declared.disk.DiskAnswer.{DiskAnswer}
 use Rattle.disk_base.specs.declared.disk.DiskAnswer.TheVariants.{Done, Failed}
 use Rattle.gate_cell.specs.Calls.{LogsPreparing}
-use Rattle.gate_cell.specs.Cell.{cell_in, gate_byte, spare_is_second}
+use Rattle.gate_cell.specs.Cell.{Cell, cell_in, gate_byte, with_value}
 use Rattle.gate_cell.specs.Holds.{Holds}
 use Rattle.spool_slots.specs.Area.{first_of}
 use Rattle.spool_slots.specs.File.{SpoolFile, StandsFor, file_in, slot_message, spool_break}
 use Rattle.spool_slots.specs.Front.{mark_cell}
-use Rattle.spool_slots.specs.Losses.{IsSure, KeepsGate, LeavesByGate, LeavesGate, TurnsGate, file_left, gate_counts, names_spare}
+use Rattle.spool_slots.specs.Losses.{IsSure, LeavesByGate, file_left, gate_counts, names_spare}
 use Rattle.spool_slots.specs.Reading.{IsBreak}
 use Rattle.spool_slots.specs.Reads.{HasRead}
 use Rattle.spool_slots.specs.Slot.{Message, slot_in, slot_place}
@@ -45,19 +45,41 @@ abbrev pub parts_of : ℕ → ℕ → ℕ → List ℕ → List ℕ
 parts_of number stream function body =
     to_be_bytes w64 number ++ ((128 + stream) ∷ []) ++ (function ∷ []) ++ to_be_bytes w32 (length body) ++ body
 
--- a file with a message more at its end, and without its first one
+-- a file with a message more at its end, whose slot is open then
 abbrev pub with_message : Message → SpoolFile → SpoolFile
-with_message message file = record { slots = file.slots; mark = file.mark; list = file.list ++ message ∷ [] }
+with_message message file = record {
+  slots = file.slots;
+  gates = set file.gates (message.number % file.slots) true;
+  mark = file.mark;
+  list = file.list ++ message ∷ [];
+}
+
+-- the gates of so many slots where those of some messages are closed one by one
+abbrev pub shut_for : ℕ → List Message → List Bool → List Bool
+shut_for slots [] gates = gates
+shut_for slots (message ∷ list) gates = shut_for slots list (set gates (message.number % slots) false)
+
+-- the file without its first messages, whose slots are closed then, and without the first one
+abbrev pub without_some : ℕ → SpoolFile → SpoolFile
+without_some n file = record {
+  slots = file.slots;
+  gates = shut_for file.slots (take n file.list) file.gates;
+  mark = file.mark;
+  list = drop n file.list;
+}
 
 abbrev pub without_first : SpoolFile → SpoolFile
-without_first file = record { slots = file.slots; mark = file.mark; list = drop 1 file.list }
+without_first file = without_some 1 file
 
--- the file with another mark
-abbrev pub with_mark : ℕ → SpoolFile → SpoolFile
-with_mark mark file = record { slots = file.slots; mark = mark; list = file.list }
+-- the file with another mark, and with its mark moved on
+abbrev pub with_mark : Cell → SpoolFile → SpoolFile
+with_mark mark file = record { slots = file.slots; gates = file.gates; mark = mark; list = file.list }
+
+abbrev pub with_mark_moved : SpoolFile → SpoolFile
+with_mark_moved file = with_mark (with_value (file.mark.value + 4096) file.mark) file
 
 abbrev pub reserved_in : List ℕ → SpoolFile
-reserved_in bytes = with_mark ((file_in bytes).mark + 4096) (file_in bytes)
+reserved_in bytes = with_mark_moved (file_in bytes)
 
 -- where the disk told its bytes before, it does so now, and at every moment between a crash leaves bytes with P of what
 -- was there before
@@ -232,7 +254,7 @@ pub record HasCommitted (s : Story) (at value : ℕ) (Crowded : Type 0) (before 
     (answer : DiskAnswer) : Type 0 where
   pub prepared : Option (List DiskCall)
   pub first : LogsPreparing s at value Crowded before prepared Done
-  pub last : LogsBoth (at + 16) (gate_byte (spare_is_second (cell_in s.now.bytes at)) ∷ []) Crowded prepared after
+  pub last : LogsBoth (at + 16) (gate_byte (not (cell_in s.now.bytes at).second) ∷ []) Crowded prepared after
       answer
 
 -- the calls that write another value of a cell
@@ -241,16 +263,17 @@ LogsValue s at value Crowded before after Done = HasCommitted s at value Crowded
 LogsValue s at value Crowded before after Failed =
     LogsPreparing s at value Crowded before after Failed ⊎ HasCommitted s at value Crowded before after Failed
 
--- the bytes are settled, and the cell has this value
+-- the bytes are settled, and the cell has this value, in the copy that didn't count before
 abbrev pub HasValue : Story → ℕ → ℕ → Option Story → Type 0
-HasValue s at value after = (t : Story) → after ≡ Some t → (t.now.loose ≡ []) × Holds s.now at value t.now.bytes
+HasValue s at value after =
+    (t : Story) → after ≡ Some t →
+    (t.now.loose ≡ []) × Holds s.now at (with_value value (cell_in s.now.bytes at)) t.now.bytes
 
 -- the mark was moved on, as far as that went
 pub record HasReserved {D : Type 0} (members : disk.Ghosts D) (v : SpoolView D) (after : D) (answer : DiskAnswer) :
     Type 0 where
   pub left : v.mark + 4096 ≤ 2 ^ 32
   pub images : HoldsThrough (members.told v.disk) (members.told after) (IsSameOr reserved_in)
-  pub turns : (s : Story) → members.told v.disk ≡ Some s → TurnsGate mark_cell s.now.bytes (members.told after) answer
   pub size : members.size_is after ≡ members.size_is v.disk
   pub calls : (s : Story) → members.told v.disk ≡ Some s → LogsValue s mark_cell (v.mark + 4096)
       (IsCrowded (members.health v.disk) 5 9) (members.calls v.disk) (members.calls after) answer
@@ -259,19 +282,14 @@ pub record HasReserved {D : Type 0} (members : disk.Ghosts D) (v : SpoolView D) 
   pub cause : HasCause (members.health v.disk) (members.health after) 5 9 ((members.health v.disk).room < 9) answer
   pub same_disk : IsSameDisk members v.disk after
 
--- where one of the three calls that prepare the mark was to fail, a crash leaves the file as it was, with the copy that
--- counted; elsewhere the gate of the cell decides both
+-- where one of the three calls that prepare the mark was to fail, a crash leaves the file as it was; elsewhere the gate
+-- of the cell decides
 pub record HasLostReserve {D : Type 0} (members : disk.Ghosts D) (v : SpoolView D) (after : D) : Type 0 where
   pub early : IsPlanned (members.health v.disk) 3 → HoldsThrough (members.told v.disk) (members.told after) IsSame
-  pub early_gate :
-      IsPlanned (members.health v.disk) 3 →
-      HoldsThrough (members.told v.disk) (members.told after) (KeepsGate mark_cell)
   pub late : (IsPlanned (members.health v.disk) 3 → ⊥) → (s t : Story) → members.told v.disk ≡ Some s →
       members.told after ≡ Some t → (choice : CutChoice) → StandsFor (image_of choice t)
-      (file_left (gate_counts choice (names_spare mark_cell s.now.bytes))
+      (file_left (gate_counts choice (names_spare (file_in s.now.bytes).mark))
       (reserved_in s.now.bytes) (file_in s.now.bytes))
-  pub late_gate : (IsPlanned (members.health v.disk) 3 → ⊥) → (s : Story) → members.told v.disk ≡ Some s →
-      LeavesGate mark_cell s.now.bytes (members.told after)
 
 abbrev pub Reserves : {D : Type 0} → disk.Ghosts D → SpoolView D → Result (SpoolView D × ℕ) (Reserving D) → Type 0
 Reserves members v (Ok r) =

@@ -1,7 +1,8 @@
--- A spool file: which bytes stand for which list and mark (this profile).
-use Rattle.std.specs.Prelude.{◌≡◌, ℕ, ◌+◌, Bool, List, length, Option, None}
+-- A spool file: what bytes stand for, which is all of it that a loss of power keeps (this profile).
+use Rattle.std.specs.Prelude.{◌≡◌, ℕ, zero, suc, ◌+◌, Bool, List, [], ◌∷◌, ◌++◌, length, Option, None}
+use Rattle.gate_cell.specs.Cell.{Cell, cell_in}
 use Rattle.spool_slots.specs.Area.{first_at, first_of, messages_below, or_else}
-use Rattle.spool_slots.specs.Front.{front_break, front_in, mark_of, slots_of}
+use Rattle.spool_slots.specs.Front.{front_break, front_in, mark_cell, slots_of}
 use Rattle.spool_slots.specs.Slot.{Message, Slot, ahead_break, in_slot, is_open, message_of, slot_break, slot_in}
 
 -- a slot holds a message where it is open, and which one it holds
@@ -32,16 +33,24 @@ slots_in bytes = slots_of (front_in bytes)
 abbrev pub spool_break : List ℕ → Option ℕ
 spool_break bytes = or_else (front_break (front_in bytes) (length bytes)) (area_break (slot_in bytes) (slots_in bytes))
 
+-- of each of the first n slots, whether it is open
+abbrev pub gates_below : (ℕ → Slot) → ℕ → List Bool
+gates_below slot zero = []
+gates_below slot (suc k) = gates_below slot k ++ is_open (slot k) ∷ []
+
+-- how many slots there are, which of them are open, the mark with the copy that has it, and the messages by number
 pub record SpoolFile : Type 0 where
   pub slots : ℕ
-  pub mark : ℕ
+  pub gates : List Bool
+  pub mark : Cell
   pub list : List Message
 
--- what bytes stand for if they stand for anything: the messages of the slots by number, and the mark
+-- what bytes stand for if they stand for anything
 abbrev pub file_in : List ℕ → SpoolFile
 file_in bytes = record {
   slots = slots_in bytes;
-  mark = mark_of (front_in bytes);
+  gates = gates_below (slot_in bytes) (slots_in bytes);
+  mark = cell_in bytes mark_cell;
   list = list_below (slot_in bytes) (slots_in bytes);
 }
 

@@ -11,18 +11,22 @@ use Rattle.spool_slots.specs.Added.{OnlyAdds, WritesOrSyncs}
 use Rattle.spool_slots.specs.Changes.{Ends}
 use Rattle.spool_slots.specs.File.{SpoolFile}
 use Rattle.spool_slots.specs.Front.{front_in, magic}
-use Rattle.spool_slots.specs.Losses.{marks_second}
 use Rattle.spool_slots.specs.Slot.{is_open, slot_in, slot_place}
 use Rattle.spool_slots.specs.Spool.{SpoolView}
 use Rattle.spool_slots.specs.declared.states.Formatting.{Formatting}
 use Rattle.spool_slots.specs.declared.states.Formatting.TheVariants as formatting
 
--- what stands before the slots of a new file
+-- what stands before the slots of a new file, and the file
 unfoldable pub first_page : ℕ → List ℕ
 first_page slots = magic ++ to_be_bytes w32 slots ++ replicate 4084 0
 
 abbrev pub empty_file : ℕ → SpoolFile
-empty_file slots = record { slots = slots; mark = 0; list = [] }
+empty_file slots = record {
+  slots = slots;
+  gates = replicate slots false;
+  mark = record { value = 0; second = false };
+  list = [];
+}
 
 -- the first n slots are closed, and length and front are as they were
 pub record IsClosedTo (before after : Story) (n : ℕ) : Type 0 where
@@ -44,11 +48,6 @@ abbrev pub StandsEmpty : Option Story → ℕ → DiskAnswer → Type 0
 StandsEmpty after slots Done = (t : Story) → after ≡ Some t → Ends t (empty_file slots)
 StandsEmpty after slots Failed = Unit {0}
 
--- and the first copy of its mark is the one that counts
-abbrev pub CountsFirst : Option Story → DiskAnswer → Type 0
-CountsFirst after Done = (t : Story) → after ≡ Some t → marks_second t.now.bytes ≡ false
-CountsFirst after Failed = Unit {0}
-
 -- a page, a byte a slot and a sync, as far as that went
 pub record HasFormatted {D : Type 0} (members : disk.Ghosts D) (old new : D) (slots : ℕ) (answer : DiskAnswer) :
     Type 0 where
@@ -58,13 +57,12 @@ pub record HasFormatted {D : Type 0} (members : disk.Ghosts D) (old new : D) (sl
   pub calls : OnlyAdds WritesOrSyncs (members.calls old) (members.calls new)
   pub same_disk : IsSameDisk members old new
 
--- the empty list stands, with mark 0 in the first copy, and is in hand
+-- the empty list stands, with all slots closed and mark 0 in the first copy, and is in hand
 abbrev pub Formats : {D : Type 0} → disk.Ghosts D → D → ℕ → Result (SpoolView D) (Formatting D) → Type 0
 Formats members old slots (Ok v) =
     HasFormatted members old v.disk slots Done
     × (v ≡ record { disk = v.disk; slots = slots; first = 0; next = 0; len = 0; mark = 0 })
     × ((t : Story) → members.told v.disk ≡ Some t → Ends t (empty_file slots))
-    × CountsFirst (members.told v.disk) Done
 Formats members old slots (Err (formatting.Slots raw)) = (raw.disk ≡ old) × ((slots ≡ 0) ⊎ (65535 < slots))
 Formats members old slots (Err (formatting.Small raw size need)) =
     (raw.disk ≡ old) × (size ≡ members.size_is old) × (need ≡ slot_place slots)

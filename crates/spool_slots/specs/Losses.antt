@@ -6,12 +6,9 @@ use Rattle.disk_base.specs.Story.{Story}
 use Rattle.disk_base.specs.Through.{GoesThrough}
 use Rattle.disk_base.specs.declared.cut.CutChoice.{CutChoice}
 use Rattle.disk_base.specs.declared.cut.CutChoice.TheVariants.{Old, New, Fill, First}
-use Rattle.disk_base.specs.declared.disk.DiskAnswer.{DiskAnswer}
-use Rattle.disk_base.specs.declared.disk.DiskAnswer.TheVariants.{Done, Failed}
-use Rattle.gate_cell.specs.Cell.{cell_in, gate_of, names_second, spare_is_second, value_in}
+use Rattle.gate_cell.specs.Cell.{Cell, cell_in, names_second, with_value}
 use Rattle.gate_cell.specs.Holds.{Holds}
 use Rattle.spool_slots.specs.File.{SpoolFile, StandsFor, file_in}
-use Rattle.spool_slots.specs.Front.{mark_cell}
 
 -- a disk goes on, each call comes to what its entry says, and there is sure room for so many calls that write n bytes
 pub record IsSure (health : DiskHealth) (calls n : ℕ) : Type 0 where
@@ -36,56 +33,23 @@ LeavesByGate before after means changed =
     (s t : Story) → before ≡ Some s → after ≡ Some t → (choice : CutChoice) →
     StandsFor (image_of choice t) (file_left (gate_counts choice means) (changed s.now.bytes) (file_in s.now.bytes))
 
--- whether the second copy of the cell at a place is the one that counts in these bytes
-abbrev pub counts_second : ℕ → List ℕ → Bool
-counts_second at bytes = names_second (gate_of (cell_in bytes at))
+-- whether a gate names the copy of a cell that doesn't count
+abbrev pub names_spare : Cell → ℕ → Bool
+names_spare cell gate = if cell.second then not (names_second gate) else names_second gate
 
--- the same of the mark
-abbrev pub marks_second : List ℕ → Bool
-marks_second bytes = counts_second mark_cell bytes
+abbrev pub cell_left : Bool → Cell → Cell → Cell
+cell_left true new old = new
+cell_left false new old = old
 
--- a crash leaves the copy that counts in these bytes
-abbrev pub KeepsGate : ℕ → List ℕ → List ℕ → Type 0
-KeepsGate at bytes image = counts_second at image ≡ counts_second at bytes
-
--- where all was done the other copy counts
-abbrev pub TurnsGate : ℕ → List ℕ → Option Story → DiskAnswer → Type 0
-TurnsGate at bytes after Done =
-    (t : Story) → after ≡ Some t → counts_second at t.now.bytes ≡ not (counts_second at bytes)
-TurnsGate at bytes after Failed = Unit {0}
-
--- which copy counts where the gate was turned, or not
-abbrev pub turned_if : Bool → Bool → Bool
-turned_if true second = not second
-turned_if false second = second
-
--- whether a gate of a cell names the copy that doesn't count in these bytes
-abbrev pub names_spare : ℕ → List ℕ → ℕ → Bool
-names_spare at bytes gate =
-    if spare_is_second (cell_in bytes at) then names_second gate else not (names_second gate)
-
-abbrev pub value_left : Bool → ℕ → ℕ → ℕ
-value_left true new old = new
-value_left false new old = old
-
--- of the write of the cell's gate that the disk stopped at, or at its sync, a crash leaves the new value or the old one
+-- of the write of the cell's gate that the disk stopped at, or at its sync, a crash leaves the new value in its copy, or
+-- the cell as it was
 abbrev pub LeavesValue : Story → ℕ → ℕ → Option Story → Type 0
 LeavesValue s at value after =
     (t : Story) → after ≡ Some t → (choice : CutChoice) →
-    Holds s.now at (value_left (gate_counts choice (names_spare at s.now.bytes)) value (value_in s.now.bytes at))
-    (image_of choice t)
+    Holds s.now at (cell_left (gate_counts choice (names_spare (cell_in s.now.bytes at)))
+    (with_value value (cell_in s.now.bytes at)) (cell_in s.now.bytes at)) (image_of choice t)
 
--- and the copy that counts then goes by the gate alike
-abbrev pub LeavesGate : ℕ → List ℕ → Option Story → Type 0
-LeavesGate at bytes after =
-    (t : Story) → after ≡ Some t → (choice : CutChoice) →
-    counts_second at (image_of choice t)
-    ≡ turned_if (gate_counts choice (names_spare at bytes)) (counts_second at bytes)
-
--- where one of the three calls that prepare it was to fail, the old value is left, in the copy that it is in; elsewhere
--- the gate decides
+-- where one of the three calls that prepare it was to fail, the cell is left as it was; elsewhere the gate decides
 pub record HasLostValue (s : Story) (at value : ℕ) (before : DiskHealth) (after : Option Story) : Type 0 where
-  pub early : IsPlanned before 3 → GoesThrough s after (Holds s.now at (value_in s.now.bytes at))
-  pub early_gate : IsPlanned before 3 → GoesThrough s after (KeepsGate at s.now.bytes)
+  pub early : IsPlanned before 3 → GoesThrough s after (Holds s.now at (cell_in s.now.bytes at))
   pub late : (IsPlanned before 3 → ⊥) → LeavesValue s at value after
-  pub late_gate : (IsPlanned before 3 → ⊥) → LeavesGate at s.now.bytes after

@@ -120,7 +120,7 @@ AreaIs slots told reading.Failed = Unit {0}
 -- the bytes aren't broken, and this is what they hold
 abbrev pub KnownIs : List ℕ → Known → Type 0
 KnownIs bytes found =
-    (spool_break bytes ≡ None) × (found.slots ≡ (file_in bytes).slots) × (found.mark ≡ (file_in bytes).mark)
+    (spool_break bytes ≡ None) × (found.slots ≡ (file_in bytes).slots) × (found.mark ≡ (file_in bytes).mark.value)
     × (found.first ≡ first_of (file_in bytes).list) × (found.next ≡ end_of (file_in bytes).list)
     × (found.len ≡ length (file_in bytes).list)
 

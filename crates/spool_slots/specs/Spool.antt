@@ -54,13 +54,13 @@ next_slot v = v.next % v.slots
 abbrev pub first_slot : {D : Type 0} → SpoolView D → ℕ
 first_slot v = v.first % v.slots
 
--- the bytes are settled, and stand for a list and a mark to which what is known belongs
+-- the bytes are settled, and stand for a file to which what is known belongs
 pub record Rests (s : Story) (known : Known) : Type 0 where
   pub settled : s.now.loose ≡ []
   pub sound : spool_break s.now.bytes ≡ None
   pub inside : slot_place known.slots ≤ length s.now.bytes
   pub slots_are : known.slots ≡ slots_in s.now.bytes
-  pub mark_is : known.mark ≡ (file_in s.now.bytes).mark
+  pub mark_is : known.mark ≡ (file_in s.now.bytes).mark.value
   pub chain : IsChainFrom known.first known.next (file_in s.now.bytes).list
   pub count : known.len ≡ length (file_in s.now.bytes).list
 

@@ -7,11 +7,11 @@ ghost use Rattle.disk_base.specs.Listed.{AsListed};
 ghost use Rattle.disk_base.specs.SameDisk.{IsSameDisk};
 ghost use Rattle.disk_base.specs.Story.{Story};
 ghost use Rattle.disk_base.specs.Through.{GoesThrough};
-ghost use Rattle.gate_cell.specs.Cell.{value_in};
+ghost use Rattle.gate_cell.specs.Cell.{cell_in, with_value};
 ghost use Rattle.gate_cell.specs.Holds.{HoldsEither};
 ghost use Rattle.gate_cell.specs.Ready.{IsCell, OnDisk};
 ghost use Rattle.spool_slots.specs.Changes.{HasValue, LogsValue};
-ghost use Rattle.spool_slots.specs.Losses.{HasLostValue, IsSure, TurnsGate};
+ghost use Rattle.spool_slots.specs.Losses.{HasLostValue, IsSure};
 
 use disk_base::{Disk, cut_leaves_the_chosen_byte, failed_settle_has_written};
 use gate_cell::prepare;
@@ -22,10 +22,9 @@ pub fn write_cell<D: Disk>(disk: D, at: u64, value: u64) -> Result<D, D>
     requires within { at + 17 ≤ D.size_is disk }
     requires settled { (s : Story) → D.told disk ≡ Some s → IsCell s at }
     ensures images { (s : Story) → D.told disk ≡ Some s → OnDisk (λ d. d) result (λ after answer.
-        GoesThrough s (D.told after) (HoldsEither s.now at (value_in s.now.bytes at) value)) }
+        GoesThrough s (D.told after) (HoldsEither s.now at (cell_in s.now.bytes at)
+        (with_value value (cell_in s.now.bytes at)))) }
     ensures value { (s : Story) → D.told disk ≡ Some s → IfOk result (λ after. HasValue s at value (D.told after)) }
-    ensures turns { (s : Story) → D.told disk ≡ Some s → OnDisk (λ d. d) result (λ after answer.
-        TurnsGate at s.now.bytes (D.told after) answer) }
     ensures untold { D.told disk ≡ None → OnDisk (λ d. d) result (λ after answer. D.told after ≡ None) }
     ensures size { OnDisk (λ d. d) result (λ after answer. D.size_is after ≡ D.size_is disk) }
     ensures calls { (s : Story) → D.told disk ≡ Some s → OnDisk (λ d. d) result (λ after answer.

@@ -4,7 +4,7 @@ ghost use Rattle.std.specs.Prelude.{◌≡◌, ◌+◌, ◌<◌, ◌≤◌, None
 ghost use Rattle.disk_base.specs.Faults.{HasCause};
 ghost use Rattle.disk_base.specs.SameDisk.{IsSameDisk};
 ghost use Rattle.spool_slots.specs.Added.{OnlyAdds, WritesOrSyncs};
-ghost use Rattle.spool_slots.specs.Format.{ClosesSlots, CountsFirst, StandsEmpty, first_page as page_of};
+ghost use Rattle.spool_slots.specs.Format.{ClosesSlots, StandsEmpty, first_page as page_of};
 ghost use Rattle.spool_slots.specs.Slot.{slot_place as place_of};
 
 use crate::front::MAGIC;
@@ -54,7 +54,6 @@ pub fn write_empty<D: Disk>(disk: &mut D, slots: u32) -> DiskAnswer
     requires some { 1 ≤ slots }
     requires most { slots ≤ 65535 }
     ensures told { StandsEmpty (D.told disk.new) slots result }
-    ensures gate { CountsFirst (D.told disk.new) result }
     ensures size { D.size_is disk.new ≡ D.size_is disk.old }
     ensures cause { HasCause (D.health disk.old) (D.health disk.new) (slots + 2) (slots + 4096)
         ((D.health disk.old).room < slots + 4096) result }
