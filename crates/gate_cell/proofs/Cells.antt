@@ -6,7 +6,7 @@ use Rattle.std.proofs.lemmas.List.{ext_get_or, places, get_or-take, get_or-drop,
 use Rattle.std.proofs.lemmas.Nat.{from_be_bytes-to_be_bytes_8}
 use Rattle.disk_base.specs.Story.{bytes_at, with_part}
 use Rattle.disk_base.proofs.Marks.{length-part, outside_part}
-use Rattle.gate_cell.specs.Cell.{cell_in, copy_bytes, copy_of, copy_place, gate_byte, gate_of, names_second, spare_is_second, spare_of, value_of}
+use Rattle.gate_cell.specs.Cell.{Cell, cell_of, copy_bytes, copy_of, copy_place, gate_byte, gate_of, names_second, spare_of}
 
 pub length-bytes_at : (bytes : List ℕ) (from long : ℕ) → from + long ≤ length bytes → length (bytes_at bytes from long) ≡ long
 length-bytes_at bytes from long within = length-take-le long (drop from bytes) (omega (arith, within, length-drop from bytes))
@@ -110,35 +110,46 @@ copy_there cell part second long eight =
     ap (λ (n : ℕ). from_be_bytes w64 (bytes_at (with_part cell (copy_place second) part) (copy_place second) n)) (sym eight)
     ∙ ap (λ bytes. from_be_bytes w64 bytes) (part_there cell part (copy_place second) (omega (arith, long, eight, copy_ends second)))
 
+-- the cell in which a copy counts, and the copy that doesn't
+abbrev counting : List ℕ → Bool → Cell
+counting cell second = record { value = copy_of cell second; second = second }
+
+abbrev pub other_copy : List ℕ → Bool
+other_copy cell = not (names_second (gate_of cell))
+
+abbrev with_number : Bool → ℕ → Cell
+with_number second value = record { value = value; second = second }
+
 module _ (cell part : List ℕ) (long : length cell ≡ 17) where
   -- after the copy was written that the gate doesn't name
   module _ (eight : length part ≡ 8) where
     abbrev written : List ℕ
-    written = with_part cell (copy_place (spare_is_second cell)) part
+    written = with_part cell (copy_place (other_copy cell)) part
 
     pub same_gate : gate_of written ≡ gate_of cell
-    same_gate = gate_kept cell part (copy_place (spare_is_second cell)) long (omega (arith, eight, copy_ends (spare_is_second cell)))
+    same_gate = gate_kept cell part (copy_place (other_copy cell)) long (omega (arith, eight, copy_ends (other_copy cell)))
 
-    pub value_kept : value_of written ≡ value_of cell
-    value_kept = ap (λ (gate : ℕ). copy_of written (names_second gate)) same_gate ∙ copy_kept cell part (names_second (gate_of cell)) long eight
+    pub cell_kept : cell_of written ≡ cell_of cell
+    cell_kept = ap (λ (gate : ℕ). counting written (names_second gate)) same_gate
+        ∙ ap (with_number (names_second (gate_of cell))) (copy_kept cell part (names_second (gate_of cell)) long eight)
 
-    pub spare_there : spare_of written ≡ from_be_bytes w64 part
-    spare_there = ap (λ (gate : ℕ). copy_of written (not (names_second gate))) same_gate ∙ copy_there cell part (spare_is_second cell) long eight
+    pub spare_there : (spare_of written).value ≡ from_be_bytes w64 part
+    spare_there = ap (λ (gate : ℕ). copy_of written (not (names_second gate))) same_gate ∙ copy_there cell part (other_copy cell) long eight
 
   -- after the gate was written
   module _ (one : length part ≡ 1) where
-    either_copy : (f : Bool → ℕ) (new old : Bool) → (f new ≡ f old) ⊎ (f new ≡ f (not old))
+    either_copy : (f : Bool → Cell) (new old : Bool) → (f new ≡ f old) ⊎ (f new ≡ f (not old))
     either_copy f false false = inl refl
     either_copy f false true = inr refl
     either_copy f true false = inr refl
     either_copy f true true = inl refl
 
-    named : value_of (with_part cell 16 part) ≡ copy_of cell (names_second (gate_of (with_part cell 16 part)))
-    named = both_kept cell part (names_second (gate_of (with_part cell 16 part))) long one
+    named : cell_of (with_part cell 16 part) ≡ counting cell (names_second (gate_of (with_part cell 16 part)))
+    named = ap (with_number (names_second (gate_of (with_part cell 16 part)))) (both_kept cell part (names_second (gate_of (with_part cell 16 part))) long one)
 
-    pub either_value : (value_of (with_part cell 16 part) ≡ value_of cell) ⊎ (value_of (with_part cell 16 part) ≡ spare_of cell)
-    either_value = ⊎_elim (λ same. inl (named ∙ same)) (λ other. inr (named ∙ other))
-        (either_copy (copy_of cell) (names_second (gate_of (with_part cell 16 part))) (names_second (gate_of cell)))
+    pub either_cell : (cell_of (with_part cell 16 part) ≡ cell_of cell) ⊎ (cell_of (with_part cell 16 part) ≡ spare_of cell)
+    either_cell = ⊎_elim (λ same. inl (named ∙ same)) (λ other. inr (named ∙ other))
+        (either_copy (counting cell) (names_second (gate_of (with_part cell 16 part))) (names_second (gate_of cell)))
 
 pub length-copy_bytes : (value : ℕ) → length (copy_bytes value) ≡ 8
 unfolding copy_bytes
@@ -149,27 +160,22 @@ unfolding copy_bytes
 number_back value below = from_be_bytes-to_be_bytes_8 value below
 
 pub spare_ready : (cell : List ℕ) (value : ℕ) → length cell ≡ 17 → value < 2 ^ 64 →
-    spare_of (with_part cell (copy_place (spare_is_second cell)) (copy_bytes value)) ≡ value
+    (spare_of (with_part cell (copy_place (other_copy cell)) (copy_bytes value))).value ≡ value
 spare_ready cell value long below = spare_there cell (copy_bytes value) long (length-copy_bytes value) ∙ number_back value below
 
 names_its_own : (second : Bool) → names_second (gate_byte second) ≡ second
 names_its_own false = refl
 names_its_own true = refl
 
-pub not_twice : (a b : Bool) → a ≡ not b → not a ≡ b
-not_twice a false is = ap not is
-not_twice a true is = ap not is
-
-pub gate_counts : (cell : List ℕ) (second : Bool) → length cell ≡ 17 → names_second (gate_of cell) ≡ not second →
-    value_of (with_part cell 16 (gate_byte second ∷ [])) ≡ spare_of cell
+pub gate_counts : (cell : List ℕ) (second : Bool) → length cell ≡ 17 → second ≡ other_copy cell →
+    cell_of (with_part cell 16 (gate_byte second ∷ [])) ≡ spare_of cell
 gate_counts cell second long is =
     let gate : gate_of (with_part cell 16 (gate_byte second ∷ [])) ≡ gate_byte second = byte_of_part cell (gate_byte second ∷ []) 16 0 (omega (arith, long)) (omega arith) in
     named cell (gate_byte second ∷ []) long refl
-    ∙ ap (λ (byte : ℕ). copy_of cell (names_second byte)) gate
-    ∙ ap (copy_of cell) (names_its_own second ∙ sym (not_twice (names_second (gate_of cell)) second is))
+    ∙ ap (counting cell) (ap names_second gate ∙ names_its_own second ∙ is)
 
 -- the gate as a read of one byte gives it
-pub gate_read : (bytes : List ℕ) (at : ℕ) → get_or (bytes_at bytes (at + 16) 1) 0 0 ≡ gate_of (cell_in bytes at)
+pub gate_read : (bytes : List ℕ) (at : ℕ) → get_or (bytes_at bytes (at + 16) 1) 0 0 ≡ gate_of (bytes_at bytes at 17)
 gate_read bytes at =
     byte_in bytes (at + 16) 1 0 (omega arith)
     ∙ ap (λ (n : ℕ). get_or bytes n 0) (omega arith)
