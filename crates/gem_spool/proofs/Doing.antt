@@ -1,5 +1,5 @@
 -- That works done in turn make what they say.
-use Rattle.std.proofs.Common.{◌≡◌, ⊎_elim, inl, inr, ℕ, suc, ◌+◌, ◌-◌, ◌^◌, ◌<◌, ◌≤◌, ◌==◌, nat_le, nat_lt, Bool, true, false, if◌then◌else◌, List, [], ◌∷◌, ◌++◌, drop, length, Option, Some, Ok, Err, refl, sym, ap, subst, take, get_or, length-append, ◌∙◌, arith}
+use Rattle.std.proofs.Common.{◌≡◌, ⊎_elim, inl, inr, ℕ, suc, ◌+◌, ◌*◌, ◌-◌, ◌^◌, ◌<◌, ◌≤◌, ◌==◌, nat_le, nat_lt, Bool, true, false, if◌then◌else◌, List, [], ◌∷◌, ◌++◌, drop, length, Option, None, Some, Ok, Err, refl, sym, ap, subst, take, get_or, length-append, ◌∙◌, arith}
 use Rattle.std.proofs.lemmas.Bool.Decides.{nat_tests}
 use Rattle.std.proofs.Math.Seq.{drop-cons, take-suc}
 use Rattle.std.proofs.lemmas.List.{take-append-drop}
@@ -12,23 +12,24 @@ use Rattle.disk_base.specs.declared.disk.Disk as disk
 use Rattle.disk_base.specs.declared.disk.DiskAnswer.TheVariants.{Failed}
 use Rattle.disk_base.proofs.Moments.{only_now, starts, through_both, through_more}
 use Rattle.disk_base.proofs.Stretches.{fault_behind, used_behind, used_none}
-use Rattle.gem_spool.specs.Spool.{HasList, IsRest, numbered, put_in, room_for, without_some}
+use Rattle.gem_spool.specs.Spool.{HasList, IsRest, emptied, numbered, put_in, room_for}
 use Rattle.gem_spool.specs.declared.spool.Room.TheVariants.{Fits, Full, NumbersSpent, TooLong}
 use Rattle.gem_spool.specs.declared.count.Count.{Count}
-use Rattle.gem_spool.specs.Standing.{Standing, Stands, count_in, count_of, file_of}
+use Rattle.gem_spool.specs.Standing.{Standing, Stands, count_in, count_of, file_told}
 use Rattle.gem_spool.specs.Works.{AreDue, Does, DoesAll, IsAmid, IsDue, IsOnWay, GoesOn, HasCarried, HasUndone}
-use Rattle.gem_spool.specs.Works.{all_bytes, all_calls, bytes_of, calls_of, count_after, counts_after, len_after, list_after, lists_after, next_after, standing_after, standings_after}
+use Rattle.gem_spool.specs.Works.{all_bytes, all_calls, bytes_of, calls_of, count_after, counts_after, file_after, len_after, list_after, lists_after, next_after, standing_after, standings_after}
 use Rattle.gem_spool.specs.declared.spool.GemSpool.{GemSpool}
 use Rattle.gem_spool.specs.declared.works.Work.{Work}
 use Rattle.gem_spool.specs.declared.works.Work.TheVariants as work
 use Rattle.spool_slots.proofs.Evens.{even_rest, one_slot}
 use Rattle.spool_slots.proofs.Runs.{chain_last}
+use Rattle.gem_spool.proofs.Stays.{blanks_len}
 use Rattle.gem_spool.proofs.Lists.{drop_list, drop_told, purge_list, put_list, put_told, some_told}
-use Rattle.spool_slots.specs.Changes.{Ends, HoldsThrough, IsSameOr, dropped_in, with_message, without_first}
+use Rattle.spool_slots.specs.Changes.{Ends, HoldsThrough, IsSameOr, dropped_in, with_message, without_first, without_some}
 use Rattle.spool_slots.specs.File.{SpoolFile, StandsFor, file_in}
 use Rattle.spool_slots.specs.Run.{IsChainFrom, slots_for}
 use Rattle.spool_slots.specs.Slot.{Message}
-use Rattle.spool_slots.specs.Spool.{SpoolView}
+use Rattle.spool_slots.specs.Spool.{SpoolView, known_of}
 use Rattle.spool_slots.specs.declared.states.Spent.{Spent}
 
 -- ---- numbers
@@ -56,7 +57,8 @@ same_len next list work.Purge = refl
 -- the numbers of a list that works change are changed likewise
 pub count_keeps : (st : Standing) (one : Work) → count_after (count_in st) one ≡ count_in (standing_after st one)
 count_keeps st one =
-    ap (λ (n : ℕ). record { slots = st.slots; next = next_after st.next one; len = n }) (same_len st.next st.list one)
+    ap (λ (n : ℕ). record { slots = st.file.slots; next = next_after st.next one; len = n })
+    (same_len st.next st.file.list one)
 
 pub counts_keep : (st : Standing) (works : List Work) →
     counts_after (count_in st) works ≡ count_in (standings_after st works)
@@ -64,20 +66,44 @@ counts_keep st [] = refl
 counts_keep st (one ∷ works) =
     ap (λ (c : Count). counts_after c works) (count_keeps st one) ∙ counts_keep (standing_after st one) works
 
-calls_more : (c : Count) (xs : List Work) (one : Work) →
-    all_calls c (xs ++ one ∷ []) ≡ all_calls c xs + calls_of (counts_after c xs) one
-calls_more c [] one = omega arith
-calls_more c (x ∷ xs) one = omega (arith, calls_more (count_after c x) xs one)
+calls_more : (st : Standing) (xs : List Work) (one : Work) →
+    all_calls st (xs ++ one ∷ []) ≡ all_calls st xs + calls_of (standings_after st xs) one
+calls_more st [] one = omega arith
+calls_more st (x ∷ xs) one = omega (arith, calls_more (standing_after st x) xs one)
 
-bytes_more : (c : Count) (xs : List Work) (one : Work) →
-    all_bytes c (xs ++ one ∷ []) ≡ all_bytes c xs + bytes_of (counts_after c xs) one
-bytes_more c [] one = omega arith
-bytes_more c (x ∷ xs) one = omega (arith, bytes_more (count_after c x) xs one)
+bytes_more : (st : Standing) (xs : List Work) (one : Work) →
+    all_bytes st (xs ++ one ∷ []) ≡ all_bytes st xs + bytes_of (standings_after st xs) one
+bytes_more st [] one = omega arith
+bytes_more st (x ∷ xs) one = omega (arith, bytes_more (standing_after st x) xs one)
+
+-- lists of the same numbers take the same calls
+module _ (one two : Standing) (same : count_in one ≡ count_in two) where
+  pub same_calls : (w : Work) → calls_of one w ≡ calls_of two w
+  same_calls (work.Put stream function body) = refl
+  same_calls work.DropOldest = refl
+  same_calls work.Purge = ap (λ (c : Count). 2 * c.len) same
+
+  pub same_bytes : (w : Work) → bytes_of one w ≡ bytes_of two w
+  same_bytes (work.Put stream function body) = refl
+  same_bytes work.DropOldest = refl
+  same_bytes work.Purge = ap (λ (c : Count). c.len) same
+
+  pub same_behind : (w : Work) → count_in (standing_after one w) ≡ count_in (standing_after two w)
+  same_behind w = sym (count_keeps one w) ∙ ap (λ (c : Count). count_after c w) same ∙ count_keeps two w
+
+pub all_same_calls : (one two : Standing) → count_in one ≡ count_in two → (works : List Work) →
+    (all_calls one works ≡ all_calls two works) × (all_bytes one works ≡ all_bytes two works)
+all_same_calls one two same [] = (refl, refl)
+all_same_calls one two same (w ∷ works) =
+    let rest = all_same_calls (standing_after one w) (standing_after two w) (same_behind one two same w) works in (
+      omega (arith, same_calls one two same w, rest.0),
+      omega (arith, same_bytes one two same w, rest.1),
+    )
 
 -- ---- what a crash leaves
 
 -- the list before some works is on their way
-way_starts : (st : Standing) (works : List Work) (image : List ℕ) → StandsFor image (file_of st) →
+way_starts : (st : Standing) (works : List Work) (image : List ℕ) → StandsFor image st.file →
     IsOnWay st works image
 way_starts st [] image is = is
 way_starts st (work.Put stream function body ∷ works) image is = inl is
@@ -156,53 +182,58 @@ module _ {D : Type 0} (members : disk.Ghosts D) where
   does_list g h work.DropOldest done list has = drop_list members g.spool h.spool done.0 list has
   does_list g h work.Purge done list has = purge_list members g.spool h.spool done.0
 
-  -- each work made its calls
-  does_used : (g h : GemSpool D) (one : Work) → Does members g one (Ok h) →
-      IsUsed (members.health g.spool.disk) (members.health h.spool.disk) (calls_of (count_of g.spool) one)
-      (bytes_of (count_of g.spool) one)
-  does_used g h (work.Put stream function body) done = done.0.cause
-  does_used g h work.DropOldest done = done.0.0.disk.cause
-  does_used g h work.Purge done = done.0.0.cause
+  next_count : (g h : GemSpool D) (one : Work) (st : Standing) → count_of g.spool ≡ count_in st →
+      Does members g one (Ok h) → count_of h.spool ≡ count_in (standing_after st one)
+  next_count g h one st count done =
+      does_count g h one done ∙ ap (λ (c : Count). count_after c one) count ∙ count_keeps st one
 
-  fails_fault : (g : GemSpool D) (one : Work) (spent : Spent D) → Does members g one (Err spent) →
-      DiskFault (members.health g.spool.disk) (members.health spent.disk) (calls_of (count_of g.spool) one)
-      ((members.health g.spool.disk).room < bytes_of (count_of g.spool) one)
-  fails_fault g (work.Put stream function body) spent failed = failed.0.cause
-  fails_fault g work.DropOldest spent failed = failed.0.disk.cause
-  fails_fault g work.Purge spent failed = failed.0.cause
+  -- each work made its calls
+  does_used : (g h : GemSpool D) (one : Work) (st : Standing) → count_of g.spool ≡ count_in st →
+      Does members g one (Ok h) →
+      IsUsed (members.health g.spool.disk) (members.health h.spool.disk) (calls_of st one) (bytes_of st one)
+  does_used g h (work.Put stream function body) st count done = done.0.cause
+  does_used g h work.DropOldest st count done = done.0.0.disk.cause
+  does_used g h work.Purge st count done =
+      subst (λ (n : ℕ). IsUsed (members.health g.spool.disk) (members.health h.spool.disk) (2 * n) n)
+      (ap (λ (c : Count). c.len) count) done.0.0.cause
+
+  fails_fault : (g : GemSpool D) (one : Work) (spent : Spent D) (st : Standing) → count_of g.spool ≡ count_in st →
+      Does members g one (Err spent) →
+      DiskFault (members.health g.spool.disk) (members.health spent.disk) (calls_of st one)
+      ((members.health g.spool.disk).room < bytes_of st one)
+  fails_fault g (work.Put stream function body) spent st count failed = failed.0.cause
+  fails_fault g work.DropOldest spent st count failed = failed.0.disk.cause
+  fails_fault g work.Purge spent st count failed =
+      subst (λ (n : ℕ). DiskFault (members.health g.spool.disk) (members.health spent.disk) (2 * n)
+      ((members.health g.spool.disk).room < n)) (ap (λ (c : Count). c.len) count) failed.0.cause
 
   -- the file that stands is that of the list in hand
   same_file : (v : SpoolView D) (st : Standing) → Stands members v st → (s : Story) → members.told v.disk ≡ Some s →
-      file_of st ≡ file_in s.now.bytes
+      st.file ≡ file_in s.now.bytes
   same_file v st stands s told = (stands.file s told).stands.is
 
   next_is : (v : SpoolView D) (st : Standing) → Stands members v st → v.next ≡ st.next
   next_is v st stands = ap (λ (c : Count). c.next) stands.count
 
-  len_is : (v : SpoolView D) (st : Standing) → Stands members v st → v.len ≡ length st.list
+  len_is : (v : SpoolView D) (st : Standing) → Stands members v st → v.len ≡ length st.file.list
   len_is v st stands = ap (λ (c : Count). c.len) stands.count
 
   -- the file with a message more
   put_file : (v : SpoolView D) (st : Standing) (stream function : ℕ) (body : List ℕ) → Stands members v st →
       (s : Story) → members.told v.disk ≡ Some s →
       put_in (numbered v stream function body) s.now.bytes
-      ≡ file_of (standing_after st (work.Put stream function body))
+      ≡ (standing_after st (work.Put stream function body)).file
   put_file v st stream function body stands s told =
       ap (λ (f : SpoolFile). with_message (numbered v stream function body) f) (sym (same_file v st stands s told))
-      ∙ ap (λ (n : ℕ). file_of (record {
-        slots = st.slots;
-        next = st.next + 1;
-        mark = st.mark;
-        list = list_after n st.list (work.Put stream function body);
-      })) (next_is v st stands)
+      ∙ ap (λ (n : ℕ). file_after n st.file (work.Put stream function body)) (next_is v st stands)
 
   drop_file : (v : SpoolView D) (st : Standing) → Stands members v st → (s : Story) → members.told v.disk ≡ Some s →
-      dropped_in s.now.bytes ≡ file_of (standing_after st work.DropOldest)
+      dropped_in s.now.bytes ≡ (standing_after st work.DropOldest).file
   drop_file v st stands s told = ap without_first (sym (same_file v st stands s told))
 
   does_file : (g h : GemSpool D) (one : Work) (st : Standing) → Stands members g.spool st →
       Does members g one (Ok h) → (t : Story) → members.told h.spool.disk ≡ Some t →
-      Ends t (file_of (standing_after st one))
+      Ends t (standing_after st one).file
   does_file g h (work.Put stream function body) st stands done t told =
       let old = does_told g h (work.Put stream function body) done t told in
       subst (λ (f : SpoolFile). Ends t f) (put_file g.spool st stream function body stands old.0 old.1)
@@ -212,28 +243,28 @@ module _ {D : Type 0} (members : disk.Ghosts D) where
       subst (λ (f : SpoolFile). Ends t f) (drop_file g.spool st stands old.0 old.1) (done.0.2 old.0 t old.1 told)
   does_file g h work.Purge st stands done t told =
       let old = does_told g h work.Purge done t told in
-      subst (λ (f : SpoolFile). Ends t (record { slots = f.slots; mark = f.mark; list = [] }))
+      subst (λ (f : SpoolFile). Ends t (emptied f))
       (sym (same_file g.spool st stands old.0 old.1)) (done.0.3 old.0 t old.1 told)
 
   does_chain : (g h : GemSpool D) (one : Work) (st : Standing) → Stands members g.spool st →
-      Does members g one (Ok h) → IsChainFrom h.spool.first h.spool.next (list_after st.next st.list one)
+      Does members g one (Ok h) → IsChainFrom h.spool.first h.spool.next (list_after st.next st.file.list one)
   does_chain g h (work.Put stream function body) st stands done =
       let view = ap (λ (x : GemSpool D). x.spool) done.3 in
       let message : Message = record { number = st.next; stream = stream; function = function; body = body } in
       let width_is : slots_for (length body) ≡ 1 = room_slot g.spool (length body) done.0.fits in
       let first : h.spool.first ≡ g.spool.first = ap (λ (x : SpoolView D). x.first) view in
       let next : h.spool.next ≡ g.spool.next + 1 = ap (λ (x : SpoolView D). x.next) view in
-      subst (λ (n : ℕ). IsChainFrom n h.spool.next (st.list ++ message ∷ [])) (sym first)
-      (subst (λ (n : ℕ). IsChainFrom g.spool.first n (st.list ++ message ∷ [])) (sym next)
-      (subst (λ (n : ℕ). IsChainFrom g.spool.first (g.spool.next + n) (st.list ++ message ∷ [])) width_is
-      (chain_last g.spool.first g.spool.next st.list message stands.chain (sym (next_is g.spool st stands)))))
+      subst (λ (n : ℕ). IsChainFrom n h.spool.next (st.file.list ++ message ∷ [])) (sym first)
+      (subst (λ (n : ℕ). IsChainFrom g.spool.first n (st.file.list ++ message ∷ [])) (sym next)
+      (subst (λ (n : ℕ). IsChainFrom g.spool.first (g.spool.next + n) (st.file.list ++ message ∷ [])) width_is
+      (chain_last g.spool.first g.spool.next st.file.list message stands.chain (sym (next_is g.spool st stands)))))
   does_chain g h work.DropOldest st stands done =
       let view = done.0.1 in
       let first : h.spool.first ≡ g.spool.first + 1 = ap (λ (x : SpoolView D). x.first) view in
       let next : h.spool.next ≡ g.spool.next = ap (λ (x : SpoolView D). x.next) view in
-      subst (λ (n : ℕ). IsChainFrom n h.spool.next (drop 1 st.list)) (sym first)
-      (subst (λ (n : ℕ). IsChainFrom (g.spool.first + 1) n (drop 1 st.list)) (sym next)
-      (even_rest g.spool.first g.spool.next st.list
+      subst (λ (n : ℕ). IsChainFrom n h.spool.next (drop 1 st.file.list)) (sym first)
+      (subst (λ (n : ℕ). IsChainFrom (g.spool.first + 1) n (drop 1 st.file.list)) (sym next)
+      (even_rest g.spool.first g.spool.next st.file.list
       (stands.even ∙ ap (λ (n : ℕ). g.spool.first + n) (len_is g.spool st stands)) stands.chain
       (subst (λ (n : ℕ). 0 < n) (len_is g.spool st stands) done.0.0.some)))
   does_chain g h work.Purge st stands done =
@@ -263,8 +294,7 @@ module _ {D : Type 0} (members : disk.Ghosts D) where
   pub does_stands : (g h : GemSpool D) (one : Work) (st : Standing) → Stands members g.spool st →
       Does members g one (Ok h) → Stands members h.spool (standing_after st one)
   does_stands g h one st stands done = record {
-    count = does_count g h one done ∙ ap (λ (c : Count). count_after c one) stands.count
-        ∙ count_keeps st one;
+    count = next_count g h one st stands.count done;
     mark = does_mark g h one done ∙ stands.mark;
     chain = does_chain g h one st stands done;
     even = does_even g h one stands.even done;
@@ -275,7 +305,7 @@ module _ {D : Type 0} (members : disk.Ghosts D) where
 
   module _ (v : SpoolView D) (st : Standing) (stands : Stands members v st) (after : Option Story) (s : Story)
       (told : members.told v.disk ≡ Some s) where
-    same : file_of st ≡ file_in s.now.bytes
+    same : st.file ≡ file_in s.now.bytes
     same = same_file v st stands s told
 
     put_way : (stream function : ℕ) (body : List ℕ) →
@@ -311,7 +341,7 @@ module _ {D : Type 0} (members : disk.Ghosts D) where
         GoesThrough s after (IsOnWay st (work.Purge ∷ []))
     purge_way images =
         let one = images s told in
-        let len : v.len ≡ length st.list = len_is v st stands in (
+        let len : v.len ≡ length st.file.list = len_is v st stands in (
           one.0,
           one.1,
           through_more s one.0 (IsRest v.len s.now.bytes) (IsOnWay st (work.Purge ∷ []))
@@ -381,19 +411,31 @@ module _ {D : Type 0} (members : disk.Ghosts D) where
   all_stands g (one ∷ works) h (u, done, rest) st stands =
       all_stands u works h rest (standing_after st one) (does_stands g u one st stands done)
 
-  pub all_used : (g : GemSpool D) (works : List Work) (h : GemSpool D) → DoesAll members g works h →
-      IsUsed (members.health g.spool.disk) (members.health h.spool.disk) (all_calls (count_of g.spool) works)
-      (all_bytes (count_of g.spool) works)
-  all_used g [] h is =
+  pub all_used : (g : GemSpool D) (works : List Work) (h : GemSpool D) (st : Standing) →
+      count_of g.spool ≡ count_in st → DoesAll members g works h →
+      IsUsed (members.health g.spool.disk) (members.health h.spool.disk) (all_calls st works) (all_bytes st works)
+  all_used g [] h st count is =
       subst (λ (health : DiskHealth). IsUsed (members.health g.spool.disk) health 0 0)
       (sym (ap (λ (x : GemSpool D). members.health x.spool.disk) is)) (used_none (members.health g.spool.disk))
-  all_used g (one ∷ works) h (u, done, rest) =
-      let c = count_of g.spool in
-      used_behind (members.health g.spool.disk) (members.health u.spool.disk) (calls_of c one) (bytes_of c one)
-      (does_used g u one done) (members.health h.spool.disk) (all_calls (count_after c one) works)
-      (all_bytes (count_after c one) works) (all_calls c (one ∷ works)) (all_bytes c (one ∷ works)) refl refl
-      (subst (λ (d : Count). IsUsed (members.health u.spool.disk) (members.health h.spool.disk) (all_calls d works)
-      (all_bytes d works)) (does_count g u one done) (all_used u works h rest))
+  all_used g (one ∷ works) h st count (u, done, rest) =
+      let behind = standing_after st one in
+      used_behind (members.health g.spool.disk) (members.health u.spool.disk) (calls_of st one) (bytes_of st one)
+      (does_used g u one st count done) (members.health h.spool.disk) (all_calls behind works)
+      (all_bytes behind works) (all_calls st (one ∷ works)) (all_bytes st (one ∷ works)) refl refl
+      (all_used u works h behind (next_count g u one st count done) rest)
+
+  -- some file of its numbers
+  abbrev stood : GemSpool D → Standing
+  stood g = record { next = g.spool.next; file = file_told None (known_of g.spool) }
+
+  stood_count : (g : GemSpool D) → count_of g.spool ≡ count_in (stood g)
+  stood_count g =
+      ap (λ (n : ℕ). record { slots = g.spool.slots; next = g.spool.next; len = n })
+      (sym (blanks_len g.spool.first g.spool.len))
+
+  stood_are : (g : GemSpool D) (works : List Work) (st : Standing) → count_of g.spool ≡ count_in st →
+      (all_calls (stood g) works ≡ all_calls st works) × (all_bytes (stood g) works ≡ all_bytes st works)
+  stood_are g works st count = all_same_calls (stood g) st (sym (stood_count g) ∙ count) works
 
   pub all_way : (g : GemSpool D) (works : List Work) (h : GemSpool D) → DoesAll members g works h → (st : Standing) →
       Stands members g.spool st → (s : Story) → members.told g.spool.disk ≡ Some s →
@@ -402,7 +444,7 @@ module _ {D : Type 0} (members : disk.Ghosts D) where
     s,
     ap (λ (x : GemSpool D). members.told x.spool.disk) is ∙ told,
     starts s (IsOnWay st []) (λ image left.
-        subst (λ (bytes : List ℕ). StandsFor bytes (file_of st))
+        subst (λ (bytes : List ℕ). StandsFor bytes st.file)
         (sym (only_now s.now image (stands.file s told).settled left)) (stands.file s told).stands),
   )
   all_way g (one ∷ works) h (u, done, rest) st stands s told =
@@ -422,25 +464,21 @@ module _ {D : Type 0} (members : disk.Ghosts D) where
 
   module _ (g : GemSpool D) (xs : List Work) (u : GemSpool D) (all : DoesAll members g xs u) (one : Work)
       (spent : Spent D) (fails : Does members u one (Err spent)) where
-    abbrev c : Count
-    c = count_of g.spool
-
-    pub undone_fault : DiskFault (members.health g.spool.disk) (members.health spent.disk)
-        (all_calls c (xs ++ one ∷ []))
-        ((members.health g.spool.disk).room < all_bytes c (xs ++ one ∷ []))
-    undone_fault =
-        let used = all_used g xs u all in
-        let now : DiskFault (members.health u.spool.disk) (members.health spent.disk) (calls_of (counts_after c xs) one)
-        ((members.health u.spool.disk).room < bytes_of (counts_after c xs) one) =
-        subst (λ (d : Count). DiskFault (members.health u.spool.disk) (members.health spent.disk) (calls_of d one)
-        ((members.health u.spool.disk).room < bytes_of d one)) (all_count g xs u all) (fails_fault u one spent fails) in
-        let calls = calls_more c xs one in
-        let bytes = bytes_more c xs one in
-        fault_behind (members.health g.spool.disk) (members.health u.spool.disk) (all_calls c xs) (all_bytes c xs) used
-        (members.health spent.disk) (calls_of (counts_after c xs) one) (all_calls c (xs ++ one ∷ []))
-        ((members.health u.spool.disk).room < bytes_of (counts_after c xs) one)
-        ((members.health g.spool.disk).room < all_bytes c (xs ++ one ∷ [])) (omega (arith, calls))
-        (λ less. omega (arith, less, used.room_left, bytes)) now
+    pub undone_fault : (st : Standing) → count_of g.spool ≡ count_in st →
+        DiskFault (members.health g.spool.disk) (members.health spent.disk) (all_calls st (xs ++ one ∷ []))
+        ((members.health g.spool.disk).room < all_bytes st (xs ++ one ∷ []))
+    undone_fault st count =
+        let behind = standings_after st xs in
+        let used = all_used g xs u st count all in
+        let there : count_of u.spool ≡ count_in behind =
+        all_count g xs u all ∙ ap (λ (c : Count). counts_after c xs) count ∙ counts_keep st xs in
+        let calls = calls_more st xs one in
+        let bytes = bytes_more st xs one in
+        fault_behind (members.health g.spool.disk) (members.health u.spool.disk) (all_calls st xs)
+        (all_bytes st xs) used (members.health spent.disk) (calls_of behind one) (all_calls st (xs ++ one ∷ []))
+        ((members.health u.spool.disk).room < bytes_of behind one)
+        ((members.health g.spool.disk).room < all_bytes st (xs ++ one ∷ [])) (omega (arith, calls))
+        (λ less. omega (arith, less, used.room_left, bytes)) (fails_fault u one spent behind there fails)
 
     last_way : (st : Standing) → Stands members g.spool st → (s : Story) → members.told u.spool.disk ≡ Some s →
         GoesThrough s (members.told spent.disk) (IsOnWay (standings_after st xs) (one ∷ []))
@@ -479,7 +517,13 @@ module _ {D : Type 0} (members : disk.Ghosts D) where
       done = subst (λ (ys : List Work). DoesAll members g ys u) front all;
       fails = fails;
       goes_on = subst (λ (ys : List Work). GoesOn members g (ys ++ one ∷ []) spent.disk Failed) front
-          (record { images = undone_way; cause = undone_fault });
+          (record {
+            images = undone_way;
+            made = all_calls (stood g) (xs ++ one ∷ []);
+            wrote = all_bytes (stood g) (xs ++ one ∷ []);
+            cause = undone_fault (stood g) (stood_count g);
+            are = stood_are g (xs ++ one ∷ []);
+          });
       left = subst (λ (ys : List Work). (st : Standing) → Stands members g.spool st → (s t : Story) →
           members.told g.spool.disk ≡ Some s → members.told spent.disk ≡ Some t →
           EachImage (IsOnWay (standings_after st ys) (one ∷ [])) t.now) front last_left;
@@ -492,7 +536,13 @@ module _ {D : Type 0} (members : disk.Ghosts D) where
     count = all_count g works h all;
     mark = all_mark g works h all;
     active = all_active g works h all;
-    goes_on = record { images = all_way g works h all; cause = all_used g works h all };
+    goes_on = record {
+      images = all_way g works h all;
+      made = all_calls (stood g) works;
+      wrote = all_bytes (stood g) works;
+      cause = all_used g works h (stood g) (stood_count g) all;
+      are = stood_are g works;
+    };
     list = all_list g works h all;
     stands = all_stands g works h all;
   }

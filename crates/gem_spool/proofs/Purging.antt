@@ -1,7 +1,7 @@
 -- That a purge takes message after message off.
-use Rattle.std.proofs.Common.{◌≡◌, ◌==◌, not, ⊎_elim, ℕ, zero, suc, ◌+◌, ◌*◌, ◌-◌, ◌<◌, ◌≤◌, List, [], drop, Option, Some, Ok, Err, refl, sym, ap, subst, ◌∙◌, arith}
-use Rattle.std.proofs.Math.ListN.{drop_of_length-le}
-use Rattle.std.proofs.lemmas.List.{drop-drop}
+use Rattle.std.proofs.Common.{◌≡◌, ◌==◌, Bool, false, not, ⊎_elim, ℕ, zero, suc, ◌+◌, ◌*◌, ◌-◌, ◌%◌, ◌<◌, ◌≤◌, List, [], ◌∷◌, drop, length, take, Option, Some, Ok, Err, refl, sym, ap, subst, ◌∙◌, arith}
+use Rattle.std.proofs.Math.ListN.{drop_of_length-le, set}
+use Rattle.std.proofs.lemmas.List.{drop-drop, take_all}
 use Rattle.disk_base.specs.Cut.{image_of}
 use Rattle.disk_base.specs.Faults.{DiskHealth, IsUsed}
 use Rattle.disk_base.specs.Story.{Story}
@@ -10,8 +10,8 @@ use Rattle.disk_base.specs.declared.disk.DiskAnswer.{DiskAnswer}
 use Rattle.disk_base.specs.declared.disk.DiskAnswer.TheVariants.{Done, Failed}
 use Rattle.disk_base.proofs.Moments.{only_now, starts, through_both, through_more}
 use Rattle.disk_base.proofs.Stretches.{fault_behind, lists_on, planned_before, used_behind, used_none}
-use Rattle.gem_spool.specs.Spool.{DropsSome, HasLostPurge, IsRest, Purges, without_some}
-use Rattle.spool_slots.specs.Changes.{Drops, Ends, HasDropped, HoldsThrough, IsSameOr, dropped_in, without_first}
+use Rattle.gem_spool.specs.Spool.{DropsSome, HasLostPurge, IsRest, Purges, emptied}
+use Rattle.spool_slots.specs.Changes.{Drops, Ends, HasDropped, HoldsThrough, IsSameOr, dropped_in, shut_for, without_first, without_some}
 use Rattle.spool_slots.specs.File.{SpoolFile, StandsFor, file_in}
 use Rattle.spool_slots.specs.Losses.{IsSure, file_left, gate_counts}
 use Rattle.spool_slots.specs.Slot.{Message}
@@ -19,12 +19,31 @@ use Rattle.spool_slots.specs.Spool.{Rests, SpoolView, in_hand, known_of}
 use Rattle.spool_slots.specs.declared.states.Dropping.TheVariants as dropping
 use Rattle.spool_slots.specs.declared.states.Spent.{Spent}
 
+-- the gate of one message more is closed
+shut_more : (slots n : ℕ) (list : List Message) (gates : List Bool) →
+    shut_for slots (take 1 (drop n list)) (shut_for slots (take n list) gates)
+    ≡ shut_for slots (take (suc n) list) gates
+shut_more slots zero list gates = refl
+shut_more slots (suc n) [] gates = refl
+shut_more slots (suc n) (message ∷ list) gates =
+    shut_more slots n list (set gates (message.number % slots) false)
+
+abbrev made_file : SpoolFile → List Bool → List Message → SpoolFile
+made_file f gates list = record { slots = f.slots; gates = gates; mark = f.mark; list = list }
+
 -- a list with so many first messages gone, and one more
 one_less : (n : ℕ) (f : SpoolFile) → without_first (without_some n f) ≡ without_some (suc n) f
 one_less n f =
     let more : n + 1 ≡ suc n = omega arith in
-    ap (λ (l : List Message). record { slots = f.slots; mark = f.mark; list = l }) (drop-drop 1 n f.list
-    ∙ ap (λ (k : ℕ). drop k f.list) more)
+    ap (λ (gates : List Bool). made_file f gates (drop 1 (drop n f.list))) (shut_more f.slots n f.list f.gates)
+    ∙ ap (λ (l : List Message). made_file f (without_some (suc n) f).gates l)
+    (drop-drop 1 n f.list ∙ ap (λ (k : ℕ). drop k f.list) more)
+
+-- and with all of them gone
+all_gone : (n : ℕ) (f : SpoolFile) → length f.list ≤ n → without_some n f ≡ emptied f
+all_gone n f most =
+    ap (λ (l : List Message). made_file f (shut_for f.slots l f.gates) (drop n f.list)) (take_all n f.list most)
+    ∙ ap (λ (l : List Message). made_file f (emptied f).gates l) (drop_of_length-le f.list most)
 
 -- what a view is with so many messages gone
 pub record IsLess {D : Type 0} (v w : SpoolView D) (n : ℕ) : Type 0 where
@@ -165,10 +184,8 @@ module _ {D : Type 0} (members : disk.Ghosts D) where
           some,
           view_same w (is_less v.len v w some),
           λ s t told_s told_t.
-              let none : drop v.len (file_in s.now.bytes).list ≡ [] =
-              drop_of_length-le (file_in s.now.bytes).list (omega (arith, (rests s told_s).count)) in
-              subst (λ (l : List Message). Ends t
-              (record { slots = (file_in s.now.bytes).slots; mark = (file_in s.now.bytes).mark; list = l })) none
+              subst (λ (f : SpoolFile). Ends t f)
+              (all_gone v.len (file_in s.now.bytes) (omega (arith, (rests s told_s).count)))
               (lost.ends s t told_s told_t),
         )
 

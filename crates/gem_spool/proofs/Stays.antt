@@ -6,10 +6,10 @@ use Rattle.disk_base.specs.declared.disk.Disk as disk
 use Rattle.disk_base.specs.declared.disk.DiskAnswer.{DiskAnswer}
 use Rattle.disk_base.specs.declared.disk.DiskAnswer.TheVariants.{Failed}
 use Rattle.disk_base.proofs.Moments.{only_now, starts, through_more}
-use Rattle.gem_spool.specs.Standing.{Standing, Stands, blanks, count_of, file_of, list_told, standing_of}
+use Rattle.gem_spool.specs.Standing.{Standing, Stands, blanks, count_of, file_told, standing_of}
 use Rattle.gem_spool.specs.Works.{IsMarked, reserved}
 use Rattle.gem_spool.proofs.Lists.{reserve_told}
-use Rattle.spool_slots.specs.Changes.{Ends, HasReserved, IsSameOr, Reserves, reserved_in, with_mark}
+use Rattle.spool_slots.specs.Changes.{Ends, HasReserved, IsSameOr, Reserves, reserved_in, with_mark_moved}
 use Rattle.spool_slots.specs.File.{SpoolFile, StandsFor, file_in}
 use Rattle.spool_slots.specs.Run.{IsChainFrom, slots_for}
 use Rattle.spool_slots.specs.Spool.{Rests, SpoolView, in_hand, known_of}
@@ -28,48 +28,47 @@ blanks_chain first (suc n) =
           (subst (λ (k : ℕ). IsChainFrom (first + 1) k (blanks (first + 1) n)) next (blanks_chain (first + 1) n)),
     )
 
-blanks_len : (first n : ℕ) → length (blanks first n) ≡ n
+pub blanks_len : (first n : ℕ) → length (blanks first n) ≡ n
 blanks_len first zero = refl
 blanks_len first (suc n) = ap suc (blanks_len (first + 1) n)
 
 told_chain : (told : Option Story) (k : Known) → k.next ≡ k.first + k.len →
-    ((s : Story) → told ≡ Some s → Rests s k) → IsChainFrom k.first k.next (list_told told k.first k.len)
+    ((s : Story) → told ≡ Some s → Rests s k) → IsChainFrom k.first k.next (file_told told k).list
 told_chain None k even rests =
     subst (λ (n : ℕ). IsChainFrom k.first n (blanks k.first k.len)) (sym even) (blanks_chain k.first k.len)
 told_chain (Some s) k even rests = (rests s refl).chain
 
 told_len : (told : Option Story) (k : Known) →
-    ((s : Story) → told ≡ Some s → Rests s k) → k.len ≡ length (list_told told k.first k.len)
+    ((s : Story) → told ≡ Some s → Rests s k) → k.len ≡ length (file_told told k).list
 told_len None k rests = sym (blanks_len k.first k.len)
 told_len (Some s) k rests = (rests s refl).count
 
-told_file : (told : Option Story) (k : Known) (s : Story) → told ≡ Some s → Rests s k →
-    Ends s (record { slots = k.slots; mark = k.mark; list = list_told told k.first k.len })
+told_slots : (told : Option Story) (k : Known) →
+    ((s : Story) → told ≡ Some s → Rests s k) → k.slots ≡ (file_told told k).slots
+told_slots None k rests = refl
+told_slots (Some s) k rests = (rests s refl).slots_are
+
+told_mark : (told : Option Story) (k : Known) →
+    ((s : Story) → told ≡ Some s → Rests s k) → k.mark ≡ (file_told told k).mark.value
+told_mark None k rests = refl
+told_mark (Some s) k rests = (rests s refl).mark_is
+
+told_file : (told : Option Story) (k : Known) (s : Story) → told ≡ Some s → Rests s k → Ends s (file_told told k)
 told_file None k s is rests = absurd (grind (arith, is))
 told_file (Some r) k s is rests =
     let same : r ≡ s = cc in
-    subst
-    (λ (q : Story). Ends s (record { slots = k.slots; mark = k.mark; list = (file_in q.now.bytes).list })) (sym same)
-    (record {
-      settled = rests.settled;
-      stands = record {
-        sound = rests.sound;
-        is = ap (λ (n : ℕ). record { slots = n; mark = k.mark; list = (file_in s.now.bytes).list }) rests.slots_are
-            ∙ ap (λ (n : ℕ). record {
-              slots = (file_in s.now.bytes).slots;
-              mark = n;
-              list = (file_in s.now.bytes).list;
-            }) rests.mark_is;
-      };
-    })
+    subst (λ (q : Story). Ends s (file_in q.now.bytes)) (sym same)
+    (record { settled = rests.settled; stands = record { sound = rests.sound; is = refl } })
 
 module _ {D : Type 0} (members : disk.Ghosts D) (v : SpoolView D) where
   pub stands_so : v.next ≡ v.first + v.len → ((s : Story) → members.told v.disk ≡ Some s → Rests s (known_of v)) →
       Stands members v (standing_of members v)
   stands_so even rests = record {
-    count = ap (λ (n : ℕ). record { slots = v.slots; next = v.next; len = n })
+    count = ap (λ (n : ℕ). record { slots = n; next = v.next; len = v.len })
+        (told_slots (members.told v.disk) (known_of v) rests)
+        ∙ ap (λ (n : ℕ). record { slots = (standing_of members v).file.slots; next = v.next; len = n })
         (told_len (members.told v.disk) (known_of v) rests);
-    mark = refl;
+    mark = told_mark (members.told v.disk) (known_of v) rests;
     chain = told_chain (members.told v.disk) (known_of v) even rests;
     even = even;
     file = λ s told. told_file (members.told v.disk) (known_of v) s told (rests s told);
@@ -77,10 +76,10 @@ module _ {D : Type 0} (members : disk.Ghosts D) (v : SpoolView D) where
 
   -- another mark leaves the numbers
   pub same_chain : (w : SpoolView D) (mark : ℕ) → w ≡ in_hand w.disk (record (known_of v) { mark = mark }) →
-      (st : Standing) → Stands members v st → IsChainFrom w.first w.next st.list
+      (st : Standing) → Stands members v st → IsChainFrom w.first w.next st.file.list
   same_chain w mark view st stands =
-      subst (λ (n : ℕ). IsChainFrom n w.next st.list) (sym (ap (λ (x : SpoolView D). x.first) view))
-      (subst (λ (n : ℕ). IsChainFrom v.first n st.list) (sym (ap (λ (x : SpoolView D). x.next) view)) stands.chain)
+      subst (λ (n : ℕ). IsChainFrom n w.next st.file.list) (sym (ap (λ (x : SpoolView D). x.first) view))
+      (subst (λ (n : ℕ). IsChainFrom v.first n st.file.list) (sym (ap (λ (x : SpoolView D). x.next) view)) stands.chain)
 
   pub same_even : (w : SpoolView D) (mark : ℕ) → w ≡ in_hand w.disk (record (known_of v) { mark = mark }) →
       (st : Standing) → Stands members v st → w.next ≡ w.first + w.len
@@ -99,7 +98,7 @@ module _ {D : Type 0} (members : disk.Ghosts D) (v : SpoolView D) where
         chain = same_chain w (v.mark + 4096) view st stands;
         even = same_even w (v.mark + 4096) view st stands;
         file = λ t told. let old = reserve_told members v w.disk done.0 t told in
-            subst (λ (f : SpoolFile). Ends t (with_mark (f.mark + 4096) f)) (sym (stands.file old.0 old.1).stands.is)
+            subst (λ (f : SpoolFile). Ends t (with_mark_moved f)) (sym (stands.file old.0 old.1).stands.is)
             (done.3 old.0 t old.1 told);
       }
 
@@ -110,7 +109,7 @@ module _ {D : Type 0} (members : disk.Ghosts D) (v : SpoolView D) where
       let file = stands.file s told in (
         s,
         told,
-        starts s (IsMarked st) (λ image left. inl (subst (λ (bytes : List ℕ). StandsFor bytes (file_of st))
+        starts s (IsMarked st) (λ image left. inl (subst (λ (bytes : List ℕ). StandsFor bytes st.file)
             (sym (only_now s.now image file.settled left)) file.stands)),
       )
 
@@ -119,14 +118,14 @@ module _ {D : Type 0} (members : disk.Ghosts D) (v : SpoolView D) where
       GoesThrough s (members.told after) (IsMarked st)
   reserve_way after said done st stands s told =
       let one = done.images s told in
-      let same : file_of st ≡ file_in s.now.bytes = (stands.file s told).stands.is in (
+      let same : st.file ≡ file_in s.now.bytes = (stands.file s told).stands.is in (
         one.0,
         one.1,
         through_more s one.0 (IsSameOr reserved_in s.now.bytes) (IsMarked st)
             (λ image. ⊎_elim (λ (left : StandsFor image (file_in s.now.bytes)). inl
             (subst (λ (f : SpoolFile). StandsFor image f) (sym same) left))
             (λ (left : StandsFor image (reserved_in s.now.bytes)). inr
-            (subst (λ (f : SpoolFile). StandsFor image (with_mark (f.mark + 4096) f)) (sym same) left))) one.2,
+            (subst (λ (f : SpoolFile). StandsFor image (with_mark_moved f)) (sym same) left))) one.2,
       )
 
   pub reserve_failed : (spent : Spent D) → Reserves members v (Err (reserving.Failed spent)) → (st : Standing) →

@@ -31,12 +31,13 @@ module _ (before : Option Story) (k : Known) (rests : AreInHand before k) where
   -- its head is the file's
   head_is : (s : Story) → before ≡ Some s → (lines : List ℕ)
       → head_line k.slots k.mark k.len ++ lines
-      ≡ head_line (file_in s.now.bytes).slots (file_in s.now.bytes).mark (length (file_in s.now.bytes).list) ++ lines
+      ≡ head_line (file_in s.now.bytes).slots (file_in s.now.bytes).mark.value (length (file_in s.now.bytes).list)
+      ++ lines
   head_is s is lines =
       let here = rests s is in
       ap (λ n. head_line n k.mark k.len ++ lines) here.slots_are
       ∙ ap (λ m. head_line (file_in s.now.bytes).slots m k.len ++ lines) here.mark_is
-      ∙ ap (λ n. head_line (file_in s.now.bytes).slots (file_in s.now.bytes).mark n ++ lines) here.count
+      ∙ ap (λ n. head_line (file_in s.now.bytes).slots (file_in s.now.bytes).mark.value n ++ lines) here.count
 
   -- with all lines it is the whole text
   whole_text : (lines : List ℕ) → AreLines before 0 k.len lines
@@ -45,7 +46,7 @@ module _ (before : Option Story) (k : Known) (rests : AreInHand before k) where
       let list = (file_in s.now.bytes).list in
       let all : take k.len list ≡ list = take_all k.len list (omega (arith, (rests s is).count)) in
       head_is s is lines
-      ∙ ap (λ t. head_line (file_in s.now.bytes).slots (file_in s.now.bytes).mark (length list) ++ t)
+      ∙ ap (λ t. head_line (file_in s.now.bytes).slots (file_in s.now.bytes).mark.value (length list) ++ t)
       (are s is ∙ ap message_lines all)
 
   -- with some of them it is the front

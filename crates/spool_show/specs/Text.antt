@@ -37,7 +37,7 @@ message_lines = flat_map message_line
 
 -- what is written of a file
 abbrev pub file_text : SpoolFile → List ℕ
-file_text file = head_line file.slots file.mark (length file.list) ++ message_lines file.list
+file_text file = head_line file.slots file.mark.value (length file.list) ++ message_lines file.list
 
 -- what is written of a new file: how many slots and bytes it takes
 abbrev pub formatted_line : ℕ → List ℕ

@@ -1,5 +1,5 @@
 -- What writing another value of a cell leaves at each moment, and its calls.
-use Rattle.std.proofs.Common.{◌≡◌, ℕ, ◌+◌, Bool, List, [], ◌∷◌, Option, Some, None, sym, ap, subst, ◌∙◌, inl, inr}
+use Rattle.std.proofs.Common.{◌≡◌, ℕ, ◌+◌, Bool, not, List, [], ◌∷◌, Option, Some, None, sym, ap, subst, ◌∙◌, inl, inr}
 use Rattle.disk_base.specs.Story.{Story}
 use Rattle.disk_base.specs.Settle.{LogsBoth}
 use Rattle.disk_base.specs.Through.{GoesThrough}
@@ -9,14 +9,15 @@ use Rattle.disk_base.specs.declared.disk.DiskAnswer.TheVariants.{Done, Failed}
 use Rattle.disk_base.proofs.Moments.{now_is, through_more}
 use Rattle.disk_base.proofs.Stretches.{both_wider, logs_wider}
 use Rattle.gate_cell.proofs.Values.{commits_behind, committed_behind}
-use Rattle.gate_cell.specs.Cell.{cell_in, gate_byte, spare_is_second, value_in}
+use Rattle.gate_cell.specs.Cell.{Cell, cell_in, gate_byte, with_value}
 use Rattle.gate_cell.specs.Holds.{Holds, HoldsEither}
 use Rattle.gate_cell.specs.Calls.{LogsPreparing}
 use Rattle.gate_cell.specs.Ready.{Commits, IsCommitted, IsReady, Prepares}
 use Rattle.spool_slots.specs.Changes.{HasValue}
 
--- the old value alone, or either
-pub either_of : (s : Story) (at : ℕ) (after : Option Story) (old new : ℕ) → GoesThrough s after (Holds s.now at old) → GoesThrough s after (HoldsEither s.now at old new)
+-- the old cell alone, or either
+pub either_of : (s : Story) (at : ℕ) (after : Option Story) (old new : Cell) →
+    GoesThrough s after (Holds s.now at old) → GoesThrough s after (HoldsEither s.now at old new)
 either_of s at after old new goes =
     (goes.0, goes.1, through_more s goes.0 _ _ (λ image is. record { others = is.others; held = inl is.held }) goes.2)
 
@@ -30,7 +31,7 @@ module _ (s t : Story) (at value there : ℕ) (mid : Option Story) (is_at : ther
   ready_t = subst (λ (o : Option Story). IsReady at value o) told ready
 
   pub commit_images : (second : Bool) (after : Option Story) (answer : DiskAnswer) → Commits t there second after answer →
-      GoesThrough s after (HoldsEither s.now at (value_in s.now.bytes at) value)
+      GoesThrough s after (HoldsEither s.now at (cell_in s.now.bytes at) (with_value value (cell_in s.now.bytes at)))
   commit_images second after answer commit =
       commits_behind s t at value prepared_t ready_t second after answer (subst (λ (n : ℕ). Commits t n second after answer) is_at commit)
 
@@ -51,8 +52,8 @@ preparing_wider s at value C E before after more (inl is) = inl (logs_wider (rea
 preparing_wider s at value C E before after more (inr is) = inr (both_wider _ _ C E _ after Failed more is)
 
 pub gate_calls : (s : Story) (at there : ℕ) (second : Bool) (C E : Type 0) (mid after : Option (List DiskCall)) (answer : DiskAnswer) → (C → E) → there ≡ at →
-    second ≡ spare_is_second (cell_in s.now.bytes at) → LogsBoth (there + 16) (gate_byte second ∷ []) C mid after answer →
-    LogsBoth (at + 16) (gate_byte (spare_is_second (cell_in s.now.bytes at)) ∷ []) E mid after answer
+    second ≡ not (cell_in s.now.bytes at).second → LogsBoth (there + 16) (gate_byte second ∷ []) C mid after answer →
+    LogsBoth (at + 16) (gate_byte (not (cell_in s.now.bytes at).second) ∷ []) E mid after answer
 gate_calls s at there second C E mid after answer more is_at is logs =
     subst (λ (b : Bool). LogsBoth (at + 16) (gate_byte b ∷ []) E mid after answer) is
     (subst (λ (n : ℕ). LogsBoth (n + 16) (gate_byte second ∷ []) E mid after answer) is_at

@@ -2,29 +2,27 @@
 use Rattle.std.proofs.Common.{◌≡◌, ◌⊎◌, inl, inr, ℕ, ◌+◌, ◌%◌, ◌^◌, ◌<◌, ◌≤◌, ◌==◌, ◌&&◌, nat_le, nat_lt, Bool, false, if◌then◌else◌, List, [], ◌∷◌, ◌++◌, length, length-append, take, drop, replicate, get_or, slice_index, Option, Some, None, Result, Ok, refl, sym, ap, subst, ◌∙◌, arith}
 use Rattle.std.proofs.lemmas.Bool.{cases_eq}
 use Rattle.std.proofs.lemmas.Bool.Decides.{nat_tests}
-use Rattle.std.proofs.lemmas.List.{drop-append-le, drop-take, drop_all, get_or-drop, get_or-take, length-replicate, take-append-le, take-take, take_all}
+use Rattle.std.proofs.lemmas.List.{drop-append-le, drop-take, drop_all, get_or-drop, length-replicate, take-append-le, take-take, take_all}
 use Rattle.std.proofs.lemmas.Nat.{from_be_bytes-to_be_bytes_4}
 use Rattle.std.specs.Int.{w32, w64, from_be_bytes, to_be_bytes}
 use Rattle.std.specs.Option.{option_map}
 use Rattle.std.specs.Result.{OnOk}
 use Rattle.disk_base.specs.Story.{Story, bytes_at, with_part, with_sync, with_write}
 use Rattle.disk_base.specs.declared.disk.Disk as disk
-use Rattle.disk_base.specs.declared.disk.DiskAnswer.TheVariants.{Done}
 use Rattle.disk_base.proofs.Marks.{length-part}
-use Rattle.gate_cell.specs.Cell.{names_second}
+use Rattle.gate_cell.specs.Cell.{Cell, cell_in, cell_of, copy_of}
 use Rattle.spool_slots.specs.Area.{or_else}
 use Rattle.spool_slots.specs.Changes.{Ends}
-use Rattle.spool_slots.specs.File.{SpoolFile, StandsFor, area_break, end_of, list_below, slot_message, slot_stands, slots_in}
-use Rattle.spool_slots.specs.Format.{ClosesTo, CountsFirst, IsClosedTo, empty_file, first_page}
-use Rattle.spool_slots.specs.Front.{front_break, front_in, magic, magic_break, copy_at, mark_break, mark_cell, mark_of, slots_break, slots_of, unlike_at}
-use Rattle.spool_slots.specs.Losses.{marks_second}
+use Rattle.spool_slots.specs.File.{SpoolFile, StandsFor, area_break, end_of, gates_below, list_below, slot_message, slot_stands, slots_in}
+use Rattle.spool_slots.specs.Format.{ClosesTo, IsClosedTo, empty_file, first_page}
+use Rattle.spool_slots.specs.Front.{front_break, front_in, front_size, magic, magic_break, copy_at, mark_break, mark_cell, mark_of, slots_break, slots_of, unlike_at}
 use Rattle.spool_slots.specs.Run.{IsChainFrom}
 use Rattle.spool_slots.specs.Spool.{IsSpool, in_hand}
 use Rattle.spool_slots.specs.Slot.{Message, Slot, head_break, is_open, slot_in, slot_place}
 use Rattle.spool_slots.proofs.Areas.{none_there}
-use Rattle.spool_slots.proofs.Fronts.{unlike_front}
+use Rattle.spool_slots.proofs.Fronts.{front_cell, unlike_front}
 use Rattle.spool_slots.proofs.Gapless.{of_sound}
-use Rattle.spool_slots.proofs.Gates.{gate_at}
+use Rattle.spool_slots.proofs.Gates.{shut_gates}
 use Rattle.spool_slots.proofs.Written.{bytes_inside, front_beside, gate_written, others_stay}
 
 -- closed slots hold no messages, and don't break
@@ -98,6 +96,10 @@ module _ (slots : ℕ) where
       ap (λ (p : ℕ). from_be_bytes w64 (bytes_at front p 8)) place_is
       ∙ ap (λ (xs : List ℕ). from_be_bytes w64 (take 8 xs)) seventeen
 
+  pub zero_cell : cell_of (bytes_at front mark_cell 17) ≡ record { value = 0; second = false }
+  unfolding copy_of
+  zero_cell = ap (λ (xs : List ℕ). cell_of (take 17 xs)) seventeen
+
   pub front_none : (size : ℕ) → 1 ≤ slots → slots ≤ 65535 → slot_place slots ≤ size → front_break front size ≡ None
   unfolding front_break
   front_none size some most fits =
@@ -115,18 +117,28 @@ empty_stands bytes slots is some most fits closed =
     let front : front_in bytes ≡ take 29 ((magic ++ to_be_bytes w32 slots) ++ replicate 4084 0) = is ∙ ap (λ (xs : List ℕ). take 29 xs) (page_is slots) in
     let count : slots_in bytes ≡ slots = ap slots_of front ∙ slots_are slots (omega (arith, most)) in
     let area : area_break (slot_in bytes) (slots_in bytes) ≡ None = ap (λ (n : ℕ). area_break (slot_in bytes) n) count ∙ none_break (slot_in bytes) slots closed in
+    let slot = slot_in bytes in
+    let cell : cell_in bytes mark_cell ≡ record { value = 0; second = false } =
+    front_cell mark_cell front_size bytes (omega arith)
+    ∙ ap (λ (f : List ℕ). cell_in f mark_cell) front
+    ∙ zero_cell slots in
     record {
       sound =
           ap (λ (o : Option ℕ). or_else o (area_break (slot_in bytes) (slots_in bytes)))
           (ap (λ (f : List ℕ). front_break f (length bytes)) front ∙ front_none slots (length bytes) some most fits)
           ∙ area;
       is =
-          sym (ap (λ (n : ℕ). made n (mark_of (front_in bytes)) (list_below (slot_in bytes) n)) count
-          ∙ ap (λ (m : ℕ). made slots m (list_below (slot_in bytes) slots)) (ap mark_of front ∙ mark_zero slots)
-          ∙ ap (λ (list : List Message). made slots 0 list) (none_held (slot_in bytes) slots closed));
+          sym (ap (λ (n : ℕ). made n (gates_below slot n) (cell_in bytes mark_cell) (list_below slot n)) count
+          ∙ ap (λ (c : Cell). made slots (gates_below slot slots) c (list_below slot slots)) cell
+          ∙ ap (λ (gates : List Bool). made slots gates unmarked (list_below slot slots)) (shut_gates slot slots closed)
+          ∙ ap (λ (list : List Message). made slots (replicate slots false) unmarked list)
+          (none_held slot slots closed));
     } where
-      made : ℕ → ℕ → List Message → SpoolFile
-      made slots mark list = record { slots = slots; mark = mark; list = list }
+      made : ℕ → List Bool → Cell → List Message → SpoolFile
+      made slots gates mark list = record { slots = slots; gates = gates; mark = mark; list = list }
+
+      unmarked : Cell
+      unmarked = record { value = 0; second = false }
 
 -- such a file is taken up
 pub empty_spool : {D : Type 0} (members : disk.Ghosts D) (d : D) (slots : ℕ) → 1 ≤ slots → slots ≤ 65535 → slot_place slots ≤ members.size_is d →
@@ -147,7 +159,7 @@ empty_spool members d slots some most fits ends sized = record {
         sound = (ends t told).stands.sound;
         inside = omega (arith, fits, sized t told);
         slots_are = ap (λ (f : SpoolFile). f.slots) is;
-        mark_is = ap (λ (f : SpoolFile). f.mark) is;
+        mark_is = ap (λ (f : SpoolFile). f.mark.value) is;
         chain = subst (λ (f : SpoolFile). IsChainFrom 0 0 f.list) is refl;
         count = ap (λ (f : SpoolFile). length f.list) is;
       };
@@ -219,26 +231,3 @@ stands_empty o p q r slots size sized some most fits page closes synced t told =
       settled = refl;
       stands = empty_stands u.0.now.bytes slots (v.2.front ∙ front) some most (omega (arith, fits, length_v, v.2.long)) v.2.closed;
     })
-
--- so the first copy of its mark counts
-first_gate : (slots : ℕ) (bytes : List ℕ) → front_in bytes ≡ take 29 (first_page slots) → marks_second bytes ≡ false
-first_gate slots bytes is =
-    ap names_second
-    (gate_at mark_cell bytes
-    ∙ sym (get_or-take 29 bytes 28 0 (omega arith))
-    ∙ ap (λ (f : List ℕ). slice_index f 28) (is ∙ ap (λ (xs : List ℕ). take 29 xs) (page_is slots))
-    ∙ gate_zero slots)
-
-pub first_counts : (o p q r : Option Story) (slots size : ℕ) → ((s : Story) → o ≡ Some s → length s.now.bytes ≡ size) → 1 ≤ slots →
-    slot_place slots ≤ size → p ≡ option_map (with_write 0 (first_page slots)) o → ClosesTo p q slots → r ≡ option_map with_sync q →
-    CountsFirst r Done
-first_counts o p q r slots size sized some fits page closes synced t told =
-    let u = back q r with_sync t synced told in
-    let v = closes u.0 u.1 in
-    let s = back o p (with_write 0 (first_page slots)) v.0 page v.1 in
-    let long : length s.0.now.bytes ≡ size = sized s.0 s.1 in
-    let inside : 0 + length (first_page slots) ≤ length s.0.now.bytes = omega (arith, long, fits, some, page_long slots) in
-    let front : front_in v.0.now.bytes ≡ take 29 (first_page slots) =
-    ap (λ (w : Story). front_in w.now.bytes) s.2
-    ∙ bytes_inside s.0.now.bytes (first_page slots) 0 inside 0 29 (omega (arith, page_long slots)) in
-    ap (λ (w : Story). marks_second w.now.bytes) u.2 ∙ first_gate slots u.0.now.bytes (v.2.front ∙ front)

@@ -6,7 +6,7 @@ use Rattle.std.proofs.lemmas.Nat.{mod_below}
 use Rattle.std.specs.Int.{w32, w64, from_be_bytes}
 use Rattle.disk_base.specs.Story.{bytes_at, with_part}
 use Rattle.disk_base.proofs.Marks.{length-part}
-use Rattle.gate_cell.specs.Cell.{cell_in, copy_of, copy_place, gate_of, names_second, value_in, value_of}
+use Rattle.gate_cell.specs.Cell.{Cell, cell_in, cell_of, copy_of, copy_place, gate_of, names_second}
 use Rattle.spool_slots.specs.Area.{or_else}
 use Rattle.spool_slots.specs.File.{slots_in}
 use Rattle.spool_slots.specs.Front.{copy_at, front_break, front_in, front_size, magic, magic_break, mark_break, mark_cell, number_at, slots_break, slots_of, unlike_at}
@@ -33,7 +33,7 @@ place_by at zero below = let none : at + 0 ≡ at = omega arith in none
 place_by at (suc zero) below = refl
 place_by at (suc (suc r)) below = absurd (omega (arith, below))
 
-value_at : (at : ℕ) (front : List ℕ) → value_of (bytes_at front at 17) ≡ number_at at front
+value_at : (at : ℕ) (front : List ℕ) → (cell_of (bytes_at front at 17)).value ≡ number_at at front
 value_at at front =
     let gate : gate_of (bytes_at front at 17) ≡ slice_index front (at + 16) = at-taken front at 17 16 0 (omega arith) in
     ap (λ (g : ℕ). copy_of (bytes_at front at 17) (names_second g)) gate
@@ -48,8 +48,12 @@ cell_taken at n bytes within =
     ∙ ap (λ (xs : List ℕ). take 17 xs) (drop-take at (n - at) bytes)
     ∙ take-take 17 (n - at) (drop at bytes) (omega (arith, within))
 
-pub value_is : (at n : ℕ) (bytes : List ℕ) → at + 17 ≤ n → value_in bytes at ≡ number_at at (take n bytes)
-value_is at n bytes within = ap value_of (sym (cell_taken at n bytes within)) ∙ value_at at (take n bytes)
+pub front_cell : (at n : ℕ) (bytes : List ℕ) → at + 17 ≤ n → cell_in bytes at ≡ cell_in (take n bytes) at
+front_cell at n bytes within = ap cell_of (sym (cell_taken at n bytes within))
+
+pub value_is : (at n : ℕ) (bytes : List ℕ) → at + 17 ≤ n → (cell_in bytes at).value ≡ number_at at (take n bytes)
+value_is at n bytes within =
+    ap (λ (cell : Cell). cell.value) (front_cell at n bytes within) ∙ value_at at (take n bytes)
 
 -- ---- the name, and how many slots there are
 
@@ -109,9 +113,9 @@ module _ (bytes part : List ℕ) (at : ℕ) (long : length part ≡ 17) (behind 
   pub each_slot : slot_in now ≡ slot_in bytes
   each_slot = λ j k. slot_beside bytes part at k within (inr (omega (arith, long, before))) j
 
-  -- another cell has its value, in the copy that it is in
+  -- another cell is as it was
   pub same_cell : (other : ℕ) → (other + 17 ≤ at) ⊎ (at + 17 ≤ other) → cell_in now other ≡ cell_in bytes other
-  same_cell other side = bytes_beside bytes part at within other 17 (by_side side) where
+  same_cell other side = ap cell_of (bytes_beside bytes part at within other 17 (by_side side)) where
     by_side : (other + 17 ≤ at) ⊎ (at + 17 ≤ other) → (other + 17 ≤ at) ⊎ (at + length part ≤ other)
     by_side (inl less) = inl less
     by_side (inr more) = inr (omega (arith, more, long))

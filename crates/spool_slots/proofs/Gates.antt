@@ -1,86 +1,59 @@
--- Which copy of a cell counts behind a write.
-use Rattle.std.proofs.Common.{◌≡◌, ◌⊎◌, ℕ, ◌+◌, ◌<◌, ◌≤◌, Bool, true, false, not, if◌then◌else◌, List, [], ◌∷◌, length, get_or, slice_index, Option, None, Some, refl, sym, ap, ◌∙◌, subst, arith, inr}
-use Rattle.disk_base.specs.Images.{is_in, is_loose}
-use Rattle.disk_base.specs.Settle.{Settles}
-use Rattle.disk_base.specs.Story.{Story, with_part, with_sync, with_write}
-use Rattle.disk_base.specs.Through.{GoesThrough, IsImageBut}
-use Rattle.disk_base.specs.declared.disk.DiskAnswer.{DiskAnswer}
-use Rattle.disk_base.specs.declared.disk.DiskAnswer.TheVariants.{Done}
-use Rattle.disk_base.proofs.Moments.{neither, out_of, settle_others, through_more}
-use Rattle.gate_cell.specs.Cell.{cell_in, copy_bytes, copy_place, gate_byte, gate_of, names_second, spare_is_second, spare_place}
-use Rattle.gate_cell.specs.Ready.{Commits, IsCell, Prepares}
-use Rattle.spool_slots.specs.Losses.{KeepsGate, TurnsGate, counts_second, turned_if}
-use Rattle.spool_slots.proofs.Written.{at-taken, part_at}
+-- Which slots are open, where one of them changes, and where all are closed.
+use Rattle.std.proofs.Common.{◌≡◌, ◌⊎◌, ℕ, zero, suc, ◌+◌, ◌<◌, Bool, false, List, [], ◌∷◌, ◌++◌, length, replicate, length-append, refl, sym, ap, subst, ◌∙◌, arith, inl, inr}
+use Rattle.std.proofs.Math.ListN.{set}
+use Rattle.std.proofs.Math.Seq.{set-append_seam}
+use Rattle.std.proofs.lemmas.Bool.{cases_eq}
+use Rattle.std.proofs.lemmas.List.{replicate-append-replicate, set-append_left}
+use Rattle.spool_slots.specs.File.{gates_below}
+use Rattle.spool_slots.specs.Slot.{Slot, is_open}
 
-pub gate_at : (cell : ℕ) (bytes : List ℕ) → gate_of (cell_in bytes cell) ≡ slice_index bytes (cell + 16)
-gate_at cell bytes = at-taken bytes cell 17 16 0 (omega arith)
+pub length-gates : (slot : ℕ → Slot) (n : ℕ) → length (gates_below slot n) ≡ n
+length-gates slot zero = refl
+length-gates slot (suc n) =
+    omega (arith, length-append (gates_below slot n) (is_open (slot n) ∷ []), length-gates slot n)
 
-pub names_its : (second : Bool) → names_second (gate_byte second) ≡ second
-names_its true = refl
-names_its false = refl
+-- all are closed
+pub shut_gates : (slot : ℕ → Slot) (n : ℕ) → ((k : ℕ) → k < n → is_open (slot k) ≡ false) →
+    gates_below slot n ≡ replicate n false
+shut_gates slot zero closed = refl
+shut_gates slot (suc n) closed =
+    let more : n + 1 ≡ suc n = omega arith in
+    ap (λ (b : Bool). gates_below slot n ++ b ∷ []) (closed n (omega arith))
+    ∙ ap (λ (gates : List Bool). gates ++ false ∷ []) (shut_gates slot n (λ k below. closed k (omega (arith, below))))
+    ∙ replicate-append-replicate n 1 false
+    ∙ ap (λ (k : ℕ). replicate k false) more
 
-eight : (value : ℕ) → length (copy_bytes value) ≡ 8
-unfolding copy_bytes
-eight value = refl
+module _ (f g : ℕ → Slot) where
+  -- each is as it was
+  pub same_gates : (n : ℕ) → ((k : ℕ) → k < n → is_open (g k) ≡ is_open (f k)) → gates_below g n ≡ gates_below f n
+  same_gates zero same = refl
+  same_gates (suc n) same =
+      ap (λ (b : Bool). gates_below g n ++ b ∷ []) (same n (omega arith))
+      ∙ ap (λ (gates : List Bool). gates ++ is_open (f n) ∷ [])
+      (same_gates n (λ k below. same k (omega (arith, below))))
 
--- a copy ends before the gate
-pub copy_before : (cell : ℕ) (second : Bool) → cell + copy_place second + 8 ≤ cell + 16
-copy_before cell false = omega arith
-copy_before cell true = omega arith
+  -- each but one
+  module _ (j : ℕ) (b : Bool) (now : is_open (g j) ≡ b) where
+    by_place : (n : ℕ) → (j ≡ n) ⊎ (j ≡ n → ⊥) → j < suc n →
+        ((k : ℕ) → k < suc n → (k ≡ j → ⊥) → is_open (g k) ≡ is_open (f k)) →
+        (j < n → gates_below g n ≡ set (gates_below f n) j b) →
+        gates_below g (suc n) ≡ set (gates_below f (suc n)) j b
+    by_place n (inl here) below same before =
+        let last : is_open (g n) ≡ b = subst (λ (k : ℕ). is_open (g k) ≡ b) here now in
+        let long : length (gates_below f n) ≡ j = length-gates f n ∙ sym here in
+        ap (λ (c : Bool). gates_below g n ++ c ∷ []) last
+        ∙ ap (λ (gates : List Bool). gates ++ b ∷ [])
+        (same_gates n (λ k less. same k (omega (arith, less)) (λ is. omega (arith, is, here, less))))
+        ∙ sym (set-append_seam (gates_below f n) (is_open (f n)) [] b)
+        ∙ ap (λ (k : ℕ). set (gates_below f (suc n)) k b) long
+    by_place n (inr other) below same before =
+        let less : j < n = grind (arith, below, other) in
+        ap (λ (c : Bool). gates_below g n ++ c ∷ []) (same n (omega arith) (λ is. other (sym is)))
+        ∙ ap (λ (gates : List Bool). gates ++ is_open (f n) ∷ []) (before less)
+        ∙ sym (set-append_left (gates_below f n) (is_open (f n) ∷ []) j b (omega (arith, less, length-gates f n)))
 
--- the gate itself was written
-pub gate_there : (cell : ℕ) (bytes : List ℕ) (gate : ℕ) → cell + 17 ≤ length bytes →
-    counts_second cell (with_part bytes (cell + 16) (gate ∷ [])) ≡ names_second gate
-gate_there cell bytes gate inside =
-    ap names_second
-    (gate_at cell (with_part bytes (cell + 16) (gate ∷ []))
-    ∙ ap (λ (p : ℕ). get_or (with_part bytes (cell + 16) (gate ∷ [])) p 0) (omega arith)
-    ∙ part_at bytes (gate ∷ []) (cell + 16) (omega (arith, inside)) 0 0 (omega arith))
-
--- which copy a gate names, by whether that is the one that doesn't count
-pub by_turn : (was named b : Bool) → (if not was then named else not named) ≡ b → named ≡ turned_if b was
-by_turn was named b is = subst (λ (c : Bool). named ≡ turned_if c was) is (either was named) where
-  either : (was named : Bool) → named ≡ turned_if (if not was then named else not named) was
-  either true true = refl
-  either true false = refl
-  either false true = refl
-  either false false = refl
-
--- a write elsewhere, with its sync, leaves it at every moment
-module _ (cell : ℕ) (s : Story) (at : ℕ) (bytes : List ℕ) (settled : is_loose s.now.loose (cell + 16) ≡ false)
-    (side : (cell + 16 < at) ⊎ (at + length bytes ≤ cell + 16)) where
-  kept : (image : List ℕ) → IsImageBut s.now at (length bytes) image → KeepsGate cell s.now.bytes image
-  kept image is =
-      ap names_second
-      (gate_at cell image
-      ∙ is.kept (cell + 16)
-      (neither (is_in (cell + 16) (at, length bytes)) (is_loose s.now.loose (cell + 16)) (out_of (cell + 16) at (length bytes) side) settled)
-      ∙ sym (gate_at cell s.now.bytes))
-
-  pub settle_keeps_gate : (after : Option Story) (answer : DiskAnswer) → at + length bytes ≤ length s.now.bytes → Settles (Some s) at bytes after answer →
-      GoesThrough s after (KeepsGate cell s.now.bytes)
-  settle_keeps_gate after answer inside is =
-      let goes = settle_others s at bytes after answer inside is in
-      (goes.0, goes.1, through_more s goes.0 _ _ kept goes.2)
-
--- a value was prepared, as far as that went
-pub prepare_keeps_gate : (cell : ℕ) (s : Story) (value : ℕ) (after : Option Story) (answer : DiskAnswer) → IsCell s cell →
-    Prepares s cell value after answer → GoesThrough s after (KeepsGate cell s.now.bytes)
-prepare_keeps_gate cell s value after answer is prepared =
-    let ends = copy_before cell (spare_is_second (cell_in s.now.bytes cell)) in
-    let long = eight value in
-    settle_keeps_gate cell s (spare_place s.now.bytes cell) (copy_bytes value) (is.settled (cell + 16) (omega arith) (omega arith))
-    (inr (omega (arith, ends, long))) after answer (omega (arith, ends, long, is.within)) prepared.settles
-
--- and its gate was written, and synced
-pub commit_turns_gate : (cell : ℕ) (s t : Story) (second : Bool) (after : Option Story) → second ≡ spare_is_second (cell_in s.now.bytes cell) →
-    cell + 17 ≤ length t.now.bytes → Commits t cell second after Done → TurnsGate cell s.now.bytes after Done
-commit_turns_gate cell s t second after second_is inside commit u told =
-    let same : with_sync (with_write (cell + 16) (gate_byte second ∷ []) t) ≡ u = ap (λ (o : Option Story). story_or u o) (sym commit.settles ∙ told) in
-    ap (λ (w : Story). counts_second cell w.now.bytes) (sym same)
-    ∙ gate_there cell t.now.bytes (gate_byte second) inside
-    ∙ names_its second
-    ∙ second_is where
-      story_or : Story → Option Story → Story
-      story_or other None = other
-      story_or other (Some s) = s
+    pub one_gate : (n : ℕ) → j < n → ((k : ℕ) → k < n → (k ≡ j → ⊥) → is_open (g k) ≡ is_open (f k)) →
+        gates_below g n ≡ set (gates_below f n) j b
+    one_gate zero below same = absurd (omega (arith, below))
+    one_gate (suc n) below same =
+        by_place n (cases_eq j n) below same (λ less. one_gate n less (λ k under. same k (omega (arith, under))))

@@ -111,14 +111,14 @@ done_at before after at bytes s t settles is_s is_t =
 -- what was written and synced stands for a file
 pub rests_now : (s : Story) (at : ℕ) (bytes : List ℕ) (file : SpoolFile) (k : Known) →
     at + length bytes ≤ length s.now.bytes → slot_place k.slots ≤ length s.now.bytes → StandsFor (with_part s.now.bytes at bytes) file →
-    k.slots ≡ file.slots → k.mark ≡ file.mark → IsChainFrom k.first k.next file.list → k.len ≡ length file.list →
+    k.slots ≡ file.slots → k.mark ≡ file.mark.value → IsChainFrom k.first k.next file.list → k.len ≡ length file.list →
     Rests (with_sync (with_write at bytes s)) k
 rests_now s at bytes file k within inside stands slots_are mark_is chain count = record {
   settled = refl;
   sound = stands.sound;
   inside = omega (arith, inside, length-part s.now.bytes bytes at within);
   slots_are = slots_are ∙ ap (λ (f : SpoolFile). f.slots) stands.is;
-  mark_is = mark_is ∙ ap (λ (f : SpoolFile). f.mark) stands.is;
+  mark_is = mark_is ∙ ap (λ (f : SpoolFile). f.mark.value) stands.is;
   chain = subst (λ (f : SpoolFile). IsChainFrom k.first k.next f.list) stands.is chain;
   count = count ∙ ap (λ (f : SpoolFile). length f.list) stands.is;
 }

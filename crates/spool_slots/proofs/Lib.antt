@@ -9,7 +9,7 @@ mod Found
 mod Fresh
 mod Fronts
 pub mod Gapless
-pub mod Gates
+mod Gates
 mod Lasting
 mod Lists
 mod Looking

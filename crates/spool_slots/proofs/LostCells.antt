@@ -14,12 +14,11 @@ use Rattle.disk_base.specs.declared.disk.DiskAnswer.TheVariants.{Done, Failed}
 use Rattle.disk_base.proofs.Marks.{beside, length-part, not_either}
 use Rattle.disk_base.proofs.Moments.{now_is}
 use Rattle.disk_base.proofs.Stretches.{both_wider, lists_on}
-use Rattle.gate_cell.specs.Cell.{cell_in, copy_of, copy_place, gate_byte, gate_of, names_second, spare_is_second, value_in}
+use Rattle.gate_cell.specs.Cell.{Cell, cell_in, copy_of, copy_place, gate_byte, gate_of, names_second, with_value}
 use Rattle.gate_cell.specs.Holds.{Holds}
 use Rattle.gate_cell.specs.Ready.{HasSpare, IsReady, Prepares}
-use Rattle.gate_cell.proofs.Values.{others_behind}
-use Rattle.spool_slots.specs.Losses.{IsSure, LeavesGate, LeavesValue, counts_second, gate_counts, names_spare, value_left}
-use Rattle.spool_slots.proofs.Gates.{by_turn, gate_there}
+use Rattle.gate_cell.proofs.Values.{others_behind, spare_now}
+use Rattle.spool_slots.specs.Losses.{IsSure, LeavesValue, cell_left, gate_counts, names_spare}
 use Rattle.spool_slots.proofs.Lost.{ChosenLaw, HasWrittenLaw, left_by, not_crowded}
 use Rattle.spool_slots.proofs.Fronts.{copy_in_cell}
 use Rattle.spool_slots.proofs.Written.{at-taken, byte_beside, bytes_beside, part_at}
@@ -29,27 +28,32 @@ ends : (b : Bool) → copy_place b + 8 ≤ 16
 ends false = omega arith
 ends true = omega arith
 
-twice : (b : Bool) → not (not b) ≡ b
-twice true = refl
-twice false = refl
+-- a cell of which this copy counts, and which copy counts by a gate
+abbrev counting : List ℕ → Bool → Cell
+counting bytes second = record { value = copy_of bytes second; second = second }
 
-abbrev names : Bool → ℕ → Bool
-names second gate = if second then names_second gate else not (names_second gate)
+by_name : (second named : Bool) (f : Bool → Cell) →
+    f named ≡ cell_left (if second then not named else named) (f (not second)) (f second)
+by_name true true f = refl
+by_name true false f = refl
+by_name false true f = refl
+by_name false false f = refl
 
-names_old : (second : Bool) (n : Bool) → n ≡ not second → (if second then n else not n) ≡ false
-names_old true n is = is
-names_old false n is = ap not is
+-- the gate of the copy that counts, and that of the other one
+names_old : (cell : Cell) (gate : ℕ) → names_second gate ≡ cell.second → names_spare cell gate ≡ false
+names_old cell gate is = ap (λ (b : Bool). if cell.second then not b else b) is ∙ none cell.second where
+  none : (b : Bool) → (if b then not b else b) ≡ false
+  none true = refl
+  none false = refl
 
-names_new : (second : Bool) → names second (gate_byte second) ≡ true
-names_new true = refl
-names_new false = refl
-
--- which copy counts
-by_name : (second n : Bool) (f : Bool → ℕ) (new old : ℕ) → f second ≡ new → f (not second) ≡ old → f n ≡ value_left (if second then n else not n) new old
-by_name true true f new old first last = first
-by_name true false f new old first last = last
-by_name false true f new old first last = last
-by_name false false f new old first last = first
+names_new : (cell : Cell) (second : Bool) → second ≡ not cell.second → names_spare cell (gate_byte second) ≡ true
+names_new cell second is =
+    ap (λ (b : Bool). if cell.second then not (names_second (gate_byte b)) else names_second (gate_byte b)) is
+    ∙ other cell.second where
+      other : (b : Bool) →
+          (if b then not (names_second (gate_byte (not b))) else names_second (gate_byte (not b))) ≡ true
+      other true = refl
+      other false = refl
 
 abbrev story_or : Story → Option Story → Story
 story_or other None = other
@@ -61,24 +65,26 @@ loose_or (Some s) = s.now.loose
 
 -- behind a value that was prepared
 module _ (s t : Story) (at value : ℕ) (second : Bool) (prepared : Prepares s at value (Some t) Done) (ready : IsReady at value (Some t))
-    (spare : HasSpare t at second) (second_is : second ≡ spare_is_second (cell_in s.now.bytes at)) where
+    (spare : HasSpare t at second) (second_is : second ≡ not (cell_in s.now.bytes at).second) where
+  -- the cell as it was, with the new value, and its bytes now
+  abbrev old : Cell
+  old = cell_in s.now.bytes at
+
+  abbrev new : Cell
+  new = with_value value old
+
   abbrev cell : List ℕ
   cell = bytes_at t.now.bytes at 17
 
   settled : t.now.loose ≡ []
   settled = ap loose_or prepared.settles
 
-  value_t : value_in t.now.bytes at ≡ value_in s.now.bytes at
-  value_t =
+  old_there : cell_in t.now.bytes at ≡ old
+  old_there =
       let goes = prepared.images in
       let same : goes.0 ≡ t = ap (λ (o : Option Story). story_or t o) (sym goes.1) in
-      (subst (λ (u : Story). Holds s.now at (value_in s.now.bytes at) u.now.bytes) same (goes.2.last goes.0.now.bytes (now_is goes.0.now))).held
-
-  new_copy : copy_of cell second ≡ value
-  new_copy = ap (λ (b : Bool). copy_of cell b) (sym (ap not spare.spare ∙ twice second)) ∙ ready t refl
-
-  old_copy : copy_of cell (not second) ≡ value_in s.now.bytes at
-  old_copy = ap (λ (b : Bool). copy_of cell b) (sym spare.spare) ∙ value_t
+      (subst (λ (u : Story). Holds s.now at old u.now.bytes) same
+      (goes.2.last goes.0.now.bytes (now_is goes.0.now))).held
 
   module _ (p : ℕ) where
     abbrev now : List ℕ
@@ -99,12 +105,14 @@ module _ (s t : Story) (at value : ℕ) (second : Bool) (prepared : Prepares s a
         ∙ ap (λ (i : ℕ). get_or now i 0) (omega arith)
         ∙ part_at t.now.bytes (p ∷ []) (at + 16) within 0 0 (omega arith)
 
-    value_now : value_in now at ≡ value_left (names_spare at s.now.bytes p) value (value_in s.now.bytes at)
-    value_now =
-        ap (λ (g : ℕ). copy_of (bytes_at now at 17) (names_second g)) gate_now
-        ∙ copies (names_second p)
-        ∙ by_name second (names_second p) (λ b. copy_of cell b) value (value_in s.now.bytes at) new_copy old_copy
-        ∙ ap (λ (b : Bool). value_left (names b p) value (value_in s.now.bytes at)) second_is
+    cell_now : cell_in now at ≡ cell_left (names_spare old p) new old
+    cell_now =
+        ap (λ (g : ℕ). counting (bytes_at now at 17) (names_second g)) gate_now
+        ∙ ap (λ (n : ℕ). record { value = n; second = names_second p }) (copies (names_second p))
+        ∙ by_name (cell_in t.now.bytes at).second (names_second p) (counting cell)
+        ∙ ap (λ (c : Cell). cell_left (names_spare (cell_in t.now.bytes at) p) c (cell_in t.now.bytes at))
+        (spare_now s t at value prepared ready)
+        ∙ ap (λ (c : Cell). cell_left (names_spare c p) new c) old_there
 
     others : IsImageBut s.now at 17 now
     others = others_behind s t at value prepared ready now (record {
@@ -114,21 +122,20 @@ module _ (s t : Story) (at value : ℕ) (second : Bool) (prepared : Prepares s a
           (beside place (at, 17) (not_either (is_in place (at, 17)) (is_loose t.now.loose place) out).0));
     })
 
-  old_gate : names_spare at s.now.bytes (slice_index t.now.bytes (at + 16)) ≡ false
-  old_gate =
-      ap (λ (b : Bool). names b (slice_index t.now.bytes (at + 16))) (sym second_is)
-      ∙ names_old second (names_second (slice_index t.now.bytes (at + 16)))
-      (ap names_second (sym (at-taken t.now.bytes at 17 16 0 (omega arith))) ∙ spare.spare)
+  old_gate : names_spare old (slice_index t.now.bytes (at + 16)) ≡ false
+  old_gate = names_old old (slice_index t.now.bytes (at + 16))
+      (ap names_second (sym (at-taken t.now.bytes at 17 16 0 (omega arith))) ∙ ap (λ (c : Cell). c.second) old_there)
 
-  new_gate : names_spare at s.now.bytes (gate_byte second) ≡ true
-  new_gate = ap (λ (b : Bool). names b (gate_byte second)) (sym second_is) ∙ names_new second
+  new_gate : names_spare old (gate_byte second) ≡ true
+  new_gate = names_new old second second_is
 
   -- the byte that a crash leaves
   abbrev left_byte : CutChoice → ℕ
   left_byte choice = chosen_byte choice (slice_index t.now.bytes (at + 16)) (gate_byte second)
 
-  counts : (choice : CutChoice) → names_spare at s.now.bytes (left_byte choice) ≡ gate_counts choice (names_spare at s.now.bytes)
-  counts choice = left_by (names_spare at s.now.bytes) choice (slice_index t.now.bytes (at + 16)) (gate_byte second) old_gate new_gate
+  counts : (choice : CutChoice) → names_spare old (left_byte choice) ≡ gate_counts choice (names_spare old)
+  counts choice =
+      left_by (names_spare old) choice (slice_index t.now.bytes (at + 16)) (gate_byte second) old_gate new_gate
 
   image : ChosenLaw → (after : Option Story) → after ≡ Some (with_write (at + 16) (gate_byte second ∷ []) t) → (u : Story) → after ≡ Some u → (choice : CutChoice) →
       with_part t.now.bytes (at + 16) (left_byte choice ∷ []) ≡ image_of choice u
@@ -138,24 +145,18 @@ module _ (s t : Story) (at value : ℕ) (second : Bool) (prepared : Prepares s a
 
   pub lost_value : ChosenLaw → (after : Option Story) → after ≡ Some (with_write (at + 16) (gate_byte second ∷ []) t) → LeavesValue s at value after
   lost_value one_byte_left after written u told choice =
-      subst (λ (i : List ℕ). Holds s.now at (value_left (gate_counts choice (names_spare at s.now.bytes)) value (value_in s.now.bytes at)) i)
+      subst (λ (i : List ℕ). Holds s.now at (cell_left (gate_counts choice (names_spare old)) new old) i)
       (image one_byte_left after written u told choice) (record {
         others = others (left_byte choice);
-        held = value_now (left_byte choice) ∙ ap (λ (b : Bool). value_left b value (value_in s.now.bytes at)) (counts choice);
+        held = cell_now (left_byte choice) ∙ ap (λ (b : Bool). cell_left b new old) (counts choice);
       })
-
-  pub lost_gate : ChosenLaw → (after : Option Story) → after ≡ Some (with_write (at + 16) (gate_byte second ∷ []) t) → LeavesGate at s.now.bytes after
-  lost_gate one_byte_left after written u told choice =
-      ap (counts_second at) (sym (image one_byte_left after written u told choice))
-      ∙ gate_there at t.now.bytes (left_byte choice) (omega (arith, spare.within))
-      ∙ by_turn (counts_second at s.now.bytes) (names_second (left_byte choice)) (gate_counts choice (names_spare at s.now.bytes)) (counts choice)
 
 -- the same of the calls that came into the list
 pub lost_late : HasWrittenLaw → ChosenLaw → (s t : Story) (at value there : ℕ) (second : Bool) (h k : DiskHealth) (mid after : Option Story)
     (calls calls_after : Option (List DiskCall)) → IsSure h 5 9 → IsUsed h k 3 8 → mid ≡ Some t → Prepares s at value mid Done → IsReady at value mid →
-    there ≡ at → HasSpare t there second → second ≡ spare_is_second (cell_in s.now.bytes at) →
+    there ≡ at → HasSpare t there second → second ≡ not (cell_in s.now.bytes at).second →
     ((all : List DiskCall) × (calls ≡ Some all)) → LogsBoth (there + 16) (gate_byte second ∷ []) (IsCrowded k 2 1) calls calls_after Failed →
-    (GoesAsListed k → AsListed mid calls after calls_after) → LeavesValue s at value after × LeavesGate at s.now.bytes after
+    (GoesAsListed k → AsListed mid calls after calls_after) → LeavesValue s at value after
 lost_late has_written one_byte_left s t at value there second h k mid after calls calls_after sure used told prepared ready is_at spare second_is all logs listed =
     let sure_now : IsSure k 2 1 = record {
       going = lists_on h k 3 8 used sure.going;
@@ -173,7 +174,5 @@ lost_late has_written one_byte_left s t at value there second h k mid after call
     let prepared_t = subst (λ (o : Option Story). Prepares s at value o Done) told prepared in
     let ready_t = subst (λ (o : Option Story). IsReady at value o) told ready in
     let spare_t = subst (λ (n : ℕ). HasSpare t n second) is_at spare in
-    let written_t = subst (λ (n : ℕ). after ≡ Some (with_write (n + 16) (gate_byte second ∷ []) t)) is_at written in (
-      lost_value s t at value second prepared_t ready_t spare_t second_is one_byte_left after written_t,
-      lost_gate s t at value second prepared_t ready_t spare_t second_is one_byte_left after written_t,
-    )
+    let written_t = subst (λ (n : ℕ). after ≡ Some (with_write (n + 16) (gate_byte second ∷ []) t)) is_at written in
+    lost_value s t at value second prepared_t ready_t spare_t second_is one_byte_left after written_t

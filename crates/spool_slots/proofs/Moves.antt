@@ -1,30 +1,43 @@
 -- What the bytes stand for where one slot of a sound file is written.
-use Rattle.std.proofs.Common.{◌≡◌, ℕ, ◌+◌, ◌%◌, ◌<◌, ◌≤◌, ◌⊎◌, ◌==◌, true, false, List, [], ◌∷◌, ◌++◌, length, drop, None, refl, sym, ap, subst, ◌∙◌, arith, inl, inr}
+use Rattle.std.proofs.Common.{◌≡◌, ℕ, ◌+◌, ◌%◌, ◌<◌, ◌≤◌, ◌⊎◌, ◌==◌, Bool, true, false, List, [], ◌∷◌, ◌++◌, length, drop, take, None, refl, sym, ap, subst, ◌∙◌, arith, inl, inr}
+use Rattle.std.proofs.Math.ListN.{set}
 use Rattle.std.proofs.lemmas.Bool.{cases_eq}
 use Rattle.std.proofs.lemmas.Bool.Decides.{nat_tests}
 use Rattle.disk_base.specs.Story.{with_part}
 use Rattle.disk_base.proofs.Marks.{length-part}
+use Rattle.gate_cell.specs.Cell.{Cell, cell_in}
 use Rattle.spool_slots.specs.Area.{or_else}
-use Rattle.spool_slots.specs.Changes.{dropped_in, sealed_in}
-use Rattle.spool_slots.specs.File.{SpoolFile, StandsFor, area_break, file_in, list_below, slot_message, slot_stands, slots_in, spool_break}
-use Rattle.spool_slots.specs.Front.{front_break, front_in, mark_of, slots_of}
+use Rattle.spool_slots.specs.Changes.{dropped_in, sealed_in, shut_for}
+use Rattle.spool_slots.specs.File.{SpoolFile, StandsFor, area_break, file_in, gates_below, list_below, slot_message, slot_stands, slots_in, spool_break}
+use Rattle.spool_slots.specs.Front.{front_break, front_in, front_size, mark_cell, slots_of}
 use Rattle.spool_slots.specs.Run.{IsChainFrom, width}
 use Rattle.spool_slots.specs.Slot.{Message, Slot, head_break, is_open, message_of, slot_break, slot_in, slot_place}
 use Rattle.spool_slots.proofs.Areas.{IsSameAt}
 use Rattle.spool_slots.proofs.Changes.{closes, closes_kept, opens, opens_kept, same_kept, same_list}
 use Rattle.spool_slots.proofs.Firsts.{both_none}
+use Rattle.spool_slots.proofs.Fronts.{front_cell}
 use Rattle.spool_slots.proofs.Gapless.{IsWhole, closed_none, good_is, good_none, good_width, kept_sound, open_good, sound_of}
+use Rattle.spool_slots.proofs.Gates.{one_gate, same_gates}
 use Rattle.spool_slots.proofs.Runs.{IsKept}
 use Rattle.spool_slots.proofs.Written.{front_beside, gate_stays, gate_written, others_stay}
 
-abbrev made_file : ℕ → ℕ → List Message → SpoolFile
-made_file slots mark list = record { slots = slots; mark = mark; list = list }
+abbrev made_file : ℕ → List Bool → Cell → List Message → SpoolFile
+made_file slots gates mark list = record { slots = slots; gates = gates; mark = mark; list = list }
+
+-- the same front has the same mark
+same_mark : (bytes image : List ℕ) → front_in image ≡ front_in bytes → cell_in bytes mark_cell ≡ cell_in image mark_cell
+same_mark bytes image same =
+    front_cell mark_cell front_size bytes (omega arith)
+    ∙ ap (λ (f : List ℕ). cell_in f mark_cell) (sym same)
+    ∙ sym (front_cell mark_cell front_size image (omega arith))
 
 -- bytes with the same front and sound slots
-pub stands_now : (bytes image : List ℕ) (slots : ℕ) (list : List Message) → front_in image ≡ front_in bytes → length image ≡ length bytes →
+pub stands_now : (bytes image : List ℕ) (slots : ℕ) (gates : List Bool) (list : List Message) →
+    front_in image ≡ front_in bytes → length image ≡ length bytes →
     front_break (front_in bytes) (length bytes) ≡ None → slots ≡ slots_in bytes → area_break (slot_in image) slots ≡ None →
-    list_below (slot_in image) slots ≡ list → StandsFor image (made_file (slots_in bytes) (mark_of (front_in bytes)) list)
-stands_now bytes image slots list same long front slots_are area is =
+    gates_below (slot_in image) slots ≡ gates → list_below (slot_in image) slots ≡ list →
+    StandsFor image (made_file (slots_in bytes) gates (cell_in bytes mark_cell) list)
+stands_now bytes image slots gates list same long front slots_are area gates_are is =
     let slots_now : slots ≡ slots_in image = slots_are ∙ ap slots_of (sym same) in
     record {
       sound =
@@ -32,8 +45,11 @@ stands_now bytes image slots list same long front slots_are area is =
           (ap (λ (f : List ℕ). front_break f (length image)) same ∙ ap (λ (n : ℕ). front_break (front_in bytes) n) long ∙ front)
           ∙ ap (λ (n : ℕ). area_break (slot_in image) n) (sym slots_now) ∙ area;
       is =
-          ap (λ (f : List ℕ). made_file (slots_of f) (mark_of f) list) (sym same)
-          ∙ ap (λ (l : List Message). made_file (slots_in image) (mark_of (front_in image)) l)
+          ap (λ (f : List ℕ). made_file (slots_of f) gates (cell_in bytes mark_cell) list) (sym same)
+          ∙ ap (λ (c : Cell). made_file (slots_in image) gates c list) (same_mark bytes image same)
+          ∙ ap (λ (g : List Bool). made_file (slots_in image) g (cell_in image mark_cell) list)
+          (sym gates_are ∙ ap (λ (n : ℕ). gates_below (slot_in image) n) slots_now)
+          ∙ ap (λ (l : List Message). made_file (slots_in image) (file_in image).gates (cell_in image mark_cell) l)
           (sym is ∙ ap (λ (n : ℕ). list_below (slot_in image) n) slots_now);
     }
 
@@ -56,6 +72,13 @@ module _ (bytes : List ℕ) (slots first next : ℕ) (sound : spool_break bytes 
 
   pub listed : (file_in bytes).list ≡ list_below old slots
   listed = ap (λ (n : ℕ). list_below old n) (sym slots_are)
+
+  gated : (file_in bytes).gates ≡ gates_below old slots
+  gated = ap (λ (n : ℕ). gates_below old n) (sym slots_are)
+
+  -- the slot of a number
+  slot_is : (number j : ℕ) → number % slots ≡ j → j ≡ number % slots_in bytes
+  slot_is number j place = sym place ∙ ap (λ (n : ℕ). number % n) slots_are
 
   fields : (k : ℕ) → k < slots → slot_break slots k (old k) ≡ None
   fields = (sound_of old slots (subst (λ n. area_break old n ≡ None) (sym slots_are) both.1)).fields
@@ -84,6 +107,26 @@ module _ (bytes : List ℕ) (slots first next : ℕ) (sound : spool_break bytes 
         IsSameAt (slot_stands old) (slot_stands (slot_in image)) (slot_message old) (slot_message (slot_in image)) k
     same_beside k less other = slot_same old (slot_in image) k (beside k less other)
 
+    -- which slots are open
+    open_beside : (k : ℕ) → k < slots → (k ≡ j → ⊥) → is_open (slot_in image k) ≡ is_open (old k)
+    open_beside k less other = ap is_open (beside k less other)
+
+    open_at : is_open (slot_in image j) ≡ is_open (old j) → (k : ℕ) → (k ≡ j) ⊎ (k ≡ j → ⊥) → k < slots →
+        is_open (slot_in image k) ≡ is_open (old k)
+    open_at same k (inl here) less = subst (λ i. is_open (slot_in image i) ≡ is_open (old i)) (sym here) same
+    open_at same k (inr other) less = open_beside k less other
+
+    pub gates_stay : is_open (slot_in image j) ≡ is_open (old j) →
+        gates_below (slot_in image) slots ≡ (file_in bytes).gates
+    gates_stay same = same_gates old (slot_in image) slots (λ k less. open_at same k (cases_eq k j) less) ∙ sym gated
+
+    pub gates_set : (b : Bool) (number : ℕ) → is_open (slot_in image j) ≡ b → number % slots ≡ j →
+        gates_below (slot_in image) slots ≡ set (file_in bytes).gates (number % slots_in bytes) b
+    gates_set b number is place =
+        one_gate old (slot_in image) j b is slots below open_beside
+        ∙ ap (λ (gates : List Bool). set gates j b) (sym gated)
+        ∙ ap (λ (i : ℕ). set (file_in bytes).gates i b) (slot_is number j place)
+
     field_at : (k : ℕ) → (k ≡ j) ⊎ (k ≡ j → ⊥) → k < slots → slot_break slots j (slot_in image j) ≡ None → slot_break slots k (slot_in image k) ≡ None
     field_at k (inl here) less good = subst (λ i. slot_break slots i (slot_in image i) ≡ None) (sym here) good
     field_at k (inr other) less good = ap (λ s. slot_break slots k s) (beside k less other) ∙ fields k less
@@ -94,11 +137,14 @@ module _ (bytes : List ℕ) (slots first next : ℕ) (sound : spool_break bytes 
           IsWhole (slot_in image) slots first' next'
       whole first' next' is = record { fields = λ k less. field_at k (cases_eq k j) less good; kept = is }
 
-      pub stands : (first' next' : ℕ) (list : List Message) → IsKept (slot_stands (slot_in image)) (slot_message (slot_in image)) slots first' next' →
-          list_below (slot_in image) slots ≡ list → StandsFor image (made_file (slots_in bytes) (mark_of (front_in bytes)) list)
-      stands first' next' list is same =
-          stands_now bytes image slots list (front_beside bytes part at within (omega (arith, at_is))) (length-part bytes part at within) both.0 slots_are
-          (kept_sound (slot_in image) slots first' next' (whole first' next' is)) same
+      pub stands : (first' next' : ℕ) (gates : List Bool) (list : List Message) →
+          IsKept (slot_stands (slot_in image)) (slot_message (slot_in image)) slots first' next' →
+          gates_below (slot_in image) slots ≡ gates → list_below (slot_in image) slots ≡ list →
+          StandsFor image (made_file (slots_in bytes) gates (cell_in bytes mark_cell) list)
+      stands first' next' gates list is gates_are same =
+          stands_now bytes image slots gates list (front_beside bytes part at within (omega (arith, at_is)))
+          (length-part bytes part at within) both.0 slots_are
+          (kept_sound (slot_in image) slots first' next' (whole first' next' is)) gates_are same
 
     -- a closed slot that is so still
     module _ (was : is_open (old j) ≡ false) (still : is_open (slot_in image j) ≡ false) where
@@ -114,7 +160,9 @@ module _ (bytes : List ℕ) (slots first next : ℕ) (sound : spool_break bytes 
 
       pub shut_stands : StandsFor image (file_in bytes)
       shut_stands =
-          stands (closed_none slots j (slot_in image j) still) first next (file_in bytes).list shut_kept
+          stands (closed_none slots j (slot_in image j) still) first next (file_in bytes).gates (file_in bytes).list
+          shut_kept
+          (gates_stay (still ∙ sym was))
           (same_list (slot_stands old) (slot_stands (slot_in image)) (slot_message old) (slot_message (slot_in image)) slots first next kept
           (λ k less. same_at k (cases_eq k j) less) ∙ sym listed)
 
@@ -180,7 +228,9 @@ module _ (bytes : List ℕ) (slots first next : ℕ) (sound : spool_break bytes 
 
         pub open_more : StandsFor now (sealed_in j bytes)
         open_more = stands j (slot_place j) 0 (gate ∷ []) at_is below short good_now first (next + width (message_of (slot_in now j)))
-            ((file_in bytes).list ++ message_of (old j) ∷ []) open_kept open_list
+            (sealed_in j bytes).gates (sealed_in j bytes).list open_kept
+            (gates_set j (slot_place j) 0 (gate ∷ []) at_is below short true (old j).head.number (gate_is ∙ opened)
+            (good_is slots j (old j).head good).place) open_list
 
         pub open_chain : IsChainFrom first (next + width (message_of (old j))) (sealed_in j bytes).list
         open_chain =
@@ -206,9 +256,10 @@ module _ (bytes : List ℕ) (slots first next : ℕ) (sound : spool_break bytes 
       pub still_same : (gate == 90) ≡ true → StandsFor now (file_in bytes)
       still_same again =
           stands j (slot_place j) 0 (gate ∷ []) at_is below short (ap (λ s. slot_break slots j s) (same_slot again) ∙ fields j below) first next
-          (file_in bytes).list
+          (file_in bytes).gates (file_in bytes).list
           (same_kept (slot_stands old) (slot_stands (slot_in now)) (slot_message old) (slot_message (slot_in now)) slots first next kept
           (λ k less. all_at again k (cases_eq k j) less))
+          (gates_stay j (slot_place j) 0 (gate ∷ []) at_is below short (ap is_open (same_slot again)))
           (same_list (slot_stands old) (slot_stands (slot_in now)) (slot_message old) (slot_message (slot_in now)) slots first next kept
           (λ k less. all_at again k (cases_eq k j) less) ∙ sym listed)
 
@@ -216,15 +267,26 @@ module _ (bytes : List ℕ) (slots first next : ℕ) (sound : spool_break bytes 
       close_kept shut = closes_kept (slot_stands old) (slot_stands (slot_in now)) (slot_message old) (slot_message (slot_in now)) slots first next kept j below others
           opened (gate_is ∙ shut) number
 
+      with_oldest : (gate == 90) ≡ false → (file_in bytes).list ≡ message_of (old j) ∷ list_below (slot_in now) slots
+      with_oldest shut =
+          listed
+          ∙ closes (slot_stands old) (slot_stands (slot_in now)) (slot_message old) (slot_message (slot_in now)) slots
+          first next kept j below others opened (gate_is ∙ shut) number
+
       close_list : (gate == 90) ≡ false → list_below (slot_in now) slots ≡ drop 1 (file_in bytes).list
-      close_list shut =
-          sym (ap (λ (list : List Message). drop 1 list)
-          (listed ∙ closes (slot_stands old) (slot_stands (slot_in now)) (slot_message old) (slot_message (slot_in now)) slots first next kept j below others
-          opened (gate_is ∙ shut) number))
+      close_list shut = sym (ap (λ (list : List Message). drop 1 list) (with_oldest shut))
+
+      close_gates : (gate == 90) ≡ false → gates_below (slot_in now) slots ≡ (dropped_in bytes).gates
+      close_gates shut =
+          gates_set j (slot_place j) 0 (gate ∷ []) at_is below short false (old j).head.number (gate_is ∙ shut)
+          (kept.places j below opened)
+          ∙ sym (ap (λ (list : List Message). shut_for (slots_in bytes) (take 1 list) (file_in bytes).gates)
+          (with_oldest shut))
 
       pub close_less : (gate == 90) ≡ false → StandsFor now (dropped_in bytes)
       close_less shut = stands j (slot_place j) 0 (gate ∷ []) at_is below short (closed_none slots j (slot_in now j) (gate_is ∙ shut))
-          (first + width (message_of (old j))) next (drop 1 (file_in bytes).list) (close_kept shut) (close_list shut)
+          (first + width (message_of (old j))) next (dropped_in bytes).gates (dropped_in bytes).list (close_kept shut)
+          (close_gates shut) (close_list shut)
 
       pub close_chain : (gate == 90) ≡ false → IsChainFrom (first + width (message_of (old j))) next (dropped_in bytes).list
       close_chain shut = subst (IsChainFrom (first + width (message_of (old j))) next) (close_list shut) (close_kept shut).chain

@@ -1,19 +1,17 @@
 -- The value by how far its change comes: what a crash leaves, which calls are listed, and what a fault has left.
 
-use Rattle.std.proofs.Common.{ℕ, ◌<◌, inl, inr, ⊎_elim, subst, arith}
+use Rattle.std.proofs.Common.{◌<◌, inl, inr, ⊎_elim, arith}
 use Rattle.disk_base.specs.Faults.{DiskHealth, HasCause, IsPlanned}
 use Rattle.disk_base.specs.declared.disk.DiskAnswer.TheVariants.{Done, Failed}
 use Rattle.disk_base.proofs.Listings.{listed_behind}
 use Rattle.disk_base.proofs.Stretches.{crowded_behind, crowded_wider, fault_behind, fault_wider, lists_on, used_behind}
-use Rattle.gate_cell.specs.Ready.{Commits}
 use Rattle.spool_slots.specs.Losses.{IsSure}
-use Rattle.spool_slots.proofs.Gates.{commit_turns_gate, prepare_keeps_gate}
 use Rattle.spool_slots.proofs.CellWrites.{commit_images, either_of, gate_calls, has_value, preparing_wider}
 use Rattle.spool_slots.proofs.LostCells.{lost_late}
 use Rattle.spool_slots.proofs.cells.write_cell.Goals as goal
 
 pub returns-in-Err-clause-images : goal.returns-in-Err-clause-images
-returns-in-Err-clause-images g c = λ s told. either_of s c.args.at _ _ c.args.value (c.in-Err.ensures.told s told).images
+returns-in-Err-clause-images g c = λ s told. either_of s c.args.at _ _ _ (c.in-Err.ensures.told s told).images
 
 pub returns-in-Err-clause-calls : goal.returns-in-Err-clause-calls
 returns-in-Err-clause-calls g c = λ s told.
@@ -34,15 +32,6 @@ returns-in-Ok-commit-clause-value g c = λ s told.
     let p = c.in-Ok.ensures.told s told in
     has_value s p.images.0 c.args.at c.args.value _ _ c.in-Ok.ensures.value.0 p.images.1 p c.in-Ok.ensures.value.1 _ _
     (c.in-Ok-commit.ensures.told p.images.0 p.images.1) (c.in-Ok-commit.ensures.value p.images.0 p.images.1)
-
-pub returns-in-Ok-commit-clause-turns : goal.returns-in-Ok-commit-clause-turns
-returns-in-Ok-commit-clause-turns g c = λ s told.
-    let p = c.in-Ok.ensures.told s told in
-    let w = c.in-Ok.prepared in
-    let commit = c.in-Ok-commit.ensures.told p.images.0 p.images.1 in
-    let spare = w.spare p.images.0 p.images.1 in
-    commit_turns_gate c.args.at s p.images.0 w.second _ (c.in-Ok.ensures.second s told) (omega (arith, spare.within, c.in-Ok.ensures.value.0))
-    (subst (λ (n : ℕ). Commits p.images.0 n w.second (g.D.Disk.told c.in-Ok-commit.disk) Done) c.in-Ok.ensures.value.0 commit)
 
 pub returns-in-Ok-commit-clause-calls : goal.returns-in-Ok-commit-clause-calls
 returns-in-Ok-commit-clause-calls g c = λ s told. record {
@@ -89,9 +78,7 @@ planned_of h k sure cause =
 pub returns-in-Err-clause-loss : goal.returns-in-Err-clause-loss
 returns-in-Err-clause-loss g c = λ s told sure. record {
   early = λ planned. (c.in-Err.ensures.told s told).images;
-  early_gate = λ planned. prepare_keeps_gate c.args.at s c.args.value _ Failed (c.requires.settled s told) (c.in-Err.ensures.told s told);
   late = λ none. absurd (none (planned_of _ _ sure c.in-Err.ensures.cause));
-  late_gate = λ none. absurd (none (planned_of _ _ sure c.in-Err.ensures.cause));
 }
 
 pub returns-in-Err-commit-clause-loss : goal.returns-in-Err-commit-clause-loss
@@ -106,7 +93,5 @@ returns-in-Err-commit-clause-loss g c = λ s told sure.
     c.in-Err-commit.ensures.listed in
     record {
       early = λ planned. absurd (c.in-Ok.ensures.cause.unplanned planned);
-      early_gate = λ planned. absurd (c.in-Ok.ensures.cause.unplanned planned);
-      late = λ none. lost.0;
-      late_gate = λ none. lost.1;
+      late = λ none. lost;
     }

@@ -9,7 +9,7 @@ use Rattle.disk_base.proofs.Stretches.{fault_behind, fault_wider, used_behind}
 use Rattle.spool_slots.specs.Added.{WritesOrSyncs}
 use Rattle.spool_slots.specs.Format.{first_page}
 use Rattle.spool_slots.proofs.Added.{adds_behind, adds_done, adds_failed}
-use Rattle.spool_slots.proofs.Fresh.{first_counts, page_long, stands_empty}
+use Rattle.spool_slots.proofs.Fresh.{page_long, stands_empty}
 use Rattle.spool_slots.proofs.format.write_empty.Goals as goal
 
 pub returns-in-Done-sync-clause-told : goal.returns-in-Done-sync-clause-told
@@ -17,14 +17,6 @@ returns-in-Done-sync-clause-told g c =
     let bytes : c.deref.result.now ≡ first_page c.args.slots = c.deref.ensures.0 ∙ c.first_page.ensures in
     stands_empty (g.D.Disk.told c.args.disk.now) _ _ _ c.args.slots (g.D.Disk.size_is c.args.disk.now)
     (λ s is. g.met.D.Disk.sized c.args.disk.now s is) c.requires.some c.requires.most c.requires.size
-    (c.in-Done.ensures.told ∙ ap (λ (b : List ℕ). option_map (with_write 0 b) (g.D.Disk.told c.args.disk.now)) bytes)
-    c.in-Done-close_slots.ensures.told c.in-Done-sync.ensures.told
-
-pub returns-in-Done-sync-clause-gate : goal.returns-in-Done-sync-clause-gate
-returns-in-Done-sync-clause-gate g c =
-    let bytes : c.deref.result.now ≡ first_page c.args.slots = c.deref.ensures.0 ∙ c.first_page.ensures in
-    first_counts (g.D.Disk.told c.args.disk.now) _ _ _ c.args.slots (g.D.Disk.size_is c.args.disk.now)
-    (λ s is. g.met.D.Disk.sized c.args.disk.now s is) c.requires.some c.requires.size
     (c.in-Done.ensures.told ∙ ap (λ (b : List ℕ). option_map (with_write 0 b) (g.D.Disk.told c.args.disk.now)) bytes)
     c.in-Done-close_slots.ensures.told c.in-Done-sync.ensures.told
 

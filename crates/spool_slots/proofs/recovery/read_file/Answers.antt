@@ -1,12 +1,13 @@
 -- Front and slots make the file's list, and the reads are counted by where it ends.
 
-use Rattle.std.proofs.Common.{arith, ◌≡◌, ℕ, ◌*◌, ◌+◌, ◌/◌, ◌∙◌, ap, subst}
+use Rattle.std.proofs.Common.{arith, ◌≡◌, ℕ, ◌*◌, ◌+◌, ◌/◌, ◌∙◌, ap, subst, sym}
 use Rattle.disk_base.specs.declared.disk.DiskAnswer.TheVariants.{Done, Failed}
 use Rattle.spool_slots.specs.Area.{first_of}
 use Rattle.spool_slots.specs.File.{end_of, list_below, slots_in}
 use Rattle.spool_slots.specs.Reading.{IsScan}
 use Rattle.spool_slots.specs.Slot.{slot_in}
 use Rattle.spool_slots.proofs.Gapless.{spool_sound}
+use Rattle.spool_slots.proofs.Marks.{mark_is}
 use Rattle.spool_slots.proofs.Stretches.{read_behind, read_wider, slots_fit}
 use Rattle.spool_slots.proofs.recovery.read_file.Goals as goal
 
@@ -17,8 +18,14 @@ returns-in-Whole-read_slots-clause-file g c s is =
     let scan = subst (λ n. IsScan c.in-Whole-read_slots.scan (list_below (slot_in s.now.bytes) n)) front.1 area.1 in
     let list = list_below (slot_in s.now.bytes) (slots_in s.now.bytes) in
     let next : c.in-Whole-read_slots.scan.least + c.in-Whole-read_slots.scan.count ≡ end_of list =
-    ap (λ (n : ℕ). n + c.in-Whole-read_slots.scan.count) scan.least ∙ ap (λ (n : ℕ). first_of list + n) scan.count in
-    (spool_sound s.now.bytes c.in-Whole.front.slots front.0 front.1 area.0, front.1, front.2, scan.least, next, scan.count)
+    ap (λ (n : ℕ). n + c.in-Whole-read_slots.scan.count) scan.least ∙ ap (λ (n : ℕ). first_of list + n) scan.count in (
+      spool_sound s.now.bytes c.in-Whole.front.slots front.0 front.1 area.0,
+      front.1,
+      front.2 ∙ sym (mark_is s.now.bytes),
+      scan.least,
+      next,
+      scan.count,
+    )
 
 pub returns-in-Whole-read_slots-clause-reads : goal.returns-in-Whole-read_slots-clause-reads
 returns-in-Whole-read_slots-clause-reads g c =

@@ -30,5 +30,4 @@ returns-in-Done g c =
       },
       refl,
       c.in-Done.ensures.told,
-      c.in-Done.ensures.gate,
     )
