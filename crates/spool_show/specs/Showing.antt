@@ -1,5 +1,5 @@
 -- What showing a spool file comes to (this profile).
-use Rattle.std.specs.Prelude.{◌≡◌, ◌⊎◌, ℕ, ◌+◌, ◌≤◌, List, [], ◌++◌, take, drop, Option, Some, None}
+use Rattle.std.specs.Prelude.{◌≡◌, ◌⊎◌, ℕ, ◌≤◌, List, [], ◌++◌, take, drop, Option, Some, None}
 use Rattle.std.specs.Option.{option_map}
 use Rattle.disk_base.specs.Faults.{Rose}
 use Rattle.disk_base.specs.SameDisk.{IsSameDisk}
