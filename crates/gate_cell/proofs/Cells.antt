@@ -127,14 +127,17 @@ module _ (cell part : List ℕ) (long : length cell ≡ 17) where
     written = with_part cell (copy_place (other_copy cell)) part
 
     pub same_gate : gate_of written ≡ gate_of cell
-    same_gate = gate_kept cell part (copy_place (other_copy cell)) long (omega (arith, eight, copy_ends (other_copy cell)))
+    same_gate =
+        gate_kept cell part (copy_place (other_copy cell)) long (omega (arith, eight, copy_ends (other_copy cell)))
 
     pub cell_kept : cell_of written ≡ cell_of cell
     cell_kept = ap (λ (gate : ℕ). counting written (names_second gate)) same_gate
         ∙ ap (with_number (names_second (gate_of cell))) (copy_kept cell part (names_second (gate_of cell)) long eight)
 
     pub spare_there : (spare_of written).value ≡ from_be_bytes w64 part
-    spare_there = ap (λ (gate : ℕ). copy_of written (not (names_second gate))) same_gate ∙ copy_there cell part (other_copy cell) long eight
+    spare_there =
+        ap (λ (gate : ℕ). copy_of written (not (names_second gate))) same_gate
+        ∙ copy_there cell part (other_copy cell) long eight
 
   -- after the gate was written
   module _ (one : length part ≡ 1) where
@@ -144,12 +147,16 @@ module _ (cell part : List ℕ) (long : length cell ≡ 17) where
     either_copy f true false = inr refl
     either_copy f true true = inl refl
 
-    named : cell_of (with_part cell 16 part) ≡ counting cell (names_second (gate_of (with_part cell 16 part)))
-    named = ap (with_number (names_second (gate_of (with_part cell 16 part)))) (both_kept cell part (names_second (gate_of (with_part cell 16 part))) long one)
+    abbrev copy_now : Bool
+    copy_now = names_second (gate_of (with_part cell 16 part))
 
-    pub either_cell : (cell_of (with_part cell 16 part) ≡ cell_of cell) ⊎ (cell_of (with_part cell 16 part) ≡ spare_of cell)
+    named : cell_of (with_part cell 16 part) ≡ counting cell copy_now
+    named = ap (with_number copy_now) (both_kept cell part copy_now long one)
+
+    pub either_cell :
+        (cell_of (with_part cell 16 part) ≡ cell_of cell) ⊎ (cell_of (with_part cell 16 part) ≡ spare_of cell)
     either_cell = ⊎_elim (λ same. inl (named ∙ same)) (λ other. inr (named ∙ other))
-        (either_copy (counting cell) (names_second (gate_of (with_part cell 16 part))) (names_second (gate_of cell)))
+        (either_copy (counting cell) copy_now (names_second (gate_of cell)))
 
 pub length-copy_bytes : (value : ℕ) → length (copy_bytes value) ≡ 8
 unfolding copy_bytes

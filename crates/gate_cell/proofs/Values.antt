@@ -17,7 +17,8 @@ use Rattle.gate_cell.specs.Ready.{Commits, HasSpare, IsCell, IsCommitted, IsRead
 use Rattle.gate_cell.proofs.Cells.{cell_kept, copy_ends, either_cell, gate_counts, gate_read, length-bytes_at, length-copy_bytes, other_copy, part_among, same_gate, spare_ready}
 
 -- what a read gives is the value now, and every crash leaves the cell where it is settled
-pub is_read : (s : Story) (at value : ℕ) → at + 17 ≤ length s.now.bytes → value ≡ (cell_in s.now.bytes at).value → IsRead s at value
+pub is_read : (s : Story) (at value : ℕ) → at + 17 ≤ length s.now.bytes → value ≡ (cell_in s.now.bytes at).value →
+    IsRead s at value
 is_read s at value within is = record {
   now = is;
   always = λ settled image left. record {
@@ -25,6 +26,10 @@ is_read s at value within is = record {
     held = ap cell_of (part_stays s.now image at 17 settled within left);
   };
 }
+
+-- a value written over the copy that doesn't count, and synced
+abbrev with_spare : Story → ℕ → ℕ → Story
+with_spare s at value = with_sync (with_write (spare_place at (cell_in s.now.bytes at)) (copy_bytes value) s)
 
 -- a disk that tells now told before
 pub told_before : (before : Option Story) (f : Story → Story) (after : Option Story) (t : Story) → after ≡ option_map f before → after ≡ Some t →
@@ -43,16 +48,19 @@ module _ (s : Story) (at : ℕ) (cell : IsCell s at) where
   abbrev there : List ℕ
   there = bytes_at s.now.bytes at 17
 
+  abbrev spare_from : ℕ
+  spare_from = copy_place (not (cell_in s.now.bytes at).second)
+
   long : length there ≡ 17
   long = length-bytes_at s.now.bytes at 17 cell.within
 
-  prepare_image : (image : List ℕ) → IsImageBut s.now (spare_place at (cell_in s.now.bytes at)) 8 image → Holds s.now at (cell_in s.now.bytes at) image
+  prepare_image : (image : List ℕ) → IsImageBut s.now (at + spare_from) 8 image →
+      Holds s.now at (cell_in s.now.bytes at) image
   prepare_image image is =
-      let place = copy_place (not (cell_in s.now.bytes at).second) in
       let ends = copy_ends (not (cell_in s.now.bytes at).second) in
-      let over = over_among s.now image at 17 place 8 cell.settled cell.within (omega (arith, ends)) is in
+      let over = over_among s.now image at 17 spare_from 8 cell.settled cell.within (omega (arith, ends)) is in
       record {
-        others = but_wider s.now image at place 8 17 (omega (arith, ends)) is;
+        others = but_wider s.now image at spare_from 8 17 (omega (arith, ends)) is;
         held = ap cell_of over.2 ∙ cell_kept there over.0 long over.1;
       }
 
@@ -67,37 +75,43 @@ module _ (s : Story) (at : ℕ) (cell : IsCell s at) where
       }
 
   pub prepares : (value : ℕ) (after : Option Story) (answer : DiskAnswer) →
-      Settles (Some s) (spare_place at (cell_in s.now.bytes at)) (copy_bytes value) after answer → Prepares s at value after answer
+      Settles (Some s) (at + spare_from) (copy_bytes value) after answer → Prepares s at value after answer
   prepares value after answer is =
       let ends = copy_ends (not (cell_in s.now.bytes at).second) in
       let eight = length-copy_bytes value in
-      let goes = settle_others s (spare_place at (cell_in s.now.bytes at)) (copy_bytes value) after answer (omega (arith, cell.within, ends, eight)) is in
+      let within : at + spare_from + length (copy_bytes value) ≤ length s.now.bytes =
+      omega (arith, cell.within, ends, eight) in
+      let goes = settle_others s (at + spare_from) (copy_bytes value) after answer within is in
       record {
         settles = is;
         images = (
           goes.0,
           goes.1,
           through_more s goes.0 _ _ (λ image left. prepare_image image
-              (subst (λ (n : ℕ). IsImageBut s.now (spare_place at (cell_in s.now.bytes at)) n image) eight left)) goes.2,
+              (subst (λ (n : ℕ). IsImageBut s.now (at + spare_from) n image) eight left)) goes.2,
         );
       }
 
   pub ready : (value : ℕ) (t : Story) → value < 2 ^ 64 →
-      t ≡ with_sync (with_write (spare_place at (cell_in s.now.bytes at)) (copy_bytes value) s) → (spare_in t.now.bytes at).value ≡ value
+      t ≡ with_spare s at value → (spare_in t.now.bytes at).value ≡ value
   ready value t below is =
       let ends = copy_ends (not (cell_in s.now.bytes at).second) in
       ap (λ (t : Story). (spare_in t.now.bytes at).value) is
-      ∙ ap (λ (bytes : List ℕ). (spare_of bytes).value) (part_among s.now.bytes (copy_bytes value) at 17 (copy_place (not (cell_in s.now.bytes at).second)) cell.within (omega (arith, ends, length-copy_bytes value)))
+      ∙ ap (λ (bytes : List ℕ). (spare_of bytes).value)
+      (part_among s.now.bytes (copy_bytes value) at 17 spare_from cell.within
+      (omega (arith, ends, length-copy_bytes value)))
       ∙ spare_ready there value long below
 
-  pub has_spare : (value : ℕ) → HasSpare (with_sync (with_write (spare_place at (cell_in s.now.bytes at)) (copy_bytes value) s)) at (not (cell_in s.now.bytes at).second)
+  pub has_spare : (value : ℕ) → HasSpare (with_spare s at value) at (not (cell_in s.now.bytes at).second)
   has_spare value =
       let ends = copy_ends (not (cell_in s.now.bytes at).second) in
       let bytes = copy_bytes value in
-      let among = part_among s.now.bytes bytes at 17 (copy_place (not (cell_in s.now.bytes at).second)) cell.within (omega (arith, ends, length-copy_bytes value)) in
-      let same = ap gate_of among ∙ same_gate there bytes long (length-copy_bytes value) in
+      let eight = length-copy_bytes value in
+      let within : at + spare_from + length bytes ≤ length s.now.bytes = omega (arith, cell.within, ends, eight) in
+      let among = part_among s.now.bytes bytes at 17 spare_from cell.within (omega (arith, ends, eight)) in
+      let same = ap gate_of among ∙ same_gate there bytes long eight in
       record {
-        within = omega (arith, cell.within, length-part s.now.bytes bytes (spare_place at (cell_in s.now.bytes at)) (omega (arith, cell.within, ends, length-copy_bytes value)));
+        within = omega (arith, cell.within, length-part s.now.bytes bytes (at + spare_from) within);
         settled = λ place least below. refl;
         spare = sym (ap (λ (gate : ℕ). not (names_second gate)) same);
       }
@@ -112,9 +126,11 @@ module _ (s : Story) (at : ℕ) (cell : IsCell s at) where
       }
 
   committed : (second : Bool) (image : List ℕ) → second ≡ other_copy there →
-      IsImage (with_sync (with_write (at + 16) (gate_byte second ∷ []) s)).now image → cell_in image at ≡ spare_in s.now.bytes at
+      IsImage (with_sync (with_write (at + 16) (gate_byte second ∷ []) s)).now image →
+      cell_in image at ≡ spare_in s.now.bytes at
   committed second image spare left =
-      ap (λ (bytes : List ℕ). cell_in bytes at) (only_now (with_sync (with_write (at + 16) (gate_byte second ∷ []) s)).now image refl left)
+      ap (λ (bytes : List ℕ). cell_in bytes at)
+      (only_now (with_sync (with_write (at + 16) (gate_byte second ∷ []) s)).now image refl left)
       ∙ ap cell_of (part_among s.now.bytes (gate_byte second ∷ []) at 17 16 cell.within (omega arith))
       ∙ gate_counts there second long spare
 
@@ -153,10 +169,11 @@ settles_gate before after s at place byte second answer told there is settles =
 
 -- what the disk tells once a value is prepared
 pub prepared_is : (s : Story) (at : ℕ) → IsCell s at → (value : ℕ) (after : Option Story) (t : Story) (second : Bool) →
-    second ≡ not (cell_in s.now.bytes at).second → value < 2 ^ 64 → Settles (Some s) (spare_place at (cell_in s.now.bytes at)) (copy_bytes value) after Done →
+    second ≡ not (cell_in s.now.bytes at).second → value < 2 ^ 64 →
+    Settles (Some s) (spare_place at (cell_in s.now.bytes at)) (copy_bytes value) after Done →
     after ≡ Some t → HasSpare t at second × ((spare_in t.now.bytes at).value ≡ value)
 prepared_is s at cell value after t second second_is below settles told =
-    let done = with_sync (with_write (spare_place at (cell_in s.now.bytes at)) (copy_bytes value) s) in
+    let done = with_spare s at value in
     let same : done ≡ t = same_story t after done settles told in (
       subst (λ (u : Story). HasSpare u at second) same (subst (λ (b : Bool). HasSpare done at b) (sym second_is) (has_spare s at cell value)),
       ready s at cell value t below (sym same),
@@ -184,9 +201,11 @@ module _ (before mid after : Option Story) (s : Story) (at value place : ℕ) (b
       (subst (λ (n : ℕ). Settles (Some s) n bytes after answer) there
       (subst (λ (o : Option Story). Settles o place bytes after answer) (same ∙ told) settles))
 
-module _ (s : Story) (at value place : ℕ) (bytes : List ℕ) (there : place ≡ spare_place at (cell_in s.now.bytes at)) (is : bytes ≡ copy_bytes value) where
+module _ (s : Story) (at value place : ℕ) (bytes : List ℕ) (there : place ≡ spare_place at (cell_in s.now.bytes at))
+    (is : bytes ≡ copy_bytes value) where
   pub logs_spare : (C E : Type 0) → (C → E) → (before mid after : Option (List DiskCall)) (answer : DiskAnswer) → mid ≡ before →
-      LogsBoth place bytes C mid after answer → LogsBoth (spare_place at (cell_in s.now.bytes at)) (copy_bytes value) E before after answer
+      LogsBoth place bytes C mid after answer →
+      LogsBoth (spare_place at (cell_in s.now.bytes at)) (copy_bytes value) E before after answer
   logs_spare C E more before mid after answer same logs =
       subst (λ (b : List ℕ). LogsBoth (spare_place at (cell_in s.now.bytes at)) b E before after answer) is
       (subst (λ (n : ℕ). LogsBoth n bytes E before after answer) there
@@ -194,8 +213,8 @@ module _ (s : Story) (at value place : ℕ) (bytes : List ℕ) (there : place �
 
 -- a value prepared and then committed: at every moment a crash leaves the cell as it was, or with the new value
 module _ (s t : Story) (at value : ℕ) (prepared : Prepares s at value (Some t) Done) (is_ready : IsReady at value (Some t)) where
-  t_is : t ≡ with_sync (with_write (spare_place at (cell_in s.now.bytes at)) (copy_bytes value) s)
-  t_is = same_story (with_sync (with_write (spare_place at (cell_in s.now.bytes at)) (copy_bytes value) s)) (Some t) t refl prepared.settles
+  t_is : t ≡ with_spare s at value
+  t_is = same_story (with_spare s at value) (Some t) t refl prepared.settles
 
   here : Through s t (Holds s.now at (cell_in s.now.bytes at))
   here = subst (λ (u : Story). Through s u (Holds s.now at (cell_in s.now.bytes at)))
@@ -241,7 +260,8 @@ module _ (s t : Story) (at value : ℕ) (prepared : Prepares s at value (Some t)
             (through_more t u _ _ either_behind commit.images.2),
       )
 
-  pub committed_behind : (after : Option Story) → IsCommitted t at after → (u : Story) → after ≡ Some u → EachImage (Holds s.now at (with_value value (cell_in s.now.bytes at))) u.now
+  pub committed_behind : (after : Option Story) → IsCommitted t at after → (u : Story) → after ≡ Some u →
+      EachImage (Holds s.now at (with_value value (cell_in s.now.bytes at))) u.now
   committed_behind after is u told image left =
       let holds = is u told image left in
       record { others = others_behind image holds.others; held = holds.held ∙ spare_now }

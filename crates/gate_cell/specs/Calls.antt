@@ -26,8 +26,8 @@ ReadsCell s at cell.Failed = Unit {0}
 abbrev pub LogsPreparing : Story → ℕ → ℕ → Type 0 → Option (List DiskCall) → Option (List DiskCall) → DiskAnswer →
     Type 0
 LogsPreparing s at value Crowded before after Done =
-    LogsBoth (spare_place at (cell_in s.now.bytes at)) (copy_bytes value) Crowded (with_call (read_call (at + 16) 1 Done) before)
-    after Done
+    LogsBoth (spare_place at (cell_in s.now.bytes at)) (copy_bytes value) Crowded
+    (with_call (read_call (at + 16) 1 Done) before) after Done
 LogsPreparing s at value Crowded before after Failed =
     Logs (read_call (at + 16) 1) Crowded before after Failed
     ⊎ LogsBoth (spare_place at (cell_in s.now.bytes at)) (copy_bytes value) Crowded

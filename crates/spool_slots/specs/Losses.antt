@@ -41,8 +41,8 @@ abbrev pub cell_left : Bool → Cell → Cell → Cell
 cell_left true new old = new
 cell_left false new old = old
 
--- of the write of the cell's gate that the disk stopped at, or at its sync, a crash leaves the new value in its copy, or
--- the cell as it was
+-- of the write of the cell's gate that the disk stopped at, or at its sync, a crash leaves the new value in its copy,
+-- or the cell as it was
 abbrev pub LeavesValue : Story → ℕ → ℕ → Option Story → Type 0
 LeavesValue s at value after =
     (t : Story) → after ≡ Some t → (choice : CutChoice) →
