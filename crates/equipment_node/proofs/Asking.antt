@@ -6,13 +6,12 @@ use Rattle.std.specs.Prelude.{Result, Ok, Err}
 use Rattle.disk_base.specs.Faults.{DiskFault, DiskHealth, IsPlanned, IsUsed}
 use Rattle.disk_base.specs.declared.disk.Disk as disk
 use Rattle.disk_base.specs.declared.disk.DiskAnswer.TheVariants.{Done, Failed}
-use Rattle.gem_spool.specs.declared.count.Count.{Count}
 use Rattle.gem_spool.specs.declared.spool.GemSpool.{GemSpool}
 use Rattle.gem_spool.specs.declared.works.Work.{Work}
 use Rattle.gem_spool.specs.Spool.{ReservesFrom}
 use Rattle.gem_spool.specs.Standing.{Standing, count_in, count_of}
 use Rattle.gem_spool.specs.Works as spool
-use Rattle.gem_spool.specs.Works.{HasCarried, HasUndone, count_after, next_after, reserved as marked, standing_after, standings_after}
+use Rattle.gem_spool.specs.Works.{HasCarried, HasUndone, reserved as marked, standing_after, standings_after}
 use Rattle.spool_slots.specs.Changes.{HasLooked, Reserves}
 use Rattle.spool_slots.specs.Spool.{SpoolView}
 use Rattle.spool_slots.specs.declared.states.Reserving.TheVariants as reserving
@@ -39,7 +38,7 @@ use Rattle.tool_step.specs.Equipment.{EquipmentView, begun_step, needs_numbers, 
 use Rattle.tool_step.specs.Own.{OwnView, ToolPart}
 use Rattle.equipment_node.specs.Stepping.{IsClear}
 use Rattle.equipment_node.proofs.Opened.{mark-failed}
-use Rattle.equipment_node.proofs.OnDisk.{is_reserving, opened-standing, same-len}
+use Rattle.equipment_node.proofs.OnDisk.{is_reserving, opened-standing}
 use Rattle.equipment_node.proofs.OverDisk.{takes-settled}
 
 -- ---- counts
@@ -170,99 +169,83 @@ asked-both st xs ys =
     ap (λ (n : ℕ). made-asked n (all_bytes st (xs ++ ys))) (calls-both st xs ys)
     ∙ ap (λ (n : ℕ). made-asked (all_calls st xs + all_calls (standings_behind st xs) ys) n) (bytes-both st xs ys)
 
-count-step : (st : Standing) (one : Work) → count_in (standing_after st one) ≡ count_after (count_in st) one
-count-step st one =
-    ap (λ (n : ℕ). made-count st.slots (next_after st.next one) n) (sym (same-len st.next st.list one))
-  where
-    made-count : ℕ → ℕ → ℕ → Count
-    made-count slots next len = record { slots = slots; next = next; len = len }
-
 pub changes-stand :
     (st : Standing) (works : List Work) → standings_behind st (map Change works) ≡ standings_after st works
 changes-stand st [] = refl
 changes-stand st (one ∷ works) = changes-stand (standing_after st one) works
 
-pub calls-change :
-    (st : Standing) (works : List Work) → spool.all_calls (count_in st) works ≡ all_calls st (map Change works)
+pub calls-change : (st : Standing) (works : List Work) → spool.all_calls st works ≡ all_calls st (map Change works)
 calls-change st [] = refl
 calls-change st (one ∷ works) =
-    ap (λ (n : ℕ). spool.calls_of (count_in st) one + n)
-    (ap (λ (c : Count). spool.all_calls c works) (sym (count-step st one)) ∙ calls-change (standing_after st one) works)
+    ap (λ (n : ℕ). spool.calls_of st one + n) (calls-change (standing_after st one) works)
 
-bytes-change :
-    (st : Standing) (works : List Work) → spool.all_bytes (count_in st) works ≡ all_bytes st (map Change works)
+pub bytes-change : (st : Standing) (works : List Work) → spool.all_bytes st works ≡ all_bytes st (map Change works)
 bytes-change st [] = refl
 bytes-change st (one ∷ works) =
-    ap (λ (n : ℕ). spool.bytes_of (count_in st) one + n)
-    (ap (λ (c : Count). spool.all_bytes c works) (sym (count-step st one)) ∙ bytes-change (standing_after st one) works)
+    ap (λ (n : ℕ). spool.bytes_of st one + n) (bytes-change (standing_after st one) works)
 
 -- some first ones ask for no more than all
 calls-within :
-    (c : Count) (works : List Work) (at : ℕ) (one : Work) → slice_get works at ≡ Some one
-    → spool.all_calls c (take at works ++ one ∷ []) ≤ spool.all_calls c works
-calls-within c [] at one is = absurd (cc)
-calls-within c (first ∷ works) zero one is =
-    subst (λ (w : Work). spool.all_calls c (w ∷ []) ≤ spool.all_calls c (first ∷ works)) (first-is is)
+    (st : Standing) (works : List Work) (at : ℕ) (one : Work) → slice_get works at ≡ Some one
+    → spool.all_calls st (take at works ++ one ∷ []) ≤ spool.all_calls st works
+calls-within st [] at one is = absurd (cc)
+calls-within st (first ∷ works) zero one is =
+    subst (λ (w : Work). spool.all_calls st (w ∷ []) ≤ spool.all_calls st (first ∷ works)) (first-is is)
     (omega arith)
   where
     first-is : Some first ≡ Some one → first ≡ one
     first-is same = cc
-calls-within c (first ∷ works) (suc at) one is =
-    let more = calls-within (count_after c first) works at one is in omega (arith, more)
+calls-within st (first ∷ works) (suc at) one is =
+    let more = calls-within (standing_after st first) works at one is in omega (arith, more)
 
 bytes-within :
-    (c : Count) (works : List Work) (at : ℕ) (one : Work) → slice_get works at ≡ Some one
-    → spool.all_bytes c (take at works ++ one ∷ []) ≤ spool.all_bytes c works
-bytes-within c [] at one is = absurd (cc)
-bytes-within c (first ∷ works) zero one is =
-    subst (λ (w : Work). spool.all_bytes c (w ∷ []) ≤ spool.all_bytes c (first ∷ works)) (first-is is)
+    (st : Standing) (works : List Work) (at : ℕ) (one : Work) → slice_get works at ≡ Some one
+    → spool.all_bytes st (take at works ++ one ∷ []) ≤ spool.all_bytes st works
+bytes-within st [] at one is = absurd (cc)
+bytes-within st (first ∷ works) zero one is =
+    subst (λ (w : Work). spool.all_bytes st (w ∷ []) ≤ spool.all_bytes st (first ∷ works)) (first-is is)
     (omega arith)
   where
     first-is : Some first ≡ Some one → first ≡ one
     first-is same = cc
-bytes-within c (first ∷ works) (suc at) one is =
-    let more = bytes-within (count_after c first) works at one is in omega (arith, more)
+bytes-within st (first ∷ works) (suc at) one is =
+    let more = bytes-within (standing_after st first) works at one is in omega (arith, more)
 
 module _ {D : Type 0} (members : disk.Ghosts D) (g : GemSpool D) (works : List Work) (st : Standing)
     (count : count_of g.spool ≡ count_in st)
   where
-    asked-is :
-        made-asked (spool.all_calls (count_of g.spool) works) (spool.all_bytes (count_of g.spool) works)
-        ≡ asked_for st (map Change works)
-    asked-is =
-        ap (λ (c : Count). made-asked (spool.all_calls c works) (spool.all_bytes c works)) count
-        ∙ ap (λ (n : ℕ). made-asked n (spool.all_bytes (count_in st) works)) (calls-change st works)
-        ∙ ap (λ (n : ℕ). made-asked (all_calls st (map Change works)) n) (bytes-change st works)
-
     pub carried-asked :
         (h : GemSpool D) → HasCarried members g works h
         → HasSpared (members.health g.spool.disk) (members.health h.spool.disk) (asked_for st (map Change works))
     carried-asked h carried =
+        let on = carried.goes_on in
         subst
         (λ (x : Asked). HasSpared (members.health g.spool.disk) (members.health h.spool.disk) x)
-        asked-is
-        (spared-used (members.health g.spool.disk) (members.health h.spool.disk) _ _ carried.goes_on.cause)
+        (asked-is on.made on.wrote (on.are st count))
+        (spared-used (members.health g.spool.disk) (members.health h.spool.disk) on.made on.wrote on.cause)
+      where
+        asked-is :
+            (calls bytes : ℕ) → (calls ≡ spool.all_calls st works) × (bytes ≡ spool.all_bytes st works)
+            → made-asked calls bytes ≡ asked_for st (map Change works)
+        asked-is calls bytes are =
+            ap (λ (n : ℕ). made-asked n bytes) (are.0 ∙ calls-change st works)
+            ∙ ap (λ (n : ℕ). made-asked (all_calls st (map Change works)) n) (are.1 ∙ bytes-change st works)
 
     pub undone-asked :
         (at : ℕ) (spent : Device D) → HasUndone members g works (record { at = at; spent = spent })
         → HasFallen (members.health g.spool.disk) (asked_for st (map Change works))
     undone-asked at spent undone =
-        subst (λ (x : Asked). HasFallen (members.health g.spool.disk) x) asked-is
-        (fallen-wider (members.health g.spool.disk)
-        (record {
-          calls = spool.all_calls (count_of g.spool) (take at works ++ undone.failed ∷ []);
-          bytes = spool.all_bytes (count_of g.spool) (take at works ++ undone.failed ∷ []);
-        })
-        (record {
-          calls = spool.all_calls (count_of g.spool) works;
-          bytes = spool.all_bytes (count_of g.spool) works;
-        })
-        (calls-within (count_of g.spool) works at undone.failed undone.is)
-        (bytes-within (count_of g.spool) works at undone.failed undone.is)
-        (fallen-fault (members.health g.spool.disk) (members.health spent.disk)
-        (spool.all_calls (count_of g.spool) (take at works ++ undone.failed ∷ []))
-        (spool.all_bytes (count_of g.spool) (take at works ++ undone.failed ∷ [])) _ (λ lacking. lacking)
-        undone.goes_on.cause))
+        let on = undone.goes_on in
+        let calls = (on.are st count).0 in
+        let bytes = (on.are st count).1 in
+        let few = calls-within st works at undone.failed undone.is in
+        let short = bytes-within st works at undone.failed undone.is in
+        let all = calls-change st works in
+        let whole = bytes-change st works in
+        fallen-wider (members.health g.spool.disk) (record { calls = on.made; bytes = on.wrote })
+        (asked_for st (map Change works)) (omega (arith, calls, few, all)) (omega (arith, bytes, short, whole))
+        (fallen-fault (members.health g.spool.disk) (members.health spent.disk) on.made on.wrote _ (λ lacking. lacking)
+        on.cause)
 
 -- ---- a step
 

@@ -13,7 +13,7 @@ use Rattle.gem_spool.specs.Standing.{Standing, Stands, standing_of}
 use Rattle.gem_spool.specs.Works.{IsMarked, reserved}
 use Rattle.message_flow.specs.declared.step.Note.{Note}
 use Rattle.message_flow.specs.declared.step.StepOut.{StepOut}
-use Rattle.spool_slots.specs.Changes.{Reserves}
+use Rattle.spool_slots.specs.Changes.{Reserves, with_mark_moved}
 use Rattle.spool_slots.specs.Slot.{Message}
 use Rattle.spool_slots.specs.Spool.{SpoolView}
 use Rattle.spool_slots.specs.declared.states.Reserving.TheVariants as reserving
@@ -92,19 +92,23 @@ module _ {D : Type 0} (members : disk.Ghosts D) (plan : EquipmentPlan) (g : GemS
     abbrev next : EquipmentView
     next = (started_over members plan g).next
 
-    len-is : g.spool.len ≡ length st.list
+    len-is : g.spool.len ≡ length st.file.list
     len-is = ap (λ (c : Count). c.len) stands.count
 
-    next-is : g.spool.next ≡ first_in st.list + length st.list
+    next-is : g.spool.next ≡ first_in st.file.list + length st.file.list
     next-is =
-        stands.even ∙ ap (λ (n : ℕ). n + g.spool.len) fresh.first ∙ ap (λ (n : ℕ). first_in st.list + n) len-is
+        stands.even ∙ ap (λ (n : ℕ). n + g.spool.len) fresh.first
+        ∙ ap (λ (n : ℕ). first_in st.file.list + n) len-is
+
+    slots-are : g.spool.slots ≡ st.file.slots
+    slots-are = ap (λ (c : Count). c.slots) stands.count
 
     -- no system bytes are left
     pub none-left :
         (h : GemSpool D) (spent : Device D) → ReservesFrom members g h None → spent.disk ≡ h.spool.disk
         → StartsOver members plan g out_old (Err (ended.NumbersSpent spent))
     none-left h spent done same = (
-      (let none = done.1 in grind (arith, nat_tests, none)),
+      (let none = done.1 in let mark = stands.mark in grind (arith, nat_tests, none, mark)),
       empty.notes,
       empty.line,
       kept-of members g.spool st spent (same ∙ ap (λ (x : GemSpool D). x.spool.disk) done.0) stands,
@@ -131,45 +135,48 @@ module _ {D : Type 0} (members : disk.Ghosts D) (plan : EquipmentPlan) (g : GemS
       where
         ledger-is :
             new_ledger h.spool.slots h.spool.first h.spool.len
-            ≡ new_ledger g.spool.slots (first_in st.list) (length st.list)
+            ≡ new_ledger st.file.slots (first_in st.file.list) (length st.file.list)
         ledger-is =
             ap (λ (v : SpoolView D). new_ledger v.slots v.first v.len) done.0.2
-            ∙ ap (λ (n : ℕ). new_ledger g.spool.slots n g.spool.len) fresh.first
-            ∙ ap (λ (n : ℕ). new_ledger g.spool.slots (first_in st.list) n) len-is
+            ∙ ap (λ (n : ℕ). new_ledger n g.spool.first g.spool.len) slots-are
+            ∙ ap (λ (n : ℕ). new_ledger st.file.slots n g.spool.len) fresh.first
+            ∙ ap (λ (n : ℕ). new_ledger st.file.slots (first_in st.file.list) n) len-is
 
-        long-is : length (found_in st.list) ≡ h.spool.len
-        long-is = found-long st.list ∙ sym len-is ∙ sym (ap (λ (v : SpoolView D). v.len) done.0.2)
+        base-is : base ≡ st.file.mark.value
+        base-is = done.0.1 ∙ stands.mark
+
+        long-is : length (found_in st.file.list) ≡ h.spool.len
+        long-is = found-long st.file.list ∙ sym len-is ∙ sym (ap (λ (v : SpoolView D). v.len) done.0.2)
 
         pub started :
             (result : Result (Seat D) (Ended D)) → StartsWith plan h base out_old out_new result
             → StartsOver members plan g out_new result
         started (Ok e) is = record {
-          room = let left = done.0.0.left in grind (arith, nat_tests, left);
+          room = let left = done.0.0.left in let mark = stands.mark in grind (arith, nat_tests, left, mark);
+          slots_are = slots-are;
           node_is =
               is.1 ∙ ap (λ (l : LedgerView). new_node plan l base) ledger-is
-              ∙ ap (λ (n : ℕ). new_node plan (new_ledger g.spool.slots (first_in st.list) (length st.list)) n) done.0.1;
+              ∙ ap
+              (λ (n : ℕ).
+              new_node plan (new_ledger st.file.slots (first_in st.file.list) (length st.file.list)) n) base-is;
           clear =
               subst (λ (x : GemSpool D). IsClear members x.spool next) (sym is.0)
               (record {
                 stands =
                     subst
-                    (λ (n : ℕ). Stands members h.spool (record {
-                      slots = g.spool.slots;
-                      next = n;
-                      mark = g.spool.mark + 4096;
-                      list = st.list;
-                    }))
-                    next-is marked;
+                    (λ (n : ℕ). Stands members h.spool (record { next = n; file = with_mark_moved st.file })) next-is
+                    marked;
                 owes = refl;
                 len = refl;
+                slots_are = refl;
               });
           told =
               subst (λ (x : GemSpool D). IsTold (members.told x.spool.disk)) (sym is.0)
               (let through = moments fresh.told.0 fresh.told.1 in (through.0, through.1));
           notes =
               is.2.notes ∙ ap (λ (notes : List Note). notes ++ is.2.note ∷ []) empty.notes
-              ∙ ap (λ (note : Note). note ∷ []) (is.2.is (found_in st.list) long-is)
-              ∙ ap (λ (n : ℕ). note_of (EquipmentStarted (found_in st.list) n) ∷ []) done.0.1;
+              ∙ ap (λ (note : Note). note ∷ []) (is.2.is (found_in st.file.list) long-is)
+              ∙ ap (λ (n : ℕ). note_of (EquipmentStarted (found_in st.file.list) n) ∷ []) base-is;
           quiet = ap (λ l. l.items) line ∙ empty.line;
         }
         started (Err (ended.NoMemory spent)) is = (

@@ -39,33 +39,24 @@ broken-behind one two before now after notes passed is = record {
 
 module _ {D : Type 0} (members : disk.Ghosts D) where
   pub passes-both :
-      (a b c : D) (was mid now : ℕ) (one two : List (Loss EquipmentView))
-      → ((s : Story) → members.told a ≡ Some s → (t : Story) × (members.told b ≡ Some t))
-      → Passes members a was one b mid → Passes members b mid two c now → Passes members a was (one ++ two) c now
-  passes-both a b c was mid now one two tells first second = record {
-    passed = λ on.
-        let middle = first.passed on in
-        subst (λ (n : ℕ). HasPassed (members.health a) (members.health c) n) (sym (length-append one two))
-        (passed-both (members.health a) (members.health b) (members.health c) (length one) (length two) middle
-        (second.passed middle.on));
-    marked = λ on s t old new is.
-        let middle = tells s old in
-        second.marked (first.passed on).on middle.0 t middle.1 new (first.marked on s middle.0 old middle.1 is);
-  }
+      (a b c : D) (one two : List (Loss EquipmentView)) → Passes members a one b → Passes members b two c
+      → Passes members a (one ++ two) c
+  passes-both a b c one two first second on =
+      let middle = first on in
+      subst (λ (n : ℕ). HasPassed (members.health a) (members.health c) n) (sym (length-append one two))
+      (passed-both (members.health a) (members.health b) (members.health c) (length one) (length two) middle
+      (second middle.on))
 
   -- the planned call is among the later ones
   pub breaks-behind :
-      (a b c : D) (was mid : ℕ) (one two : List (Loss EquipmentView)) (notes : List Note)
-      → ((s : Story) → members.told a ≡ Some s → (t : Story) × (members.told b ≡ Some t))
-      → IsGoingDisk (members.health a) → Passes members a was one b mid → BreaksAt members b mid two c notes
-      → BreaksAt members a was (one ++ two) c notes
-  breaks-behind a b c was mid one two notes tells on first breaks s t old new is images stopped room =
-      let middle = tells s old in
-      broken-behind one two (members.health a) (members.health b) t notes (first.passed on)
-      (breaks middle.0 t middle.1 new (first.marked on s middle.0 old middle.1 is) images stopped room)
+      (a b c : D) (one two : List (Loss EquipmentView)) (notes : List Note) → IsGoingDisk (members.health a)
+      → Passes members a one b → BreaksAt members b two c notes → BreaksAt members a (one ++ two) c notes
+  breaks-behind a b c one two notes on first breaks t new images stopped room =
+      broken-behind one two (members.health a) (members.health b) t notes (first on)
+      (breaks t new images stopped room)
 
   pub breaks-before :
-      (a c : D) (was : ℕ) (one two : List (Loss EquipmentView)) (notes : List Note) → BreaksAt members a was one c notes
-      → BreaksAt members a was (one ++ two) c notes
-  breaks-before a c was one two notes breaks s t old new is images stopped room =
-      broken-before one two (members.health a).stop_in t notes (breaks s t old new is images stopped room)
+      (a c : D) (one two : List (Loss EquipmentView)) (notes : List Note) → BreaksAt members a one c notes
+      → BreaksAt members a (one ++ two) c notes
+  breaks-before a c one two notes breaks t new images stopped room =
+      broken-before one two (members.health a).stop_in t notes (breaks t new images stopped room)

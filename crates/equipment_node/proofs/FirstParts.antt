@@ -148,8 +148,7 @@ module _ (input : Input ToolCommand) (now : ℕ) (old mid : Node OwnView Kind) (
               step = file_step (opened s) step;
               is = begins ∙ ap (went_with_file (opened s)) is;
               node_is = ap (λ (x : Step (Node OwnView Kind) Note). x.next) (same-step whole);
-              list = refl;
-              mark = refl;
+              file = refl;
               notes = sym (ap (λ (x : Step (Node OwnView Kind) Note). x.notes) (same-step whole));
               written = sym (ap (λ (x : Step (Node OwnView Kind) Note). x.written) (same-step whole));
             }
@@ -164,8 +163,7 @@ module _ (input : Input ToolCommand) (now : ℕ) (old mid : Node OwnView Kind) (
               step = file_step (opened s) is.step;
               is = begins ∙ ap (went_with_file (opened s)) is.is;
               ledger = is.ledger;
-              list = refl;
-              mark = refl;
+              file = refl;
               notes = is.notes;
             }
         stops-of stop.DiskFailed reached = reached

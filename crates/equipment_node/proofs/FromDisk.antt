@@ -1,15 +1,14 @@
 -- That a start over what a disk was left with finds what its bytes say.
 use Rattle.std.proofs.Common.{◌≡◌, refl, sym, ap, subst, ◌∙◌, Bool, true, false, ℕ, [], ◌∷◌, List, length, Option, Some, None, if◌then◌else◌}
-use Rattle.std.specs.Prelude.{IfSome, OnOk, Result, Ok, Err}
+use Rattle.std.specs.Prelude.{OnOk, Result, Ok, Err}
 use Rattle.disk_base.specs.Cut.{image_of, settled_before, settled_if}
 use Rattle.disk_base.specs.MemDisk.{DiskState, after_cut, disk_health}
 use Rattle.disk_base.specs.declared.cut.CutChoice.{CutChoice}
 use Rattle.disk_base.proofs.Marks.{AreIn, image_is}
 use Rattle.disk_base.proofs.Moments.{only_now}
-use Rattle.disk_base.specs.Story.{Story, with_sync}
 use Rattle.disk_base.specs.contracts.mem_disk.MemDiskDisk.TheImpl.{ghosts}
 use Rattle.gem_spool.specs.declared.spool.GemSpool.{GemSpool}
-use Rattle.gem_spool.specs.Standing.{file_of, standing_of}
+use Rattle.gem_spool.specs.Standing.{standing_of}
 use Rattle.message_flow.specs.declared.step.StepOut.{StepOut}
 use Rattle.spool_slots.specs.Changes.{Ends, Recovers}
 use Rattle.spool_slots.specs.File.{SpoolFile, StandsFor, file_in}
@@ -24,21 +23,18 @@ use Rattle.equipment_tables.specs.Plan.{EquipmentPlanFits}
 use Rattle.tool_step.specs.declared.kind.Kind.{Kind}
 use Rattle.tool_core.specs.declared.own.Tool.{Tool}
 use Rattle.equipment_node.specs.Asked.{HasSpared, IsSureDisk}
-use Rattle.spool_works.specs.Breaking.{KeepsMarked}
 use Rattle.spool_works.specs.DiskWorks.{reserve_asks}
-use Rattle.tool_step.specs.Disk.{standing_in}
 use Rattle.tool_step.specs.End.{machine}
 use Rattle.tool_step.specs.Equipment.{EquipmentView, starts}
 use Rattle.equipment_node.specs.InMemory.{HasPower, IsArmed, IsFileOf, IsLost, IsWhole, Restarts, anew_over, disk_of, file_cut, left_behind, planned_in, starts_over, stop_told, with_stop}
-use Rattle.spool_works.specs.Marked.{IsMarkedBy}
 use Rattle.tool_core.specs.Node.{node_of}
 use Rattle.tool_step.specs.Own.{OwnView}
 use Rattle.tool_law.specs.Sound.{AllCanBeSent}
 use Rattle.equipment_node.specs.StartOver.{HasStartedOver, IsFresh}
 use Rattle.equipment_node.specs.Stepping.{stop_by, view_of}
 use Rattle.equipment_node.proofs.Asking.{spared-used}
-use Rattle.equipment_node.proofs.Seated.{start-ends, start-gone, start-on, told-whole}
-use Rattle.equipment_node.proofs.TakenUp.{file-is, is-fresh, slots-are}
+use Rattle.equipment_node.proofs.Seated.{start-ends, start-gone, start-on, told-whole, view-is}
+use Rattle.equipment_node.proofs.TakenUp.{file-is, is-fresh}
 
 -- where another call is planned it is the same spool
 pub armed-power :
@@ -56,12 +52,12 @@ armed-power plan slots node g call is = record {
       };
       owes = is.on.clear.owes;
       len = is.on.clear.len;
+      slots_are = is.on.clear.slots_are;
     };
     made = is.on.made;
   };
   fails_not = is.fails_not;
   going = is.going;
-  marked = is.marked;
   plan_is = is.plan_is;
   slots_are = is.slots_are;
 }
@@ -90,22 +86,22 @@ module _ (plan : EquipmentPlan) (slots : ℕ) (node : Node OwnView Kind) (g : Ge
 module _ (plan : EquipmentPlan) (fits : EquipmentPlanFits plan) (g k : GemSpool DiskState) (tool : Tool) (out : StepOut)
     (slots : ℕ) (started : HasStartedOver ghosts plan g tool k out) (same : g.spool.slots ≡ slots)
   where
-    pub seated-slots : (node_of tool).own.ledger.slots ≡ slots
-    seated-slots = ap (λ (n : Node OwnView Kind). n.own.ledger.slots) started.node_is ∙ same
+    pub seated-slots : (view_of ghosts (node_of tool) (Some k)).file.slots ≡ slots
+    seated-slots =
+        ap (λ (t : EquipmentView). t.file.slots) (sym (view-is ghosts plan fits g k tool out started))
+        ∙ sym started.slots_are ∙ same
 
     pub seated-power :
-        AllCanBeSent (standing_of ghosts g.spool).list
+        AllCanBeSent (standing_of ghosts g.spool).file.list
         → HasSpared (disk_health g.spool.disk) (disk_health k.spool.disk) reserve_asks
-        → IsSureDisk (disk_health g.spool.disk) → IsMarkedBy k.spool.disk.story.now.bytes k.spool.mark
-        → (copy : EquipmentPlan) → plan ≡ copy
+        → IsSureDisk (disk_health g.spool.disk) → (copy : EquipmentPlan) → plan ≡ copy
         → HasPower ghosts copy slots (node_of tool) (with_stop (left_behind slots) k)
-    seated-power can spared sure marked copy copied =
+    seated-power can spared sure copy copied =
         armed-power copy slots (node_of tool) k (left_behind slots)
         (record {
           on = start-on ghosts plan fits g k tool out started can;
           fails_not = (spared.sure sure).fails_not;
           going = (spared.sure sure).going;
-          marked = marked;
           plan_is = ap (λ (n : Node OwnView Kind). n.own.plan) started.node_is ∙ copied;
           slots_are = seated-slots;
         })
@@ -117,16 +113,17 @@ module _ (slots : ℕ) (disk : DiskState) (is : IsFileOf slots disk) (v : SpoolV
     fresh : IsFresh ghosts h
     fresh = is-fresh ghosts disk disk.story refl v recovers h made
 
-    same-file : file_of (standing_of ghosts h.spool) ≡ file_in disk.story.now.bytes
+    same-file : (standing_of ghosts h.spool).file ≡ file_in disk.story.now.bytes
     same-file = file-is ghosts disk disk.story refl v recovers h made
 
-    starts-so : starts plan h.spool.slots (standing_of ghosts h.spool).list h.spool.mark ≡ starts_over plan disk
-    starts-so = ap (λ (file : SpoolFile). starts plan file.slots file.list file.mark) same-file
+    starts-so : starts plan (standing_of ghosts h.spool).file ≡ starts_over plan disk
+    starts-so = ap (λ (file : SpoolFile). starts plan file) same-file
 
     same-slots : h.spool.slots ≡ slots
-    same-slots = slots-are ghosts disk disk.story refl v recovers h made ∙ is.slots_are
+    same-slots =
+        ap (λ (x : SpoolView DiskState). x.slots) made ∙ (recovers.1 disk.story refl).0.slots_are ∙ is.slots_are
 
-    can : AllCanBeSent (standing_of ghosts h.spool).list
+    can : AllCanBeSent (standing_of ghosts h.spool).file.list
     can = subst (λ (file : SpoolFile). AllCanBeSent file.list) (sym same-file) is.can
 
     sure : IsSureDisk (ghosts.health h.spool.disk)
@@ -134,16 +131,6 @@ module _ (slots : ℕ) (disk : DiskState) (is : IsFileOf slots disk) (v : SpoolV
         subst (λ (x : SpoolView DiskState). IsSureDisk (ghosts.health x.disk)) (sym made)
         ((spared-used recovers.0.synced (ghosts.health v.disk) recovers.0.reads.made 0 recovers.0.reads.cause).sure
         ((spared-used (ghosts.health disk) recovers.0.synced 1 0 recovers.0.cause).sure is.sure))
-
-    -- the gate goes with the mark that was taken up
-    taken-marked : IsMarkedBy h.spool.disk.story.now.bytes h.spool.mark
-    taken-marked =
-        subst (λ (x : SpoolView DiskState). IsMarkedBy x.disk.story.now.bytes x.mark) (sym made)
-        (subst (λ (s : Story). IsMarkedBy s.now.bytes v.mark) (sym (story-is recovers.0.told))
-        (subst (λ (m : ℕ). IsMarkedBy disk.story.now.bytes m) (sym (recovers.1 disk.story refl).0.mark_is) is.marked))
-      where
-        story-is : Some v.disk.story ≡ Some (with_sync disk.story) → v.disk.story ≡ with_sync disk.story
-        story-is same = cc
 
     module _ (out : StepOut) where
       pub from-leaves :
@@ -169,21 +156,13 @@ module _ (slots : ℕ) (disk : DiskState) (is : IsFileOf slots disk) (v : SpoolV
 
       pub from-whole :
           (tool : Tool) (spool : Option (GemSpool DiskState)) (result : Result (Unit {0}) Stop)
-          → Restarts ghosts plan slots h tool spool out result
-          → IfSome spool (λ (k : GemSpool DiskState).
-          KeepsMarked (Some h.spool.disk.story) h.spool.mark (Some k.spool.disk.story) k.spool.mark)
-          → IsWhole ghosts plan slots (node_of tool) spool None
-      from-whole tool spool (Ok done) has keeps =
+          → Restarts ghosts plan slots h tool spool out result → IsWhole ghosts plan slots (node_of tool) spool None
+      from-whole tool spool (Ok done) has =
           subst (λ (o : Option (GemSpool DiskState)). IsWhole ghosts plan slots (node_of tool) o None)
           (sym has.spool_is)
-          (seated-power plan fits h has.seated tool out slots (has.started fresh) same-slots can has.spared sure
-          (subst
-          (λ (o : Option (GemSpool DiskState)).
-          IfSome o (λ (k : GemSpool DiskState).
-          KeepsMarked (Some h.spool.disk.story) h.spool.mark (Some k.spool.disk.story) k.spool.mark))
-          has.spool_is keeps h.spool.disk.story has.seated.spool.disk.story refl refl taken-marked)
-          plan refl)
-      from-whole tool spool (Err end) has keeps =
+          (seated-power plan fits h has.seated tool out slots (has.started fresh) same-slots can has.spared sure plan
+          refl)
+      from-whole tool spool (Err end) has =
           subst (λ (o : Option (GemSpool DiskState)). IsWhole ghosts plan slots (node_of tool) o None)
           (sym has.spool_is) tt
 
@@ -228,7 +207,6 @@ cut-file slots lost is choice = record {
   stands = is.stands choice;
   settled = refl;
   can = is.can choice;
-  marked = is.marked choice;
   sure = record { fails_not = refl; stops_not = refl; going = refl };
   slots_are = is.slots_are choice;
 }
@@ -249,7 +227,10 @@ power-in plan slots node spool lost g same is =
 -- a disk that nothing is asked of keeps its bytes
 module _ (plan : EquipmentPlan) (slots : ℕ) (node : Node OwnView Kind) (g : GemSpool DiskState)
     (is : HasPower ghosts plan slots node g) where
-  ends : Ends g.spool.disk.story (file_of (standing_in (view_of ghosts node (Some g))))
+  abbrev here : SpoolFile
+  here = (view_of ghosts node (Some g)).file
+
+  ends : Ends g.spool.disk.story here
   ends = is.on.clear.stands.file g.spool.disk.story refl
 
   same-image : (choice : CutChoice) → image_of choice g.spool.disk.story ≡ g.spool.disk.story.now.bytes
@@ -260,8 +241,7 @@ module _ (plan : EquipmentPlan) (slots : ℕ) (node : Node OwnView Kind) (g : Ge
       (ap (λ (loose : List (ℕ × ℕ)).
       length (settled_if loose g.spool.disk.story.now.bytes (settled_before g.spool.disk.story.past))) ends.settled))
 
-  same-cut : (choice : CutChoice)
-      → file_cut g.spool.disk choice ≡ file_of (standing_in (view_of ghosts node (Some g)))
+  same-cut : (choice : CutChoice) → file_cut g.spool.disk choice ≡ here
   same-cut choice = ap file_in (same-image choice) ∙ sym ends.stands.is
 
   pub power-lost : IsLost slots g.spool.disk
@@ -271,9 +251,6 @@ module _ (plan : EquipmentPlan) (slots : ℕ) (node : Node OwnView Kind) (g : Ge
         (subst (StandsFor g.spool.disk.story.now.bytes) ends.stands.is ends.stands);
     can = λ choice.
         subst (λ (file : SpoolFile). AllCanBeSent file.list) (sym (same-cut choice)) is.on.made.did.sound.list;
-    marked = λ choice.
-        subst (λ (bytes : List ℕ). IsMarkedBy bytes (file_in bytes).mark) (sym (same-image choice))
-        (subst (λ (file : SpoolFile). IsMarkedBy g.spool.disk.story.now.bytes file.mark) ends.stands.is is.marked);
     slots_are = λ choice. ap (λ (file : SpoolFile). file.slots) (same-cut choice) ∙ is.slots_are;
   }
 
@@ -281,10 +258,8 @@ module _ (plan : EquipmentPlan) (slots : ℕ) (node : Node OwnView Kind) (g : Ge
       → anew_over ghosts plan node None (Some g.spool.disk) choice now
       ≡ anew_over ghosts plan node (Some g) None choice now
   power-anew choice now =
-      ap (λ (file : SpoolFile). starts plan file.slots file.list file.mark) (same-cut choice)
-      ∙ ap
-      (λ (p : EquipmentPlan). starts p node.own.ledger.slots (standing_of ghosts g.spool).list g.spool.mark)
-      (sym is.plan_is)
+      ap (λ (file : SpoolFile). starts plan file) (same-cut choice)
+      ∙ ap (λ (p : EquipmentPlan). starts p here) (sym is.plan_is)
 
 -- whichever disk there is, a start anew finds what it is left with
 pub anew-of :

@@ -10,7 +10,7 @@ use Rattle.gem_spool.specs.declared.count.Count.{Count}
 use Rattle.gem_spool.specs.declared.kept.Kept.{Kept}
 use Rattle.gem_spool.specs.declared.spool.GemSpool.{GemSpool}
 use Rattle.gem_spool.specs.declared.works.Work.{Work}
-use Rattle.gem_spool.specs.Standing.{Standing, Stands, file_of}
+use Rattle.gem_spool.specs.Standing.{Standing, Stands}
 use Rattle.message_flow.specs.declared.step.Note.{Note}
 use Rattle.message_flow.specs.declared.step.StepOut.{StepOut}
 use Rattle.spool_slots.specs.File.{SpoolFile, file_in}
@@ -57,15 +57,8 @@ still-standing :
     (s : EquipmentView) (node : Node OwnView Kind) → HasRested s.node.own.ledger node.own.ledger
     → standing_in s ≡ standing_in (with_node s node)
 still-standing s node rested =
-    ap (λ (n : ℕ).
-    record { slots = n; next = s.node.own.ledger.first + s.node.own.ledger.len; mark = s.mark; list = s.list })
-    (sym rested.slots)
-    ∙ ap (λ (n : ℕ).
-    record { slots = node.own.ledger.slots; next = n + s.node.own.ledger.len; mark = s.mark; list = s.list })
-    (sym rested.first)
-    ∙ ap (λ (n : ℕ).
-    record { slots = node.own.ledger.slots; next = node.own.ledger.first + n; mark = s.mark; list = s.list })
-    (sym rested.len)
+    ap (λ (n : ℕ). record { next = n + s.node.own.ledger.len; file = s.file }) (sym rested.first)
+    ∙ ap (λ (n : ℕ). record { next = node.own.ledger.first + n; file = s.file }) (sym rested.len)
 
 abbrev stand_of : ℕ → ℕ → Stand
 stand_of first len = record { first = first; len = len }
@@ -88,6 +81,7 @@ module _ {D : Type 0} (members : disk.Ghosts D) where
         ∙ ap (λ (l : LedgerView). l.stood) clear.owes ∙ sym rested.stood)
         (ap (λ (l : LedgerView). l.works) clear.owes ∙ sym rested.works);
     len = clear.len ∙ sym rested.len;
+    slots_are = clear.slots_are ∙ sym rested.slots;
   }
 
   -- ---- the parts
@@ -188,7 +182,7 @@ module _ {D : Type 0} (members : disk.Ghosts D) where
   pub none-there :
       (t : Step EquipmentView Happening) (number : ℕ)
       → next_number (most_transmitted t.next.node.own.tables) t.next.node.own.ledger ≡ Some number
-      → slice_get t.next.list 0 ≡ None
+      → slice_get t.next.file.list 0 ≡ None
       → unload_part (oldest_of t.next) t.next.node.own t.next.node.core
       ≡ taking None (asked_node t.next.node).own t.next.node.core
   none-there t number some none =
@@ -199,7 +193,7 @@ module _ {D : Type 0} (members : disk.Ghosts D) where
   pub one-there :
       (t : Step EquipmentView Happening) (number : ℕ) (m : Message) (report : Spooled)
       → next_number (most_transmitted t.next.node.own.tables) t.next.node.own.ledger ≡ Some number
-      → slice_get t.next.list 0 ≡ Some m → report ≡ spooled_of m
+      → slice_get t.next.file.list 0 ≡ Some m → report ≡ spooled_of m
       → unload_part (oldest_of t.next) t.next.node.own t.next.node.core
       ≡ taking (Some (number, report)) (asked_node t.next.node).own t.next.node.core
   one-there t number m report some is same =
@@ -221,7 +215,7 @@ module _ {D : Type 0} (members : disk.Ghosts D) where
 
       good : IsHeld (message_in v.first kept)
       good =
-          oldest-good told.0.now.bytes (file_of (standing_in t.next)) (message_in v.first kept)
+          oldest-good told.0.now.bytes t.next.file (message_in v.first kept)
           (clear.stands.file told.0 told.1).stands first
 
       pub read-there :
@@ -234,8 +228,8 @@ module _ {D : Type 0} (members : disk.Ghosts D) where
 
   -- the list is empty
   pub no-list : (t : Step EquipmentView Happening) (v : SpoolView D) → IsClear members v t.next → v.len ≡ 0
-      → slice_get t.next.list 0 ≡ None
-  no-list t v clear none = go t.next.list (sym (ap (λ (n : Count). n.len) clear.stands.count) ∙ none)
+      → slice_get t.next.file.list 0 ≡ None
+  no-list t v clear none = go t.next.file.list (sym (ap (λ (n : Count). n.len) clear.stands.count) ∙ none)
     where
       go : (list : List Message) → length list ≡ 0 → slice_get list 0 ≡ None
       go [] none = refl
@@ -253,7 +247,12 @@ module _ {D : Type 0} (members : disk.Ghosts D) where
       → members.told h.spool.disk ≡ members.told g.spool.disk → IsAt members t t.next.node out h
   read-at t out g h at stands same = record {
     node_is = refl;
-    clear = record { stands = stands; owes = at.clear.owes; len = at.clear.len };
+    clear = record {
+      stands = stands;
+      owes = at.clear.owes;
+      len = at.clear.len;
+      slots_are = at.clear.slots_are;
+    };
     told = (at.told.0, same ∙ at.told.1);
     notes = at.notes;
     written = at.written;

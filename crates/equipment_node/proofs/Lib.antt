@@ -16,13 +16,10 @@ pub mod Opened
 pub mod OverDisk
 pub mod Readying
 pub mod Seated
-pub mod Slots
 pub mod SpentMoves
 pub mod StartCalled
-pub mod StartMarked
 pub mod Staying
 pub mod StepBreaks
 pub mod StepCalls
 pub mod StepEnds
-pub mod StepMarks
 pub mod TakenUp

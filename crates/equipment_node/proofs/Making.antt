@@ -16,7 +16,7 @@ pub next-made :
     (s : EquipmentView) (input : Input ToolCommand) (now : ℕ) (step : Step EquipmentView Happening)
     → IsMade s → MayTake ToolCommandFits input → act s input now ≡ Goes step → IsMade step.next
 next-made s input now step made may is =
-    let law = equipment_lawful made.plan s.node.own.ledger.slots s.list s.mark made.fits made.did.sound.list in
+    let law = equipment_lawful made.plan s.file made.fits made.did.sound.list in
     let does =
     subst
     (λ (went : Went EquipmentView Happening).

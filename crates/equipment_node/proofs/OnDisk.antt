@@ -1,16 +1,15 @@
 -- How the disk stands, and places among the works of a step.
-use Rattle.std.proofs.Common.{◌≡◌, refl, sym, ap, subst, ◌∙◌, inl, inr, arith, zero, suc, ◌≤◌, ◌&&◌, not, Bool, true, false, ℕ, List, [], ◌∷◌, ◌++◌, length, length-append, map, take, Option, Some, None, if◌then◌else◌}
+use Rattle.std.proofs.Common.{◌≡◌, refl, sym, ap, subst, ◌∙◌, inl, inr, arith, zero, suc, ◌≤◌, ◌&&◌, not, Bool, true, false, ℕ, List, [], ◌∷◌, ◌++◌, length, map, take, Option, Some, None, if◌then◌else◌}
 use Rattle.std.specs.List.{slice_get}
 use Rattle.disk_base.specs.Story.{Story}
 use Rattle.disk_base.specs.declared.disk.Disk as disk
 use Rattle.disk_base.proofs.Moments.{only_now}
 use Rattle.gem_spool.specs.declared.count.Count.{Count}
 use Rattle.gem_spool.specs.declared.works.Work.{Work}
-use Rattle.gem_spool.specs.declared.works.Work.TheVariants as work
-use Rattle.gem_spool.specs.Standing.{Standing, Stands, count_in, count_of, file_of}
-use Rattle.gem_spool.specs.Works.{counts_after, len_after, list_after, lists_after, next_after, reserved as marked, standing_after, standings_after}
-use Rattle.spool_slots.specs.File.{StandsFor}
-use Rattle.spool_slots.specs.Slot.{Message}
+use Rattle.gem_spool.specs.Standing.{Standing, Stands, count_in, count_of}
+use Rattle.gem_spool.specs.Works.{counts_after, reserved as marked, standing_after, standings_after}
+use Rattle.gem_spool.proofs.Doing.{counts_keep}
+use Rattle.spool_slots.specs.File.{SpoolFile, StandsFor}
 use Rattle.spool_slots.specs.Spool.{SpoolView}
 use Rattle.spool_slots.specs.declared.states.Spent.{Spent as Device}
 use Rattle.trace_log.specs.Log.{Happening}
@@ -22,7 +21,7 @@ use Rattle.equipment_node.specs.Amid.{Keeps, opened}
 use Rattle.spool_works.specs.DiskWorks.{DiskWork, fronts_of, standings_behind}
 use Rattle.tool_step.specs.Disk.{standing_in}
 use Rattle.spool_works.specs.DiskWorks.DiskWork.{Change, Reserve}
-use Rattle.tool_step.specs.Equipment.{EquipmentView, is_marked_out, needs_numbers, reserved, reserving, settled, settled_list}
+use Rattle.tool_step.specs.Equipment.{EquipmentView, is_marked_out, needs_numbers, reserved, reserving, settled_file}
 use Rattle.tool_step.specs.Left as left
 use Rattle.equipment_node.specs.Stepping.{IsClear}
 
@@ -64,7 +63,7 @@ module _ {D : Type 0} (members : disk.Ghosts D) where
       → left.Holds st t.now
   held v st stands t told image image_is =
       let file = stands.file t told in
-      subst (λ (bytes : List ℕ). StandsFor bytes (file_of st)) (sym (only_now t.now image file.settled image_is)) file.stands
+      subst (λ (bytes : List ℕ). StandsFor bytes st.file) (sym (only_now t.now image file.settled image_is)) file.stands
 
   pub kept-of : (v : SpoolView D) (st : Standing) (spent : Device D) → spent.disk ≡ v.disk → Stands members v st
       → Keeps members spent st
@@ -76,6 +75,7 @@ module _ {D : Type 0} (members : disk.Ghosts D) where
       → count_of v ≡ stood_count s.node.own.ledger
   counted v s clear =
       clear.stands.count
+      ∙ ap (λ (n : ℕ). record { slots = n; next = next_of s.node.own.ledger; len = length s.file.list }) clear.slots_are
       ∙ ap (λ (n : ℕ). record { slots = s.node.own.ledger.slots; next = next_of s.node.own.ledger; len = n }) clear.len
       ∙ ap stood_count clear.owes
 
@@ -83,62 +83,26 @@ pub take-all : {X : Type 0} (xs : List X) → take (length xs) xs ≡ xs
 take-all {X} [] = refl
 take-all {X} (x ∷ xs) = ap (λ (rest : List X). x ∷ rest) (take-all xs)
 
--- the numbers of a list that works change are changed likewise
-pub same-len : (next : ℕ) (list : List Message) (one : Work) → len_after (length list) one ≡ length (list_after next list one)
-same-len next list (work.Put stream function body) =
-    sym (length-append list (record { number = next; stream = stream; function = function; body = body } ∷ []))
-same-len next [] work.DropOldest = refl
-same-len next (message ∷ list) work.DropOldest = omega arith
-same-len next list work.Purge = refl
-
-counts-keep :
-    (st : Standing) (works : List Work) → counts_after (count_in st) works ≡ count_in (standings_after st works)
-counts-keep st [] = refl
-counts-keep st (one ∷ works) =
-    ap (λ (n : ℕ). counts_after (record { slots = st.slots; next = next_after st.next one; len = n }) works)
-    (same-len st.next st.list one)
-    ∙ counts-keep (standing_after st one) works
-
-lists-are : (st : Standing) (works : List Work) → (standings_after st works).list ≡ lists_after st.next st.list works
-lists-are st [] = refl
-lists-are st (one ∷ works) = lists-are (standing_after st one) works
-
-marks-are : (st : Standing) (works : List Work) → (standings_after st works).mark ≡ st.mark
-marks-are st [] = refl
-marks-are st (one ∷ works) = marks-are (standing_after st one) works
-
--- behind the works the disk has the list that was decided
-pub settled-standing :
-    (st : Standing) (ledger : LedgerView) → count_in st ≡ stood_count ledger
-    → counts_after (stood_count ledger) ledger.works ≡ stood_count (carried_out ledger)
-    → standings_after st ledger.works
-    ≡ record { slots = ledger.slots; next = next_of ledger; mark = st.mark; list = settled_list ledger st.list }
-settled-standing st ledger same come =
-    parts (standings_after st ledger.works) (ap (λ (c : Count). c.slots) counts) (ap (λ (c : Count). c.next) counts)
-    (marks-are st ledger.works)
-    (lists-are st ledger.works ∙ ap (λ (c : Count). lists_after c.next st.list ledger.works) same)
+-- behind the works the disk has the file that was decided
+module _ (st : Standing) (ledger : LedgerView) (same : count_in st ≡ stood_count ledger)
+    (come : counts_after (stood_count ledger) ledger.works ≡ stood_count (carried_out ledger))
   where
     counts : count_in (standings_after st ledger.works) ≡ stood_count (carried_out ledger)
-    counts = sym (counts-keep st ledger.works) ∙ ap (λ (c : Count). counts_after c ledger.works) same ∙ come
+    counts = sym (counts_keep st ledger.works) ∙ ap (λ (c : Count). counts_after c ledger.works) same ∙ come
 
-    parts : (x : Standing) → x.slots ≡ ledger.slots → x.next ≡ next_of ledger → x.mark ≡ st.mark
-        → x.list ≡ settled_list ledger st.list
-        → x ≡ record { slots = ledger.slots; next = next_of ledger; mark = st.mark; list = settled_list ledger st.list }
-    parts x slots next mark list =
-        ap (λ (n : ℕ). record { slots = n; next = x.next; mark = x.mark; list = x.list }) slots
-        ∙ ap (λ (n : ℕ). record { slots = ledger.slots; next = n; mark = x.mark; list = x.list }) next
-        ∙ ap (λ (n : ℕ). record { slots = ledger.slots; next = next_of ledger; mark = n; list = x.list }) mark
-        ∙ ap (λ (l : List Message). record { slots = ledger.slots; next = next_of ledger; mark = st.mark; list = l }) list
+    pub settled-standing :
+        standings_after st ledger.works ≡ record { next = next_of ledger; file = settled_file ledger st.file }
+    settled-standing =
+        ap (λ (n : ℕ). made n (standings_after st ledger.works).file) (ap (λ (c : Count). c.next) counts)
+        ∙ ap (λ (n : ℕ). made (next_of ledger) (standings_after (made n st.file) ledger.works).file)
+        (ap (λ (c : Count). c.next) same)
+      where
+        made : ℕ → SpoolFile → Standing
+        made next file = record { next = next; file = file }
 
-pub settled-long :
-    (st : Standing) (ledger : LedgerView) → count_in st ≡ stood_count ledger
-    → counts_after (stood_count ledger) ledger.works ≡ stood_count (carried_out ledger)
-    → length (settled_list ledger st.list) ≡ ledger.len
-settled-long st ledger same come =
-    ap (λ (l : List Message). length l)
-    (sym (lists-are st ledger.works ∙ ap (λ (c : Count). lists_after c.next st.list ledger.works) same))
-    ∙ ap (λ (c : Count). c.len)
-    (sym (counts-keep st ledger.works) ∙ ap (λ (c : Count). counts_after c ledger.works) same ∙ come)
+    pub settled-long : length (settled_file ledger st.file).list ≡ ledger.len
+    settled-long =
+        ap (λ (x : Standing). length x.file.list) (sym settled-standing) ∙ ap (λ (c : Count). c.len) counts
 
 -- ---- places among all works
 
@@ -151,7 +115,7 @@ abbrev pub reserves : Bool → List DiskWork
 reserves is = if is then Reserve ∷ [] else []
 
 abbrev pub is_reserving : EquipmentView → Bool
-is_reserving s = needs_numbers s && not (is_marked_out s.mark)
+is_reserving s = needs_numbers s && not (is_marked_out s.file.mark.value)
 
 pub placed : (is : Bool) (works : List DiskWork) (at : ℕ) → slice_get (reserves is ++ works) (place_of is at) ≡ slice_get works at
 placed true works at = refl
@@ -185,7 +149,7 @@ opened_by s needs = if needs then reserved s else s
 
 pub opened-standing : (s : EquipmentView) → reserving s ≡ Goes (at_first (opened s))
     → (if is_reserving s then marked (standing_in s) else standing_in s) ≡ standing_in (opened s)
-opened-standing s went = go (needs_numbers s) (is_marked_out s.mark) went
+opened-standing s went = go (needs_numbers s) (is_marked_out s.file.mark.value) went
   where
     go : (needs out : Bool)
         → opening s needs out ≡ Goes (at_first (opened_by s needs))

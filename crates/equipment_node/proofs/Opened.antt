@@ -53,12 +53,13 @@ module _ {D : Type 0} (members : disk.Ghosts D) (s : EquipmentView) where
   needs-by : (needs : Bool) → needs_numbers s ≡ needs → opened s ≡ (if needs then reserved s else s)
   needs-by needs is = ap (λ (b : Bool). if b then reserved s else s) is
 
-  reserving-by : (needs out : Bool) → needs_numbers s ≡ needs → is_marked_out s.mark ≡ out
+  reserving-by : (needs out : Bool) → needs_numbers s ≡ needs → is_marked_out s.file.mark.value ≡ out
       → reserving s
       ≡ (if needs then if out then Spent (at_first s) else Goes (at_first (reserved s)) else Goes (at_first s))
   reserving-by needs out is marks =
       ap (λ (b : Bool).
-      if b then if is_marked_out s.mark then Spent (at_first s) else Goes (at_first (reserved s)) else Goes (at_first s)) is
+      if b then if is_marked_out s.file.mark.value then Spent (at_first s) else Goes (at_first (reserved s))
+      else Goes (at_first s)) is
       ∙ ap (λ (b : Bool).
       if needs then if b then Spent (at_first s) else Goes (at_first (reserved s)) else Goes (at_first s)) marks
 
@@ -69,7 +70,7 @@ module _ {D : Type 0} (members : disk.Ghosts D) (s : EquipmentView) where
       let same = needs-by false few in
       record {
         went =
-            reserving-by false (is_marked_out s.mark) few refl
+            reserving-by false (is_marked_out s.file.mark.value) few refl
             ∙ ap (λ (x : EquipmentView). Goes (at_first x)) (sym same);
         node_is = node_is ∙ ap (λ (x : EquipmentView). x.node) (sym same);
         clear = subst (λ (x : EquipmentView). IsClear members g.spool x) (sym same) clear;
@@ -77,7 +78,8 @@ module _ {D : Type 0} (members : disk.Ghosts D) (s : EquipmentView) where
       }
 
   -- there is room for more
-  room-left : (g : GemSpool D) → IsClear members g.spool s → g.spool.mark + 4096 ≤ 2 ^ 32 → is_marked_out s.mark ≡ false
+  room-left : (g : GemSpool D) → IsClear members g.spool s → g.spool.mark + 4096 ≤ 2 ^ 32
+      → is_marked_out s.file.mark.value ≡ false
   room-left g clear left = let same = clear.stands.mark in grind (arith, nat_tests, left, same)
 
   pub opened-more :
@@ -97,7 +99,7 @@ module _ {D : Type 0} (members : disk.Ghosts D) (s : EquipmentView) where
         node_is = node_is ∙ ap (λ (x : EquipmentView). x.node) (sym same);
         clear =
             subst (λ (x : EquipmentView). IsClear members h.spool x) (sym same)
-            (record { stands = stands; owes = clear.owes; len = clear.len });
+            (record { stands = stands; owes = clear.owes; len = clear.len; slots_are = clear.slots_are });
         told = (through.0, through.1);
       }
 
@@ -115,7 +117,7 @@ module _ {D : Type 0} (members : disk.Ghosts D) (s : EquipmentView) where
       (g : GemSpool D) → needs_numbers s ≡ true → IsClear members g.spool s → g.spool.mark + 4096 ≤ 2 ^ 32
       → reserve_works s ≡ Reserve ∷ []
   mark-failed g needs clear left =
-      ap (λ (b : Bool). if b && not (is_marked_out s.mark) then Reserve ∷ [] else []) needs
+      ap (λ (b : Bool). if b && not (is_marked_out s.file.mark.value) then Reserve ∷ [] else []) needs
       ∙ ap (λ (b : Bool). if true && not b then Reserve ∷ [] else []) (room-left g clear left)
 
 same-story : (a b : Story) → Some a ≡ Some b → a ≡ b

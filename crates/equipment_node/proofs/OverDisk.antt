@@ -4,13 +4,13 @@ use Rattle.std.specs.Prelude.{Result, Ok, Err}
 use Rattle.std.specs.List.{slice_get}
 use Rattle.disk_base.specs.Through.{EachImage}
 use Rattle.disk_base.specs.declared.disk.Disk as disk
+use Rattle.gem_spool.specs.declared.count.Count.{Count}
 use Rattle.gem_spool.specs.declared.spool.GemSpool.{GemSpool}
 use Rattle.gem_spool.specs.declared.works.Work.{Work}
-use Rattle.gem_spool.specs.Standing.{Standing, Stands, count_of, file_of}
-use Rattle.gem_spool.specs.Works.{HasCarried, counts_after, lists_after, standings_after}
+use Rattle.gem_spool.specs.Standing.{Standing, Stands, count_of}
+use Rattle.gem_spool.specs.Works.{HasCarried, counts_after, standings_after}
 use Rattle.message_flow.specs.declared.step.StepOut.{StepOut}
-use Rattle.spool_slots.specs.File.{StandsFor}
-use Rattle.spool_slots.specs.Slot.{Message}
+use Rattle.spool_slots.specs.File.{SpoolFile, StandsFor}
 use Rattle.spool_slots.specs.declared.states.Spent.{Spent as Device}
 use Rattle.trace_log.specs.declared.commands.ToolCommand.{ToolCommand}
 use Rattle.trace_log.specs.Log.{Happening}
@@ -31,7 +31,8 @@ use Rattle.equipment_node.specs.Cut.{cut_at, noted_to}
 use Rattle.spool_works.specs.DiskWorks.{DiskWork, IsAmidWork, fronts_of, standings_behind}
 use Rattle.tool_step.specs.Disk.{owed_in, read_works, reserve_works, standing_in, stops, takes_up, works_behind, works_of}
 use Rattle.spool_works.specs.DiskWorks.DiskWork.{Change, ReadOldest, Reserve}
-use Rattle.tool_step.specs.Equipment.{EquipmentView, act, begun_step, ended_step, node_step, oldest_of, parts_done, reserving, settled, settled_list, settled_step, settled_went, went_with_file}
+use Rattle.tool_step.specs.Equipment.{EquipmentView, act, begun_step, ended_step, node_step, oldest_of, parts_done, reserving, settled, settled_file, settled_step, settled_went, went_with_file}
+use Rattle.tool_step.proofs.StepFiles.{settled-slots}
 use Rattle.tool_step.specs.Left as left
 use Rattle.tool_step.specs.Own.{OwnView, ToolPart}
 use Rattle.tool_step.specs.Step.{first_parts, last_parts}
@@ -66,13 +67,11 @@ module _ {D : Type 0} (members : disk.Ghosts D) (s : EquipmentView) (input : Inp
 
   stands-still : carried_out s.node.own.ledger ≡ s.node.own.ledger → standing_in s ≡ standing_in (settled s)
   stands-still owes =
-      ap (λ (works : List Work).
-      record {
-        slots = s.node.own.ledger.slots;
-        next = next_of s.node.own.ledger;
-        mark = s.mark;
-        list = lists_after (stood_count s.node.own.ledger).next s.list works;
-      }) (ap (λ (l : LedgerView). l.works) owes)
+      ap (λ (works : List Work). record { next = next_of s.node.own.ledger; file = (standings_after stood works).file })
+      (ap (λ (l : LedgerView). l.works) owes)
+    where
+      stood : Standing
+      stood = record { next = (stood_count s.node.own.ledger).next; file = s.file }
 
   pub not-opened :
       (node new : Node OwnView Kind) (out : StepOut) (end : Ended D) → out.notes ≡ []
@@ -221,8 +220,7 @@ module _ {D : Type 0} (members : disk.Ghosts D) (s : EquipmentView) (input : Inp
           (count : count_of g.spool ≡ stood_count (step_in begun).next.node.own.ledger)
           (come : counts_after (stood_count (step_in begun).next.node.own.ledger) (owed_in begun)
           ≡ stood_count (carried_out (step_in begun).next.node.own.ledger))
-          (list : (step_in begun).next.list ≡ (opened s).list)
-          (mark : (step_in begun).next.mark ≡ (opened s).mark)
+          (file : (step_in begun).next.file ≡ (opened s).file)
         where
           abbrev ledger : LedgerView
           ledger = (step_in begun).next.node.own.ledger
@@ -231,12 +229,7 @@ module _ {D : Type 0} (members : disk.Ghosts D) (s : EquipmentView) (input : Inp
               standings_after (standing_in (opened s)) (owed_in begun) ≡ standing_in (settled (step_in begun).next)
           done-standing =
               settled-standing (standing_in (opened s)) ledger (sym clear.stands.count ∙ count) come
-              ∙ ap (λ (m : ℕ).
-              record { slots = ledger.slots; next = next_of ledger; mark = m; list = settled_list ledger (opened s).list })
-              (sym mark)
-              ∙ ap (λ (l : List Message).
-              record { slots = ledger.slots; next = next_of ledger; mark = (step_in begun).next.mark; list = settled_list ledger l })
-              (sym list)
+              ∙ ap (λ (f : SpoolFile). record { next = next_of ledger; file = settled_file ledger f }) (sym file)
 
           pub done-clear :
               HasCarried members g (owed_in begun) h → IsClear members h.spool (settled (step_in begun).next)
@@ -246,8 +239,12 @@ module _ {D : Type 0} (members : disk.Ghosts D) (s : EquipmentView) (input : Inp
                 (carried.stands (standing_in (opened s)) clear.stands);
             owes = refl;
             len =
-                ap (λ (l : List Message). length (settled_list ledger l)) list
+                ap (λ (f : SpoolFile). length (settled_file ledger f).list) file
                 ∙ settled-long (standing_in (opened s)) ledger (sym clear.stands.count ∙ count) come;
+            slots_are =
+                settled-slots ledger (step_in begun).next.file
+                ∙ ap (λ (f : SpoolFile). f.slots) file
+                ∙ ap (λ (c : Count). c.slots) (sym clear.stands.count ∙ count);
           }
 
           pub still-told :
@@ -271,7 +268,7 @@ module _ {D : Type 0} (members : disk.Ghosts D) (s : EquipmentView) (input : Inp
         (done-clear went (Spent begun.step) begun.is g h clear
         (count ∙ ap stood_count (sym begun.ledger))
         (subst (λ (l : LedgerView). counts_after (stood_count l) l.works ≡ stood_count (carried_out l)) (sym begun.ledger) come)
-        begun.list begun.mark
+        begun.file
         (subst (λ (l : LedgerView). HasCarried members g l.works h) (sym begun.ledger) carried)).stands t told),
   )
     where
@@ -316,7 +313,7 @@ module _ {D : Type 0} (members : disk.Ghosts D) (s : EquipmentView) (input : Inp
           done-standing went (Goes begun.step) begun.is g g clear
           (count ∙ ap stood_count ledger-is)
           (subst (λ (l : LedgerView). counts_after (stood_count l) l.works ≡ stood_count (carried_out l)) ledger-is come)
-          begun.list begun.mark
+          begun.file
 
       at-end :
           left.standing_at s input now (place_of (is_reserving s) (length works)) ≡ standing_in (settled begun.step.next)
@@ -355,7 +352,7 @@ module _ {D : Type 0} (members : disk.Ghosts D) (s : EquipmentView) (input : Inp
           front_is = front-is;
           notes = notes ∙ ends.1;
           left =
-              subst (λ (st : Standing). EachImage (λ image. StandsFor image (file_of st)) t.now) (sym at-end)
+              subst (λ (st : Standing). EachImage (λ image. StandsFor image st.file) t.now) (sym at-end)
               (ends.2 t told);
         },
       )
@@ -392,11 +389,11 @@ module _ {D : Type 0} (members : disk.Ghosts D) (s : EquipmentView) (input : Inp
   at-settled went g h node next middle out begun clear told count come carried next_is same = record {
     node_is = next_is ∙ ap settled_node (sym begun.node_is);
     clear =
-        done-clear went (Goes begun.step) begun.is g h clear (count ∙ ap stood_count ledger-is) come-is begun.list
-        begun.mark carried-is;
+        done-clear went (Goes begun.step) begun.is g h clear (count ∙ ap stood_count ledger-is) come-is begun.file
+        carried-is;
     told =
-        still-told went (Goes begun.step) begun.is g h clear (count ∙ ap stood_count ledger-is) come-is begun.list
-        begun.mark carried-is told;
+        still-told went (Goes begun.step) begun.is g h clear (count ∙ ap stood_count ledger-is) come-is begun.file
+        carried-is told;
     notes = ap (λ (o : StepOut). o.notes) same ∙ begun.notes;
     written = ap (λ (o : StepOut). o.line.items) same ∙ begun.written;
   }

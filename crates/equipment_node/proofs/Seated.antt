@@ -1,13 +1,13 @@
 -- That the spool in hand tells its state, and what becomes of it in a step and at a start.
-use Rattle.std.proofs.Common.{◌≡◌, sym, ap, subst, ◌∙◌, ℕ, Bool, false, List, [], ◌∷◌, Option, Some, if◌then◌else◌}
+use Rattle.std.proofs.Common.{◌≡◌, sym, ap, subst, ◌∙◌, ℕ, Bool, false, [], ◌∷◌, Option, Some, if◌then◌else◌}
 use Rattle.std.specs.Prelude.{Err}
 use Rattle.disk_base.specs.Story.{Story}
 use Rattle.disk_base.specs.declared.disk.Disk as disk
 use Rattle.gem_spool.specs.declared.spool.GemSpool.{GemSpool}
-use Rattle.gem_spool.specs.Standing.{list_told, standing_of}
+use Rattle.gem_spool.specs.Standing.{file_told, standing_of}
 use Rattle.message_flow.specs.declared.step.StepOut.{StepOut}
 use Rattle.spool_slots.specs.File.{SpoolFile}
-use Rattle.spool_slots.specs.Slot.{Message}
+use Rattle.spool_slots.specs.Spool.{known_of}
 use Rattle.trace_log.specs.declared.commands.ToolCommand.{ToolCommand}
 use Rattle.trace_log.specs.Log.{Happening}
 use Rattle.message_end.specs.declared.end.Stop.{Stop}
@@ -40,17 +40,13 @@ module _ {D : Type 0} (members : disk.Ghosts D) where
       (g : GemSpool D) (node : Node OwnView Kind) (s : EquipmentView) → IsClear members g.spool s
       → IsTold (members.told g.spool.disk) → node ≡ s.node → s ≡ view_of members node (Some g)
   seen g node s clear told same =
-      ap (λ (n : Node OwnView Kind). with_parts n s.list s.mark) (sym same)
-      ∙ ap (λ (list : List Message). with_parts node list s.mark) list-is
-      ∙ ap (λ (mark : ℕ). with_parts node (standing_of members g.spool).list mark) (sym clear.stands.mark)
+      ap (λ (n : Node OwnView Kind). with_parts n s.file) (sym same)
+      ∙ ap (λ (file : SpoolFile). with_parts node file)
+      ((clear.stands.file told.0 told.1).stands.is
+      ∙ ap (λ (tells : Option Story). file_told tells (known_of g.spool)) (sym told.1))
     where
-      with_parts : Node OwnView Kind → List Message → ℕ → EquipmentView
-      with_parts n list mark = record { node = n; list = list; mark = mark }
-
-      list-is : s.list ≡ (standing_of members g.spool).list
-      list-is =
-          ap (λ (file : SpoolFile). file.list) (clear.stands.file told.0 told.1).stands.is
-          ∙ ap (λ (tells : Option Story). list_told tells g.spool.first g.spool.len) (sym told.1)
+      with_parts : Node OwnView Kind → SpoolFile → EquipmentView
+      with_parts n file = record { node = n; file = file }
 
   -- ---- a step
 
@@ -79,35 +75,33 @@ module _ {D : Type 0} (members : disk.Ghosts D) where
   module _ (plan : EquipmentPlan) (fits : EquipmentPlanFits plan) (g h : GemSpool D) (tool : Tool) (out : StepOut)
       (is : HasStartedOver members plan g tool h out)
     where
-      abbrev list : List Message
-      list = (standing_of members g.spool).list
+      abbrev file : SpoolFile
+      file = (standing_of members g.spool).file
 
       abbrev step : Step EquipmentView Happening
-      step = started_on plan g.spool.slots list g.spool.mark
+      step = started_on plan file
 
-      goes : starts plan g.spool.slots list g.spool.mark ≡ Goes step
+      goes : starts plan file ≡ Goes step
       goes =
-          ap (λ (out : Bool).
-          if out then Spent (at_first (record step.next { mark = g.spool.mark })) else Goes step) is.room
+          ap (λ (out : Bool). if out then Spent (at_first (record step.next { file = file })) else Goes step) is.room
 
-      view-is : step.next ≡ view_of members (node_of tool) (Some h)
+      pub view-is : step.next ≡ view_of members (node_of tool) (Some h)
       view-is = seen h (node_of tool) step.next is.clear is.told is.node_is
 
-      pub start-gone :
-          HasGone (starts plan g.spool.slots list g.spool.mark) (view_of members (node_of tool) (Some h)) out
+      pub start-gone : HasGone (starts plan file) (view_of members (node_of tool) (Some h)) out
       start-gone =
           record { step = step; is = goes; next_is = view-is; notes = is.notes; written = is.quiet }
 
-      made : AllCanBeSent list → IsMade step.next
+      made : AllCanBeSent file.list → IsMade step.next
       made can =
-          let law = equipment_lawful plan g.spool.slots list g.spool.mark fits can in
+          let law = equipment_lawful plan file fits can in
           let start =
           subst
           (λ (went : Went EquipmentView Happening). OnStart (HasStarted (end_plan plan) (DidOf plan) 0) went)
           goes law.starts in
           record { plan = plan; fits = fits; base = start.base; doings = []; did = start.is }
 
-      pub start-on : AllCanBeSent list → IsOn members h.spool (view_of members (node_of tool) (Some h))
+      pub start-on : AllCanBeSent file.list → IsOn members h.spool (view_of members (node_of tool) (Some h))
       start-on can =
           subst (λ (t : EquipmentView). IsOn members h.spool t) view-is
           (record { clear = is.clear; made = made can })
@@ -137,14 +131,17 @@ stops-by members s input now node next out (ended.NumbersSpent spent) steps = st
 module _ {D : Type 0} (members : disk.Ghosts D) (plan : EquipmentPlan) (fits : EquipmentPlanFits plan) (g : GemSpool D)
     (out : StepOut)
   where
+    abbrev kept : SpoolFile
+    kept = (standing_of members g.spool).file
+
     abbrev first : Went EquipmentView Happening
-    first = starts plan g.spool.slots (standing_of members g.spool).list g.spool.mark
+    first = starts plan kept
 
     abbrev whole : Step EquipmentView Happening
-    whole = started_on plan g.spool.slots (standing_of members g.spool).list g.spool.mark
+    whole = started_on plan kept
 
     abbrev unmarked : Step EquipmentView Happening
-    unmarked = at_first (record whole.next { mark = g.spool.mark })
+    unmarked = at_first (record whole.next { file = kept })
 
     -- nothing is noted where it doesn't start
     pub start-ends :

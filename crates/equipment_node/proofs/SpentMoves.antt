@@ -1,10 +1,9 @@
 -- That a step and a start of the program end with their numbers spent where there is a cause.
-use Rattle.std.proofs.Common.{◌≡◌, refl, sym, ap, ◌∙◌, ℕ, Bool, true, false, List, if◌then◌else◌}
+use Rattle.std.proofs.Common.{◌≡◌, refl, sym, ap, ◌∙◌, ℕ, Bool, true, false, if◌then◌else◌}
 use Rattle.std.specs.Prelude.{Result, Ok, Err}
 use Rattle.disk_base.specs.Story.{Story}
 use Rattle.disk_base.specs.declared.disk.Disk as disk
-use Rattle.spool_slots.specs.File.{file_in}
-use Rattle.spool_slots.specs.Slot.{Message}
+use Rattle.spool_slots.specs.File.{SpoolFile, file_in}
 use Rattle.message_flow.specs.declared.step.StepOut.{StepOut}
 use Rattle.trace_log.specs.declared.commands.ToolCommand.{ToolCommand}
 use Rattle.trace_log.specs.Log.{Happening}
@@ -43,13 +42,13 @@ module _ {D : Type 0} (members : disk.Ghosts D) (h : Held D) (input : Input Tool
 
 -- a start goes on where the mark can move on
 goes-on :
-    (plan : EquipmentPlan) (slots : ℕ) (list : List Message) (mark : ℕ) (step : Step EquipmentView Happening)
-    → starts plan slots list mark ≡ Goes step → is_marked_out mark ≡ false
-goes-on plan slots list mark step = go (is_marked_out mark)
+    (plan : EquipmentPlan) (file : SpoolFile) (step : Step EquipmentView Happening)
+    → starts plan file ≡ Goes step → is_marked_out file.mark.value ≡ false
+goes-on plan file step = go (is_marked_out file.mark.value)
   where
     go : (out : Bool)
-        → (if out then Spent (at_first (record (started_on plan slots list mark).next { mark = mark }))
-        else Goes (started_on plan slots list mark)) ≡ Goes step → out ≡ false
+        → (if out then Spent (at_first (record (started_on plan file).next { file = file }))
+        else Goes (started_on plan file)) ≡ Goes step → out ≡ false
     go true is = absurd (cc)
     go false is = refl
 
@@ -58,7 +57,7 @@ pub begun-by-cause :
     (result : Result (Held D) (Starting D))
     → Begins members plan s out result → IsStartSpentByCause (file_in s.now.bytes) result
 begun-by-cause members plan s out (Ok h) begun =
-    let file = file_in s.now.bytes in goes-on plan file.slots file.list file.mark begun.gone.step begun.gone.is
+    goes-on plan (file_in s.now.bytes) begun.gone.step begun.gone.is
 begun-by-cause members plan s out (Err (starting.NumbersSpent spent)) begun = begun.1
 begun-by-cause members plan s out (Err (starting.NotSpool raw break)) begun = tt
 begun-by-cause members plan s out (Err (starting.DiskFailed spent)) begun = tt

@@ -1,9 +1,8 @@
 -- That the calls of the disk in a step are those of its works.
-use Rattle.std.proofs.Common.{◌≡◌, refl, sym, ap, subst, ◌∙◌, arith, ℕ, zero, suc, ◌+◌, ◌<◌, ◌==◌, ◌&&◌, ◌||◌, nat_le, nat_lt, not, Bool, true, false, List, [], ◌∷◌, ◌++◌, append_assoc, length, map, Option, Some, None, is_some, if◌then◌else◌}
+use Rattle.std.proofs.Common.{◌≡◌, refl, sym, ap, subst, ◌∙◌, arith, ℕ, zero, suc, ◌<◌, ◌==◌, ◌&&◌, ◌||◌, nat_le, nat_lt, not, Bool, true, false, List, [], ◌∷◌, ◌++◌, append_assoc, length, map, Option, Some, None, is_some, if◌then◌else◌}
 use Rattle.std.proofs.lemmas.Bool.Decides.{nat_tests}
 use Rattle.std.specs.Prelude.{Result, Ok, Err, is_none}
 use Rattle.disk_base.specs.Calls.{DiskCall}
-use Rattle.disk_base.specs.Story.{Story}
 use Rattle.disk_base.specs.declared.disk.Disk as disk
 use Rattle.disk_base.specs.declared.disk.DiskAnswer.TheVariants.{Done, Failed}
 use Rattle.gem_spool.specs.declared.count.Count.{Count}
@@ -34,11 +33,11 @@ use Rattle.equipment_node.specs.Amid.{Carries, DoesLast, IsBegun, IsBegunSpent, 
 use Rattle.spool_works.specs.DiskWorks.{DiskWork, standing_behind, standings_behind}
 use Rattle.tool_step.specs.Disk.{read_works, reserve_works, standing_in, works_behind, works_of}
 use Rattle.spool_works.specs.DiskWorks.DiskWork.{Change, ReadOldest, Reserve}
-use Rattle.spool_works.specs.DiskCalls.{HasBegunWorks, HasCalled, HasFailedIn, HasMade, all_disk_calls, disk_calls, disk_in, mark_calls}
+use Rattle.spool_works.specs.DiskCalls.{HasBegunWorks, HasCalled, HasFailedIn, HasMade, all_disk_calls, disk_calls, disk_in}
 use Rattle.tool_step.specs.Equipment.{EquipmentView, begun_step, is_marked_out, needs_numbers, parts_done, reserving as opening, settled, settled_step}
 use Rattle.tool_step.specs.Own.{OwnView, ToolPart}
 use Rattle.tool_step.specs.Step.{first_parts}
-use Rattle.equipment_node.specs.Stepping.{IsClear}
+use Rattle.equipment_node.specs.Stepping.{IsClear, IsTold}
 use Rattle.equipment_node.proofs.Asking.{changes-stand, opened-behind}
 use Rattle.spool_works.proofs.Called.{all-failed, all-made, failed-before, failed-behind, look-made, look-stops, made-same, made-then, mark-made, mark-stops}
 use Rattle.equipment_node.proofs.Opened.{mark-failed}
@@ -47,37 +46,37 @@ use Rattle.equipment_node.proofs.OverDisk.{done-standing, takes-settled}
 -- ---- works behind others
 
 calls-both :
-    (bytes : List ℕ) (st : Standing) (xs ys : List DiskWork)
-    → all_disk_calls bytes st (xs ++ ys)
-    ≡ all_disk_calls bytes st xs ++ all_disk_calls bytes (standings_behind st xs) ys
-calls-both bytes st [] ys = refl
-calls-both bytes st (x ∷ xs) ys =
-    ap (λ (calls : List DiskCall). disk_calls bytes st x ++ calls) (calls-both bytes (standing_behind st x) xs ys)
-    ∙ sym (append_assoc (disk_calls bytes st x) (all_disk_calls bytes (standing_behind st x) xs)
-    (all_disk_calls bytes (standings_behind (standing_behind st x) xs) ys))
+    (st : Standing) (xs ys : List DiskWork)
+    → all_disk_calls st (xs ++ ys)
+    ≡ all_disk_calls st xs ++ all_disk_calls (standings_behind st xs) ys
+calls-both st [] ys = refl
+calls-both st (x ∷ xs) ys =
+    ap (λ (calls : List DiskCall). disk_calls st x ++ calls) (calls-both (standing_behind st x) xs ys)
+    ∙ sym (append_assoc (disk_calls st x) (all_disk_calls (standing_behind st x) xs)
+    (all_disk_calls (standings_behind (standing_behind st x) xs) ys))
 
 module _ {D : Type 0} (members : disk.Ghosts D) where
-  module _ (old mid : D) (bytes : List ℕ) (st : Standing) (xs : List DiskWork)
-      (one : HasMade members old mid (all_disk_calls bytes st xs))
+  module _ (old mid : D) (st : Standing) (xs : List DiskWork)
+      (one : HasMade members old mid (all_disk_calls st xs))
     where
       all-behind :
-          (new : D) (ys : List DiskWork) → HasMade members mid new (all_disk_calls bytes (standings_behind st xs) ys)
-          → HasMade members old new (all_disk_calls bytes st (xs ++ ys))
+          (new : D) (ys : List DiskWork) → HasMade members mid new (all_disk_calls (standings_behind st xs) ys)
+          → HasMade members old new (all_disk_calls st (xs ++ ys))
       all-behind new ys two =
-          subst (λ (calls : List DiskCall). HasMade members old new calls) (sym (calls-both bytes st xs ys))
-          (made-then members old mid new (all_disk_calls bytes st xs) (all_disk_calls bytes (standings_behind st xs) ys)
+          subst (λ (calls : List DiskCall). HasMade members old new calls) (sym (calls-both st xs ys))
+          (made-then members old mid new (all_disk_calls st xs) (all_disk_calls (standings_behind st xs) ys)
           one two)
 
       pub called-then :
           (ys : List DiskWork) (result : Result (GemSpool D) (Ended D))
-          → HasCalled members disk_in mid bytes (standings_behind st xs) ys result
-          → HasCalled members disk_in old bytes st (xs ++ ys) result
+          → HasCalled members disk_in mid (standings_behind st xs) ys result
+          → HasCalled members disk_in old st (xs ++ ys) result
       called-then ys (Ok g) two = all-behind g.spool.disk ys two
       called-then ys (Err (ended.NumbersSpent spent)) two = all-behind spent.disk ys two
       called-then ys (Err (ended.DiskFailed spent)) two =
-          subst (λ (calls : List DiskCall). HasFailedIn members old spent.disk calls) (sym (calls-both bytes st xs ys))
-          (failed-behind members old mid spent.disk (all_disk_calls bytes st xs)
-          (all_disk_calls bytes (standings_behind st xs) ys) one two)
+          subst (λ (calls : List DiskCall). HasFailedIn members old spent.disk calls) (sym (calls-both st xs ys))
+          (failed-behind members old mid spent.disk (all_disk_calls st xs)
+          (all_disk_calls (standings_behind st xs) ys) one two)
       called-then ys (Err (ended.NoMemory spent)) two = record {
         first = xs ++ two.first;
         rest = two.rest;
@@ -86,17 +85,17 @@ module _ {D : Type 0} (members : disk.Ghosts D) where
       }
 
   called-wider :
-      (old new : D) (bytes : List ℕ) (st : Standing) (xs ys : List DiskWork)
-      → HasFailedIn members old new (all_disk_calls bytes st xs)
-      → HasFailedIn members old new (all_disk_calls bytes st (xs ++ ys))
-  called-wider old new bytes st xs ys is =
-      subst (λ (calls : List DiskCall). HasFailedIn members old new calls) (sym (calls-both bytes st xs ys))
-      (failed-before members old new (all_disk_calls bytes st xs) (all_disk_calls bytes (standings_behind st xs) ys) is)
+      (old new : D) (st : Standing) (xs ys : List DiskWork)
+      → HasFailedIn members old new (all_disk_calls st xs)
+      → HasFailedIn members old new (all_disk_calls st (xs ++ ys))
+  called-wider old new st xs ys is =
+      subst (λ (calls : List DiskCall). HasFailedIn members old new calls) (sym (calls-both st xs ys))
+      (failed-before members old new (all_disk_calls st xs) (all_disk_calls (standings_behind st xs) ys) is)
 
   none-begun :
-      (old new : D) (bytes : List ℕ) (st : Standing) (works : List DiskWork) → new ≡ old
-      → HasBegunWorks members old new bytes st works
-  none-begun old new bytes st works same =
+      (old new : D) (st : Standing) (works : List DiskWork) → new ≡ old
+      → HasBegunWorks members old new st works
+  none-begun old new st works same =
       record { first = []; rest = works; are = refl; made = made-same members old new same }
 
   -- ---- system bytes
@@ -104,56 +103,52 @@ module _ {D : Type 0} (members : disk.Ghosts D) where
   module _ (s : EquipmentView) where
     pub none-needed : needs_numbers s ≡ false → [] ≡ reserve_works s
     none-needed enough =
-        sym (ap (λ (b : Bool). if b && not (is_marked_out s.mark) then Reserve ∷ [] else []) enough)
+        sym (ap (λ (b : Bool). if b && not (is_marked_out s.file.mark.value) then Reserve ∷ [] else []) enough)
 
-    pub not-reserved : (old : D) (bytes : List ℕ) → needs_numbers s ≡ false
-        → HasMade members old old (all_disk_calls bytes (standing_in s) (reserve_works s))
-    not-reserved old bytes enough =
-        subst (λ (works : List DiskWork). HasMade members old old (all_disk_calls bytes (standing_in s) works))
+    pub not-reserved : (old : D) → needs_numbers s ≡ false
+        → HasMade members old old (all_disk_calls (standing_in s) (reserve_works s))
+    not-reserved old enough =
+        subst (λ (works : List DiskWork). HasMade members old old (all_disk_calls (standing_in s) works))
         (none-needed enough) (made-same members old old refl)
 
-    module _ (g : GemSpool D) (needs : needs_numbers s ≡ true) (clear : IsClear members g.spool s) (t : Story)
-        (told : members.told g.spool.disk ≡ Some t)
+    module _ (g : GemSpool D) (needs : needs_numbers s ≡ true) (clear : IsClear members g.spool s)
+        (told : IsTold (members.told g.spool.disk))
       where
         pub reserve-made :
             (h : GemSpool D) (base : ℕ) → ReservesFrom members g h (Some base)
-            → HasMade members g.spool.disk h.spool.disk (all_disk_calls t.now.bytes (standing_in s) (reserve_works s))
+            → HasMade members g.spool.disk h.spool.disk (all_disk_calls (standing_in s) (reserve_works s))
         reserve-made h base done =
             subst
             (λ (works : List DiskWork).
-            HasMade members g.spool.disk h.spool.disk (all_disk_calls t.now.bytes (standing_in s) works))
+            HasMade members g.spool.disk h.spool.disk (all_disk_calls (standing_in s) works))
             (sym (mark-failed members s g needs clear done.0.0.left))
-            (subst
-            (λ (mark : ℕ). HasMade members g.spool.disk h.spool.disk (mark_calls t.now.bytes (mark + 4096)))
-            clear.stands.mark (mark-made members g.spool h.spool.disk t told done.0.0))
+            (mark-made members g.spool h.spool.disk (standing_in s) clear.stands told.0 told.1 done.0.0)
 
         pub reserve-stops :
             (spent : Device D) → Reserves members g.spool (Err (reserving.Failed spent))
-            → HasFailedIn members g.spool.disk spent.disk (all_disk_calls t.now.bytes (standing_in s) (reserve_works s))
+            → HasFailedIn members g.spool.disk spent.disk (all_disk_calls (standing_in s) (reserve_works s))
         reserve-stops spent done =
             subst
             (λ (works : List DiskWork).
-            HasFailedIn members g.spool.disk spent.disk (all_disk_calls t.now.bytes (standing_in s) works))
+            HasFailedIn members g.spool.disk spent.disk (all_disk_calls (standing_in s) works))
             (sym (mark-failed members s g needs clear done.0.left))
-            (subst
-            (λ (mark : ℕ). HasFailedIn members g.spool.disk spent.disk (mark_calls t.now.bytes (mark + 4096)))
-            clear.stands.mark (mark-stops members g.spool spent.disk t told done.0))
+            (mark-stops members g.spool spent.disk (standing_in s) clear.stands told.0 told.1 done.0)
 
-        is-out : (h : GemSpool D) → ReservesFrom members g h None → is_marked_out s.mark ≡ true
+        is-out : (h : GemSpool D) → ReservesFrom members g h None → is_marked_out s.file.mark.value ≡ true
         is-out h done = let none = done.1 in let mark = clear.stands.mark in grind (arith, nat_tests, none, mark)
 
         pub none-left : (h : GemSpool D) → ReservesFrom members g h None → [] ≡ reserve_works s
         none-left h done =
-            sym (ap (λ (b : Bool). if b && not (is_marked_out s.mark) then Reserve ∷ [] else []) needs
+            sym (ap (λ (b : Bool). if b && not (is_marked_out s.file.mark.value) then Reserve ∷ [] else []) needs
             ∙ ap (λ (b : Bool). if true && not b then Reserve ∷ [] else []) (is-out h done))
 
         pub reserve-spent :
             (h : GemSpool D) (spent : Device D) → ReservesFrom members g h None → spent.disk ≡ h.spool.disk
-            → HasMade members g.spool.disk spent.disk (all_disk_calls t.now.bytes (standing_in s) (reserve_works s))
+            → HasMade members g.spool.disk spent.disk (all_disk_calls (standing_in s) (reserve_works s))
         reserve-spent h spent done same =
             subst
             (λ (works : List DiskWork).
-            HasMade members g.spool.disk spent.disk (all_disk_calls t.now.bytes (standing_in s) works))
+            HasMade members g.spool.disk spent.disk (all_disk_calls (standing_in s) works))
             (none-left h done)
             (made-same members g.spool.disk spent.disk (same ∙ ap (λ (x : GemSpool D). x.spool.disk) done.0))
 
@@ -162,15 +157,15 @@ module _ {D : Type 0} (members : disk.Ghosts D) where
   module _ (s : EquipmentView) (input : Input ToolCommand) (now : ℕ) where
     -- all of it
     pub step-called :
-        (old mid : D) (bytes : List ℕ) (result : Result (GemSpool D) (Ended D)) → opening s ≡ Goes (at_first (opened s))
-        → HasMade members old mid (all_disk_calls bytes (standing_in s) (reserve_works s))
-        → HasCalled members disk_in mid bytes (standing_in (opened s)) (works_behind (begun_step s input now)) result
-        → HasCalled members disk_in old bytes (standing_in s) (works_of s input now) result
-    step-called old mid bytes result went first later =
-        called-then old mid bytes (standing_in s) (reserve_works s) first (works_behind (begun_step s input now)) result
+        (old mid : D) (result : Result (GemSpool D) (Ended D)) → opening s ≡ Goes (at_first (opened s))
+        → HasMade members old mid (all_disk_calls (standing_in s) (reserve_works s))
+        → HasCalled members disk_in mid (standing_in (opened s)) (works_behind (begun_step s input now)) result
+        → HasCalled members disk_in old (standing_in s) (works_of s input now) result
+    step-called old mid result went first later =
+        called-then old mid (standing_in s) (reserve_works s) first (works_behind (begun_step s input now)) result
         (subst
         (λ (st : Standing).
-        HasCalled members disk_in mid bytes st (works_behind (begun_step s input now)) result)
+        HasCalled members disk_in mid st (works_behind (begun_step s input now)) result)
         (sym (opened-behind s went)) later)
 
     -- nothing is owed where no system bytes are left
@@ -181,37 +176,37 @@ module _ {D : Type 0} (members : disk.Ghosts D) where
         ∙ ap (λ (works : List Work). map Change works ++ []) (sym (ap (λ (l : LedgerView). l.works) owes))
 
     pub not-called :
-        (old : D) (bytes : List ℕ) (node : Node OwnView Kind) (end : Ended D)
+        (old : D) (node : Node OwnView Kind) (end : Ended D)
         → carried_out s.node.own.ledger ≡ s.node.own.ledger → Opens members s node (Err end)
-        → HasCalled members disk_in old bytes (standing_in s) (reserve_works s) (Err end)
-        → HasCalled members disk_in old bytes (standing_in s) (works_of s input now) (Err end)
-    not-called old bytes node (ended.NumbersSpent spent) owes opens called =
-        all-behind old spent.disk bytes (standing_in s) (reserve_works s) called spent.disk
+        → HasCalled members disk_in old (standing_in s) (reserve_works s) (Err end)
+        → HasCalled members disk_in old (standing_in s) (works_of s input now) (Err end)
+    not-called old node (ended.NumbersSpent spent) owes opens called =
+        all-behind old spent.disk (standing_in s) (reserve_works s) called spent.disk
         (works_behind (begun_step s input now))
         (subst
         (λ (works : List DiskWork).
         HasMade members spent.disk spent.disk
-        (all_disk_calls bytes (standings_behind (standing_in s) (reserve_works s)) works))
+        (all_disk_calls (standings_behind (standing_in s) (reserve_works s)) works))
         (sym (none-owed opens.0 owes)) (made-same members spent.disk spent.disk refl))
-    not-called old bytes node (ended.DiskFailed spent) owes opens called =
-        called-wider old spent.disk bytes (standing_in s) (reserve_works s) (works_behind (begun_step s input now))
+    not-called old node (ended.DiskFailed spent) owes opens called =
+        called-wider old spent.disk (standing_in s) (reserve_works s) (works_behind (begun_step s input now))
         called
-    not-called old bytes node (ended.NoMemory spent) owes opens called = absurd opens
+    not-called old node (ended.NoMemory spent) owes opens called = absurd opens
 
     -- the disk failed at a work
     carry-stops :
-        (g : GemSpool D) (works : List Work) (rest : List DiskWork) (st : Standing) (bytes : List ℕ)
+        (g : GemSpool D) (works : List Work) (rest : List DiskWork) (st : Standing)
         (out after : StepOut) (end : Ended D) → count_of g.spool ≡ count_in st
         → Carries members g works out after (Err end)
-        → HasCalled members disk_in g.spool.disk bytes st (map Change works ++ rest) (Err end)
-    carry-stops g works rest st bytes out after (ended.DiskFailed spent) count cut =
-        called-wider g.spool.disk spent.disk bytes st (map Change works) rest
-        (all-failed members bytes g works cut.at cut.undone.failed cut.undone.before spent st count cut.undone.is
+        → HasCalled members disk_in g.spool.disk st (map Change works ++ rest) (Err end)
+    carry-stops g works rest st out after (ended.DiskFailed spent) count cut =
+        called-wider g.spool.disk spent.disk st (map Change works) rest
+        (all-failed members g works cut.at cut.undone.failed cut.undone.before spent st count cut.undone.is
         cut.undone.done cut.undone.fails)
-    carry-stops g works rest st bytes out after (ended.NumbersSpent spent) count cut = absurd cut
-    carry-stops g works rest st bytes out after (ended.NoMemory spent) count cut = absurd cut
+    carry-stops g works rest st out after (ended.NumbersSpent spent) count cut = absurd cut
+    carry-stops g works rest st out after (ended.NoMemory spent) count cut = absurd cut
 
-    module _ (bytes : List ℕ) (g : GemSpool D) (clear : IsClear members g.spool (opened s)) where
+    module _ (g : GemSpool D) (clear : IsClear members g.spool (opened s)) where
       abbrev stood : Standing
       stood = standing_in (opened s)
 
@@ -222,23 +217,23 @@ module _ {D : Type 0} (members : disk.Ghosts D) where
           → count_of g.spool ≡ stood_count node.own.ledger
           → counts_after (stood_count node.own.ledger) node.own.ledger.works ≡ stood_count (carried_out node.own.ledger)
           → HasCarried members g node.own.ledger.works h
-          → HasCalled members disk_in h.spool.disk bytes (standing_in (settled begun.step.next))
+          → HasCalled members disk_in h.spool.disk (standing_in (settled begun.step.next))
           (read_works (Goes (settled_step begun.step))) result
-          → HasCalled members disk_in g.spool.disk bytes stood (works_behind (begun_step s input now)) result
+          → HasCalled members disk_in g.spool.disk stood (works_behind (begun_step s input now)) result
       behind-called went h node out begun result count come carried last =
           subst
           (λ (w : Went EquipmentView Happening).
-          HasCalled members disk_in g.spool.disk bytes stood (works_behind w) result) (sym begun.is)
-          (called-then g.spool.disk h.spool.disk bytes stood (map Change works)
-          (all-made members bytes g works h stood clear.stands.count carried-is.done) (read_works (Goes begun.step))
+          HasCalled members disk_in g.spool.disk stood (works_behind w) result) (sym begun.is)
+          (called-then g.spool.disk h.spool.disk stood (map Change works)
+          (all-made members g works h stood clear.stands.count carried-is.done) (read_works (Goes begun.step))
           result
           (subst
           (λ (x : Standing).
-          HasCalled members disk_in h.spool.disk bytes x (read_works (Goes begun.step)) result)
+          HasCalled members disk_in h.spool.disk x (read_works (Goes begun.step)) result)
           (sym (changes-stand stood works ∙ standing))
           (subst
           (λ (b : Bool).
-          HasCalled members disk_in h.spool.disk bytes (standing_in (settled begun.step.next))
+          HasCalled members disk_in h.spool.disk (standing_in (settled begun.step.next))
           (if b then ReadOldest ∷ [] else []) result)
           (takes-settled members s input now begun.step.next) last)))
         where
@@ -257,17 +252,17 @@ module _ {D : Type 0} (members : disk.Ghosts D) where
               (count ∙ ap stood_count ledger-is)
               (subst (λ (l : LedgerView). counts_after (stood_count l) l.works ≡ stood_count (carried_out l)) ledger-is
               come)
-              begun.list begun.mark
+              begun.file
 
       pub behind-stops :
           (node : Node OwnView Kind) (out after : StepOut) (begun : IsBegun s input now node out) (end : Ended D)
           → Carries members g node.own.ledger.works out after (Err end)
-          → HasCalled members disk_in g.spool.disk bytes stood (works_behind (begun_step s input now)) (Err end)
+          → HasCalled members disk_in g.spool.disk stood (works_behind (begun_step s input now)) (Err end)
       behind-stops node out after begun end cut =
           subst
           (λ (w : Went EquipmentView Happening).
-          HasCalled members disk_in g.spool.disk bytes stood (works_behind w) (Err end)) (sym begun.is)
-          (carry-stops g begun.step.next.node.own.ledger.works (read_works (Goes begun.step)) stood bytes out after end
+          HasCalled members disk_in g.spool.disk stood (works_behind w) (Err end)) (sym begun.is)
+          (carry-stops g begun.step.next.node.own.ledger.works (read_works (Goes begun.step)) stood out after end
           clear.stands.count
           (subst (λ (n : Node OwnView Kind). Carries members g n.own.ledger.works out after (Err end))
           (sym begun.node_is)
@@ -277,25 +272,25 @@ module _ {D : Type 0} (members : disk.Ghosts D) where
       pub spent-stops :
           (node : Node OwnView Kind) (out after : StepOut) (begun : IsBegunSpent s input now node out) (end : Ended D)
           → Carries members g node.own.ledger.works out after (Err end)
-          → HasCalled members disk_in g.spool.disk bytes stood (works_behind (begun_step s input now)) (Err end)
+          → HasCalled members disk_in g.spool.disk stood (works_behind (begun_step s input now)) (Err end)
       spent-stops node out after begun end cut =
           subst
           (λ (w : Went EquipmentView Happening).
-          HasCalled members disk_in g.spool.disk bytes stood (works_behind w) (Err end)) (sym begun.is)
-          (carry-stops g begun.step.next.node.own.ledger.works [] stood bytes out after end clear.stands.count
+          HasCalled members disk_in g.spool.disk stood (works_behind w) (Err end)) (sym begun.is)
+          (carry-stops g begun.step.next.node.own.ledger.works [] stood out after end clear.stands.count
           (subst (λ (l : LedgerView). Carries members g l.works out after (Err end)) (sym begun.ledger) cut))
 
       pub spent-called :
           (h : GemSpool D) (node : Node OwnView Kind) (out : StepOut) (begun : IsBegunSpent s input now node out)
           (spent : Device D) → HasCarried members g node.own.ledger.works h → spent.disk ≡ h.spool.disk
-          → HasCalled members disk_in g.spool.disk bytes stood (works_behind (begun_step s input now))
+          → HasCalled members disk_in g.spool.disk stood (works_behind (begun_step s input now))
           (Err (ended.NumbersSpent spent))
       spent-called h node out begun spent carried same =
           subst
           (λ (w : Went EquipmentView Happening).
-          HasMade members g.spool.disk spent.disk (all_disk_calls bytes stood (works_behind w))) (sym begun.is)
-          (all-behind g.spool.disk h.spool.disk bytes stood (map Change works)
-          (all-made members bytes g works h stood clear.stands.count carried-is.done) spent.disk []
+          HasMade members g.spool.disk spent.disk (all_disk_calls stood (works_behind w))) (sym begun.is)
+          (all-behind g.spool.disk h.spool.disk stood (map Change works)
+          (all-made members g works h stood clear.stands.count carried-is.done) spent.disk []
           (made-same members h.spool.disk spent.disk same))
         where
           works : List Work
@@ -307,63 +302,63 @@ module _ {D : Type 0} (members : disk.Ghosts D) where
       -- memory was wanting
       pub none-called :
           (spent : Device D) → spent.disk ≡ g.spool.disk
-          → HasCalled members disk_in g.spool.disk bytes stood (works_behind (begun_step s input now))
+          → HasCalled members disk_in g.spool.disk stood (works_behind (begun_step s input now))
           (Err (ended.NoMemory spent))
       none-called spent same =
-          none-begun g.spool.disk spent.disk bytes stood (works_behind (begun_step s input now)) same
+          none-begun g.spool.disk spent.disk stood (works_behind (begun_step s input now)) same
 
   -- ---- what comes behind the works
 
   -- the last parts make no call
   pub last-called :
-      (bytes : List ℕ) (st : Standing) (g : GemSpool D) (parts : List ToolPart) (old new : Node OwnView Kind)
+      (st : Standing) (g : GemSpool D) (parts : List ToolPart) (old new : Node OwnView Kind)
       (out after : StepOut) (result : Result (GemSpool D) (Ended D)) → DoesLast members g parts old out new after result
-      → HasCalled members disk_in g.spool.disk bytes st [] result
-  last-called bytes st g parts old new out after (Ok h) does =
+      → HasCalled members disk_in g.spool.disk st [] result
+  last-called st g parts old new out after (Ok h) does =
       made-same members g.spool.disk h.spool.disk (ap (λ (x : GemSpool D). x.spool.disk) does.0)
-  last-called bytes st g parts old new out after (Err (ended.NumbersSpent spent)) does =
+  last-called st g parts old new out after (Err (ended.NumbersSpent spent)) does =
       made-same members g.spool.disk spent.disk does.0
-  last-called bytes st g parts old new out after (Err (ended.DiskFailed spent)) does = absurd does
-  last-called bytes st g parts old new out after (Err (ended.NoMemory spent)) does =
-      none-begun g.spool.disk spent.disk bytes st [] does
+  last-called st g parts old new out after (Err (ended.DiskFailed spent)) does = absurd does
+  last-called st g parts old new out after (Err (ended.NoMemory spent)) does =
+      none-begun g.spool.disk spent.disk st [] does
 
-  module _ (bytes : List ℕ) (st : Standing) (v : SpoolView D) (count : count_of v ≡ count_in st) where
+  module _ (st : Standing) (v : SpoolView D) (count : count_of v ≡ count_in st) where
     pub looked-called :
         (g : GemSpool D) (parts : List ToolPart) (old new : Node OwnView Kind) (out after : StepOut)
         (result : Result (GemSpool D) (Ended D)) → HasLooked members v g.spool (first_slot v) Done
         → DoesLast members g parts old out new after result
-        → HasCalled members disk_in v.disk bytes st (ReadOldest ∷ []) result
+        → HasCalled members disk_in v.disk st (ReadOldest ∷ []) result
     looked-called g parts old new out after result looked does =
-        called-then v.disk g.spool.disk bytes st (ReadOldest ∷ []) (look-made members v g.spool st count looked) []
+        called-then v.disk g.spool.disk st (ReadOldest ∷ []) (look-made members v g.spool st count looked) []
         result
-        (last-called bytes st g parts old new out after result does)
+        (last-called st g parts old new out after result does)
 
     pub look-called :
         (w : SpoolView D) (spent : Device D) → HasLooked members v w (first_slot v) Failed → spent.disk ≡ w.disk
-        → HasCalled members disk_in v.disk bytes st (ReadOldest ∷ []) (Err (ended.DiskFailed spent))
+        → HasCalled members disk_in v.disk st (ReadOldest ∷ []) (Err (ended.DiskFailed spent))
     look-called w spent looked same =
         subst
-        (λ (d : D). HasFailedIn members v.disk d (all_disk_calls bytes st (ReadOldest ∷ []))) (sym same)
+        (λ (d : D). HasFailedIn members v.disk d (all_disk_calls st (ReadOldest ∷ []))) (sym same)
         (look-stops members v w st count looked)
 
     -- it was read, and there was no memory for it
     pub unread-called :
         (w : SpoolView D) (spent : Device D) → HasLooked members v w (first_slot v) Done → spent.disk ≡ w.disk
-        → HasCalled members disk_in v.disk bytes st (ReadOldest ∷ []) (Err (ended.NoMemory spent))
+        → HasCalled members disk_in v.disk st (ReadOldest ∷ []) (Err (ended.NoMemory spent))
     unread-called w spent looked same = record {
       first = ReadOldest ∷ [];
       rest = [];
       are = refl;
       made =
-          subst (λ (d : D). HasMade members v.disk d (all_disk_calls bytes st (ReadOldest ∷ []))) (sym same)
+          subst (λ (d : D). HasMade members v.disk d (all_disk_calls st (ReadOldest ∷ []))) (sym same)
           (look-made members v w st count looked);
     }
 
-    pub some-there : v.len ≡ 0 → 0 < length st.list → ⊥
+    pub some-there : v.len ≡ 0 → 0 < length st.file.list → ⊥
     some-there none some =
         let len = ap (λ (c : Count). c.len) count in omega (arith, none, some, len)
 
-  module _ (t : Step EquipmentView Happening) (bytes : List ℕ) (old : D) (result : Result (GemSpool D) (Ended D)) where
+  module _ (t : Step EquipmentView Happening) (old : D) (result : Result (GemSpool D) (Ended D)) where
     abbrev most : ℕ
     most = most_transmitted t.next.node.own.tables
 
@@ -373,12 +368,12 @@ module _ {D : Type 0} (members : disk.Ghosts D) where
     -- the next message is asked for, or none
     pub reads-by :
         (number : Option ℕ) → next_number most t.next.node.own.ledger ≡ number
-        → HasCalled members disk_in old bytes (standing_in t.next) (read_by number) result
-        → HasCalled members disk_in old bytes (standing_in t.next) (read_works (Goes t)) result
+        → HasCalled members disk_in old (standing_in t.next) (read_by number) result
+        → HasCalled members disk_in old (standing_in t.next) (read_works (Goes t)) result
     reads-by number is called =
         subst
         (λ (n : Option ℕ).
-        HasCalled members disk_in old bytes (standing_in t.next) (if is_some n then ReadOldest ∷ [] else []) result)
+        HasCalled members disk_in old (standing_in t.next) (if is_some n then ReadOldest ∷ [] else []) result)
         (sym is) called
 
 -- it is asked for only where there is one
@@ -407,7 +402,7 @@ some-left most v n some = go v.unload some
 pub some-asked :
     {D : Type 0} (members : disk.Ghosts D) (v : SpoolView D) (t : Step EquipmentView Happening) (n : ℕ)
     → IsClear members v t.next → next_number (most_transmitted t.next.node.own.tables) t.next.node.own.ledger ≡ Some n
-    → 0 < length t.next.list
+    → 0 < length t.next.file.list
 some-asked members v t n clear some =
     let left = some-left (most_transmitted t.next.node.own.tables) t.next.node.own.ledger n some in
     let len = clear.len in omega (arith, left, len)

@@ -8,7 +8,6 @@ use Rattle.disk_base.specs.MemDisk.{DiskState, disk_health}
 use Rattle.disk_base.specs.contracts.mem_disk.MemDiskDisk.TheImpl.{ghosts}
 use Rattle.disk_base.specs.declared.cut.CutChoice.{CutChoice}
 use Rattle.gem_spool.specs.declared.spool.GemSpool.{GemSpool}
-use Rattle.gem_spool.specs.Standing.{Standing, file_of}
 use Rattle.message_flow.specs.declared.step.StepOut.{StepOut}
 use Rattle.spool_slots.specs.File.{SpoolFile, StandsFor}
 use Rattle.spool_slots.specs.declared.states.Spent.{Spent as Device}
@@ -23,25 +22,24 @@ use Rattle.equipment_tables.specs.declared.plan.EquipmentPlan.{EquipmentPlan}
 use Rattle.spool_works.specs.declared.ended.Ended.{Ended}
 use Rattle.spool_works.specs.declared.ended.Ended.TheVariants as ended
 use Rattle.tool_step.specs.declared.kind.Kind.{Kind}
-use Rattle.equipment_node.specs.Breaking.{BreaksAt, BreaksBy, HasBrokenAt, Passes, mark_behind}
+use Rattle.equipment_node.specs.Breaking.{BreaksAt, BreaksBy, HasBrokenAt, Passes}
 use Rattle.spool_works.specs.Breaking.{HasRoomLeft, IsGoingDisk, LeavesImages}
 use Rattle.tool_step.specs.Disk.{standing_in, works_of}
 use Rattle.spool_works.specs.DiskCalls.{disk_in}
 use Rattle.tool_step.specs.End.{machine}
 use Rattle.tool_step.specs.Equipment.{EquipmentView, act, begun_step, restarts, starts}
 use Rattle.equipment_node.specs.InMemory.{HasPower, IsLost, IsWhole, anew_over, file_cut, lost_by, lost_if, stop_told}
-use Rattle.spool_works.specs.Marked.{IsMarkedBy}
-use Rattle.tool_law.proofs.Lawful.{IsGoodView}
+use Rattle.spool_works.specs.SpoolLosses.{Left}
+use Rattle.tool_law.proofs.Lawful.{IsGoodView, act-good}
 use Rattle.tool_law.proofs.LawfulLosses.{LeavesWell, all-well}
 use Rattle.tool_step.proofs.LossCalls.{IsAtCall, at-call}
 use Rattle.spool_works.proofs.LossCounts.{has-call}
-use Rattle.tool_step.specs.Losses.{losses}
+use Rattle.tool_step.specs.Losses.{left_as, losses}
 use Rattle.tool_step.specs.Own.{OwnView}
 use Rattle.tool_law.specs.Sound.{AllCanBeSent}
 use Rattle.equipment_node.specs.Stepping.{HasStepped, stop_by, view_of}
-use Rattle.equipment_node.proofs.Seated.{step-on}
-use Rattle.equipment_node.proofs.Slots.{act-plan, act-slots}
-use Rattle.equipment_node.proofs.StepMarks.{act-mark}
+use Rattle.tool_step.proofs.StepFiles.{act-slots}
+use Rattle.equipment_node.proofs.Seated.{seen, step-on}
 
 -- ---- a call that isn't among these
 
@@ -86,42 +84,35 @@ module _ (plan : EquipmentPlan) (slots : ℕ) (node : Node OwnView Kind) (g : Ge
     -- ---- it goes on
 
     module _ (mid : Node OwnView Kind) (h : GemSpool DiskState) (has : HasStepped ghosts s input now mid out h)
-        (passes : Passes ghosts g.spool.disk s.mark some h.spool.disk (mark_behind s))
+        (passes : Passes ghosts g.spool.disk some h.spool.disk)
       where
         pub ok-ends :
             (lost : Option DiskState) → lost ≡ None
             → IsNearer some call h.spool.disk.plan.stop_in × (is_some lost ≡ false)
         ok-ends lost none = (
-          record { passes = none-at call some (passes.passed goes).passes; left = (passes.passed goes).nearer },
+          record { passes = none-at call some (passes goes).passes; left = (passes goes).nearer },
           ap (λ (o : Option DiskState). is_some o) none,
         )
-
-        mark-is : h.spool.mark ≡ mark_behind s
-        mark-is =
-            has.on.clear.stands.mark
-            ∙ sym (ap (λ (went : Went EquipmentView Happening). (step_in went).next.mark) has.is)
-            ∙ act-mark s input now
 
         plan-is : mid.own.plan ≡ plan
         plan-is =
             ap (λ (n : Node OwnView Kind). n.own.plan) (sym has.node_is)
             ∙ sym (ap (λ (went : Went EquipmentView Happening). (step_in went).next.node.own.plan) has.is)
-            ∙ act-plan power.on.made.plan power.on.made.fits s input now good ∙ power.plan_is
+            ∙ (act-good power.on.made.plan power.on.made.fits s input now good).own.plan_is ∙ sym good.own.plan_is
+            ∙ power.plan_is
 
-        slots-are : mid.own.ledger.slots ≡ slots
+        slots-are : (view_of ghosts mid (Some h)).file.slots ≡ slots
         slots-are =
-            ap (λ (n : Node OwnView Kind). n.own.ledger.slots) (sym has.node_is)
-            ∙ sym (ap (λ (went : Went EquipmentView Happening). (step_in went).next.node.own.ledger.slots) has.is)
-            ∙ act-slots power.on.made.plan power.on.made.fits s input now good ∙ power.slots_are
+            ap (λ (t : EquipmentView). t.file.slots)
+            (sym (seen ghosts h mid has.step.next has.on.clear has.told (sym has.node_is)))
+            ∙ sym (ap (λ (went : Went EquipmentView Happening). (step_in went).next.file.slots) has.is)
+            ∙ act-slots s input now ∙ power.slots_are
 
         ok-power : HasPower ghosts plan slots mid h
         ok-power = record {
           on = step-on ghosts s input now mid out h has;
-          fails_not = (passes.passed goes).on.fails_not;
-          going = (passes.passed goes).on.going.on;
-          marked =
-              subst (λ (m : ℕ). IsMarkedBy h.spool.disk.story.now.bytes m) (sym mark-is)
-              (passes.marked goes g.spool.disk.story h.spool.disk.story refl refl power.marked);
+          fails_not = (passes goes).on.fails_not;
+          going = (passes goes).on.going.on;
           plan_is = plan-is;
           slots_are = slots-are;
         }
@@ -133,47 +124,43 @@ module _ (plan : EquipmentPlan) (slots : ℕ) (node : Node OwnView Kind) (g : Ge
     -- ---- a planned call has stopped its disk
 
     module _ (lost : DiskState) (at : HasBrokenAt some call lost.story out.notes) where
-      abbrev Well : List Happening → (CutChoice → Standing) → Type 0
-      Well = LeavesWell s.mark (step_in (act s input now)).next.mark
+      abbrev Well : List Happening → Left → Type 0
+      Well = LeavesWell s.file (step_in (act s input now)).next.file.mark.value
 
       at-left : IsAtCall Well s at.loss
       at-left =
           at-call Well s (works_of s input now) (standing_in s) [] (step_in (begun_step s input now)).notes at.loss
           (all-well power.on.made.plan power.on.made.fits s input now good) (has-call call some at.loss at.is)
 
-      node-is : (choice : CutChoice) → (at.loss.left choice).node ≡ node
-      node-is choice = ap (λ (one : Loss EquipmentView). (one.left choice).node) at-left.is
+      left-is : (choice : CutChoice) → at.loss.left choice ≡ left_as s (at-left.left choice)
+      left-is choice = ap (λ (one : Loss EquipmentView). one.left choice) at-left.is
 
-      file-is : (choice : CutChoice) → file_cut lost choice ≡ file_of (standing_in (at.loss.left choice))
-      file-is choice = sym (at.left choice).stands.is
+      file-is : (choice : CutChoice) → file_cut lost choice ≡ (at.loss.left choice).file
+      file-is choice = sym (at.left choice).is
 
-      can-left : (choice : CutChoice) → AllCanBeSent (at.loss.left choice).list
+      can-left : (choice : CutChoice) → AllCanBeSent (at.loss.left choice).file.list
       can-left choice =
-          subst (λ (one : Loss EquipmentView). AllCanBeSent (one.left choice).list) (sym at-left.is)
-          (at-left.at choice).can
+          subst (λ (left : EquipmentView). AllCanBeSent left.file.list) (sym (left-is choice)) (at-left.at choice).can
+
+      slots-left : (choice : CutChoice) → (at.loss.left choice).file.slots ≡ slots
+      slots-left choice =
+          ap (λ (left : EquipmentView). left.file.slots) (left-is choice) ∙ (at-left.at choice).slots_are
+          ∙ power.slots_are
 
       is-lost : IsLost slots lost
       is-lost = record {
-        stands = λ choice.
-            subst (StandsFor (image_of choice lost.story)) (at.left choice).stands.is (at.left choice).stands;
+        stands = λ choice. subst (StandsFor (image_of choice lost.story)) (at.left choice).is (at.left choice);
         can = λ choice.
             subst (λ (file : SpoolFile). AllCanBeSent file.list) (sym (file-is choice)) (can-left choice);
-        marked = λ choice.
-            subst (λ (file : SpoolFile). IsMarkedBy (image_of choice lost.story) file.mark) (sym (file-is choice))
-            (at.left choice).marked;
-        slots_are = λ choice.
-            ap (λ (file : SpoolFile). file.slots) (file-is choice)
-            ∙ ap (λ (n : Node OwnView Kind). n.own.ledger.slots) (node-is choice) ∙ power.slots_are;
+        slots_are = λ choice. ap (λ (file : SpoolFile). file.slots) (file-is choice) ∙ slots-left choice;
       }
 
       starts-so : (mid : Node OwnView Kind) (choice : CutChoice) (later : ℕ)
           → anew_over ghosts plan mid None (Some lost) choice later ≡ restarts (at.loss.left choice) later
       starts-so mid choice later =
-          ap (λ (file : SpoolFile). starts plan file.slots file.list file.mark) (file-is choice)
-          ∙ ap
-          (λ (p : EquipmentPlan).
-          starts p (at.loss.left choice).node.own.ledger.slots (at.loss.left choice).list (at.loss.left choice).mark)
-          (sym (ap (λ (n : Node OwnView Kind). n.own.plan) (node-is choice) ∙ power.plan_is))
+          ap (λ (file : SpoolFile). starts plan file) (file-is choice)
+          ∙ ap (λ (p : EquipmentPlan). starts p (at.loss.left choice).file)
+          (sym (ap (λ (left : EquipmentView). left.node.own.plan) (left-is choice) ∙ power.plan_is))
 
       has-lost : (mid : Node OwnView Kind)
           → HasLost machine some call (λ choice later. anew_over ghosts plan mid None (Some lost) choice later) out
@@ -193,7 +180,7 @@ module _ (plan : EquipmentPlan) (slots : ℕ) (node : Node OwnView Kind) (g : Ge
 
     module _ (spent : Device DiskState)
         (breaks : IsGoingDisk (disk_health g.spool.disk)
-        → BreaksAt ghosts g.spool.disk s.mark some spent.disk out.notes)
+        → BreaksAt ghosts g.spool.disk some spent.disk out.notes)
       where
         abbrev is_stopped : Bool
         is_stopped =
@@ -206,7 +193,7 @@ module _ (plan : EquipmentPlan) (slots : ℕ) (node : Node OwnView Kind) (g : Ge
             let is =
             three spent.disk.plan.stopped (nat_le 5 (disk_health spent.disk).calls)
             (nat_le 4096 (disk_health spent.disk).room) so in
-            breaks goes g.spool.disk.story spent.disk.story refl refl power.marked images is.0
+            breaks goes spent.disk.story refl images is.0
             (room-left is.1 is.2)
           where
             room-left :
@@ -232,17 +219,17 @@ module _ (plan : EquipmentPlan) (slots : ℕ) (node : Node OwnView Kind) (g : Ge
     ends-at :
         (mid : Node OwnView Kind) (end : Ended DiskState) (after : ℕ)
         → IfSome (lost_by end) (λ (d : DiskState). LeavesImages d.story)
-        → BreaksBy ghosts disk_in g.spool.disk s.mark some (mark_behind s) out.notes (Err end)
+        → BreaksBy ghosts disk_in g.spool.disk some out.notes (Err end)
         → Ends mid None (lost_by end) after (stop_told (is_some (lost_by end)) (stop_by end))
     ends-at mid (ended.NoMemory spent) after images breaks = tt
-    ends-at mid (ended.NumbersSpent spent) after images breaks = none-at call some (breaks.passed goes).passes
+    ends-at mid (ended.NumbersSpent spent) after images breaks = none-at call some (breaks goes).passes
     ends-at mid (ended.DiskFailed spent) after images breaks =
         failed-ends spent breaks mid after (is_stopped spent breaks) refl images
 
     whole-at :
         (mid : Node OwnView Kind) (end : Ended DiskState)
         → IfSome (lost_by end) (λ (d : DiskState). LeavesImages d.story)
-        → BreaksBy ghosts disk_in g.spool.disk s.mark some (mark_behind s) out.notes (Err end)
+        → BreaksBy ghosts disk_in g.spool.disk some out.notes (Err end)
         → IsWhole ghosts plan slots mid None (lost_by end)
     whole-at mid (ended.NoMemory spent) images breaks = tt
     whole-at mid (ended.NumbersSpent spent) images breaks = tt
@@ -252,7 +239,7 @@ module _ (plan : EquipmentPlan) (slots : ℕ) (node : Node OwnView Kind) (g : Ge
     module _ (mid : Node OwnView Kind) (end : Ended DiskState) (lost : Option DiskState) (lost-is : lost ≡ lost_by end)
         (images : IfSome lost (λ (d : DiskState). LeavesImages d.story)) (spool : Option (GemSpool DiskState))
         (gone : spool ≡ None)
-        (breaks : BreaksBy ghosts disk_in g.spool.disk s.mark some (mark_behind s) out.notes (Err end))
+        (breaks : BreaksBy ghosts disk_in g.spool.disk some out.notes (Err end))
       where
         images-by : IfSome (lost_by end) (λ (d : DiskState). LeavesImages d.story)
         images-by = subst (λ (o : Option DiskState). IfSome o (λ (d : DiskState). LeavesImages d.story)) lost-is images

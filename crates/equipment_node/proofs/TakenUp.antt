@@ -1,12 +1,12 @@
 -- That a start from a device comes to the start from what the device tells.
-use Rattle.std.proofs.Common.{◌≡◌, refl, sym, ap, subst, ◌∙◌, inl, inr, ℕ, true, List, [], ◌∷◌, Option, Some, None}
+use Rattle.std.proofs.Common.{◌≡◌, refl, sym, ap, subst, ◌∙◌, inl, inr, true, List, [], ◌∷◌, Option, Some, None}
 use Rattle.std.specs.Option.{option_map}
 use Rattle.std.specs.Prelude.{Result, Ok, Err}
 use Rattle.disk_base.specs.Story.{Story, with_sync}
 use Rattle.disk_base.specs.Through.{EachImage}
 use Rattle.disk_base.specs.declared.disk.Disk as disk
 use Rattle.gem_spool.specs.declared.spool.GemSpool.{GemSpool}
-use Rattle.gem_spool.specs.Standing.{Standing, file_of, list_told, standing_of}
+use Rattle.gem_spool.specs.Standing.{file_told, standing_of}
 use Rattle.message_flow.specs.declared.step.StepOut.{StepOut}
 use Rattle.spool_slots.specs.Area.{first_of}
 use Rattle.spool_slots.specs.Changes.{Recovers}
@@ -93,39 +93,23 @@ module _ {D : Type 0} (members : disk.Ghosts D) (old : D) (s : Story) (told : me
     now-told =
         ap (λ (x : SpoolView D). members.told x.disk) same ∙ is.0.told ∙ ap (option_map with_sync) told
 
-    abbrev st : Standing
-    st = standing_of members g.spool
-
-    list-is : st.list ≡ file.list
-    list-is = ap (λ (tells : Option Story). list_told tells g.spool.first g.spool.len) now-told
+    -- what is found is what its bytes hold
+    pub file-is : (standing_of members g.spool).file ≡ file
+    file-is = ap (λ (tells : Option Story). file_told tells (known_of g.spool)) now-told
 
     rests : Rests (with_sync s) (known_of v)
     rests = (is.1 s told).0
-
-    pub slots-are : g.spool.slots ≡ file.slots
-    slots-are = ap (λ (x : SpoolView D). x.slots) same ∙ rests.slots_are
-
-    pub mark-is : g.spool.mark ≡ file.mark
-    mark-is = ap (λ (x : SpoolView D). x.mark) same ∙ rests.mark_is
 
     pub is-fresh : IsFresh members g
     is-fresh = record {
       told = (with_sync s, now-told);
       first =
           ap (λ (x : SpoolView D). x.first) same ∙ (is.1 s told).1 ∙ first-same file.list
-          ∙ ap first_in (sym list-is);
+          ∙ ap (λ (f : SpoolFile). first_in f.list) (sym file-is);
     }
 
-    pub file-is : file_of st ≡ file
-    file-is =
-        ap (λ (n : ℕ). made n g.spool.mark st.list) slots-are
-        ∙ ap (λ (n : ℕ). made file.slots n st.list) mark-is
-        ∙ ap (λ (list : List Message). made file.slots file.mark list) list-is
-      where
-        made : ℕ → ℕ → List Message → SpoolFile
-        made slots mark list = record { slots = slots; mark = mark; list = list }
-
-    marked-is : (t : Story) → EachImage (HasMark (file_of st)) t.now → EachImage (HasMark file) t.now
+    marked-is : (t : Story) → EachImage (HasMark (standing_of members g.spool).file) t.now
+        → EachImage (HasMark file) t.now
     marked-is t left = subst (λ (f : SpoolFile). EachImage (HasMark f) t.now) file-is left
 
     pub begun-over :
@@ -134,7 +118,7 @@ module _ {D : Type 0} (members : disk.Ghosts D) (old : D) (s : Story) (told : me
     begun-over plan fits out (Ok h) has = record {
       gone =
           subst
-          (λ (f : SpoolFile). HasGone (starts plan f.slots f.list f.mark) (view_in members h) out)
+          (λ (f : SpoolFile). HasGone (starts plan f) (view_in members h) out)
           file-is (start-gone members plan fits g h.spool h.tool out has);
       in_state = λ are. record {
         on =
@@ -145,7 +129,7 @@ module _ {D : Type 0} (members : disk.Ghosts D) (old : D) (s : Story) (told : me
     }
     begun-over plan fits out (Err (starting.NumbersSpent spent)) has = (
       record { line = has.2; notes = has.1 },
-      subst (λ (f : SpoolFile). is_marked_out f.mark ≡ true) file-is has.0,
+      subst (λ (f : SpoolFile). is_marked_out f.mark.value ≡ true) file-is has.0,
       λ t now. subst (λ (f : SpoolFile). EachImage (λ image. StandsFor image f) t.now) file-is (has.3 t now),
     )
     begun-over plan fits out (Err (starting.DiskFailed spent)) has =

@@ -88,8 +88,7 @@ pub record IsBegun (s : EquipmentView) (input : Input ToolCommand) (now : ℕ) (
   pub step : Step EquipmentView Happening
   pub is : begun_step s input now ≡ Goes step
   pub node_is : step.next.node ≡ node
-  pub list : step.next.list ≡ (opened s).list
-  pub mark : step.next.mark ≡ (opened s).mark
+  pub file : step.next.file ≡ (opened s).file
   pub notes : out.notes ≡ printed step.notes
   pub written : out.line.items ≡ step.written
 
@@ -100,8 +99,7 @@ pub record IsBegunSpent
   pub step : Step EquipmentView Happening
   pub is : begun_step s input now ≡ SpentAt step
   pub ledger : step.next.node.own.ledger ≡ node.own.ledger
-  pub list : step.next.list ≡ (opened s).list
-  pub mark : step.next.mark ≡ (opened s).mark
+  pub file : step.next.file ≡ (opened s).file
   pub notes : out.notes ≡ printed step.notes
 
 -- where it stops before its works

@@ -1,6 +1,5 @@
 -- Which calls of the disk the works of a step are, one by one, and which of them were made (this profile).
-use Rattle.std.specs.Prelude.{◌≡◌, ℕ, Some, Result}
-use Rattle.disk_base.specs.Story.{Story}
+use Rattle.std.specs.Prelude.{ℕ, Result}
 use Rattle.disk_base.specs.declared.disk.Disk as disk
 use Rattle.trace_log.specs.declared.commands.ToolCommand.{ToolCommand}
 use Rattle.message_end.specs.Ends.{Input}
@@ -8,6 +7,7 @@ use Rattle.spool_works.specs.declared.ended.Ended.{Ended}
 use Rattle.tool_step.specs.Disk.{standing_in, works_of}
 use Rattle.tool_step.specs.Equipment.{EquipmentView}
 use Rattle.equipment_node.specs.Held.{Held}
+use Rattle.equipment_node.specs.Stepping.{IsTold}
 use Rattle.spool_works.specs.DiskCalls.{HasCalled}
 
 abbrev pub disk_held : {D : Type 0} → Held D → D
@@ -17,5 +17,4 @@ disk_held h = h.spool.spool.disk
 abbrev pub CallsInStep :
     {D R : Type 0} → disk.Ghosts D → (R → D) → D → EquipmentView → Input ToolCommand → ℕ → Result R (Ended D) → Type 0
 CallsInStep members disk_of old s input now result =
-    (t : Story) → members.told old ≡ Some t
-    → HasCalled members disk_of old t.now.bytes (standing_in s) (works_of s input now) result
+    IsTold (members.told old) → HasCalled members disk_of old (standing_in s) (works_of s input now) result

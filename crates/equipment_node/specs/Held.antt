@@ -1,12 +1,12 @@
 -- The equipment over its disk as a value of the program, and what the code says of it as a whole.
-use Rattle.std.specs.Prelude.{◌≡◌, ◌⊎◌, refl, ℕ, ◌+◌, ◌<◌, Bool, true, All, List, [], Some, None, Result, Ok, Err}
+use Rattle.std.specs.Prelude.{◌≡◌, ◌⊎◌, refl, ℕ, ◌<◌, Bool, true, All, List, [], Some, None, Result, Ok, Err}
 use Rattle.std.specs.Coded.{Coded, code_by, coded×, coded_bool}
 use Rattle.disk_base.specs.Story.{Story, with_sync}
 use Rattle.disk_base.specs.Through.{EachImage}
 use Rattle.disk_base.specs.declared.disk.Disk as disk
 use Rattle.gem_spool.specs.declared.spool.GemSpool.{GemSpool}
 use Rattle.message_flow.specs.declared.step.StepOut.{StepOut}
-use Rattle.spool_slots.specs.Changes.{with_mark}
+use Rattle.spool_slots.specs.Changes.{with_mark_moved}
 use Rattle.spool_slots.specs.File.{SpoolFile, StandsFor, file_in, spool_break}
 use Rattle.spool_slots.specs.Reading.{IsBreak}
 use Rattle.spool_slots.specs.Spool.{SpoolView, spool_code}
@@ -64,12 +64,12 @@ pub record HasBegunOn
     {D : Type 0} (members : disk.Ghosts D) (plan : EquipmentPlan) (bytes : List ℕ) (out : StepOut) (h : Held D)
     : Type 0 where
   pub gone :
-      HasGone (starts plan (file_in bytes).slots (file_in bytes).list (file_in bytes).mark) (view_in members h) out
+      HasGone (starts plan (file_in bytes)) (view_in members h) out
   pub in_state : All (λ byte. byte < 256) bytes → IsIn members h
 
 -- the file with the old mark, or with the new one
 abbrev pub HasMark : SpoolFile → List ℕ → Type 0
-HasMark file image = StandsFor image file ⊎ StandsFor image (with_mark (file.mark + 4096) file)
+HasMark file image = StandsFor image file ⊎ StandsFor image (with_mark_moved file)
 
 -- nothing was written yet
 abbrev pub IsUntouched : Story → Story → Type 0
@@ -83,7 +83,7 @@ Begins members plan s out (Err (starting.NotSpool raw break)) =
     IsEmpty out × IsBreak s.now.bytes (spool_break s.now.bytes) break
     × ((t : Story) → members.told raw.disk ≡ Some t → IsUntouched s t)
 Begins members plan s out (Err (starting.NumbersSpent spent)) =
-    IsEmpty out × (is_marked_out (file_in s.now.bytes).mark ≡ true)
+    IsEmpty out × (is_marked_out (file_in s.now.bytes).mark.value ≡ true)
     × ((t : Story) → members.told spent.disk ≡ Some t
     → EachImage (λ image. StandsFor image (file_in s.now.bytes)) t.now)
 Begins members plan s out (Err (starting.DiskFailed spent)) =

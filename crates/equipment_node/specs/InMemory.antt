@@ -26,7 +26,6 @@ use Rattle.tool_step.specs.Own.{OwnView}
 use Rattle.tool_law.specs.Sound.{AllCanBeSent}
 use Rattle.equipment_node.specs.StartOver.{HasStartedOver, IsFresh, StartsOver}
 use Rattle.equipment_node.specs.Stepping.{IsOn, stop_by, view_of}
-use Rattle.spool_works.specs.Marked.{IsMarkedBy}
 
 -- no call of its disk is to fail
 abbrev pub IsSure : GemSpool DiskState → Type 0
@@ -37,7 +36,6 @@ pub record Holds (spool : GemSpool DiskState) : Type 0 where
   pub can : AllCanBeSent (file_in spool.spool.disk.story.now.bytes).list
   pub first : spool.spool.first ≡ first_in (file_in spool.spool.disk.story.now.bytes).list
   pub sure : IsSure spool
-  pub marked : IsMarkedBy spool.spool.disk.story.now.bytes spool.spool.mark
 
 -- ---- where its power may be lost
 
@@ -71,15 +69,12 @@ abbrev pub anew_over :
     disk.Ghosts DiskState → EquipmentPlan → Node OwnView Kind → Option (GemSpool DiskState) → Option DiskState
     → CutChoice → ℕ → Went EquipmentView Happening
 anew_over members plan node spool None choice now = restarts (view_of members node spool) now
-anew_over members plan node spool (Some lost) choice now =
-    starts plan (file_cut lost choice).slots (file_cut lost choice).list (file_cut lost choice).mark
+anew_over members plan node spool (Some lost) choice now = starts plan (file_cut lost choice)
 
--- of a lost disk a spool of so many slots is left, whatever becomes of it: its messages can be sent, and its gate goes
--- with its mark
+-- of a lost disk a spool of so many slots is left, whatever becomes of it, and its messages can be sent
 pub record IsLost (slots : ℕ) (lost : DiskState) : Type 0 where
   pub stands : (choice : CutChoice) → StandsFor (image_of choice lost.story) (file_cut lost choice)
   pub can : (choice : CutChoice) → AllCanBeSent (file_cut lost choice).list
-  pub marked : (choice : CutChoice) → IsMarkedBy (image_of choice lost.story) (file_cut lost choice).mark
   pub slots_are : (choice : CutChoice) → (file_cut lost choice).slots ≡ slots
 
 -- the spool in hand is that of its state, by this plan and with so many slots; no call of its disk is to fail alone,
@@ -89,9 +84,8 @@ pub record HasPower (members : disk.Ghosts DiskState) (plan : EquipmentPlan) (sl
   pub on : IsOn members g.spool (view_of members node (Some g))
   pub fails_not : g.spool.disk.plan.fail_in ≡ 0
   pub going : g.spool.disk.plan.stopped ≡ false
-  pub marked : IsMarkedBy g.spool.disk.story.now.bytes g.spool.mark
   pub plan_is : node.own.plan ≡ plan
-  pub slots_are : node.own.ledger.slots ≡ slots
+  pub slots_are : (view_of members node (Some g)).file.slots ≡ slots
 
 -- it has its spool in hand, or a disk that was stopped, or neither, where it has ended otherwise
 abbrev pub IsWhole :
@@ -108,13 +102,11 @@ pub record IsFileOf (slots : ℕ) (disk : DiskState) : Type 0 where
   pub stands : StandsFor disk.story.now.bytes (file_in disk.story.now.bytes)
   pub settled : disk.story.now.loose ≡ []
   pub can : AllCanBeSent (file_in disk.story.now.bytes).list
-  pub marked : IsMarkedBy disk.story.now.bytes (file_in disk.story.now.bytes).mark
   pub sure : IsSureDisk (disk_health disk)
   pub slots_are : (file_in disk.story.now.bytes).slots ≡ slots
 
 abbrev pub starts_over : EquipmentPlan → DiskState → Went EquipmentView Happening
-starts_over plan disk =
-    let file = file_in disk.story.now.bytes in starts plan file.slots file.list file.mark
+starts_over plan disk = starts plan (file_in disk.story.now.bytes)
 
 -- the disk that a step has left, where a planned call has stopped it: there is room for the calls of a work still
 abbrev pub lost_if : Bool → DiskState → Option DiskState

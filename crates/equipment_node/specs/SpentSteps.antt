@@ -24,8 +24,8 @@ IsSpentByCause members h input now (Err (ended.NoMemory spent)) = Unit {0}
 
 -- the same of a start from this file, which always needs some
 abbrev pub IsStartSpentByCause : {D : Type 0} → SpoolFile → Result (Held D) (Starting D) → Type 0
-IsStartSpentByCause file (Ok h) = is_marked_out file.mark ≡ false
-IsStartSpentByCause file (Err (starting.NumbersSpent spent)) = is_marked_out file.mark ≡ true
+IsStartSpentByCause file (Ok h) = is_marked_out file.mark.value ≡ false
+IsStartSpentByCause file (Err (starting.NumbersSpent spent)) = is_marked_out file.mark.value ≡ true
 IsStartSpentByCause file (Err (starting.NotSpool raw break)) = Unit {0}
 IsStartSpentByCause file (Err (starting.DiskFailed spent)) = Unit {0}
 IsStartSpentByCause file (Err (starting.NoMemory spent)) = Unit {0}

@@ -3,12 +3,11 @@ use Rattle.std.specs.Prelude.{◌≡◌, ◌⊎◌, ℕ, ◌+◌, ◌*◌, ◌�
 use Rattle.std.specs.List.{All}
 use Rattle.disk_base.specs.Calls.{DiskCall, Logs, sync_call}
 use Rattle.disk_base.specs.Faults.{IsCrowded}
-use Rattle.disk_base.specs.Story.{Story}
 use Rattle.disk_base.specs.declared.disk.CallKind.TheVariants.{Read}
 use Rattle.disk_base.specs.declared.disk.Disk as disk
 use Rattle.disk_base.specs.declared.disk.DiskAnswer.TheVariants.{Failed}
 use Rattle.spool_slots.specs.Changes.{most_reads}
-use Rattle.spool_slots.specs.File.{SpoolFile, file_in}
+use Rattle.spool_slots.specs.File.{SpoolFile}
 use Rattle.spool_works.specs.declared.ended.Ended.{Ended}
 use Rattle.spool_works.specs.declared.ended.Ended.TheVariants as ended
 use Rattle.equipment_node.specs.declared.equipment.Seat.{Seat}
@@ -21,23 +20,20 @@ use Rattle.equipment_node.specs.Held.{Held}
 -- ---- over a spool in hand
 
 -- the mark is moved on, unless it can't be
-abbrev pub MovesMark : {D : Type 0} → disk.Ghosts D → D → List ℕ → ℕ → Result (Seat D) (Ended D) → Type 0
-MovesMark members old bytes mark (Ok e) = HasMade members old e.spool.spool.disk (mark_calls bytes (mark + 4096))
-MovesMark members old bytes mark (Err (ended.NoMemory spent)) =
-    HasMade members old spent.disk (mark_calls bytes (mark + 4096))
-MovesMark members old bytes mark (Err (ended.NumbersSpent spent)) = HasMade members old spent.disk []
-MovesMark members old bytes mark (Err (ended.DiskFailed spent)) =
-    HasFailedIn members old spent.disk (mark_calls bytes (mark + 4096))
+abbrev pub MovesMark : {D : Type 0} → disk.Ghosts D → D → SpoolFile → Result (Seat D) (Ended D) → Type 0
+MovesMark members old file (Ok e) = HasMade members old e.spool.spool.disk (mark_calls file.mark)
+MovesMark members old file (Err (ended.NoMemory spent)) = HasMade members old spent.disk (mark_calls file.mark)
+MovesMark members old file (Err (ended.NumbersSpent spent)) = HasMade members old spent.disk []
+MovesMark members old file (Err (ended.DiskFailed spent)) = HasFailedIn members old spent.disk (mark_calls file.mark)
 
 -- the same, as the equipment
-abbrev pub StartMoves : {D : Type 0} → disk.Ghosts D → D → List ℕ → ℕ → Result (Held D) (Starting D) → Type 0
-StartMoves members old bytes mark (Ok h) = HasMade members old (disk_held h) (mark_calls bytes (mark + 4096))
-StartMoves members old bytes mark (Err (starting.NoMemory spent)) =
-    HasMade members old spent.disk (mark_calls bytes (mark + 4096))
-StartMoves members old bytes mark (Err (starting.NumbersSpent spent)) = HasMade members old spent.disk []
-StartMoves members old bytes mark (Err (starting.DiskFailed spent)) =
-    HasFailedIn members old spent.disk (mark_calls bytes (mark + 4096))
-StartMoves members old bytes mark (Err (starting.NotSpool raw break)) = ⊥
+abbrev pub StartMoves : {D : Type 0} → disk.Ghosts D → D → SpoolFile → Result (Held D) (Starting D) → Type 0
+StartMoves members old file (Ok h) = HasMade members old (disk_held h) (mark_calls file.mark)
+StartMoves members old file (Err (starting.NoMemory spent)) = HasMade members old spent.disk (mark_calls file.mark)
+StartMoves members old file (Err (starting.NumbersSpent spent)) = HasMade members old spent.disk []
+StartMoves members old file (Err (starting.DiskFailed spent)) =
+    HasFailedIn members old spent.disk (mark_calls file.mark)
+StartMoves members old file (Err (starting.NotSpool raw break)) = ⊥
 
 -- ---- from a device
 
@@ -48,29 +44,27 @@ pub record AreLooks (before after : Option (List DiskCall)) (most : ℕ) : Type 
   pub few : length looks ≤ most
   pub listed : after ≡ with_calls (syncs ∷ looks) before
 
--- the file is looked through, and then the mark is moved on
-abbrev pub LooksAndMoves : {D : Type 0} → disk.Ghosts D → D → D → List ℕ → SpoolFile → Type 0
-LooksAndMoves {D} members old new bytes file =
+-- the file is looked through, and then its mark is moved on
+abbrev pub LooksAndMoves : {D : Type 0} → disk.Ghosts D → D → D → SpoolFile → Type 0
+LooksAndMoves {D} members old new file =
     (mid : D) × AreLooks (members.calls old) (members.calls mid) (2 * file.slots + 1)
-    × HasMade members mid new (mark_calls bytes (file.mark + 4096))
+    × HasMade members mid new (mark_calls file.mark)
 
 -- the sync failed; or a look, which is the last one then, and may be missing where it was crowded out; or a call that
 -- moves the mark
-abbrev pub FailsOnTheWay : {D : Type 0} → disk.Ghosts D → D → D → List ℕ → SpoolFile → Type 0
-FailsOnTheWay {D} members old new bytes file =
+abbrev pub FailsOnTheWay : {D : Type 0} → disk.Ghosts D → D → D → SpoolFile → Type 0
+FailsOnTheWay {D} members old new file =
     Logs sync_call (IsCrowded (members.health old) 1 0) (members.calls old) (members.calls new) Failed
     ⊎ (AreLooks (members.calls old) (members.calls new) (most_reads (members.size_is old))
     ⊎ ((mid : D) × AreLooks (members.calls old) (members.calls mid) (2 * file.slots + 1)
-    × HasFailedIn members mid new (mark_calls bytes (file.mark + 4096))))
+    × HasFailedIn members mid new (mark_calls file.mark)))
 
--- the disk's calls in a start are these, where it told so much before
-abbrev pub CallsInStart : {D : Type 0} → disk.Ghosts D → D → Story → Result (Held D) (Starting D) → Type 0
-CallsInStart members old s (Ok h) = LooksAndMoves members old (disk_held h) s.now.bytes (file_in s.now.bytes)
-CallsInStart members old s (Err (starting.NoMemory spent)) =
-    LooksAndMoves members old spent.disk s.now.bytes (file_in s.now.bytes)
-CallsInStart members old s (Err (starting.NumbersSpent spent)) =
-    AreLooks (members.calls old) (members.calls spent.disk) (2 * (file_in s.now.bytes).slots + 1)
-CallsInStart members old s (Err (starting.NotSpool raw break)) =
+-- the disk's calls in a start over this file are these
+abbrev pub CallsInStart : {D : Type 0} → disk.Ghosts D → D → SpoolFile → Result (Held D) (Starting D) → Type 0
+CallsInStart members old file (Ok h) = LooksAndMoves members old (disk_held h) file
+CallsInStart members old file (Err (starting.NoMemory spent)) = LooksAndMoves members old spent.disk file
+CallsInStart members old file (Err (starting.NumbersSpent spent)) =
+    AreLooks (members.calls old) (members.calls spent.disk) (2 * file.slots + 1)
+CallsInStart members old file (Err (starting.NotSpool raw break)) =
     AreLooks (members.calls old) (members.calls raw.disk) (most_reads (members.size_is old))
-CallsInStart members old s (Err (starting.DiskFailed spent)) =
-    FailsOnTheWay members old spent.disk s.now.bytes (file_in s.now.bytes)
+CallsInStart members old file (Err (starting.DiskFailed spent)) = FailsOnTheWay members old spent.disk file

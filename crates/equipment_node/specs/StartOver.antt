@@ -32,15 +32,16 @@ use Rattle.tool_core.specs.Starting.{new_node, IsStartNoted}
 -- it was taken up from its device, and nothing was done with it since: an empty one begins with number 0
 pub record IsFresh {D : Type 0} (members : disk.Ghosts D) (g : GemSpool D) : Type 0 where
   pub told : IsTold (members.told g.spool.disk)
-  pub first : g.spool.first ≡ first_in (standing_of members g.spool).list
+  pub first : g.spool.first ≡ first_in (standing_of members g.spool).file.list
 
 abbrev pub started_over : {D : Type 0} → disk.Ghosts D → EquipmentPlan → GemSpool D → Step EquipmentView Happening
-started_over members plan g = started_on plan g.spool.slots (standing_of members g.spool).list g.spool.mark
+started_over members plan g = started_on plan (standing_of members g.spool).file
 
 pub record HasStartedOver
     {D : Type 0} (members : disk.Ghosts D) (plan : EquipmentPlan) (g : GemSpool D) (tool : Tool) (h : GemSpool D)
     (out : StepOut) : Type 0 where
-  pub room : is_marked_out g.spool.mark ≡ false
+  pub room : is_marked_out (standing_of members g.spool).file.mark.value ≡ false
+  pub slots_are : g.spool.slots ≡ (standing_of members g.spool).file.slots
   pub node_is : node_of tool ≡ (started_over members plan g).next.node
   pub clear : IsClear members h.spool (started_over members plan g).next
   pub told : IsTold (members.told h.spool.disk)
@@ -55,7 +56,7 @@ abbrev pub StartsOver :
     {D : Type 0} → disk.Ghosts D → EquipmentPlan → GemSpool D → StepOut → Result (Seat D) (Ended D) → Type 0
 StartsOver members plan g out (Ok e) = HasStartedOver members plan g e.tool.value e.spool out
 StartsOver members plan g out (Err (ended.NumbersSpent spent)) =
-    (is_marked_out g.spool.mark ≡ true) × (out.notes ≡ []) × (out.line.items ≡ [])
+    (is_marked_out (standing_of members g.spool).file.mark.value ≡ true) × (out.notes ≡ []) × (out.line.items ≡ [])
     × Keeps members spent (standing_of members g.spool)
 StartsOver members plan g out (Err (ended.DiskFailed spent)) =
     (out.notes ≡ []) × (out.line.items ≡ []) × IsLeftMarked members g spent

@@ -5,7 +5,8 @@ use Rattle.disk_base.specs.declared.disk.Disk as disk
 use Rattle.gem_spool.specs.declared.spool.GemSpool.{GemSpool}
 use Rattle.gem_spool.specs.Standing.{Stands, standing_of}
 use Rattle.message_flow.specs.declared.step.StepOut.{StepOut}
-use Rattle.spool_slots.specs.Slot.{Message}
+use Rattle.spool_slots.specs.File.{SpoolFile}
+use Rattle.spool_slots.specs.Format.{empty_file}
 use Rattle.spool_slots.specs.Spool.{SpoolView}
 use Rattle.spool_slots.specs.declared.states.Spent.{Spent}
 use Rattle.trace_log.specs.declared.commands.ToolCommand.{ToolCommand}
@@ -43,7 +44,8 @@ pub record IsMade (s : EquipmentView) : Type 0 where
 pub record IsClear {D : Type 0} (members : disk.Ghosts D) (v : SpoolView D) (s : EquipmentView) : Type 0 where
   pub stands : Stands members v (standing_in s)
   pub owes : carried_out s.node.own.ledger ≡ s.node.own.ledger
-  pub len : length s.list ≡ s.node.own.ledger.len
+  pub len : length s.file.list ≡ s.node.own.ledger.len
+  pub slots_are : s.file.slots ≡ s.node.own.ledger.slots
 
 pub record IsOn {D : Type 0} (members : disk.Ghosts D) (v : SpoolView D) (s : EquipmentView) : Type 0 where
   pub clear : IsClear members v s
@@ -86,19 +88,15 @@ Steps members s input now node out (Err (ended.NoMemory spent)) =
 
 -- ---- an equipment with its spool, or one that has stopped
 
--- of one that has stopped nothing is said of the list
-abbrev pub list_in : {D : Type 0} → disk.Ghosts D → Option (GemSpool D) → List Message
-list_in members None = []
-list_in members (Some g) = (standing_of members g.spool).list
-
-abbrev pub mark_in : {D : Type 0} → Option (GemSpool D) → ℕ
-mark_in None = 0
-mark_in (Some g) = g.spool.mark
+-- of one that has stopped nothing is said of the file
+abbrev pub file_held : {D : Type 0} → disk.Ghosts D → Option (GemSpool D) → SpoolFile
+file_held members None = empty_file 0
+file_held members (Some g) = (standing_of members g.spool).file
 
 -- its state
 abbrev pub view_of :
     {D : Type 0} → disk.Ghosts D → Node OwnView Kind → Option (GemSpool D) → EquipmentView
-view_of members node spool = record { node = node; list = list_in members spool; mark = mark_in spool }
+view_of members node spool = record { node = node; file = file_held members spool }
 
 -- why it has stopped
 abbrev pub stop_by : {D : Type 0} → Ended D → Stop

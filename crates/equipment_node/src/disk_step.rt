@@ -3,7 +3,6 @@
 
 ghost use Rattle.std.specs.Prelude.{All, ◌≡◌, ◌≢◌, ◌∷◌, [], ◌<◌, ◌≤◌, ◌%◌, ◌^◌, ◌-◌, nat_le, length, List, ℕ, true, Err, IfOk, Some};
 ghost use Rattle.arrayvec.specs.ArrayVec.{array_vec_len};
-ghost use Rattle.disk_base.specs.Story.{Story};
 ghost use Rattle.gem_spool.specs.Standing.{Standing, Stands, count_in, count_of};
 ghost use Rattle.gem_spool.specs.Works.{AreDue, counts_after};
 ghost use Rattle.trace_log.specs.Log.{Happening};
@@ -18,7 +17,7 @@ ghost use Rattle.spool_ledger.specs.Ledger.{carried_out, stood_count};
 ghost use Rattle.spool_ledger.specs.Unloading.{next_number as unload_number};
 ghost use Rattle.equipment_tables.specs.Tables.{most_transmitted};
 ghost use Rattle.equipment_node.specs.Amid.{Acts, Carries, DoesLast, EndsSo, HasOpened, IsAt, IsBegun, IsReady, IsSendable, Opens, StopsAt, asked_node, opened, settled_node};
-ghost use Rattle.equipment_node.specs.Breaking.{BreaksBy, mark_behind};
+ghost use Rattle.equipment_node.specs.Breaking.{BreaksBy};
 ghost use Rattle.equipment_node.specs.Asked.{HasAsked, asked_for, read_asks};
 ghost use Rattle.tool_step.specs.Disk.{asks, read_works, reserve_works, standing_in, works_behind};
 ghost use Rattle.spool_works.specs.DiskWorks.DiskWork.{ReadOldest};
@@ -72,8 +71,7 @@ pub(crate) fn step_on<D: Disk>(
         → CallsInStep D.Disk disk_in spool.spool.disk s (input_of input.entry) now result }
     ensures breaks { (s : EquipmentView) → node_of tool.old ≡ s.node → IsOn D.Disk spool.spool s
         → IsTold (D.told spool.spool.disk)
-        → BreaksBy D.Disk disk_in spool.spool.disk s.mark (losses s (input_of input.entry) now) (mark_behind s)
-        out.new.notes result }
+        → BreaksBy D.Disk disk_in spool.spool.disk (losses s (input_of input.entry) now) out.new.notes result }
     ensures disk { HandsBack D.Disk spool.spool.disk result }
 {
     match from_reserve(tool, alloc, spool, input, now, out) {
@@ -109,8 +107,7 @@ fn from_reserve<D: Disk>(
         → CallsInStep D.Disk disk_in spool.spool.disk s (input_of input.entry) now result }
     ensures breaks { (s : EquipmentView) → node_of tool.old ≡ s.node → IsOn D.Disk spool.spool s
         → IsTold (D.told spool.spool.disk)
-        → BreaksBy D.Disk disk_in spool.spool.disk s.mark (losses s (input_of input.entry) now) (mark_behind s)
-        out.new.notes result }
+        → BreaksBy D.Disk disk_in spool.spool.disk (losses s (input_of input.entry) now) out.new.notes result }
     ensures disk { HandsBack D.Disk spool.spool.disk result }
 {
     match reserve(tool, spool, out) {
@@ -132,12 +129,12 @@ fn reserve<D: Disk>(
         → IsTold (D.told spool.spool.disk)
         → HasAsked D.Disk spool.spool.disk (asked_for (standing_in s) (reserve_works s)) result }
     ensures calls { (s : EquipmentView) → node_of tool.old ≡ s.node → IsOn D.Disk spool.spool s
-        → (t : Story) → D.told spool.spool.disk ≡ Some t
-        → HasCalled D.Disk disk_in spool.spool.disk t.now.bytes (standing_in s) (reserve_works s) result }
+        → IsTold (D.told spool.spool.disk)
+        → HasCalled D.Disk disk_in spool.spool.disk (standing_in s) (reserve_works s) result }
     ensures breaks { (s : EquipmentView) → node_of tool.old ≡ s.node → IsOn D.Disk spool.spool s
         → IsTold (D.told spool.spool.disk) → out.old.notes ≡ []
-        → BreaksBy D.Disk disk_in spool.spool.disk s.mark
-        (losses_of s (standing_in s) [] (reserve_works s) []) (mark_behind s) out.new.notes result }
+        → BreaksBy D.Disk disk_in spool.spool.disk (losses_of s (standing_in s) [] (reserve_works s) [])
+        out.new.notes result }
     ensures ready { IfOk result (λ g. IsReady g.spool (node_of tool.new)) }
     ensures notes { out.new.notes ≡ out.old.notes }
     ensures line { out.new.line.items ≡ out.old.line.items }
@@ -170,12 +167,12 @@ fn reserve_more<D: Disk>(
         → IsOn D.Disk spool.spool s
         → HasAsked D.Disk spool.spool.disk (asked_for (standing_in s) (reserve_works s)) result }
     ensures calls { (s : EquipmentView) → node_of tool.old ≡ s.node → needs_numbers s ≡ true
-        → IsOn D.Disk spool.spool s → (t : Story) → D.told spool.spool.disk ≡ Some t
-        → HasCalled D.Disk disk_in spool.spool.disk t.now.bytes (standing_in s) (reserve_works s) result }
+        → IsOn D.Disk spool.spool s → IsTold (D.told spool.spool.disk)
+        → HasCalled D.Disk disk_in spool.spool.disk (standing_in s) (reserve_works s) result }
     ensures breaks { (s : EquipmentView) → node_of tool.old ≡ s.node → needs_numbers s ≡ true
         → IsOn D.Disk spool.spool s → IsTold (D.told spool.spool.disk) → out.old.notes ≡ []
-        → BreaksBy D.Disk disk_in spool.spool.disk s.mark
-        (losses_of s (standing_in s) [] (reserve_works s) []) (mark_behind s) out.new.notes result }
+        → BreaksBy D.Disk disk_in spool.spool.disk (losses_of s (standing_in s) [] (reserve_works s) [])
+        out.new.notes result }
     ensures ready { IfOk result (λ g. IsReady g.spool (node_of tool.new)) }
     ensures notes { out.new.notes ≡ out.old.notes }
     ensures line { out.new.line.items ≡ out.old.line.items }
@@ -211,15 +208,15 @@ fn from_input<D: Disk>(
         → HasAsked D.Disk spool.spool.disk
         (asked_for (standing_in (opened s)) (works_behind (begun_step s (input_of input.entry) now)))
         result }
-    ensures calls { (s : EquipmentView) → HasOpened D.Disk s (node_of tool.old) spool → (bytes : List ℕ)
-        → HasCalled D.Disk disk_in spool.spool.disk bytes (standing_in (opened s))
+    ensures calls { (s : EquipmentView) → HasOpened D.Disk s (node_of tool.old) spool
+        → HasCalled D.Disk disk_in spool.spool.disk (standing_in (opened s))
         (works_behind (begun_step s (input_of input.entry) now))
         result }
     ensures breaks { (s : EquipmentView) → HasOpened D.Disk s (node_of tool.old) spool
-        → BreaksBy D.Disk disk_in spool.spool.disk (opened s).mark
+        → BreaksBy D.Disk disk_in spool.spool.disk
         (losses_of s (standing_in (opened s)) [] (works_behind (begun_step s (input_of input.entry) now))
         (step_in (begun_step s (input_of input.entry) now)).notes)
-        (opened s).mark out.new.notes result }
+        out.new.notes result }
     ensures disk { HandsBack D.Disk spool.spool.disk result }
 {
     match tool.do_first(alloc, input, now, out) {
@@ -250,16 +247,15 @@ fn from_works<D: Disk>(
         result }
     ensures calls { (s : EquipmentView) → (input : Input ToolCommand)
         → IsBegun s input now (node_of tool.old) out.old → HasOpened D.Disk s (opened s).node spool
-        → (bytes : List ℕ)
-        → HasCalled D.Disk disk_in spool.spool.disk bytes (standing_in (opened s))
+        → HasCalled D.Disk disk_in spool.spool.disk (standing_in (opened s))
         (works_behind (begun_step s input now))
         result }
     ensures breaks { (s : EquipmentView) → (input : Input ToolCommand)
         → IsBegun s input now (node_of tool.old) out.old → HasOpened D.Disk s (opened s).node spool
-        → BreaksBy D.Disk disk_in spool.spool.disk (opened s).mark
+        → BreaksBy D.Disk disk_in spool.spool.disk
         (losses_of s (standing_in (opened s)) [] (works_behind (begun_step s input now))
         (step_in (begun_step s input now)).notes)
-        (opened s).mark out.new.notes result }
+        out.new.notes result }
     ensures disk { HandsBack D.Disk spool.spool.disk result }
 {
     match carry_out(tool, alloc, spool, out) {
@@ -287,16 +283,15 @@ fn end_early<D: Disk>(
         (Err result) }
     ensures calls { (s : EquipmentView) → (input : Input ToolCommand) → (now : ℕ)
         → StopsAt s input now (node_of tool.old) out.old stop → HasOpened D.Disk s (opened s).node spool
-        → (bytes : List ℕ)
-        → HasCalled D.Disk disk_in spool.spool.disk bytes (standing_in (opened s))
+        → HasCalled D.Disk disk_in spool.spool.disk (standing_in (opened s))
         (works_behind (begun_step s input now))
         (Err result) }
     ensures breaks { (s : EquipmentView) → (input : Input ToolCommand) → (now : ℕ)
         → StopsAt s input now (node_of tool.old) out.old stop → HasOpened D.Disk s (opened s).node spool
-        → BreaksBy D.Disk disk_in spool.spool.disk (opened s).mark
+        → BreaksBy D.Disk disk_in spool.spool.disk
         (losses_of s (standing_in (opened s)) [] (works_behind (begun_step s input now))
         (step_in (begun_step s input now)).notes)
-        (opened s).mark out.new.notes (Err result) }
+        out.new.notes (Err result) }
     ensures disk { stop ≢ DiskFailed → HandsBack D.Disk spool.spool.disk (Err result) }
 {
     match stop {
@@ -328,16 +323,15 @@ fn stop_spent<D: Disk>(
         (Err result) }
     ensures calls { (s : EquipmentView) → (input : Input ToolCommand) → (now : ℕ)
         → StopsAt s input now (node_of tool.old) out.old NumbersSpent → HasOpened D.Disk s (opened s).node spool
-        → (bytes : List ℕ)
-        → HasCalled D.Disk disk_in spool.spool.disk bytes (standing_in (opened s))
+        → HasCalled D.Disk disk_in spool.spool.disk (standing_in (opened s))
         (works_behind (begun_step s input now))
         (Err result) }
     ensures breaks { (s : EquipmentView) → (input : Input ToolCommand) → (now : ℕ)
         → StopsAt s input now (node_of tool.old) out.old NumbersSpent → HasOpened D.Disk s (opened s).node spool
-        → BreaksBy D.Disk disk_in spool.spool.disk (opened s).mark
+        → BreaksBy D.Disk disk_in spool.spool.disk
         (losses_of s (standing_in (opened s)) [] (works_behind (begun_step s input now))
         (step_in (begun_step s input now)).notes)
-        (opened s).mark out.new.notes (Err result) }
+        out.new.notes (Err result) }
     ensures disk { HandsBack D.Disk spool.spool.disk (Err result) }
 {
     match carry_out(tool, alloc, spool, out) {
@@ -380,12 +374,10 @@ fn from_read<D: Disk>(
         → EndsSo D.Disk now t (node_of tool.new) out.new result }
     ensures asks { HasAsked D.Disk spool.spool.disk (read_asks (own_of tool.old.own)) result }
     ensures calls { (t : Step EquipmentView Happening) → IsAt D.Disk t (node_of tool.old) out.old spool
-        → (bytes : List ℕ)
-        → HasCalled D.Disk disk_in spool.spool.disk bytes (standing_in t.next) (read_works (Goes t)) result }
+        → HasCalled D.Disk disk_in spool.spool.disk (standing_in t.next) (read_works (Goes t)) result }
     ensures breaks { (t : Step EquipmentView Happening) → IsAt D.Disk t (node_of tool.old) out.old spool
-        → (s : EquipmentView) → (standing_in t.next).slots ≡ s.node.own.ledger.slots
-        → BreaksBy D.Disk disk_in spool.spool.disk t.next.mark
-        (losses_of s (standing_in t.next) [] (read_works (Goes t)) t.notes) t.next.mark out.new.notes result }
+        → (s : EquipmentView) → BreaksBy D.Disk disk_in spool.spool.disk
+        (losses_of s (standing_in t.next) [] (read_works (Goes t)) t.notes) out.new.notes result }
     ensures disk { HandsBack D.Disk spool.spool.disk result }
 {
     match tool.next_unload() {
@@ -412,13 +404,12 @@ fn end_reading<D: Disk>(
         → IsAt D.Disk t t.next.node out.old spool
         → EndsSo D.Disk now t (node_of tool.new) out.new result }
     ensures asks { HasAsked D.Disk spool.spool.disk (record { calls = 1; bytes = 0 }) result }
-    ensures calls { (st : Standing) → count_of spool.spool ≡ count_in st → 0 < length st.list
-        → (bytes : List ℕ) → HasCalled D.Disk disk_in spool.spool.disk bytes st (ReadOldest ∷ []) result }
-    ensures breaks { (s : EquipmentView) → (st : Standing) → Stands D.Disk spool.spool st → 0 < length st.list
-        → st.slots ≡ s.node.own.ledger.slots → IsTold (D.told spool.spool.disk) → (front : List Happening)
-        → out.old.notes ≡ printed front
-        → BreaksBy D.Disk disk_in spool.spool.disk st.mark (losses_of s st [] (ReadOldest ∷ []) front) st.mark
-        out.new.notes result }
+    ensures calls { (st : Standing) → count_of spool.spool ≡ count_in st → 0 < length st.file.list
+        → HasCalled D.Disk disk_in spool.spool.disk st (ReadOldest ∷ []) result }
+    ensures breaks { (s : EquipmentView) → (st : Standing) → Stands D.Disk spool.spool st → 0 < length st.file.list
+        → IsTold (D.told spool.spool.disk) → (front : List Happening) → out.old.notes ≡ printed front
+        → BreaksBy D.Disk disk_in spool.spool.disk (losses_of s st [] (ReadOldest ∷ []) front) out.new.notes
+        result }
     ensures disk { HandsBack D.Disk spool.spool.disk result }
 {
     let mut spool = spool;

@@ -2,12 +2,12 @@
 
 ghost use Rattle.std.specs.Prelude.{◌≡◌, ◌+◌, ◌≤◌, ◌<◌, ◌^◌, IfOk, Some};
 ghost use Rattle.disk_base.specs.Story.{Story};
+ghost use Rattle.gem_spool.specs.Standing.{standing_of};
 ghost use Rattle.spool_slots.specs.File.{file_in};
 ghost use Rattle.trace_log.specs.Commands.{ToolCommandFits};
 ghost use Rattle.message_end.specs.Ends.{IsEmpty, MayTake, input_of};
 ghost use Rattle.equipment_tables.specs.Plan.{EquipmentPlanFits};
 ghost use Rattle.equipment_node.specs.Amid.{IsReady};
-ghost use Rattle.spool_works.specs.Breaking.{KeepsMarked};
 ghost use Rattle.equipment_node.specs.DiskCalls.{CallsInStep, disk_held};
 ghost use Rattle.equipment_node.specs.HandedBack.{SeatHandsBack, StartHandsBack, StepHandsBack};
 ghost use Rattle.equipment_node.specs.Held.{Begins, FindsFile, IsIn, Moves, starting_by, view_in};
@@ -15,6 +15,7 @@ ghost use Rattle.tool_core.specs.Node.{node_of};
 ghost use Rattle.equipment_node.specs.SpentSteps.{IsSpentByCause, IsStartSpentByCause};
 ghost use Rattle.equipment_node.specs.StartCalls.{CallsInStart, MovesMark, StartMoves};
 ghost use Rattle.equipment_node.specs.StartOver.{BeginsOver, IsFresh, StartAsks, StartsOver, StartsWith};
+ghost use Rattle.equipment_node.specs.Stepping.{IsTold};
 ghost use Rattle.tool_core.specs.Starting.{IsStartNoted, new_node};
 ghost use Rattle.tool_step.specs.Step.{deadline_of};
 
@@ -91,7 +92,8 @@ impl<D: Disk> Equipment<D> {
         requires out { IsEmpty out.old }
         ensures begins { (s : Story) → D.told raw.disk ≡ Some s → Begins D.Disk plan.now s out.new result }
         ensures spent { (s : Story) → D.told raw.disk ≡ Some s → IsStartSpentByCause (file_in s.now.bytes) result }
-        ensures calls { (s : Story) → D.told raw.disk ≡ Some s → CallsInStart D.Disk raw.disk s result }
+        ensures calls { (s : Story) → D.told raw.disk ≡ Some s
+            → CallsInStart D.Disk raw.disk (file_in s.now.bytes) result }
         ensures finds { (s : Story) → D.told raw.disk ≡ Some s → FindsFile s result }
         ensures disk { StartHandsBack D.Disk raw.disk result }
     {
@@ -112,8 +114,8 @@ impl<D: Disk> Equipment<D> {
         requires plan { EquipmentPlanFits plan.now }
         requires out { IsEmpty out.old }
         ensures begins { IsFresh D.Disk spool → BeginsOver D.Disk plan.now spool out.new result }
-        ensures calls { (t : Story) → D.told spool.spool.disk ≡ Some t
-            → StartMoves D.Disk spool.spool.disk t.now.bytes spool.spool.mark result }
+        ensures calls { IsTold (D.told spool.spool.disk)
+            → StartMoves D.Disk spool.spool.disk (standing_of D.Disk spool.spool).file result }
         ensures disk { StartHandsBack D.Disk spool.spool.disk result }
     {
         match start_over(alloc, plan, spool, out) {
@@ -221,14 +223,9 @@ pub(crate) fn start_over<D: Disk>(
     ensures ready { IfOk result (λ e. IsReady e.spool.spool (node_of e.tool.value)) }
     ensures starts { IsFresh D.Disk spool → StartsOver D.Disk plan.now spool out.new result }
     ensures asks { StartAsks D.Disk spool.spool.disk result }
-    ensures calls { (t : Story) → D.told spool.spool.disk ≡ Some t
-        → MovesMark D.Disk spool.spool.disk t.now.bytes spool.spool.mark result }
+    ensures calls { IsTold (D.told spool.spool.disk)
+        → MovesMark D.Disk spool.spool.disk (standing_of D.Disk spool.spool).file result }
     ensures disk { SeatHandsBack D.Disk spool.spool.disk result }
-    ensures marked { IfOk result (λ e. KeepsMarked
-        (D.told spool.spool.disk)
-        spool.spool.mark
-        (D.told e.spool.spool.disk)
-        e.spool.spool.mark) }
 {
     // (that it stands as it says is told by the call that counts its messages)
     let _ = spool.len();

@@ -7,7 +7,6 @@ ghost use Rattle.disk_base.specs.declared.cut.CutChoice.{CutChoice};
 ghost use Rattle.equipment_tables.specs.Plan.{EquipmentPlanFits};
 ghost use Rattle.trace_log.specs.Commands.{ToolCommandFits};
 ghost use Rattle.message_end.specs.Ends.{EndsBy, IsEmpty, IsNotStopped, Leaves, MayTake, input_of};
-ghost use Rattle.spool_works.specs.Breaking.{KeepsMarked};
 ghost use Rattle.tool_step.specs.Disk.{stops};
 ghost use Rattle.tool_step.specs.End.{machine as equipment_machine};
 ghost use Rattle.tool_step.specs.Equipment.{act};
@@ -104,8 +103,7 @@ impl End for EquipmentEnd {
 
     ghost plan_of = { end_plan };
 
-    ghost start = { λ plan store. starts plan store.spool.slots (standing_of ⟦<MemDisk as Disk>⟧ store.spool).list
-        store.spool.mark };
+    ghost start = { λ plan store. starts plan (standing_of ⟦<MemDisk as Disk>⟧ store.spool).file };
 
     ghost machine = { machine };
 
@@ -113,8 +111,8 @@ impl End for EquipmentEnd {
 
     ghost due = { λ s. deadline_of s.node };
 
-    ghost lawful = { λ plan store fits holds. equipment_lawful plan store.spool.slots
-        (standing_of ⟦<MemDisk as Disk>⟧ store.spool).list store.spool.mark fits holds.can };
+    ghost lawful = { λ plan store fits holds. equipment_lawful plan (standing_of ⟦<MemDisk as Disk>⟧ store.spool).file
+        fits holds.can };
 
     fn start(
         alloc: Global,
@@ -387,11 +385,6 @@ impl EquipmentEnd {
         ensures fits { EquipmentPlanFits self.old.plan }
         ensures plan { self.new.plan ≡ self.old.plan }
         ensures slots { self.new.slots ≡ self.old.slots }
-        ensures marked { IfSome self.new.spool (λ g. KeepsMarked
-            (Some spool.spool.disk.story)
-            spool.spool.mark
-            (Some g.spool.disk.story)
-            g.spool.mark) }
         ensures lost { self.new.lost ≡ self.old.lost }
     {
         match start_over(alloc, self.plan.get(), spool, out) {

@@ -188,7 +188,7 @@ module _ {D : Type 0} (members : disk.Ghosts D) where
       does_count g h one done ∙ ap (λ (c : Count). count_after c one) count ∙ count_keeps st one
 
   -- each work made its calls
-  does_used : (g h : GemSpool D) (one : Work) (st : Standing) → count_of g.spool ≡ count_in st →
+  pub does_used : (g h : GemSpool D) (one : Work) (st : Standing) → count_of g.spool ≡ count_in st →
       Does members g one (Ok h) →
       IsUsed (members.health g.spool.disk) (members.health h.spool.disk) (calls_of st one) (bytes_of st one)
   does_used g h (work.Put stream function body) st count done = done.0.cause

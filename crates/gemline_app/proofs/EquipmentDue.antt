@@ -34,7 +34,7 @@ no_break break at some none = cc
 -- a start that goes has system bytes left
 one_start :
     (plan : EquipmentPlan) (file : SpoolFile) (one other : Step EquipmentView Happening)
-    → starts plan file.slots file.list file.mark ≡ Goes one → starts plan file.slots file.list file.mark ≡ Goes other
+    → starts plan file ≡ Goes one → starts plan file ≡ Goes other
     → one ≡ other
 one_start plan file one other first second = same (sym first ∙ second)
   where
@@ -43,17 +43,17 @@ one_start plan file one other first second = same (sym first ∙ second)
 
 no_start :
     (plan : EquipmentPlan) (file : SpoolFile) (step : Step EquipmentView Happening)
-    → starts plan file.slots file.list file.mark ≡ Goes step → is_marked_out file.mark ≡ true → ⊥
+    → starts plan file ≡ Goes step → is_marked_out file.mark.value ≡ true → ⊥
 no_start plan file step goes out = unlike (sym (spent out) ∙ goes)
   where
-    spent : is_marked_out file.mark ≡ true
-        → starts plan file.slots file.list file.mark
-        ≡ Spent (at_first (record (started_on plan file.slots file.list file.mark).next { mark = file.mark }))
+    spent : is_marked_out file.mark.value ≡ true
+        → starts plan file
+        ≡ Spent (at_first (record (started_on plan file).next { file = file }))
     spent is =
         ap
         (λ (b : Bool).
-        if b then Spent (at_first (record (started_on plan file.slots file.list file.mark).next { mark = file.mark }))
-        else Goes (started_on plan file.slots file.list file.mark))
+        if b then Spent (at_first (record (started_on plan file).next { file = file }))
+        else Goes (started_on plan file))
         is
 
     unlike : {other : Step EquipmentView Happening} → Spent other ≡ Goes step → ⊥
@@ -76,7 +76,7 @@ module _ (source : SourceTold) (files : FilesTold) (disk : DiskTold) (link : Lin
         absurd (no_break (spool_break s.now.bytes) at breaks sound)
     not_spool at breaks (inr (inr (sound, asks))) = absurd (no_break (spool_break s.now.bytes) at breaks sound)
 
-    spent_out : spool_break s.now.bytes ≡ None → is_marked_out (file_in s.now.bytes).mark ≡ true
+    spent_out : spool_break s.now.bytes ≡ None → is_marked_out (file_in s.now.bytes).mark.value ≡ true
         → BytesAskRun plan polls link lines s.now.bytes due → ComesDue NumbersSpent
     spent_out sound marked (inl (place, is, is_due)) = absurd (no_break (spool_break s.now.bytes) place is sound)
     spent_out sound marked (inr (inl (none, out_too, is_due))) = inl (sym is_due)
@@ -124,7 +124,7 @@ module _ (source : SourceTold) (files : FilesTold) (disk : DiskTold) (link : Lin
         → (how ≡ ending.DiskFailed → Hinders source files disk link out DiskFailed)
         → (over : RanOver plan (file_in s.now.bytes) lines polls (bytes_told disk) link out how)
         → (start : Step EquipmentView Happening)
-        → starts plan (file_in s.now.bytes).slots (file_in s.now.bytes).list (file_in s.now.bytes).mark ≡ Goes start
+        → starts plan (file_in s.now.bytes) ≡ Goes start
         → RunAsks (equipment_run start lines polls) link due → ComesDue outcome
     started_due outcome how is on_disk over start goes asks =
         let ran = over.ran in

@@ -5,7 +5,6 @@ use Rattle.disk_base.specs.SameDisk.{IsSameDisk}
 use Rattle.disk_base.specs.Story.{Story}
 use Rattle.disk_base.specs.declared.disk.Disk as disk
 use Rattle.disk_base.proofs.Moments.{only_now}
-use Rattle.gem_spool.specs.Standing.{file_of}
 use Rattle.gl_base.specs.Told.{SinkTold}
 use Rattle.message_flow.specs.declared.step.StepOut.{StepOut}
 use Rattle.spool_slots.specs.File.{StandsFor}
@@ -24,7 +23,7 @@ use Rattle.spool_works.specs.declared.ended.Ended.TheVariants as ended
 use Rattle.equipment_node.specs.declared.equipment.Starting.{Starting}
 use Rattle.equipment_node.specs.declared.equipment.Starting.TheVariants as starting
 use Rattle.tool_step.specs.declared.kind.Kind.{Kind}
-use Rattle.tool_step.specs.Disk.{standing_in, stops}
+use Rattle.tool_step.specs.Disk.{stops}
 use Rattle.tool_step.specs.Equipment.{EquipmentView, act}
 use Rattle.spool_works.specs.HandedBack.{HasFailed, IsEnded, IsKept}
 use Rattle.equipment_node.specs.HandedBack.{StartHandsBack}
@@ -173,7 +172,7 @@ module _ {D : Type 0} (members : disk.Ghosts D) where
       → HoldsLeft (view_in members h) None (members.told d)
   held_left h d is known t told image image_is =
       let file = known.on.clear.stands.file t (ap (λ (x : D). members.told x) is ∙ told) in
-      subst (λ (bytes : List ℕ). StandsFor bytes (file_of (standing_in (view_in members h))))
+      subst (λ (bytes : List ℕ). StandsFor bytes (view_in members h).file)
       (sym (only_now t.now image file.settled image_is)) file.stands
 
   spent_left : (left : EquipmentView) (halt : StopAt EquipmentView ToolCommand) (spent : Spent D) (d : D)

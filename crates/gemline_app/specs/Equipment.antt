@@ -98,7 +98,7 @@ bytes_told disk = record {
 pub record RanOver (plan : EquipmentPlan) (file : SpoolFile) (lines : List ScriptLine) (polls : ℕ) (disk : BytesTold)
     (link : LinkTold) (out : SinkTold) (ended : Ending) : Type 0 where
   pub start : Step EquipmentView Happening
-  pub started : starts plan file.slots file.list file.mark ≡ Goes start
+  pub started : starts plan file ≡ Goes start
   pub ran : RunsFrom start lines polls disk.after link out ended
 
 -- ---- faults
@@ -136,7 +136,7 @@ StartRefuses disk (NotSpool at) =
 StartRefuses disk NumbersSpent =
     (disk.faults_after ≡ disk.faults)
     × ((s : Story) → disk.before ≡ Some s → (spool_break s.now.bytes ≡ None)
-    × (is_marked_out (file_in s.now.bytes).mark ≡ true)
+    × (is_marked_out (file_in s.now.bytes).mark.value ≡ true)
     × ((t : Story) → disk.after ≡ Some t → EachImage (λ image. StandsFor image (file_in s.now.bytes)) t.now))
 StartRefuses disk DiskFailed =
     Rose disk.faults disk.faults_after

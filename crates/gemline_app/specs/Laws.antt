@@ -174,9 +174,9 @@ HostAsks polls link plans lines due = RunAsks (host_run plans.host lines polls) 
 abbrev pub BytesAskRun : EquipmentPlan → ℕ → LinkTold → List ScriptLine → List ℕ → Outcome → Type 0
 BytesAskRun plan polls link lines bytes due =
     ((at : ℕ) × (spool_break bytes ≡ Some at) × (due ≡ NotSpool at))
-    ⊎ (((spool_break bytes ≡ None) × (is_marked_out (file_in bytes).mark ≡ true) × (due ≡ NumbersSpent))
+    ⊎ (((spool_break bytes ≡ None) × (is_marked_out (file_in bytes).mark.value ≡ true) × (due ≡ NumbersSpent))
     ⊎ ((spool_break bytes ≡ None) × ((start : Step EquipmentView Happening)
-    × (starts plan (file_in bytes).slots (file_in bytes).list (file_in bytes).mark ≡ Goes start)
+    × (starts plan (file_in bytes) ≡ Goes start)
     × RunAsks (equipment_run start lines polls) link due)))
 
 abbrev pub EquipmentAsks : ℕ → DiskTold → LinkTold → Plans → List ScriptLine → Outcome → Type 0

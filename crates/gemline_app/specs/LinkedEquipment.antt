@@ -1,7 +1,8 @@
 -- The equipment as it is run over a link: it goes on, or a step has stopped it and its device is left.
-use Rattle.std.specs.Prelude.{Bool, ℕ, List, [], Option, Some, None, is_some}
+use Rattle.std.specs.Prelude.{Bool, ℕ, List, Option, Some, None, is_some}
 use Rattle.disk_base.specs.declared.disk.Disk as disk
 use Rattle.message_flow.specs.declared.step.StepOut.{StepOut}
+use Rattle.spool_slots.specs.Format.{empty_file}
 use Rattle.spool_slots.specs.declared.states.Spent.{Spent}
 use Rattle.trace_log.specs.declared.commands.ToolCommand.{ToolCommand}
 use Rattle.message_end.specs.declared.end.Stop.{Stop}
@@ -21,7 +22,7 @@ use Rattle.gemline_app.specs.declared.outcome.Outcome.TheVariants.{DiskFailed, N
 
 -- of one that has stopped nothing is known: some state stands for it
 unfoldable pub nowhere : EquipmentView
-nowhere = (started_on (plan_with 0 0) 0 [] 0).next
+nowhere = (started_on (plan_with 0 0) (empty_file 0)).next
 
 abbrev pub linked_view : {D : Type 0} → disk.Ghosts D → Option (Held D) → EquipmentView
 linked_view members None = nowhere

@@ -11,6 +11,7 @@ use Rattle.tool_reports.specs.Laws.{ReportsAreOfTheirEvents}
 use Rattle.tool_reports.specs.Reported.{Reported}
 use Rattle.tool_spool.specs.LeavesInStep.{LeaveInTheirSteps, MessagesLeaveInStep}
 use Rattle.tool_spool.specs.MadeRoom.{MakesRoomForPuts, OverwritesForPuts}
+use Rattle.spool_slots.specs.Format.{empty_file}
 use Rattle.tool_spool.specs.SpoolKept.{MayHold, SpoolIsKept, policy_of}
 use Rattle.equipment_tables.specs.Plan.{PlansFit}
 use Rattle.equipment_tables.specs.declared.plan.Plans.{Plans}
@@ -52,7 +53,8 @@ module _ (plans : Plans) (schedule : Schedule) (fit : PlansFit plans) (laws : La
     reports : Reported plans.equipment notes
     reports =
         subst (λ (notes : List Happening). Reported plans.equipment notes) (sym courses.equipment_noted)
-        (laws.reports plans.equipment plans.slots [] 0 fit.equipment (none-sent [] refl) courses.equipment_met).reported
+        (laws.reports plans.equipment (empty_file plans.slots) fit.equipment (none-sent [] refl)
+        courses.equipment_met).reported
 
     some : 0 < plans.slots
     some = omega (arith, fit.slots_at_least)
@@ -61,7 +63,7 @@ module _ (plans : Plans) (schedule : Schedule) (fit : PlansFit plans) (laws : La
     most = omega (arith, fit.slots_at_most)
 
     -- the disk of a run is new
-    none : MayHold plans.slots []
+    none : MayHold (empty_file plans.slots)
     none = record { run = tt; room = omega arith; bound = omega arith; sent = none-sent [] refl }
 
     kept : KeepsSpool (policy_of plans.equipment plans.slots) notes
@@ -72,12 +74,12 @@ module _ (plans : Plans) (schedule : Schedule) (fit : PlansFit plans) (laws : La
     left : LeaveInTheirSteps (policy_of plans.equipment plans.slots) notes
     left =
         subst (LeaveInTheirSteps (policy_of plans.equipment plans.slots)) (sym courses.equipment_noted)
-        (laws.left plans.equipment plans.slots [] 0 fit.equipment some most none courses.equipment_met)
+        (laws.left plans.equipment (empty_file plans.slots) fit.equipment some most none courses.equipment_met)
 
     used : MakesRoomForPuts notes
     used =
         subst MakesRoomForPuts (sym courses.equipment_noted)
-        (laws.used plans.equipment plans.slots [] 0 fit.equipment some most none courses.equipment_met).puts
+        (laws.used plans.equipment (empty_file plans.slots) fit.equipment some most none courses.equipment_met).puts
 
     pub safe : IsSafe plans (log_of plans schedule)
     safe = record {
@@ -90,7 +92,7 @@ module _ (plans : Plans) (schedule : Schedule) (fit : PlansFit plans) (laws : La
                 over-starts plans.equipment (policy_of plans.equipment plans.slots) notes reports kept;
           };
       sampled =
-          sampled-log plans.equipment laws.running laws.few fit.equipment laws.tables plans.slots [] 0
+          sampled-log plans.equipment laws.running laws.few fit.equipment laws.tables (empty_file plans.slots)
           (none-sent [] refl) courses.equipment_met (timed_by Equipment (log_of plans schedule))
           courses.equipment_timed;
       spooled = holds-spool plans fit laws.take (log_of plans schedule) kept moved;

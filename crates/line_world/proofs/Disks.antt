@@ -1,5 +1,8 @@
 -- The run over the spool's disk: it starts on an empty spool.
-use Rattle.std.proofs.Common.{◌≡◌, ◌<◌, ℕ, true, false, List, [], Option, refl, sym, ap, subst, ◌∙◌, arith}
+use Rattle.std.proofs.Common.{◌≡◌, ◌<◌, ◌≤◌, ◌+◌, ◌^◌, ◌==◌, ℕ, zero, suc, Bool, false, List, [], ◌∷◌, ◌++◌, replicate, Option, refl, sym, ap, subst, ◌∙◌, arith}
+use Rattle.std.proofs.lemmas.List.{get_or_past, replicate-append-replicate}
+use Rattle.std.proofs.lemmas.Nat.{from_be_bytes-to_be_bytes_4}
+use Rattle.std.specs.Int.{w32, to_be_bytes}
 use Rattle.disk_base.specs.MemDisk.{DiskState, disk_with}
 use Rattle.end_pair.specs.Run as pair
 use Rattle.end_pair.specs.Run.{HandsBack}
@@ -9,7 +12,6 @@ use Rattle.tool_step.specs.End as equipment
 use Rattle.spool_works.specs.Found.{first_in}
 use Rattle.tool_step.specs.Equipment.{starts}
 use Rattle.equipment_node.specs.InMemory.{Holds}
-use Rattle.spool_works.specs.Marked.{IsMarkedBy}
 use Rattle.tool_law.specs.Sound.{AllCanBeSent}
 use Rattle.equipment_tables.specs.declared.plan.EquipmentPlan.{EquipmentPlan}
 use Rattle.equipment_tables.specs.declared.plan.Plans.{Plans}
@@ -20,50 +22,35 @@ use Rattle.line_schedule.specs.declared.schedule.Schedule.{Schedule}
 use Rattle.message_end.specs.Core.{Step, Went, step_in}
 use Rattle.message_end.specs.Core.Went.{Goes}
 use Rattle.message_end.specs.Ends.{Opens}
-use Rattle.spool_slots.specs.Slot.{Message}
+use Rattle.gate_cell.specs.Cell.{copy_of}
+use Rattle.spool_slots.specs.File.{SpoolFile, file_in, gates_below, list_below, slot_message, slot_stands}
+use Rattle.spool_slots.specs.Format.{empty_file}
+use Rattle.spool_slots.specs.Front.{magic}
+use Rattle.spool_slots.specs.Slot.{Message, Slot, is_open, slot_in, slot_place}
+use Rattle.spool_slots.proofs.Areas.{none_there}
 use Rattle.trace_log.specs.Log.{Happening}
-use Rattle.line_world.specs.Disk.{IsEmptySpool, list_in}
+use Rattle.line_world.specs.Disk.{IsEmptySpool}
 use Rattle.line_world.specs.Run.{EquipmentView, HostView, Runs, equipment_start, host_start, piece_of}
 
 -- ---- the empty spool
 
 -- a start of the equipment over a spool
 abbrev pub starts_over : EquipmentPlan → GemSpool DiskState → Went EquipmentView Happening
-starts_over plan spool = starts plan spool.spool.slots (list_in spool) spool.spool.mark
-
--- an empty spool, for laws that speak of no value
-abbrev pub blank_spool : ℕ → GemSpool DiskState
-blank_spool slots = record {
-  spool = record { disk = disk_with [] 0 0; slots = slots; first = 0; next = 0; len = 0; mark = 0 };
-  active = false;
-}
+starts_over plan spool = starts plan (file_in spool.spool.disk.story.now.bytes)
 
 pub none-sent : (list : List Message) → list ≡ [] → AllCanBeSent list
 none-sent list none = subst AllCanBeSent (sym none) (λ k message within. absurd (omega (arith, within)))
 
-pub holds-blank : (slots : ℕ) → Holds (blank_spool slots)
-holds-blank slots =
-    record {
-      can = none-sent (list_in (blank_spool slots)) refl;
-      first = refl;
-      sure = record { fails_not = refl; stops_not = refl; going = refl };
-      marked = refl;
-    }
-
 pub holds_empty : (slots : ℕ) (spool : GemSpool DiskState) → IsEmptySpool slots spool → Holds spool
 holds_empty slots spool is = record {
-  can = none-sent (list_in spool) is.list;
-  first = is.first ∙ sym (ap first_in is.list);
+  can = none-sent (file_in spool.spool.disk.story.now.bytes).list (ap (λ (file : SpoolFile). file.list) is.file);
+  first = is.first ∙ sym (ap (λ (file : SpoolFile). first_in file.list) is.file);
   sure = record { fails_not = is.fails_not; stops_not = is.stops_not; going = is.going };
-  marked = subst (IsMarkedBy spool.spool.disk.story.now.bytes) (sym is.mark) is.gate;
 }
 
 starts-over : (plans : Plans) (spool : GemSpool DiskState) → IsEmptySpool plans.slots spool
     → starts_over plans.equipment spool ≡ Goes (equipment_start plans)
-starts-over plans spool is =
-    ap (λ (n : ℕ). starts plans.equipment n (list_in spool) spool.spool.mark) is.slots_are
-    ∙ ap (λ (list : List Message). starts plans.equipment plans.slots list spool.spool.mark) is.list
-    ∙ ap (λ (n : ℕ). starts plans.equipment plans.slots [] n) is.mark
+starts-over plans spool is = ap (λ (file : SpoolFile). starts plans.equipment file) is.file
 
 pub opens_empty : (plans : Plans) (spool : GemSpool DiskState) → IsEmptySpool plans.slots spool
     → Opens (starts_over plans.equipment spool)
@@ -74,12 +61,60 @@ pub first-is : (plans : Plans) (spool : GemSpool DiskState) → IsEmptySpool pla
     → step_in (starts_over plans.equipment spool) ≡ equipment_start plans
 first-is plans spool is = ap (λ (went : Went EquipmentView Happening). step_in went) (starts-over plans spool is)
 
-pub blank-opens : (plans : Plans) → Opens (starts_over plans.equipment (blank_spool plans.slots))
-blank-opens plans = tt
+-- ---- a spool whose bytes say so, for laws that speak of no value
 
-pub blank-first : (plans : Plans)
-    → step_in (starts_over plans.equipment (blank_spool plans.slots)) ≡ equipment_start plans
-blank-first plans = refl
+shut : (slot : ℕ → Slot) (n : ℕ) → ((k : ℕ) → k < n → is_open (slot k) ≡ false)
+    → gates_below slot n ≡ replicate n false
+shut slot zero closed = refl
+shut slot (suc n) closed =
+    let more : n + 1 ≡ suc n = omega arith in
+    ap (λ (b : Bool). gates_below slot n ++ b ∷ []) (closed n (omega arith))
+    ∙ ap (λ (gates : List Bool). gates ++ false ∷ []) (shut slot n (λ k below. closed k (omega (arith, below))))
+    ∙ replicate-append-replicate n 1 false
+    ∙ ap (λ (k : ℕ). replicate k false) more
+
+-- no slot is open where there are no bytes, and the copies and the gate of a mark read as 0
+abbrev blank_bytes : ℕ → List ℕ
+blank_bytes slots = magic ++ to_be_bytes w32 slots
+
+blank-file : (slots : ℕ) → slots < 2 ^ 32 → file_in (blank_bytes slots) ≡ empty_file slots
+unfolding copy_of
+blank-file slots low =
+    ap (λ (n : ℕ). made n (gates_below slot n) (list_below slot n)) (from_be_bytes-to_be_bytes_4 slots low)
+    ∙ ap (λ (gates : List Bool). made slots gates (list_below slot slots)) (shut slot slots closed)
+    ∙ ap (λ (list : List Message). made slots (replicate slots false) list)
+    (none_there (slot_stands slot) (slot_message slot) slots closed)
+  where
+    slot : ℕ → Slot
+    slot k = slot_in (blank_bytes slots) k
+
+    made : ℕ → List Bool → List Message → SpoolFile
+    made n gates list = record {
+      slots = n;
+      gates = gates;
+      mark = record { value = 0; second = false };
+      list = list;
+    }
+
+    closed : (k : ℕ) → k < slots → is_open (slot k) ≡ false
+    closed k below =
+        let past : 12 ≤ slot_place k = omega arith in
+        ap (λ (byte : ℕ). byte == 90) (get_or_past (blank_bytes slots) (slot_place k) 0 past)
+
+abbrev pub blank_spool : ℕ → GemSpool DiskState
+blank_spool slots = record {
+  spool = record { disk = disk_with (blank_bytes slots) 0 0; slots = slots; first = 0; next = 0; len = 0; mark = 0 };
+  active = false;
+}
+
+pub blank-empty : (slots : ℕ) → slots ≤ 65535 → IsEmptySpool slots (blank_spool slots)
+blank-empty slots most = record {
+  first = refl;
+  file = blank-file slots (omega (arith, most));
+  fails_not = refl;
+  stops_not = refl;
+  going = refl;
+}
 
 -- ---- the run, over the start that the value has
 

@@ -21,6 +21,6 @@ few slots left asked most below reached = absurd (omega (arith, most, below, rea
 
 pub few-find-room : {H : Type 0} → LossesAreCounted → FewCallsFindRoom H
 few-find-room counted start world input most below full =
-    few start.node.own.ledger.slots world.left (asks world.equipment input world.moment).calls most below
+    few start.file.slots world.left (asks world.equipment input world.moment).calls most below
     (subst (λ (n : ℕ). world.left ≤ n) (counted world.equipment input world.moment).0
     (call-within world.left (losses world.equipment input world.moment) full.1.1.0 full.1.1.1))

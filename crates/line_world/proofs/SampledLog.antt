@@ -2,7 +2,7 @@
 use Rattle.std.proofs.Common.{◌≡◌, refl, sym, ap, subst, ◌∙◌, arith, Bool, true, false, ℕ, List, [], ◌∷◌, ◌++◌, Option, Some, None, if◌then◌else◌}
 use Rattle.disk_base.specs.declared.cut.CutChoice.{CutChoice}
 use Rattle.gem_trace.specs.Laws.{FewTracesRun, WhatRunsIsLookedBackFor}
-use Rattle.spool_slots.specs.Slot.{Message as Kept}
+use Rattle.spool_slots.specs.File.{SpoolFile}
 use Rattle.trace_log.specs.Log.{Happening}
 use Rattle.trace_log.specs.declared.commands.ToolCommand.{ToolCommand}
 use Rattle.message_end.specs.Core.{at_first, step_in}
@@ -118,21 +118,21 @@ module _ (plan : EquipmentPlan) where
 
   -- where there are numbers left, it leaves no step behind it
   started-cut :
-      (other : EquipmentPlan) (slots : ℕ) (list : List Kept) (mark now : ℕ) (steps : List Stepped)
+      (other : EquipmentPlan) (file : SpoolFile) (now : ℕ) (steps : List Stepped)
       (notes : List Happening) (before timed : TimedNotes)
       → untimed before ≡ notes → steps_in before ≡ steps → AreSampledSoFar plan before → AreSound notes
-      → timed ≡ timed_behind now (step_in (starts other slots list mark)).notes before
-      → AreCut (steps_started (starts other slots list mark) steps) (went_on (starts other slots list mark) notes) timed
-  started-cut other slots list mark now steps notes before timed same_notes same_steps so_far sound is =
-      go (is_marked_out mark) is
+      → timed ≡ timed_behind now (step_in (starts other file)).notes before
+      → AreCut (steps_started (starts other file) steps) (went_on (starts other file) notes) timed
+  started-cut other file now steps notes before timed same_notes same_steps so_far sound is =
+      go (is_marked_out file.mark.value) is
     where
       went : Bool → FileWent
       went spent =
-          if spent then Spent (at_first (record (started_on other slots list mark).next { mark = mark }))
-          else Goes (started_on other slots list mark)
+          if spent then Spent (at_first (record (started_on other file).next { file = file }))
+          else Goes (started_on other file)
 
       here : TimedNotes
-      here = timed_behind now (started_on other slots list mark).notes before
+      here = timed_behind now (started_on other file).notes before
 
       none-due : AreFew plan [] (untimed here)
       none-due = record {
@@ -150,7 +150,7 @@ module _ (plan : EquipmentPlan) where
           (record {
             notes =
                 ap
-                (λ (all : List Happening). noted_behind (started_on other slots list mark).notes all) same_notes;
+                (λ (all : List Happening). noted_behind (started_on other file).notes all) same_notes;
             steps_are = refl;
             between = refl;
             so_far = (sampled-so plan [] (untimed here) none-due, so_far);
@@ -196,8 +196,7 @@ module _ (plan : EquipmentPlan) where
     broken-cut input now call choice steps s notes before timed tables so cut None lost is =
         subst (λ (all : TimedNotes). AreCut steps (Reached s notes) all) (sym is) cut
     broken-cut input now call choice steps s notes before timed tables so cut (Some loss) lost is =
-        started-cut (loss.left choice).node.own.plan (loss.left choice).node.own.ledger.slots (loss.left choice).list
-        (loss.left choice).mark now (with_step now notes loss.front steps)
+        started-cut (loss.left choice).node.own.plan (loss.left choice).file now (with_step now notes loss.front steps)
         (Happening.Power ∷ noted_behind loss.front notes)
         ((now, Happening.Power) ∷ timed_behind now loss.front before) timed
         (ap (λ (all : List Happening). Happening.Power ∷ all) front.notes) front.steps_are (
@@ -253,7 +252,7 @@ module _ (plan : EquipmentPlan) where
         went-cut now steps notes before cut.notes cut.steps_are cut.between cut.so_far (act s input now) timed
         (act-notes plan looked bound steps notes now input s tables so) is
     meeting-cut (Restarts now) steps (Reached s notes) tables so before timed cut is =
-        started-cut s.node.own.plan s.node.own.ledger.slots s.list s.mark now steps notes before timed cut.notes
+        started-cut s.node.own.plan s.file now steps notes before timed cut.notes
         cut.steps_are cut.so_far so.sound is
     meeting-cut (Writes characters) steps (Reached s notes) tables so before timed cut is =
         noted-cut (Happening.Wrote characters) steps s notes before timed cut is (λ moment. refl) (λ moment. refl)
@@ -271,34 +270,34 @@ module _ (plan : EquipmentPlan) where
         filled-cut input now call steps s notes before timed tables so cut (call_of call (losses s input now)) refl is
 
     course-cut :
-        (fits : EquipmentPlanFits plan) (tables : TablesAreLookedBackFor) (slots : ℕ) (list : List Kept) (mark : ℕ)
-        → AllCanBeSent list → (meetings : List (Meeting ToolCommand)) (timed : TimedNotes)
-        → AreTimesOf (started_on plan slots list mark) machine meetings timed
-        → AreCut (steps_met (started_on plan slots list mark) meetings)
-        (course_of (started_on plan slots list mark) machine meetings) timed
-    course-cut fits tables slots list mark can [] timed is =
+        (fits : EquipmentPlanFits plan) (tables : TablesAreLookedBackFor) (file : SpoolFile)
+        → AllCanBeSent file.list → (meetings : List (Meeting ToolCommand)) (timed : TimedNotes)
+        → AreTimesOf (started_on plan file) machine meetings timed
+        → AreCut (steps_met (started_on plan file) meetings)
+        (course_of (started_on plan file) machine meetings) timed
+    course-cut fits tables file can [] timed is =
         subst
-        (λ (all : TimedNotes). AreCut [] (course_of (started_on plan slots list mark) machine []) all) (sym is)
+        (λ (all : TimedNotes). AreCut [] (course_of (started_on plan file) machine []) all) (sym is)
         (record {
           notes = refl;
           steps_are = refl;
           between = refl;
-          so_far = (sampled-so plan [] (started_on plan slots list mark).notes first, tt);
+          so_far = (sampled-so plan [] (started_on plan file).notes first, tt);
         })
       where
-        first : AreFew plan [] (started_on plan slots list mark).notes
+        first : AreFew plan [] (started_on plan file).notes
         first = record { sound = (tt, tt); few = λ body. omega (arith) }
-    course-cut fits tables slots list mark can (meeting ∷ meetings) timed is =
-        meeting-cut meeting (steps_met (started_on plan slots list mark) meetings)
-        (course_of (started_on plan slots list mark) machine meetings)
-        (tables-so plan fits tables slots list mark can meetings)
-        (course-so plan looked bound fits tables slots list mark can meetings) is.0 timed
-        (course-cut fits tables slots list mark can meetings is.0 is.1.0) is.1.1
+    course-cut fits tables file can (meeting ∷ meetings) timed is =
+        meeting-cut meeting (steps_met (started_on plan file) meetings)
+        (course_of (started_on plan file) machine meetings)
+        (tables-so plan fits tables file can meetings)
+        (course-so plan looked bound fits tables file can meetings) is.0 timed
+        (course-cut fits tables file can meetings is.0 is.1.0) is.1.1
 
     -- so it is of every log that has the notes of a course at their moments
     pub sampled-log :
-        (fits : EquipmentPlanFits plan) (tables : TablesAreLookedBackFor) (slots : ℕ) (list : List Kept) (mark : ℕ)
-        → AllCanBeSent list → (meetings : List (Meeting ToolCommand)) (timed : TimedNotes)
-        → AreTimesOf (started_on plan slots list mark) machine meetings timed → AreSampledSoFar plan timed
-    sampled-log fits tables slots list mark can meetings timed is =
-        (course-cut fits tables slots list mark can meetings timed is).so_far
+        (fits : EquipmentPlanFits plan) (tables : TablesAreLookedBackFor) (file : SpoolFile)
+        → AllCanBeSent file.list → (meetings : List (Meeting ToolCommand)) (timed : TimedNotes)
+        → AreTimesOf (started_on plan file) machine meetings timed → AreSampledSoFar plan timed
+    sampled-log fits tables file can meetings timed is =
+        (course-cut fits tables file can meetings timed is).so_far

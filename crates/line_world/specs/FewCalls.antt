@@ -16,6 +16,6 @@ calls_since start world = calls_left machine start - world.left
 abbrev pub FewCallsFindRoom : Type 0 → Type 0
 FewCallsFindRoom H =
     (start : EquipmentView) (world : World EquipmentView H) (input : Input ToolCommand)
-    → start.node.own.ledger.slots ≤ 1024
+    → start.file.slots ≤ 1024
     → calls_since start world + (asks world.equipment input world.moment).calls < 32768
     → FindsNoRoom machine world input → ⊥

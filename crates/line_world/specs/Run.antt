@@ -15,6 +15,7 @@ use Rattle.line_end.specs.declared.plan.HostPlan.{HostPlan}
 use Rattle.line_schedule.specs.declared.schedule.Schedule.{Schedule}
 use Rattle.message_end.specs.Core.{Step}
 use Rattle.message_end.specs.Parts.{Node, started}
+use Rattle.spool_slots.specs.Format.{empty_file}
 use Rattle.trace_log.specs.Log.{Entry, Happening}
 use Rattle.trace_log.specs.Text.{text_of}
 use Rattle.transact.specs.Numbers.{numbers_from}
@@ -28,7 +29,7 @@ HostView = Node host.HostOwn host.Kind
 
 -- the equipment at its start, over an empty spool: the first system bytes are reserved
 abbrev pub equipment_start : Plans → Step EquipmentView Happening
-equipment_start plans = equipment_states.started_on plans.equipment plans.slots [] 0
+equipment_start plans = equipment_states.started_on plans.equipment (empty_file plans.slots)
 
 -- the host at its start: all system bytes are left
 abbrev pub host_start : HostPlan → Step HostView Happening

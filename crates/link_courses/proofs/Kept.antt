@@ -9,7 +9,6 @@ use Rattle.message_end.specs.Ends.{Loss, call_of}
 use Rattle.disk_base.specs.declared.cut.CutChoice.{CutChoice}
 use Rattle.spool_law.specs.Shelf.{Policy}
 use Rattle.spool_slots.specs.File.{SpoolFile}
-use Rattle.spool_slots.specs.Slot.{Message}
 use Rattle.spool_works.specs.Found.{found_in}
 use Rattle.trace_log.specs.Log.{Happening}
 use Rattle.trace_log.specs.Names.{Spooled}
@@ -69,12 +68,12 @@ meeting-any (Fills input now call) (Reached s notes) any =
     filled-any s notes (call_of call (losses s input now)) any
 
 course-any :
-    (plan : EquipmentPlan) (slots : ℕ) (list : List Message) (mark : ℕ) (met : List (Meeting ToolCommand))
-    → HasAny (notes_of (course_of (started_on plan slots list mark) machine met))
-course-any plan slots list mark [] = tt
-course-any plan slots list mark (meeting ∷ met) =
-    meeting-any meeting (course_of (started_on plan slots list mark) machine met)
-    (course-any plan slots list mark met)
+    (plan : EquipmentPlan) (file : SpoolFile) (met : List (Meeting ToolCommand))
+    → HasAny (notes_of (course_of (started_on plan file) machine met))
+course-any plan file [] = tt
+course-any plan file (meeting ∷ met) =
+    meeting-any meeting (course_of (started_on plan file) machine met)
+    (course-any plan file met)
 
 -- ---- of all that is noted, what comes first
 
@@ -130,17 +129,17 @@ used-so left (Stopped notes) is none = absurd (cc)
 
 module _ (reports : ReportsAreOfTheirEvents) (spool : SpoolIsKeptFrom) (leaves : MessagesLeaveInStep)
     (room : OverwritesForPuts) (plan : EquipmentPlan) (fits : EquipmentPlanFits plan) (file : SpoolFile)
-    (some : 0 < file.slots) (most : file.slots < 2 ^ 16) (may : MayHold file.slots file.list)
+    (some : 0 < file.slots) (most : file.slots < 2 ^ 16) (may : MayHold file)
     (met : List (Meeting ToolCommand)) where
   abbrev course : Course EquipmentView
-  course = course_of (started_on plan file.slots file.list file.mark) machine met
+  course = course_of (started_on plan file) machine met
 
   course-keeps : KeepsLaws plan file (notes_of course)
   course-keeps = record {
-    reported = (reports plan file.slots file.list file.mark fits may.sent met).reported;
-    spooled = spool plan file.slots file.list file.mark fits some most may met;
-    leaves = leaves plan file.slots file.list file.mark fits some most may met;
-    room = (room plan file.slots file.list file.mark fits some most may met).puts;
+    reported = (reports plan file fits may.sent met).reported;
+    spooled = spool plan file fits some most may met;
+    leaves = leaves plan file fits some most may met;
+    room = (room plan file fits some most may met).puts;
   }
 
   pub closing-keeps : (ended : Option Ending) (left : EquipmentView) → ComesTo ended left course
@@ -154,7 +153,7 @@ module _ (reports : ReportsAreOfTheirEvents) (spool : SpoolIsKeptFrom) (leaves :
   closing-keeps (Some ending.WriteFailed) left comes = course-keeps
   closing-keeps (Some ending.NoMemory) left comes = course-keeps
   closing-keeps (Some ending.Closed) left comes =
-      closed-keeps plan file (notes_of course) (course-any plan file.slots file.list file.mark met)
-      (reports plan file.slots file.list file.mark fits may.sent met).done
-      (used-so left course comes (room plan file.slots file.list file.mark fits some most may met).none)
+      closed-keeps plan file (notes_of course) (course-any plan file met)
+      (reports plan file fits may.sent met).done
+      (used-so left course comes (room plan file fits some most may met).none)
       course-keeps

@@ -1,5 +1,5 @@
 -- That the list of a spool file has no gap in its numbers, so that a tool may start over it.
-use Rattle.std.proofs.Common.{◌≡◌, ℕ, zero, suc, ◌+◌, ◌^◌, ◌<◌, ◌≤◌, ◌==◌, nat_lt, Bool, true, false, if◌then◌else◌, List, [], ◌∷◌, length, Option, Some, None, refl, ap, subst, arith, All}
+use Rattle.std.proofs.Common.{◌≡◌, ℕ, zero, suc, ◌+◌, ◌^◌, ◌<◌, ◌≤◌, ◌==◌, nat_lt, Bool, true, false, if◌then◌else◌, List, [], ◌∷◌, length, Some, None, refl, ap, subst, arith, All}
 use Rattle.std.proofs.lemmas.Bool.Decides.{nat_tests}
 use Rattle.spool_slots.specs.Area.{first_of, messages_below, or_else, put_by_number, put_if}
 use Rattle.spool_slots.specs.File.{area_break, end_of, file_in, slot_message, slot_stands, slots_in, spool_break}
@@ -92,7 +92,7 @@ module _ (bytes : List ℕ) (sound : spool_break bytes ≡ None) where
   no-more = no-longer (slot_stands (slot_in bytes)) (slot_message (slot_in bytes)) (slots_in bytes)
 
   -- what the file stands for may be found by a start
-  pub may-hold : All (λ byte. byte < 256) bytes → MayHold (slots_in bytes) (file_in bytes).list
+  pub may-hold : All (λ byte. byte < 256) bytes → MayHold (file_in bytes)
   may-hold are = record {
     run = run;
     room = no-more;

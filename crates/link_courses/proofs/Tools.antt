@@ -106,21 +106,21 @@ goes-on false spent begun start is = the-step begun start is
 -- a start that goes is that over the file
 start-is :
     (plan : EquipmentPlan) (file : SpoolFile) (start : Step EquipmentView Happening)
-    → starts plan file.slots file.list file.mark ≡ Goes start
-    → started_on plan file.slots file.list file.mark ≡ start
+    → starts plan file ≡ Goes start
+    → started_on plan file ≡ start
 start-is plan file start is =
-    goes-on (is_marked_out file.mark)
-    (at_first (record (started_on plan file.slots file.list file.mark).next { mark = file.mark }))
-    (started_on plan file.slots file.list file.mark) start is
+    goes-on (is_marked_out file.mark.value)
+    (at_first (record (started_on plan file).next { file = file }))
+    (started_on plan file) start is
 
 -- ---- a run keeps the laws
 
 module _ (law : EquipmentKeepsItsLaw) (reports : ReportsAreOfTheirEvents) (spool : SpoolIsKeptFrom)
     (leaves : MessagesLeaveInStep) (room : OverwritesForPuts) where
   module _ (plan : EquipmentPlan) (fits : EquipmentPlanFits plan) (file : SpoolFile) (some : 0 < file.slots)
-      (most : file.slots < 2 ^ 16) (may : MayHold file.slots file.list) (lines : List ScriptLine)
+      (most : file.slots < 2 ^ 16) (may : MayHold file) (lines : List ScriptLine)
       (told : AreTold told_equipment ToolCommandFits lines) (polls : ℕ) where
-    module _ (start : Step EquipmentView Happening) (started : starts plan file.slots file.list file.mark ≡ Goes start)
+    module _ (start : Step EquipmentView Happening) (started : starts plan file ≡ Goes start)
         (answers : List LinkIn) where
       abbrev run : Piece EquipmentView ToolCommand
       run = equipment_run start lines polls answers
@@ -143,7 +143,7 @@ module _ (law : EquipmentKeepsItsLaw) (reports : ReportsAreOfTheirEvents) (spool
           subst
           (λ (went : Went EquipmentView Happening).
           KeepsLaw (end_plan plan) (DidOf plan) ToolCommandFits went machine)
-          started (law plan file.slots file.list file.mark fits may.sent)
+          started (law plan file fits may.sent)
 
       first-lawful : (later noted : List Happening) → whole ≡ later ++ noted → GiveBytes answers
           → KeepsLawOfEnd (end_plan plan) (AreTried (end_plan plan)) noted

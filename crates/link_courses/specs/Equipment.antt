@@ -57,7 +57,7 @@ pub record KeepsLaws (plan : EquipmentPlan) (file : SpoolFile) (notes : List Hap
 pub record RanInCourse (plan : EquipmentPlan) (file : SpoolFile) (lines : List ScriptLine) (polls : ℕ) (link : LinkTold)
     (out : SinkTold) (ended : Ending) : Type 0 where
   pub start : Step EquipmentView Happening
-  pub started : starts plan file.slots file.list file.mark ≡ Goes start
+  pub started : starts plan file ≡ Goes start
   pub left : EquipmentView
   pub room : Asked
   pub stop : Option (StopAt EquipmentView ToolCommand)

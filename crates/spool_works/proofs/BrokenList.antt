@@ -1,90 +1,46 @@
 -- What a crash leaves where a planned call has stopped the disk in one of many works.
-use Rattle.std.proofs.Common.{◌≡◌, refl, sym, subst, arith, zero, suc, ◌+◌, ◌<◌, ◌≤◌, ℕ, List, [], ◌∷◌, ◌++◌, length, length-append, Some, Err}
+use Rattle.std.proofs.Common.{◌≡◌, subst, arith, zero, suc, ◌+◌, ◌<◌, ℕ, List, [], ◌∷◌, ◌++◌, length, length-append, Some, Err}
+use Rattle.disk_base.specs.Cut.{image_of}
 use Rattle.disk_base.specs.Story.{Story}
+use Rattle.disk_base.specs.declared.cut.CutChoice.{CutChoice}
 use Rattle.disk_base.specs.declared.disk.Disk as disk
 use Rattle.gem_spool.specs.declared.spool.GemSpool.{GemSpool}
 use Rattle.gem_spool.specs.Standing.{Standing}
 use Rattle.gem_spool.specs.Works.{Does, DoesAll, standing_after, standings_after}
-use Rattle.disk_base.specs.Cut.{image_of}
-use Rattle.disk_base.specs.declared.cut.CutChoice.{CutChoice}
 use Rattle.gem_spool.specs.declared.works.Work.{Work}
 use Rattle.gem_spool.specs.declared.works.Work.TheVariants as work
+use Rattle.spool_slots.specs.File.{StandsFor}
 use Rattle.spool_slots.specs.declared.states.Spent.{Spent}
-use Rattle.spool_slots.specs.Slot.{slot_place}
-use Rattle.spool_slots.specs.Spool.{SpoolView}
 use Rattle.message_end.specs.Ends.{call_of}
-use Rattle.spool_works.specs.Breaking.{HasLeftAt, HasPassed, HasRoomLeft, IsLeftWith, LeavesImages}
+use Rattle.spool_works.specs.Breaking.{HasLeftAt, HasRoomLeft, LeavesImages}
 use Rattle.spool_works.specs.SpoolLosses.{Left, work_calls}
+use Rattle.spool_works.proofs.BrokenPasses.{IsOver, work-passes}
+use Rattle.spool_works.proofs.BrokenPurge.{purge-left}
 use Rattle.spool_works.proofs.BrokenWorks.{drop-left, put-left}
-use Rattle.spool_works.proofs.BrokenPurge.{HasComeTo, IsOver, none-passed, purge-left}
-use Rattle.spool_works.proofs.BrokenPasses.{calls-in, work-passes}
-use Rattle.spool_works.proofs.CallPlaces.{passed-both}
 use Rattle.spool_works.proofs.RoomKept.{room-kept}
-use Rattle.spool_works.proofs.LossCounts.{purge-count}
+use Rattle.spool_works.proofs.LossCounts.{work-count}
 
 -- the calls of works, one after the other
 abbrev pub works_left : Standing → List Work → List Left
 works_left st [] = []
 works_left st (one ∷ works) = work_calls st one ++ works_left (standing_after st one) works
 
-work-length : {D : Type 0} (members : disk.Ghosts D)
-    (sized : (d : D) (s : Story) → members.told d ≡ Some s → length s.now.bytes ≡ members.size_is d)
-    (st : Standing) (one : Work) → length (work_calls st one) ≡ calls-in members sized st one
-work-length members sized st (work.Put stream function body) = refl
-work-length members sized st work.DropOldest = refl
-work-length members sized st work.Purge = purge-count (length st.list) st
-
-module _ {D : Type 0} (members : disk.Ghosts D)
-    (sized : (d : D) (s : Story) → members.told d ≡ Some s → length s.now.bytes ≡ members.size_is d) where
-  -- all of them are passed
-  pub works-pass :
-      (works : List Work) (g h : GemSpool D) (st : Standing) (s : Story) → IsOver members sized g.spool st s
-      → DoesAll members g works h
-      → HasComeTo members sized g.spool h.spool (length (works_left st works)) (standings_after st works)
-  works-pass [] g h st s is same =
-      subst (λ (x : GemSpool D). HasComeTo members sized g.spool x.spool 0 st) (sym same)
-      (record { mid = s; over = is; passed = none-passed members sized g.spool is.goes })
-  works-pass (one ∷ works) g h st s is (u, does, more) =
-      let first = work-passes members sized g u one st s is does in
-      let rest = works-pass works u h (standing_after st one) first.mid first.over more in
-      let long = work-length members sized st one in
-      let both = length-append (work_calls st one) (works_left (standing_after st one) works) in
-      let calls : calls-in members sized st one + length (works_left (standing_after st one) works)
-      ≡ length (work_calls st one ++ works_left (standing_after st one) works) =
-      omega (arith, long, both) in
-      record {
-        mid = rest.mid;
-        over = rest.over;
-        passed =
-            subst (λ (n : ℕ). HasPassed (members.health g.spool.disk) (members.health h.spool.disk) n) calls
-            (passed-both (members.health g.spool.disk) (members.health u.spool.disk) (members.health h.spool.disk)
-            (calls-in members sized st one) (length (works_left (standing_after st one) works)) first.passed
-            rest.passed);
-      }
-
-module _ {D : Type 0} (members : disk.Ghosts D)
-    (sized : (d : D) (s : Story) → members.told d ≡ Some s → length s.now.bytes ≡ members.size_is d)
-    (spent : Spent D) (t : Story) (new : members.told spent.disk ≡ Some t) (images : LeavesImages t)
-    (free : HasRoomLeft (members.health spent.disk)) where
-  inside : (v : SpoolView D) (st : Standing) (s : Story) → IsOver members sized v st s
-      → slot_place v.slots ≤ length s.now.bytes
-  inside v st s is = let wide = is.wide in let long = sized v.disk s is.told in omega (arith, wide, long)
-
+module _ {D : Type 0} (members : disk.Ghosts D) (spent : Spent D) (t : Story) (new : members.told spent.disk ≡ Some t)
+    (images : LeavesImages t) (free : HasRoomLeft (members.health spent.disk)) where
   -- at the first work
   pub work-breaks :
-      (g : GemSpool D) (one : Work) (st : Standing) (s : Story) → IsOver members sized g.spool st s
+      (g : GemSpool D) (one : Work) (st : Standing) (s : Story) → IsOver members g.spool st s
       → Does members g one (Err spent) → HasLeftAt (work_calls st one) (members.health g.spool.disk).stop_in t
   work-breaks g (work.Put stream function body) st s is does =
-      put-left members g.spool st spent s t is.stands is.told new images is.marked is.goes
+      put-left members g.spool st spent s t is.stands is.told new images is.goes
       (room-kept (members.health g.spool.disk) (members.health spent.disk) 4 _ does.0.cause free) stream function body
-      is.some (inside g.spool st s is) does.0 does.1 does.2
+      does.0 does.2
   work-breaks g work.DropOldest st s is does =
-      drop-left members g.spool st spent s t is.stands is.told new images is.marked is.goes
-      (room-kept (members.health g.spool.disk) (members.health spent.disk) 2 _ does.0.disk.cause free) is.some
-      (inside g.spool st s is) does
+      drop-left members g.spool st spent s t is.stands is.told new images is.goes
+      (room-kept (members.health g.spool.disk) (members.health spent.disk) 2 _ does.0.disk.cause free) does
   work-breaks g work.Purge st s is does =
       let lost = does.1 in
-      purge-left members sized lost.0 g.spool lost.1 spent st s t is new images lost.2
+      purge-left members lost.0 g.spool lost.1 spent st s t is new images lost.2
       (room-kept (members.health lost.1.disk) (members.health spent.disk) 2 _ lost.3.0.disk.cause free) lost.3
 
   -- or behind some that were done, at one of its own calls
@@ -93,11 +49,11 @@ module _ {D : Type 0} (members : disk.Ghosts D)
     pub call : ℕ
     pub is : call_of call (work_calls (standings_after st xs) one) ≡ Some left
     pub place : length (works_left st xs) + call ≡ stop
-    pub at : (choice : CutChoice) → IsLeftWith (image_of choice t) (left choice)
+    pub at : (choice : CutChoice) → StandsFor (image_of choice t) (left choice)
 
   pub works-break :
       (xs : List Work) (g before : GemSpool D) (one : Work) (st : Standing) (s : Story)
-      → IsOver members sized g.spool st s → DoesAll members g xs before → Does members before one (Err spent)
+      → IsOver members g.spool st s → DoesAll members g xs before → Does members before one (Err spent)
       → HasPlace xs one st (members.health g.spool.disk).stop_in
   works-break [] g before one st s is same fails =
       let at = work-breaks g one st s is (subst (λ (x : GemSpool D). Does members x one (Err spent)) same fails) in
@@ -109,14 +65,14 @@ module _ {D : Type 0} (members : disk.Ghosts D)
         at = at.at;
       }
   works-break (x ∷ xs) g before one st s is (u, does, more) fails =
-      let comes = work-passes members sized g u x st s is does in
+      let comes = work-passes members g u x st s is does in
       let at = works-break xs u before one (standing_after st x) comes.mid comes.over more fails in
       record {
         left = at.left;
         call = at.call;
         is = at.is;
         place =
-            let long = work-length members sized st x in
+            let long = work-count st x in
             let both = length-append (work_calls st x) (works_left (standing_after st x) xs) in
             let near = comes.passed.nearer in let place = at.place in
             let some = planned at.call (work_calls (standings_after (standing_after st x) xs) one) at.left at.is in

@@ -1,33 +1,27 @@
 -- What a crash leaves where a planned call has stopped the disk in a purge, drop by drop.
-use Rattle.std.proofs.Common.{◌≡◌, refl, sym, ap, subst, ◌∙◌, inl, inr, arith, zero, suc, ◌+◌, ◌*◌, ◌-◌, ◌<◌, ◌≤◌, false, ℕ, List, [], ◌∷◌, drop, length, Some, Err, Ok}
-use Rattle.std.proofs.lemmas.Nat.{mod_below}
-use Rattle.disk_base.specs.Faults.{DiskHealth, IsUsed}
+use Rattle.std.proofs.Common.{◌≡◌, refl, sym, ap, subst, arith, zero, suc, ◌+◌, ◌*◌, ◌-◌, ◌<◌, false, ℕ, List, [], ◌∷◌, drop, length, Some, Err}
 use Rattle.disk_base.specs.Story.{Story}
 use Rattle.disk_base.specs.declared.disk.Disk as disk
-use Rattle.disk_base.specs.declared.disk.DiskAnswer.TheVariants.{Done}
-use Rattle.disk_base.proofs.Moments.{now_is}
-use Rattle.disk_base.proofs.Stretches.{lists_on}
-use Rattle.gem_spool.proofs.Doing.{does_stands}
 use Rattle.gem_spool.specs.Spool.{DropsSome}
 use Rattle.gem_spool.specs.declared.count.Count.{Count}
-use Rattle.gem_spool.specs.Standing.{Standing, Stands}
+use Rattle.gem_spool.specs.Standing.{Standing}
 use Rattle.gem_spool.specs.Works.{standing_after}
 use Rattle.gem_spool.specs.declared.works.Work.TheVariants as work
 use Rattle.spool_slots.specs.Changes.{Drops}
-use Rattle.spool_slots.specs.Slot.{Message, slot_place}
-use Rattle.spool_slots.specs.Spool.{SpoolView, first_slot}
+use Rattle.spool_slots.specs.Slot.{Message}
+use Rattle.spool_slots.specs.Spool.{SpoolView}
 use Rattle.spool_slots.specs.declared.states.Dropping.TheVariants as dropping
 use Rattle.spool_slots.specs.declared.states.Spent.{Spent}
 use Rattle.message_end.specs.Ends.{call_of}
 use Rattle.spool_works.specs.Breaking.{HasLeftAt, HasPassed, HasRoomLeft, IsGoingDisk, LeavesImages}
-use Rattle.spool_works.specs.Marked.{IsMarkedBy}
 use Rattle.spool_works.specs.SpoolLosses.{Left, drop_calls, purge_calls}
-use Rattle.spool_works.proofs.BrokenWorks.{KeepsFront, drop-left, settle-front}
+use Rattle.spool_works.proofs.BrokenPasses.{HasComeTo, IsOver, work-passes}
+use Rattle.spool_works.proofs.BrokenWorks.{drop-left}
 use Rattle.spool_works.proofs.CallPlaces.{call-before, call-behind, passed-both}
 
 -- ---- so many messages gone
 
-unfoldable pub gone : ℕ → Standing → Standing
+unfoldable gone : ℕ → Standing → Standing
 gone zero st = st
 gone (suc n) st = standing_after (gone n st) work.DropOldest
 
@@ -55,74 +49,8 @@ call-purge (suc n) (suc left) st k one is below =
 
 -- ---- what has passed
 
-pub used-passes : (h k : DiskHealth) (calls n : ℕ) → IsUsed h k calls n → IsGoingDisk h → HasPassed h k calls
-used-passes h k calls n used goes = record {
-  passes = λ among. used.unplanned (inr (inl among));
-  nearer = used.stop_left;
-  on = record {
-    fails_not = let left = used.fail_left in let none = goes.fails_not in omega (arith, left, none);
-    going = lists_on h k calls n used goes.going;
-  };
-}
-
-module _ {D : Type 0} (members : disk.Ghosts D)
-    (sized : (d : D) (s : Story) → members.told d ≡ Some s → length s.now.bytes ≡ members.size_is d) where
-  -- how a spool stands on a disk that goes on
-  pub record IsOver (v : SpoolView D) (st : Standing) (s : Story) : Type 0 where
-    pub stands : Stands members v st
-    pub told : members.told v.disk ≡ Some s
-    pub marked : IsMarkedBy s.now.bytes st.mark
-    pub goes : IsGoingDisk (members.health v.disk)
-    pub some : 0 < v.slots
-    pub wide : slot_place v.slots ≤ members.size_is v.disk
-
-  -- some calls more have been made, and it stands so
-  pub record HasComeTo (v w : SpoolView D) (calls : ℕ) (st : Standing) : Type 0 where
-    pub mid : Story
-    pub over : IsOver w st mid
-    pub passed : HasPassed (members.health v.disk) (members.health w.disk) calls
-
-  -- a message has left
-  pub drop-passes : (v w : SpoolView D) (st : Standing) (s : Story) → IsOver v st s → Drops members v (Ok w)
-      → HasComeTo v w 2 (standing_after st work.DropOldest)
-  drop-passes v w st s is drops = record {
-    mid = mid;
-    over = record {
-      stands =
-          does_stands members (record { spool = v; active = false }) (record { spool = w; active = false })
-          work.DropOldest st is.stands (drops, refl);
-      told = holds.1;
-      marked = front.gate mid.now.bytes (now_is mid.now) ∙ is.marked;
-      goes = passed.on;
-      some = subst (λ (n : ℕ). 0 < n) (sym slots) is.some;
-      wide = let same = drops.0.disk.size in let wide = is.wide in omega (arith, same, wide, slots);
-    };
-    passed = passed;
-  }
-    where
-      holds : (t : Story) × (members.told w.disk ≡ Some t)
-      holds = let all = drops.0.images s is.told in (all.0, all.1)
-
-      mid : Story
-      mid = holds.0
-
-      slots : w.slots ≡ v.slots
-      slots = ap (λ (x : SpoolView D). x.slots) drops.1
-
-      below : first_slot v < v.slots
-      below = mod_below v.first v.slots is.some
-
-      front : KeepsFront s mid
-      front =
-          settle-front s mid (slot_place (first_slot v)) (0 ∷ []) (members.told v.disk) (members.told w.disk) Done
-          is.told holds.1 (is.stands.file s is.told).settled (omega arith)
-          (let wide = is.wide in let long = sized v.disk s is.told in let b = below in omega (arith, b, wide, long))
-          drops.0.disk.told
-
-      passed : HasPassed (members.health v.disk) (members.health w.disk) 2
-      passed = used-passes (members.health v.disk) (members.health w.disk) 2 1 drops.0.disk.cause is.goes
-
-  pub none-passed : (v : SpoolView D) → IsGoingDisk (members.health v.disk)
+module _ {D : Type 0} (members : disk.Ghosts D) where
+  none-passed : (v : SpoolView D) → IsGoingDisk (members.health v.disk)
       → HasPassed (members.health v.disk) (members.health v.disk) 0
   none-passed v goes = record {
     passes = λ among. let some = among.0 in let most = among.1 in omega (arith, some, most);
@@ -131,15 +59,17 @@ module _ {D : Type 0} (members : disk.Ghosts D)
   }
 
   -- so many have
-  pub some-pass : (n : ℕ) (v w : SpoolView D) (st : Standing) (s : Story) → IsOver v st s → DropsSome members n v w
-      → HasComeTo v w (2 * n) (gone n st)
+  some-pass : (n : ℕ) (v w : SpoolView D) (st : Standing) (s : Story) → IsOver members v st s → DropsSome members n v w
+      → HasComeTo members v w (2 * n) (gone n st)
   unfolding gone
   some-pass zero v w st s is same =
-      subst (λ (x : SpoolView D). HasComeTo v x 0 st) (sym same)
+      subst (λ (x : SpoolView D). HasComeTo members v x 0 st) (sym same)
       (record { mid = s; over = is; passed = none-passed v is.goes })
   some-pass (suc n) v w st s is (u, some, drops) =
       let so_far = some-pass n v u st s is some in
-      let one = drop-passes u w (gone n st) so_far.mid so_far.over drops in
+      let one =
+      work-passes members (record { spool = u; active = false }) (record { spool = w; active = false }) work.DropOldest
+      (gone n st) so_far.mid so_far.over (drops, refl) in
       let calls : 2 * n + 2 ≡ 2 * suc n = omega arith in
       record {
         mid = one.mid;
@@ -150,11 +80,11 @@ module _ {D : Type 0} (members : disk.Ghosts D)
             so_far.passed one.passed);
       }
 
-  gone-long : (n : ℕ) (st : Standing) → length (gone n st).list ≡ length st.list - n
+  gone-long : (n : ℕ) (st : Standing) → length (gone n st).file.list ≡ length st.file.list - n
   unfolding gone
   gone-long zero st = omega arith
   gone-long (suc n) st =
-      let so_far = gone-long n st in let one = less (gone n st).list in omega (arith, so_far, one)
+      let so_far = gone-long n st in let one = less (gone n st).file.list in omega (arith, so_far, one)
     where
       less : (list : List Message) → length (drop 1 list) ≡ length list - 1
       less [] = refl
@@ -162,34 +92,31 @@ module _ {D : Type 0} (members : disk.Ghosts D)
 
   -- and then the next one stops
   pub purge-left :
-      (n : ℕ) (v u : SpoolView D) (spent : Spent D) (st : Standing) (s t : Story) → IsOver v st s
+      (n : ℕ) (v u : SpoolView D) (spent : Spent D) (st : Standing) (s t : Story) → IsOver members v st s
       → members.told spent.disk ≡ Some t → LeavesImages t → DropsSome members n v u
       → HasRoomLeft (members.health u.disk)
       → Drops members u (Err (dropping.Failed spent))
-      → HasLeftAt (purge_calls (length st.list) st) (members.health v.disk).stop_in t
+      → HasLeftAt (purge_calls (length st.file.list) st) (members.health v.disk).stop_in t
   purge-left n v u spent st s t is new images some free drops = record {
     left = one.left;
     is =
-        subst (λ (k : ℕ). call_of k (purge_calls (length st.list) st) ≡ Some one.left) place
-        (call-purge n (length st.list) st (members.health u.disk).stop_in one.left one.is below);
+        subst (λ (k : ℕ). call_of k (purge_calls (length st.file.list) st) ≡ Some one.left) place
+        (call-purge n (length st.file.list) st (members.health u.disk).stop_in one.left one.is below);
     at = one.at;
   }
     where
-      so_far : HasComeTo v u (2 * n) (gone n st)
+      so_far : HasComeTo members v u (2 * n) (gone n st)
       so_far = some-pass n v u st s is some
 
       one : HasLeftAt (drop_calls (gone n st)) (members.health u.disk).stop_in t
       one =
           drop-left members u (gone n st) spent so_far.mid t so_far.over.stands so_far.over.told new images
-          so_far.over.marked so_far.over.goes free so_far.over.some
-          (let wide = so_far.over.wide in
-          let long = sized u.disk so_far.mid so_far.over.told in omega (arith, wide, long))
-          drops
+          so_far.over.goes free drops
 
-      len : u.len ≡ length (gone n st).list
+      len : u.len ≡ length (gone n st).file.list
       len = ap (λ (c : Count). c.len) so_far.over.stands.count
 
-      below : n < length st.list
+      below : n < length st.file.list
       below =
           let some = drops.0.some in let long = gone-long n st in let l = len in omega (arith, some, long, l)
 

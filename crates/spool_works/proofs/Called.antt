@@ -1,5 +1,5 @@
 -- That the calls which works make are theirs.
-use Rattle.std.proofs.Common.{◌≡◌, refl, sym, ap, subst, ◌∙◌, ◌⊎◌, inl, inr, arith, ℕ, zero, suc, ◌+◌, ◌%◌, ◌<◌, ◌≤◌, nat_lt, Bool, true, false, List, [], ◌∷◌, ◌++◌, append_assoc, append-nil, length, length-append, map, take, Option, Some, None}
+use Rattle.std.proofs.Common.{◌≡◌, refl, sym, ap, subst, ◌∙◌, ◌⊎◌, inl, inr, arith, ℕ, zero, suc, ◌+◌, ◌%◌, ◌<◌, ◌≤◌, nat_lt, not, Bool, true, false, List, [], ◌∷◌, ◌++◌, append_assoc, append-nil, length, length-append, map, take, Option, Some, None}
 use Rattle.std.proofs.lemmas.Bool.Decides.{nat_tests}
 use Rattle.std.specs.Prelude.{Ok, Err}
 use Rattle.std.specs.List.{slice_get}
@@ -10,24 +10,26 @@ use Rattle.disk_base.specs.Story.{Story}
 use Rattle.disk_base.specs.declared.disk.Disk as disk
 use Rattle.disk_base.specs.declared.disk.DiskAnswer.{DiskAnswer}
 use Rattle.disk_base.specs.declared.disk.DiskAnswer.TheVariants.{Done, Failed}
-use Rattle.gate_cell.specs.Cell.{cell_in, copy_bytes, gate_byte, spare_is_second, spare_place}
+use Rattle.gate_cell.specs.Cell.{Cell, cell_in, copy_bytes, gate_byte, spare_place}
 use Rattle.gem_spool.specs.declared.count.Count.{Count}
 use Rattle.gem_spool.specs.declared.spool.GemSpool.{GemSpool}
 use Rattle.gem_spool.specs.declared.works.Work.{Work}
 use Rattle.gem_spool.specs.declared.works.Work.TheVariants as work
 use Rattle.gem_spool.specs.Spool.{DropsSome, StagesAndSeals}
-use Rattle.gem_spool.specs.Standing.{Standing, count_in, count_of}
+use Rattle.gem_spool.specs.Standing.{Standing, Stands, count_in, count_of}
 use Rattle.gem_spool.specs.Works.{Does, DoesAll, count_after, standing_after}
 use Rattle.gem_spool.proofs.Doing.{count_keeps, does_count}
 use Rattle.gem_spool.proofs.Purging.{is_less}
-use Rattle.spool_slots.specs.Changes.{Drops, HasLooked, HasReserved, HasSettled, LogsValue, Seals, Stages, parts_of}
+use Rattle.spool_slots.specs.Changes.{Drops, HasCommitted, HasLooked, HasReserved, HasSettled, LogsValue, Seals, Stages, parts_of}
+use Rattle.spool_slots.specs.File.{SpoolFile}
 use Rattle.spool_slots.specs.Front.{mark_cell}
 use Rattle.spool_slots.specs.Slot.{slot_place}
 use Rattle.spool_slots.specs.Spool.{SpoolView, first_slot, next_slot}
 use Rattle.spool_slots.specs.declared.states.Dropping.TheVariants as dropping
 use Rattle.spool_slots.specs.declared.states.Spent.{Spent as Device}
-use Rattle.spool_works.specs.DiskCalls.{HasFailedIn, HasMade, all_disk_calls, change_calls, drop_calls, failing, mark_calls, oldest_calls, oldest_in, purge_calls, reads, syncs, with_calls, writes, written_by}
+use Rattle.spool_works.specs.DiskCalls.{HasFailedIn, HasMade, all_disk_calls, cell_calls, change_calls, drop_calls, failing, mark_calls, oldest_calls, oldest_in, purge_calls, put_calls, reads, syncs, with_calls, writes, written_by}
 use Rattle.spool_works.specs.DiskWorks.DiskWork.{Change}
+use Rattle.spool_works.proofs.Held.{held}
 
 -- ---- lists of calls
 
@@ -224,21 +226,21 @@ module _ {D : Type 0} (members : disk.Ghosts D) where
           staged.0.disk
 
       put-made : (w : SpoolView D) → Seals members u (Ok w)
-          → HasMade members v.disk w.disk (change_calls (count_of v) (work.Put stream function body))
+          → HasMade members v.disk w.disk (put_calls v.slots v.next stream function body)
       put-made w sealed =
           subst (λ (k : ℕ). HasMade members v.disk w.disk (parts ++ gate k)) same-slot
           (made-then v.disk u.disk w.disk parts (gate (next_slot u)) parts-made
           (settled-made u.disk w.disk (slot_place (next_slot u)) (90 ∷ []) sealed.0.disk))
 
       seal-failed : (spent : Device D) → Seals members u (Err spent)
-          → HasFailedIn members v.disk spent.disk (change_calls (count_of v) (work.Put stream function body))
+          → HasFailedIn members v.disk spent.disk (put_calls v.slots v.next stream function body)
       seal-failed spent sealed =
           subst (λ (k : ℕ). HasFailedIn members v.disk spent.disk (parts ++ gate k)) same-slot
           (failed-behind v.disk u.disk spent.disk parts (gate (next_slot u)) parts-made
           (settled-failed u.disk spent.disk (slot_place (next_slot u)) (90 ∷ []) sealed.0.disk))
 
     put-failed : (spent : Device D) → StagesAndSeals members v stream function body (Err spent)
-        → HasFailedIn members v.disk spent.disk (change_calls (count_of v) (work.Put stream function body))
+        → HasFailedIn members v.disk spent.disk (put_calls v.slots v.next stream function body)
     put-failed spent (inl staged) =
         failed-before v.disk spent.disk parts (gate (next_slot v))
         (settled-failed v.disk spent.disk (slot_place (next_slot v) + 1) (parts_of v.next stream function body)
@@ -304,31 +306,41 @@ module _ {D : Type 0} (members : disk.Ghosts D) where
   first-is : (v : SpoolView D) → v.next ≡ v.first + v.len → v.first ≡ oldest_in (count_of v)
   first-is v even = omega (arith, even)
 
-  does-made : (g h : GemSpool D) (one : Work) → Does members g one (Ok h)
-      → HasMade members g.spool.disk h.spool.disk (change_calls (count_of g.spool) one)
-  does-made g h (work.Put stream function body) done =
-      let mid = done.1 in put-made g.spool stream function body mid.0 mid.1 h.spool mid.2
-  does-made g h work.DropOldest done =
-      subst (λ (n : ℕ). HasMade members g.spool.disk h.spool.disk (drop_calls g.spool.slots n))
-      (first-is g.spool done.0.0.even)
-      (drop-made g.spool h.spool done.0)
-  does-made g h work.Purge done =
-      subst (λ (n : ℕ). HasMade members g.spool.disk h.spool.disk (purge_calls g.spool.slots n g.spool.len))
-      (first-is g.spool done.0.0.even) (some-made g.spool.len g.spool h.spool done.0.1)
+  module _ (g : GemSpool D) (st : Standing) (count : count_of g.spool ≡ count_in st) where
+    does-made : (h : GemSpool D) (one : Work) → Does members g one (Ok h)
+        → HasMade members g.spool.disk h.spool.disk (change_calls st one)
+    does-made h (work.Put stream function body) done =
+        let mid = done.1 in
+        subst (λ (c : Count). HasMade members g.spool.disk h.spool.disk (put_calls c.slots c.next stream function body))
+        count (put-made g.spool stream function body mid.0 mid.1 h.spool mid.2)
+    does-made h work.DropOldest done =
+        subst (λ (c : Count). HasMade members g.spool.disk h.spool.disk (drop_calls c.slots (oldest_in c))) count
+        (subst (λ (n : ℕ). HasMade members g.spool.disk h.spool.disk (drop_calls g.spool.slots n))
+        (first-is g.spool done.0.0.even) (drop-made g.spool h.spool done.0))
+    does-made h work.Purge done =
+        subst (λ (c : Count). HasMade members g.spool.disk h.spool.disk (purge_calls c.slots (oldest_in c) c.len)) count
+        (subst (λ (n : ℕ). HasMade members g.spool.disk h.spool.disk (purge_calls g.spool.slots n g.spool.len))
+        (first-is g.spool done.0.0.even) (some-made g.spool.len g.spool h.spool done.0.1))
 
-  does-failed : (g : GemSpool D) (one : Work) (spent : Device D) → Does members g one (Err spent)
-      → HasFailedIn members g.spool.disk spent.disk (change_calls (count_of g.spool) one)
-  does-failed g (work.Put stream function body) spent failed = put-failed g.spool stream function body spent failed.1
-  does-failed g work.DropOldest spent failed =
-      subst (λ (n : ℕ). HasFailedIn members g.spool.disk spent.disk (drop_calls g.spool.slots n))
-      (first-is g.spool failed.0.even)
-      (drop-failed g.spool spent failed)
-  does-failed g work.Purge spent (purged, (n, u, some, drops, lost)) =
-      subst (λ (first : ℕ). HasFailedIn members g.spool.disk spent.disk (purge_calls g.spool.slots first g.spool.len))
-      (first-is g.spool purged.even)
-      (among-more g.spool.disk spent.disk g.spool.slots g.spool.first n g.spool.len
-      (let left = drops.0.some in let len = (is_less members n g.spool u some).len in omega (arith, left, len))
-      (some-failed n g.spool u spent some drops))
+    does-failed : (one : Work) (spent : Device D) → Does members g one (Err spent)
+        → HasFailedIn members g.spool.disk spent.disk (change_calls st one)
+    does-failed (work.Put stream function body) spent failed =
+        subst
+        (λ (c : Count). HasFailedIn members g.spool.disk spent.disk (put_calls c.slots c.next stream function body))
+        count (put-failed g.spool stream function body spent failed.1)
+    does-failed work.DropOldest spent failed =
+        subst (λ (c : Count). HasFailedIn members g.spool.disk spent.disk (drop_calls c.slots (oldest_in c))) count
+        (subst (λ (n : ℕ). HasFailedIn members g.spool.disk spent.disk (drop_calls g.spool.slots n))
+        (first-is g.spool failed.0.even) (drop-failed g.spool spent failed))
+    does-failed work.Purge spent (purged, (n, u, some, drops, lost)) =
+        subst
+        (λ (c : Count). HasFailedIn members g.spool.disk spent.disk (purge_calls c.slots (oldest_in c) c.len)) count
+        (subst
+        (λ (first : ℕ). HasFailedIn members g.spool.disk spent.disk (purge_calls g.spool.slots first g.spool.len))
+        (first-is g.spool purged.even)
+        (among-more g.spool.disk spent.disk g.spool.slots g.spool.first n g.spool.len
+        (let left = drops.0.some in let len = (is_less members n g.spool u some).len in omega (arith, left, len))
+        (some-failed n g.spool u spent some drops)))
 
   -- ---- all of them
 
@@ -337,102 +349,120 @@ module _ {D : Type 0} (members : disk.Ghosts D) where
   count-then g u one st count done =
       does_count members g u one done ∙ ap (λ (c : Count). count_after c one) count ∙ count_keeps st one
 
-  pub all-made : (bytes : List ℕ) (g : GemSpool D) (works : List Work) (h : GemSpool D) (st : Standing)
+  pub all-made : (g : GemSpool D) (works : List Work) (h : GemSpool D) (st : Standing)
       → count_of g.spool ≡ count_in st → DoesAll members g works h
-      → HasMade members g.spool.disk h.spool.disk (all_disk_calls bytes st (map Change works))
-  all-made bytes g [] h st count is = made-same g.spool.disk h.spool.disk (ap (λ (x : GemSpool D). x.spool.disk) is)
-  all-made bytes g (one ∷ works) h st count (u, done, rest) =
-      made-then g.spool.disk u.spool.disk h.spool.disk (change_calls (count_in st) one)
-      (all_disk_calls bytes (standing_after st one) (map Change works))
-      (subst (λ (c : Count). HasMade members g.spool.disk u.spool.disk (change_calls c one)) count
-      (does-made g u one done))
-      (all-made bytes u works h (standing_after st one) (count-then g u one st count done) rest)
+      → HasMade members g.spool.disk h.spool.disk (all_disk_calls st (map Change works))
+  all-made g [] h st count is = made-same g.spool.disk h.spool.disk (ap (λ (x : GemSpool D). x.spool.disk) is)
+  all-made g (one ∷ works) h st count (u, done, rest) =
+      made-then g.spool.disk u.spool.disk h.spool.disk (change_calls st one)
+      (all_disk_calls (standing_after st one) (map Change works)) (does-made g st count u one done)
+      (all-made u works h (standing_after st one) (count-then g u one st count done) rest)
 
-  pub all-failed : (bytes : List ℕ) (g : GemSpool D) (works : List Work) (at : ℕ) (one : Work) (before : GemSpool D)
+  pub all-failed : (g : GemSpool D) (works : List Work) (at : ℕ) (one : Work) (before : GemSpool D)
       (spent : Device D) (st : Standing) → count_of g.spool ≡ count_in st → slice_get works at ≡ Some one
       → DoesAll members g (take at works) before → Does members before one (Err spent)
-      → HasFailedIn members g.spool.disk spent.disk (all_disk_calls bytes st (map Change works))
-  all-failed bytes g [] at one before spent st count is done fails = absurd (cc)
-  all-failed bytes g (x ∷ works) zero one before spent st count is done fails =
-      failed-before g.spool.disk spent.disk (change_calls (count_in st) x)
-      (all_disk_calls bytes (standing_after st x) (map Change works))
-      (subst (λ (c : Count). HasFailedIn members g.spool.disk spent.disk (change_calls c x)) count
-      (does-failed g x spent
+      → HasFailedIn members g.spool.disk spent.disk (all_disk_calls st (map Change works))
+  all-failed g [] at one before spent st count is done fails = absurd (cc)
+  all-failed g (x ∷ works) zero one before spent st count is done fails =
+      failed-before g.spool.disk spent.disk (change_calls st x)
+      (all_disk_calls (standing_after st x) (map Change works))
+      (does-failed g st count x spent
       (subst (λ (w : Work). Does members g w (Err spent)) (sym (same is))
-      (subst (λ (y : GemSpool D). Does members y one (Err spent)) done fails))))
+      (subst (λ (y : GemSpool D). Does members y one (Err spent)) done fails)))
     where
       same : Some x ≡ Some one → x ≡ one
       same is = cc
-  all-failed bytes g (x ∷ works) (suc at) one before spent st count is (u, first, rest) fails =
-      failed-behind g.spool.disk u.spool.disk spent.disk (change_calls (count_in st) x)
-      (all_disk_calls bytes (standing_after st x) (map Change works))
-      (subst (λ (c : Count). HasMade members g.spool.disk u.spool.disk (change_calls c x)) count
-      (does-made g u x first))
-      (all-failed bytes u works at one before spent (standing_after st x) (count-then g u x st count first) is rest fails)
+  all-failed g (x ∷ works) (suc at) one before spent st count is (u, first, rest) fails =
+      failed-behind g.spool.disk u.spool.disk spent.disk (change_calls st x)
+      (all_disk_calls (standing_after st x) (map Change works)) (does-made g st count u x first)
+      (all-failed u works at one before spent (standing_after st x) (count-then g u x st count first) is rest fails)
+
+  -- ---- a cell
+
+  module _ (old after : D) (s : Story) (at value : ℕ) where
+    abbrev cell : Cell
+    cell = cell_in s.now.bytes at
+
+    abbrev copy : List DiskCall
+    copy = reads (at + 16) 1 ∷ writes (spare_place at cell) (copy_bytes value) ∷ syncs ∷ []
+
+    abbrev named : List ℕ
+    named = gate_byte (not cell.second) ∷ []
+
+    copy-is : (mid : Option (List DiskCall)) → mid ≡ with_calls (reads (at + 16) 1 ∷ []) (members.calls old)
+        → with_call syncs (with_call (writes (spare_place at cell) (copy_bytes value)) mid)
+        ≡ with_calls copy (members.calls old)
+    copy-is mid same =
+        ap (λ (told : Option (List DiskCall)).
+        with_call syncs (with_call (writes (spare_place at cell) (copy_bytes value)) told)) same
+        ∙ ap (with_call syncs)
+        (with-both (reads (at + 16) 1 ∷ []) (writes (spare_place at cell) (copy_bytes value) ∷ []) (members.calls old))
+        ∙ with-both (reads (at + 16) 1 ∷ writes (spare_place at cell) (copy_bytes value) ∷ []) (syncs ∷ [])
+        (members.calls old)
+
+    cell-listed :
+        (Crowded : Type 0) → HasCommitted s at value Crowded (members.calls old) (members.calls after) Done
+        → members.calls after ≡ with_calls (cell_calls at cell value) (members.calls old)
+    cell-listed Crowded logs =
+        logs.last
+        ∙ ap (λ (told : Option (List DiskCall)). with_call syncs (with_call (writes (at + 16) named) told))
+        (logs.first ∙ copy-is _ refl)
+        ∙ ap (with_call syncs) (with-both copy (writes (at + 16) named ∷ []) (members.calls old))
+        ∙ with-both (copy ++ writes (at + 16) named ∷ []) (syncs ∷ []) (members.calls old)
+
+    abbrev Crowded : Type 0
+    Crowded = IsCrowded (members.health old) 5 9
+
+    crowds : Crowded
+        → IsCrowded (members.health old) (length (cell_calls at cell value)) (written_by (cell_calls at cell value))
+    crowds =
+        crowded-wider (members.health old) 5 9 (length (cell_calls at cell value))
+        (written_by (cell_calls at cell value)) (omega arith) (let long = length-copy value in omega (arith, long))
+
+    cell-stops :
+        LogsValue s at value Crowded (members.calls old) (members.calls after) Failed
+        → HasFailedIn members old after (cell_calls at cell value)
+    cell-stops (inl (inl read)) =
+        stops-at old after (cell_calls at cell value) Crowded crowds (members.calls old) []
+        (writes (spare_place at cell) (copy_bytes value) ∷ syncs ∷ writes (at + 16) named ∷ syncs ∷ [])
+        (read_call (at + 16) 1) refl refl (with-none (members.calls old)) read
+    cell-stops (inl (inr write)) =
+        stops-in old after (cell_calls at cell value) Crowded crowds
+        (with_call (reads (at + 16) 1) (members.calls old)) (reads (at + 16) 1 ∷ [])
+        (writes (at + 16) named ∷ syncs ∷ []) (spare_place at cell) (copy_bytes value) refl refl write
+    cell-stops (inr committed) =
+        stops-in old after (cell_calls at cell value) Crowded crowds committed.prepared copy [] (at + 16) named refl
+        (committed.first ∙ copy-is _ refl) committed.last
 
   -- ---- the mark
 
-  module _ (v : SpoolView D) (after : D) (s : Story) (told : members.told v.disk ≡ Some s) where
-    abbrev mark : ℕ
-    mark = v.mark + 4096
+  module _ (v : SpoolView D) (after : D) (st : Standing) (stands : Stands members v st) (s : Story)
+      (told : members.told v.disk ≡ Some s)
+    where
+      -- the calls for the cell that the bytes have are those for what is kept
+      mark-is : cell_calls mark_cell (cell_in s.now.bytes mark_cell) (v.mark + 4096) ≡ mark_calls st.file.mark
+      mark-is =
+          ap (λ (n : ℕ). cell_calls mark_cell (cell_in s.now.bytes mark_cell) (n + 4096)) stands.mark
+          ∙ ap (λ (f : SpoolFile). cell_calls mark_cell f.mark (st.file.mark.value + 4096))
+          (sym (held members v st stands s told))
 
-    abbrev copy : List DiskCall
-    copy = reads 28 1 ∷ writes (spare_place s.now.bytes 12) (copy_bytes mark) ∷ syncs ∷ []
+      pub mark-made : HasReserved members v after Done → HasMade members v.disk after (mark_calls st.file.mark)
+      mark-made is =
+          subst (λ (calls : List DiskCall). HasMade members v.disk after calls) mark-is
+          (record {
+            listed =
+                cell-listed v.disk after s mark_cell (v.mark + 4096) (IsCrowded (members.health v.disk) 5 9)
+                (is.calls s told);
+            calls_left = let left = is.cause.calls_left in omega (arith, left);
+            room_left =
+                let left = is.cause.room_left in let long = length-copy (v.mark + 4096) in omega (arith, left, long);
+          })
 
-    abbrev named : List ℕ
-    named = gate_byte (spare_is_second (cell_in s.now.bytes 12)) ∷ []
-
-    copy-is : (mid : Option (List DiskCall)) → mid ≡ with_calls (reads 28 1 ∷ []) (members.calls v.disk)
-        → with_call syncs (with_call (writes (spare_place s.now.bytes 12) (copy_bytes mark)) mid)
-        ≡ with_calls copy (members.calls v.disk)
-    copy-is mid same =
-        ap (λ (told : Option (List DiskCall)).
-        with_call syncs (with_call (writes (spare_place s.now.bytes 12) (copy_bytes mark)) told)) same
-        ∙ ap (with_call syncs)
-        (with-both (reads 28 1 ∷ []) (writes (spare_place s.now.bytes 12) (copy_bytes mark) ∷ []) (members.calls v.disk))
-        ∙ with-both (reads 28 1 ∷ writes (spare_place s.now.bytes 12) (copy_bytes mark) ∷ []) (syncs ∷ [])
-        (members.calls v.disk)
-
-    pub mark-made : HasReserved members v after Done → HasMade members v.disk after (mark_calls s.now.bytes mark)
-    mark-made is =
-        let logs = is.calls s told in
-        record {
-          listed =
-              logs.last
-              ∙ ap (λ (told : Option (List DiskCall)). with_call syncs (with_call (writes 28 named) told))
-              (logs.first ∙ copy-is _ refl)
-              ∙ ap (with_call syncs) (with-both copy (writes 28 named ∷ []) (members.calls v.disk))
-              ∙ with-both (copy ++ writes 28 named ∷ []) (syncs ∷ []) (members.calls v.disk);
-          calls_left = let left = is.cause.calls_left in omega (arith, left);
-          room_left =
-              let left = is.cause.room_left in let long = length-copy mark in omega (arith, left, long);
-        }
-
-    abbrev Crowded : Type 0
-    Crowded = IsCrowded (members.health v.disk) 5 9
-
-    crowds : Crowded
-        → IsCrowded (members.health v.disk) (length (mark_calls s.now.bytes mark)) (written_by (mark_calls s.now.bytes mark))
-    crowds =
-        crowded-wider (members.health v.disk) 5 9 (length (mark_calls s.now.bytes mark))
-        (written_by (mark_calls s.now.bytes mark)) (omega arith) (let long = length-copy mark in omega (arith, long))
-
-    logs-failed : LogsValue s mark_cell mark Crowded (members.calls v.disk) (members.calls after) Failed
-        → HasFailedIn members v.disk after (mark_calls s.now.bytes mark)
-    logs-failed (inl (inl read)) =
-        stops-at v.disk after (mark_calls s.now.bytes mark) Crowded crowds (members.calls v.disk) []
-        (writes (spare_place s.now.bytes 12) (copy_bytes mark) ∷ syncs ∷ writes 28 named ∷ syncs ∷ [])
-        (read_call 28 1) refl refl (with-none (members.calls v.disk)) read
-    logs-failed (inl (inr write)) =
-        stops-in v.disk after (mark_calls s.now.bytes mark) Crowded crowds (with_call (reads 28 1) (members.calls v.disk))
-        (reads 28 1 ∷ []) (writes 28 named ∷ syncs ∷ []) (spare_place s.now.bytes 12) (copy_bytes mark) refl refl write
-    logs-failed (inr committed) =
-        stops-in v.disk after (mark_calls s.now.bytes mark) Crowded crowds committed.prepared copy [] 28 named refl
-        (committed.first ∙ copy-is _ refl) committed.last
-
-    pub mark-stops : HasReserved members v after Failed
-        → HasFailedIn members v.disk after (mark_calls s.now.bytes mark)
-    mark-stops is = logs-failed (is.calls s told)
+      pub mark-stops : HasReserved members v after Failed
+          → HasFailedIn members v.disk after (mark_calls st.file.mark)
+      mark-stops is =
+          subst (λ (calls : List DiskCall). HasFailedIn members v.disk after calls) mark-is
+          (cell-stops v.disk after s mark_cell (v.mark + 4096) (is.calls s told))
 
   -- ---- the oldest message
 

@@ -6,7 +6,7 @@ pub mod CallPlaces
 pub mod Called
 pub mod Counted
 pub mod FoundLosses
+pub mod Held
 pub mod LossCounts
-pub mod Parity
 pub mod RoomKept
 pub mod WritesFew

@@ -1,7 +1,7 @@
 -- How often power may be lost in a work: once at each of its calls.
 use Rattle.std.proofs.Common.{◌≡◌, refl, inl, inr, arith, zero, suc, ◌+◌, ◌*◌, ℕ, List, [], ◌∷◌, ◌++◌, length, map, Some}
 use Rattle.std.specs.Prelude.{slice_get}
-use Rattle.gem_spool.specs.Standing.{Standing, count_in}
+use Rattle.gem_spool.specs.Standing.{Standing}
 use Rattle.gem_spool.specs.Works as spool
 use Rattle.gem_spool.specs.Works.{standing_after}
 use Rattle.gem_spool.specs.declared.works.Work.{Work}
@@ -27,15 +27,15 @@ Each P (left ∷ calls) = P left × Each P calls
 
 -- ---- the calls of a work
 
-pub purge-count : (left : ℕ) (st : Standing) → length (purge_calls left st) ≡ 2 * left
+purge-count : (left : ℕ) (st : Standing) → length (purge_calls left st) ≡ 2 * left
 purge-count zero st = refl
 purge-count (suc left) st =
     let rest = purge-count left (standing_after st work.DropOldest) in omega (arith, rest)
 
-work-count : (st : Standing) (one : Work) → length (work_calls st one) ≡ spool.calls_of (count_in st) one
+pub work-count : (st : Standing) (one : Work) → length (work_calls st one) ≡ spool.calls_of st one
 work-count st (work.Put stream function body) = refl
 work-count st work.DropOldest = refl
-work-count st work.Purge = purge-count (length st.list) st
+work-count st work.Purge = purge-count (length st.file.list) st
 
 pub calls-count : (st : Standing) (one : DiskWork) → length (calls_at st one) ≡ calls_of st one
 calls-count st Reserve = refl

@@ -71,13 +71,13 @@ purge-few slots first (suc n) =
 
 -- one that writes a page at most, by so many calls
 pub one-few :
-    (bytes : List ℕ) (st : Standing) (one : DiskWork) → bytes_of st one ≤ 1024 * calls_of st one
-    → bytes_of st one ≤ 4096 → WriteFew (disk_calls bytes st one)
-one-few bytes st one few short =
-    let long = work-long bytes st one in let wrote = work-written bytes st one in
+    (st : Standing) (one : DiskWork) → bytes_of st one ≤ 1024 * calls_of st one
+    → bytes_of st one ≤ 4096 → WriteFew (disk_calls st one)
+one-few st one few short =
+    let long = work-long st one in let wrote = work-written st one in
     record {
       whole = omega (arith, long, wrote, few);
-      fronts = short-fronts (disk_calls bytes st one) (omega (arith, wrote, short));
+      fronts = short-fronts (disk_calls st one) (omega (arith, wrote, short));
     }
 
 -- ---- steps behind a start

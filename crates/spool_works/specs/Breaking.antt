@@ -1,14 +1,12 @@
 -- What a disk of a spool leaves where a planned call stops it (this profile).
-use Rattle.std.specs.Prelude.{◌≡◌, ◌≤◌, ◌-◌, ℕ, false, List, Option, Some}
+use Rattle.std.specs.Prelude.{◌≡◌, ◌≤◌, ◌-◌, ℕ, List, Some}
 use Rattle.disk_base.specs.Cut.{image_of}
 use Rattle.disk_base.specs.Faults.{DiskHealth, GoesAsListed, IsAmong}
 use Rattle.disk_base.specs.Images.{IsImage}
 use Rattle.disk_base.specs.Story.{Story}
 use Rattle.disk_base.specs.declared.cut.CutChoice.{CutChoice}
-use Rattle.gem_spool.specs.Standing.{Standing, file_of}
 use Rattle.spool_slots.specs.File.{StandsFor}
 use Rattle.message_end.specs.Ends.{call_of}
-use Rattle.spool_works.specs.Marked.{IsMarkedBy}
 use Rattle.spool_works.specs.SpoolLosses.{Left}
 
 -- the disk goes on, each call comes to what its entry says, and none of them is to fail alone; one may be to stop it
@@ -22,21 +20,11 @@ pub record HasPassed (before after : DiskHealth) (calls : ℕ) : Type 0 where
   pub nearer : after.stop_in ≡ before.stop_in - calls
   pub on : IsGoingDisk after
 
--- the gate of the mark went with it before and goes with it still
-abbrev pub KeepsMarked : Option Story → ℕ → Option Story → ℕ → Type 0
-KeepsMarked old was new now =
-    (s t : Story) → old ≡ Some s → new ≡ Some t → IsMarkedBy s.now.bytes was → IsMarkedBy t.now.bytes now
-
--- bytes that stand for this, with the gate that goes with the mark
-pub record IsLeftWith (image : List ℕ) (st : Standing) : Type 0 where
-  pub stands : StandsFor image (file_of st)
-  pub marked : IsMarkedBy image st.mark
-
 -- the call of this place was made, at which the disk stops, and a crash leaves what is said of it
 pub record HasLeftAt (calls : List Left) (call : ℕ) (after : Story) : Type 0 where
   pub left : Left
   pub is : call_of call calls ≡ Some left
-  pub at : (choice : CutChoice) → IsLeftWith (image_of choice after) (left choice)
+  pub at : (choice : CutChoice) → StandsFor (image_of choice after) (left choice)
 
 -- whatever is chosen, a crash leaves one of the images
 abbrev pub LeavesImages : Story → Type 0

@@ -1,17 +1,18 @@
 -- Which calls of the disk the works of a step are, one by one, and which of them were made (this profile).
-use Rattle.std.specs.Prelude.{◌≡◌, ◌⊎◌, ℕ, zero, suc, ◌+◌, ◌-◌, ◌%◌, ◌≤◌, List, [], ◌∷◌, ◌++◌, length, Option, Result, Ok, Err}
+use Rattle.std.specs.Prelude.{◌≡◌, ◌⊎◌, ℕ, zero, suc, ◌+◌, ◌-◌, ◌%◌, ◌≤◌, not, List, [], ◌∷◌, ◌++◌, length, Option, Result, Ok, Err}
 use Rattle.std.specs.Option.{option_map}
 use Rattle.disk_base.specs.Calls.{DiskCall, read_call, sync_call, write_call}
 use Rattle.disk_base.specs.Faults.{IsCrowded}
 use Rattle.disk_base.specs.declared.disk.Disk as disk
 use Rattle.disk_base.specs.declared.disk.DiskAnswer.TheVariants.{Done, Failed}
-use Rattle.gate_cell.specs.Cell.{cell_in, copy_bytes, gate_byte, spare_is_second, spare_place}
+use Rattle.gate_cell.specs.Cell.{Cell, copy_bytes, gate_byte, spare_place}
 use Rattle.gem_spool.specs.declared.count.Count.{Count}
 use Rattle.gem_spool.specs.declared.spool.GemSpool.{GemSpool}
 use Rattle.gem_spool.specs.declared.works.Work.{Work}
 use Rattle.gem_spool.specs.declared.works.Work.TheVariants as work
 use Rattle.gem_spool.specs.Standing.{Standing, count_in}
 use Rattle.spool_slots.specs.Changes.{parts_of}
+use Rattle.spool_slots.specs.Front.{mark_cell}
 use Rattle.spool_slots.specs.Slot.{slot_place}
 use Rattle.spool_works.specs.declared.ended.Ended.{Ended}
 use Rattle.spool_works.specs.declared.ended.Ended.TheVariants as ended
@@ -54,37 +55,39 @@ abbrev pub oldest_in : Count → ℕ
 oldest_in c = c.next - c.len
 
 -- the list changes
-abbrev pub change_calls : Count → Work → List DiskCall
-change_calls c (work.Put stream function body) = put_calls c.slots c.next stream function body
-change_calls c work.DropOldest = drop_calls c.slots (oldest_in c)
-change_calls c work.Purge = purge_calls c.slots (oldest_in c) c.len
+abbrev pub change_calls : Standing → Work → List DiskCall
+change_calls st (work.Put stream function body) = put_calls st.file.slots st.next stream function body
+change_calls st work.DropOldest = drop_calls st.file.slots (oldest_in (count_in st))
+change_calls st work.Purge = purge_calls st.file.slots (oldest_in (count_in st)) (length st.file.list)
 
 -- the oldest message is read, with all of its slot
 abbrev pub oldest_calls : Count → List DiskCall
 oldest_calls c = reads (slot_place (oldest_in c % c.slots)) 4096 ∷ []
 
--- another mark is written over the copy that doesn't count, and then the gate of its cell, which names this copy; of
--- the copies, which stand at 12 and 20, the gate at 28 has named the other one. These are the bytes before
-abbrev pub mark_calls : List ℕ → ℕ → List DiskCall
-mark_calls bytes mark =
-    reads 28 1
-    ∷ writes (spare_place bytes 12) (copy_bytes mark)
+-- another value is written over the copy of a cell that doesn't count, and then the cell's gate, which names this copy
+abbrev pub cell_calls : (at : ℕ) → Cell → ℕ → List DiskCall
+cell_calls at cell value =
+    reads (at + 16) 1
+    ∷ writes (spare_place at cell) (copy_bytes value)
     ∷ syncs
-    ∷ writes 28 (gate_byte (spare_is_second (cell_in bytes 12)) ∷ [])
+    ∷ writes (at + 16) (gate_byte (not cell.second) ∷ [])
     ∷ syncs
     ∷ []
 
--- any work of a step, where the spool stands so, and the file had these bytes as the step began: a mark is moved on
--- before all else
-abbrev pub disk_calls : List ℕ → Standing → DiskWork → List DiskCall
-disk_calls bytes st Reserve = mark_calls bytes (st.mark + 4096)
-disk_calls bytes st (Change one) = change_calls (count_in st) one
-disk_calls bytes st ReadOldest = oldest_calls (count_in st)
+-- the mark is moved on
+abbrev pub mark_calls : Cell → List DiskCall
+mark_calls mark = cell_calls mark_cell mark (mark.value + 4096)
 
--- one after the other
-abbrev pub all_disk_calls : List ℕ → Standing → List DiskWork → List DiskCall
-all_disk_calls bytes st [] = []
-all_disk_calls bytes st (one ∷ works) = disk_calls bytes st one ++ all_disk_calls bytes (standing_behind st one) works
+-- any work of a step, where the spool stands so
+abbrev pub disk_calls : Standing → DiskWork → List DiskCall
+disk_calls st Reserve = mark_calls st.file.mark
+disk_calls st (Change one) = change_calls st one
+disk_calls st ReadOldest = oldest_calls (count_in st)
+
+-- one after the other, each where the spool stands as those before it have left it
+abbrev pub all_disk_calls : Standing → List DiskWork → List DiskCall
+all_disk_calls st [] = []
+all_disk_calls st (one ∷ works) = disk_calls st one ++ all_disk_calls (standing_behind st one) works
 
 -- ---- which of them were made
 
@@ -120,24 +123,24 @@ pub record HasFailedIn {D : Type 0} (members : disk.Ghosts D) (old new : D) (cal
 
 -- the calls of some first works were made and done, and no others
 pub record HasBegunWorks
-    {D : Type 0} (members : disk.Ghosts D) (old new : D) (bytes : List ℕ) (st : Standing) (works : List DiskWork)
+    {D : Type 0} (members : disk.Ghosts D) (old new : D) (st : Standing) (works : List DiskWork)
     : Type 0 where
   pub first : List DiskWork
   pub rest : List DiskWork
   pub are : works ≡ first ++ rest
-  pub made : HasMade members old new (all_disk_calls bytes st first)
+  pub made : HasMade members old new (all_disk_calls st first)
 
 -- the disk's calls are those of these works, up to the first that fails. Where numbers were spent all of them are done,
 -- since they were decided by then; where memory was wanting, some first works are
 abbrev pub HasCalled :
-    {D R : Type 0} → disk.Ghosts D → (R → D) → D → List ℕ → Standing → List DiskWork → Result R (Ended D) → Type 0
-HasCalled members disk_of old bytes st works (Ok r) = HasMade members old (disk_of r) (all_disk_calls bytes st works)
-HasCalled members disk_of old bytes st works (Err (ended.NumbersSpent spent)) =
-    HasMade members old spent.disk (all_disk_calls bytes st works)
-HasCalled members disk_of old bytes st works (Err (ended.DiskFailed spent)) =
-    HasFailedIn members old spent.disk (all_disk_calls bytes st works)
-HasCalled members disk_of old bytes st works (Err (ended.NoMemory spent)) =
-    HasBegunWorks members old spent.disk bytes st works
+    {D R : Type 0} → disk.Ghosts D → (R → D) → D → Standing → List DiskWork → Result R (Ended D) → Type 0
+HasCalled members disk_of old st works (Ok r) = HasMade members old (disk_of r) (all_disk_calls st works)
+HasCalled members disk_of old st works (Err (ended.NumbersSpent spent)) =
+    HasMade members old spent.disk (all_disk_calls st works)
+HasCalled members disk_of old st works (Err (ended.DiskFailed spent)) =
+    HasFailedIn members old spent.disk (all_disk_calls st works)
+HasCalled members disk_of old st works (Err (ended.NoMemory spent)) =
+    HasBegunWorks members old spent.disk st works
 
 -- the disk of a spool in hand, and of an equipment
 abbrev pub disk_in : {D : Type 0} → GemSpool D → D

@@ -1,8 +1,8 @@
 -- The works that a step owes to the disk of a spool, one by one: what is noted by then, what stands behind, and what
 -- they cost (this profile).
-use Rattle.std.specs.Prelude.{ℕ, Bool, true, false, ◌+◌, List, [], ◌∷◌, ◌++◌, fold, if◌then◌else◌}
+use Rattle.std.specs.Prelude.{ℕ, ◌+◌, List, [], ◌∷◌, ◌++◌, fold, if◌then◌else◌}
 use Rattle.gem_spool.specs.declared.works.Work.{Work}
-use Rattle.gem_spool.specs.Standing.{Standing, count_in, file_of}
+use Rattle.gem_spool.specs.Standing.{Standing}
 use Rattle.gem_spool.specs.Works as spool
 use Rattle.gem_spool.specs.Works.{IsMarked, IsOnWay, reserved as marked, standing_after}
 use Rattle.spool_slots.specs.File.{StandsFor}
@@ -48,17 +48,17 @@ standings_behind = fold standing_behind
 abbrev pub IsAmidWork : Standing → DiskWork → List ℕ → Type 0
 IsAmidWork st Reserve image = IsMarked st image
 IsAmidWork st (Change work) image = IsOnWay st (work ∷ []) image
-IsAmidWork st ReadOldest image = StandsFor image (file_of st)
+IsAmidWork st ReadOldest image = StandsFor image st.file
 
 -- calls of the disk, and bytes that are written
 abbrev pub calls_of : Standing → DiskWork → ℕ
 calls_of st Reserve = 5
-calls_of st (Change work) = spool.calls_of (count_in st) work
+calls_of st (Change work) = spool.calls_of st work
 calls_of st ReadOldest = 1
 
 abbrev pub bytes_of : Standing → DiskWork → ℕ
 bytes_of st Reserve = 9
-bytes_of st (Change work) = spool.bytes_of (count_in st) work
+bytes_of st (Change work) = spool.bytes_of st work
 bytes_of st ReadOldest = 0
 
 abbrev pub all_calls : Standing → List DiskWork → ℕ

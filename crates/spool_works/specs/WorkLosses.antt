@@ -20,14 +20,15 @@ calls_at st DiskWork.ReadOldest = read_calls st
 
 -- ---- what a start finds then
 
--- the message that is being stored at a work, and why messages leave at it, as its line says
-abbrev pub storing_at : Standing → DiskWork → Option (ℕ × Spooled)
-storing_at st (DiskWork.Change (work.Put stream function body)) =
-    Some (st.next, record { stream = stream; function = function; body = body })
-storing_at st (DiskWork.Change work.DropOldest) = None
-storing_at st (DiskWork.Change work.Purge) = None
-storing_at st DiskWork.Reserve = None
-storing_at st DiskWork.ReadOldest = None
+-- the message that is being stored at a work, where this is the next number, and why messages leave at it, as its line
+-- says
+abbrev pub storing_at : ℕ → DiskWork → Option (ℕ × Spooled)
+storing_at next (DiskWork.Change (work.Put stream function body)) =
+    Some (next, record { stream = stream; function = function; body = body })
+storing_at next (DiskWork.Change work.DropOldest) = None
+storing_at next (DiskWork.Change work.Purge) = None
+storing_at next DiskWork.Reserve = None
+storing_at next DiskWork.ReadOldest = None
 
 abbrev pub MayLeaveAt : DiskWork → Option Cause → Type 0
 MayLeaveAt (DiskWork.Change (work.Put stream function body)) leaving = Unit {0}
@@ -43,4 +44,4 @@ abbrev pub LossesAreFound : Type 0
 LossesAreFound =
     (st : Standing) (one : DiskWork) (leaving : Option Cause) → MayLeaveAt one leaving → (left : Left)
     → Has (calls_at st one) left → (choice : CutChoice)
-    → IsFoundOf (found_in st.list) (storing_at st one) leaving (found_in (left choice).list)
+    → IsFoundOf (found_in st.file.list) (storing_at st.next one) leaving (found_in (left choice).list)

@@ -22,6 +22,7 @@ use Rattle.equipment_tables.specs.declared.plan.EquipmentPlan.{EquipmentPlan}
 use Rattle.equipment_tables.specs.Plan.{EquipmentPlanFits}
 use Rattle.tool_law.proofs.SpoolSound.{carried-good, settled-good}
 use Rattle.tool_step.specs.Equipment.{EquipmentView, act, begun_step, ended_step, is_marked_out, needs_numbers, parts_done, reserved, settled_step, settled_went}
+use Rattle.tool_step.proofs.StepFiles.{settled-mark}
 use Rattle.tool_law.specs.Laws.{DidOf}
 use Rattle.tool_step.specs.Step.{end_plan, first_parts}
 use Rattle.spool_ledger.specs.declared.ledger.Stand.{Stand}
@@ -54,8 +55,8 @@ module _ (plan : EquipmentPlan) (base : ℕ) (fits : EquipmentPlanFits plan) whe
         };
       };
     };
-    list = settled-good step.next.node.own.ledger step.next.list at.node.at.held.ledger at.list;
-    mark = at.mark;
+    list = settled-good step.next.node.own.ledger step.next.file at.node.at.held.ledger at.list;
+    mark = settled-mark step.next.node.own.ledger step.next.file ∙ at.mark;
   }
 
   -- the whole step, from what was begun
@@ -176,7 +177,7 @@ module _ (plan : EquipmentPlan) (base : ℕ) (fits : EquipmentPlanFits plan) whe
       (FileStepped plan base fits s.node.own.ledger.slots s.node.own.ledger.stood doings now limit input)
       (FileBegun plan base fits s.node.own.ledger.slots s.node.own.ledger.stood doings now limit input)
       (begun_step s input now)
-  begun-at doings s input now did may = go (needs_numbers s) (is_marked_out s.mark) refl
+  begun-at doings s input now did may = go (needs_numbers s) (is_marked_out s.file.mark.value) refl
     where
       slots : ℕ
       slots = s.node.own.ledger.slots
@@ -187,10 +188,10 @@ module _ (plan : EquipmentPlan) (base : ℕ) (fits : EquipmentPlanFits plan) whe
       limit : ℕ
       limit = s.node.core.numbers.end
 
-      more : is_marked_out s.mark ≡ false → (reserved s).mark ≡ (reserved s).node.core.numbers.end
-      more room = marks-on s.node.core.numbers.end s.mark did.sound.mark room
+      more : is_marked_out s.file.mark.value ≡ false → (reserved s).file.mark.value ≡ (reserved s).node.core.numbers.end
+      more room = marks-on s.node.core.numbers.end s.file.mark.value did.sound.mark room
 
-      go : (needs spent : Bool) → is_marked_out s.mark ≡ spent
+      go : (needs spent : Bool) → is_marked_out s.file.mark.value ≡ spent
           → (limit : ℕ)
           × OnEither (FileStepped plan base fits slots stood doings now limit input)
           (FileBegun plan base fits slots stood doings now limit input)

@@ -53,6 +53,7 @@ use Rattle.tool_law.specs.Laws.{DidOf}
 use Rattle.tool_step.specs.Step.{begun, delay_timer, end_plan, first_parts, input_part, last_parts, late_parts, line_timer}
 use Rattle.spool_ledger.specs.declared.ledger.Stand.{Stand}
 use Rattle.spool_ledger.specs.Ledger.{new_ledger}
+use Rattle.spool_slots.specs.File.{SpoolFile}
 use Rattle.spool_slots.specs.Slot.{Message as Kept}
 use Rattle.tool_step.specs.Live.{ReportView}
 use Rattle.tool_law.specs.Tried.{AreInTurn, newest_of}
@@ -201,7 +202,7 @@ module _ (plan : EquipmentPlan) (fits : EquipmentPlanFits plan) where
   -- the equipment with its spool
   pub record IsGoodView (s : EquipmentView) : Type 0 where
     pub own : IsSound plan s.node.own.ledger.slots s.node.own.ledger.stood s.node.own
-    pub list : AllCanBeSent s.list
+    pub list : AllCanBeSent s.file.list
 
   parts-good : (parts : List ToolPart) (step : Step EquipmentView Happening)
       → AllKeepSound plan fits step.next.node.own.ledger.slots step.next.node.own.ledger.stood parts
@@ -226,12 +227,12 @@ module _ (plan : EquipmentPlan) (fits : EquipmentPlanFits plan) where
       reports = good.own.reports;
       ledger = carried-good s.node.own.ledger good.own.ledger;
     };
-    list = settled-good s.node.own.ledger s.list good.own.ledger good.list;
+    list = settled-good s.node.own.ledger s.file good.own.ledger good.list;
   }
 
   pub begun-good : (s : EquipmentView) (input : Input ToolCommand) (now : ℕ) → IsGoodView s
       → IsGoodView (step_in (begun_step s input now)).next
-  begun-good s input now good = go (needs_numbers s) (is_marked_out s.mark)
+  begun-good s input now good = go (needs_numbers s) (is_marked_out s.file.mark.value)
     where
       go : (needs spent : Bool)
           → IsGoodView
@@ -249,14 +250,14 @@ module _ (plan : EquipmentPlan) (fits : EquipmentPlanFits plan) where
 
   -- up to the works the list is that of the file, and the disk has what it had
   pub begun-stood : (s : EquipmentView) (input : Input ToolCommand) (now : ℕ) → IsGoodView s
-      → ((step_in (begun_step s input now)).next.list ≡ s.list)
+      → ((step_in (begun_step s input now)).next.file.list ≡ s.file.list)
       × ((step_in (begun_step s input now)).next.node.own.ledger.stood ≡ s.node.own.ledger.stood)
-  begun-stood s input now good = go (needs_numbers s) (is_marked_out s.mark)
+  begun-stood s input now good = go (needs_numbers s) (is_marked_out s.file.mark.value)
     where
       Stays : Step EquipmentView Happening → Type 0
-      Stays step = (step.next.list ≡ s.list) × (step.next.node.own.ledger.stood ≡ s.node.own.ledger.stood)
+      Stays step = (step.next.file.list ≡ s.file.list) × (step.next.node.own.ledger.stood ≡ s.node.own.ledger.stood)
 
-      by : (file : EquipmentView) (went : Went (Node OwnView Kind) Happening) → file.list ≡ s.list
+      by : (file : EquipmentView) (went : Went (Node OwnView Kind) Happening) → file.file.list ≡ s.file.list
           → IsSound plan s.node.own.ledger.slots s.node.own.ledger.stood (step_in went).next.own
           → Stays (step_in (went_with_file file went))
       by file (Goes step) same sound = (same, sound.ledger.stood_is)
@@ -290,7 +291,7 @@ module _ (plan : EquipmentPlan) (fits : EquipmentPlanFits plan) where
   ended-good step now good =
       parts-good (last_parts (oldest_of step.next) now) step
       (last-sound plan fits step.next.node.own.ledger.slots step.next.node.own.ledger.stood (oldest_of step.next)
-      (oldest-good step.next.list good.list) now) good
+      (oldest-good step.next.file.list good.list) now) good
 
   pub act-good : (s : EquipmentView) (input : Input ToolCommand) (now : ℕ) → IsGoodView s
       → IsGoodView (step_in (act s input now)).next
@@ -382,46 +383,46 @@ module _ (plan : EquipmentPlan) (fits : EquipmentPlanFits plan) where
   left-at mark room =
       record { ordered = omega arith; four_bytes = grind (arith, nat_tests, room) }
 
-  started-at : (slots : ℕ) (list : List Kept) (mark : ℕ) → AllCanBeSent list → is_marked_out mark ≡ false
-      → DidOf plan mark [] (started_on plan slots list mark).next
-  started-at slots list mark can room =
+  started-at : (file : SpoolFile) → AllCanBeSent file.list → is_marked_out file.mark.value ≡ false
+      → DidOf plan file.mark.value [] (started_on plan file).next
+  started-at file can room =
       let did = begins-new {S = OwnView} {K = Kind} lower (end_plan plan) fits.line
-      (IsSound plan slots own.ledger.stood) own
-      (numbers_from mark 4096) (left-at mark room) sound in
+      (IsSound plan file.slots own.ledger.stood) own
+      (numbers_from file.mark.value 4096) (left-at file.mark.value room) sound in
       record {
         sound = record { own = sound; list = can; mark = refl };
         is = did.is;
         tried = tt;
-        turn = none-tried (started_on plan slots list mark).next.node.core;
+        turn = none-tried (started_on plan file).next.node.core;
         last = refl;
       }
     where
       own : OwnView
-      own = new_own plan (new_ledger slots (first_in list) (length list))
+      own = new_own plan (new_ledger file.slots (first_in file.list) (length file.list))
 
-      sound : IsSound plan slots own.ledger.stood own
+      sound : IsSound plan file.slots own.ledger.stood own
       sound = record {
         plan_is = refl;
         texts = All-nil (λ (one : GrantView). IsText one.body);
         traced = All-nil (λ (one : GrantView). IsText one.body);
         reports = All-nil (λ (one : ReportView). CanBeSent one.message);
-        ledger = new-good slots (first_in list) (length list);
+        ledger = new-good file.slots (first_in file.list) (length file.list);
       }
 
-  pub starts-at : (slots : ℕ) (list : List Kept) (mark least : ℕ) → AllCanBeSent list → least ≤ mark
-      → OnStart (HasStarted (end_plan plan) (DidOf plan) least) (starts plan slots list mark)
-  starts-at slots list mark least can above = go (is_marked_out mark) refl
+  pub starts-at : (file : SpoolFile) (least : ℕ) → AllCanBeSent file.list → least ≤ file.mark.value
+      → OnStart (HasStarted (end_plan plan) (DidOf plan) least) (starts plan file)
+  starts-at file least can above = go (is_marked_out file.mark.value) refl
     where
-      go : (spent : Bool) → is_marked_out mark ≡ spent
+      go : (spent : Bool) → is_marked_out file.mark.value ≡ spent
           → OnStart (HasStarted (end_plan plan) (DidOf plan) least)
-          (if spent then Spent (at_first (record (started_on plan slots list mark).next { mark = mark }))
-          else Goes (started_on plan slots list mark))
+          (if spent then Spent (at_first (record (started_on plan file).next { file = file }))
+          else Goes (started_on plan file))
       go true is = refl
       go false is =
           record {
-            base = mark;
-            found = found_in list;
-            is = started-at slots list mark can is;
+            base = file.mark.value;
+            found = found_in file.list;
+            is = started-at file can is;
             above = above;
             notes = refl;
             written = refl;
@@ -431,28 +432,27 @@ module _ (plan : EquipmentPlan) (fits : EquipmentPlanFits plan) where
   restarts-at : (base : ℕ) (doings : List Doing) (s : EquipmentView) (now : ℕ) → DidOf plan base doings s
       → OnStart (HasRestarted (end_plan plan) (DidOf plan) base doings) (restarts s now)
   restarts-at base doings s now did =
-      go (starts plan s.node.own.ledger.slots s.list s.mark)
-      (starts-at s.node.own.ledger.slots s.list s.mark s.mark did.sound.list (omega arith))
-      (ap (λ (p : EquipmentPlan). starts p s.node.own.ledger.slots s.list s.mark) (sym did.sound.own.plan_is))
+      go (starts plan s.file) (starts-at s.file s.file.mark.value did.sound.list (omega arith))
+      (ap (λ (p : EquipmentPlan). starts p s.file) (sym did.sound.own.plan_is))
     where
       numbers : NumbersView
       numbers = s.node.core.numbers
 
-      under : numbers.next ≤ s.mark
+      under : numbers.next ≤ s.file.mark.value
       under = subst (λ (mark : ℕ). numbers.next ≤ mark) did.sound.mark did.is.core.numbers.left.ordered
 
       go : (went : Went EquipmentView Happening)
-          → OnStart (HasStarted (end_plan plan) (DidOf plan) s.mark) went
+          → OnStart (HasStarted (end_plan plan) (DidOf plan) s.file.mark.value) went
           → went ≡ restarts s now
           → OnStart (HasRestarted (end_plan plan) (DidOf plan) base doings) (restarts s now)
       go went is same =
           subst (OnStart (HasRestarted (end_plan plan) (DidOf plan) base doings)) same (by went is)
         where
           by : (went : Went EquipmentView Happening)
-              → OnStart (HasStarted (end_plan plan) (DidOf plan) s.mark) went
+              → OnStart (HasStarted (end_plan plan) (DidOf plan) s.file.mark.value) went
               → OnStart (HasRestarted (end_plan plan) (DidOf plan) base doings) went
           by (Goes step) started = record {
-            least = s.mark;
+            least = s.file.mark.value;
             no_lower = le_trans did.is.core.numbers.least under;
             above = λ drawn has. le_trans (did.is.core.numbers.above drawn has) under;
             started = started;
@@ -461,9 +461,9 @@ module _ (plan : EquipmentPlan) (fits : EquipmentPlanFits plan) where
 
 -- ---- the first step of a start has numbers to draw
 
-module _ (plan : EquipmentPlan) (slots : ℕ) (list : List Kept) (mark : ℕ) where
+module _ (plan : EquipmentPlan) (file : SpoolFile) where
   first-view : EquipmentView
-  first-view = (started_on plan slots list mark).next
+  first-view = (started_on plan file).next
 
   first-own : OwnView
   first-own = begun first-view.node.own
@@ -505,6 +505,9 @@ module _ (plan : EquipmentPlan) (slots : ℕ) (list : List Kept) (mark : ℕ) wh
       (λ (went : Went (Node OwnView Kind) Happening). first-act went ≢ Spent step)
       (ap (asking-went body) (sym drawn)) (λ other. absurd (cc)) same
     where
+      mark : ℕ
+      mark = file.mark.value
+
       drawn : next_number (numbers_from mark 4096) ≡ Some mark
       drawn = go (mark == mark + 4096) refl
         where
@@ -513,7 +516,7 @@ module _ (plan : EquipmentPlan) (slots : ℕ) (list : List Kept) (mark : ℕ) wh
           go false is = refl
 
   first-goes :
-      (step : Step EquipmentView Happening) → act (started_on plan slots list mark).next Time 0 ≢ Spent step
+      (step : Step EquipmentView Happening) → act (started_on plan file).next Time 0 ≢ Spent step
   unfolding late_parts sample_parts first-act first-turn first-view first-own asking-own rest-parts asking-went
   first-goes step same =
       goes-by (not plan.enable) (sent.text_of first-own (identity_of first-own.tables)) step (starts-by ∙ same)
@@ -529,7 +532,7 @@ module _ (plan : EquipmentPlan) (slots : ℕ) (list : List Kept) (mark : ℕ) wh
               (after_turn Some (first-turn (not plan.enable) (sent.text_of first-own (identity_of first-own.tables)))
               (at_first first-view.node))
               ≡ and_then (settled_went (and_then
-              (if needs then if is_marked_out first-view.mark then Spent (at_first first-view)
+              (if needs then if is_marked_out first-view.file.mark.value then Spent (at_first first-view)
               else Goes (at_first (reserved first-view)) else Goes (at_first first-view))
               (parts_done (first_parts Time 0)))) (ended_step 0)
           go true is = absurd (grind (arith, nat_tests, is))
@@ -546,11 +549,11 @@ Loses plan =
     → LosesAt (end_plan plan) (DidOf plan) base doings input now loss.front (restarts (loss.left choice) now)
 
 pub lawful-so :
-    (plan : EquipmentPlan) (slots : ℕ) (list : List Kept) (mark : ℕ) → EquipmentPlanFits plan → AllCanBeSent list
-    → Loses plan → KeepsLaw (end_plan plan) (DidOf plan) ToolCommandFits (starts plan slots list mark) machine
-lawful-so plan slots list mark fits can loses = record {
+    (plan : EquipmentPlan) (file : SpoolFile) → EquipmentPlanFits plan → AllCanBeSent file.list → Loses plan
+    → KeepsLaw (end_plan plan) (DidOf plan) ToolCommandFits (starts plan file) machine
+lawful-so plan file fits can loses = record {
   fits = fits.line;
-  starts = starts-at plan fits slots list mark 0 can (omega arith);
+  starts = starts-at plan fits file 0 can (omega arith);
   begins = λ first step is. begins first step is;
   keeps = λ base doings s did.
       record {
@@ -580,16 +583,16 @@ lawful-so plan slots list mark fits can loses = record {
 }
   where
     begins :
-        (first step : Step EquipmentView Happening) → starts plan slots list mark ≡ Goes first
+        (first step : Step EquipmentView Happening) → starts plan file ≡ Goes first
         → act first.next Time 0 ≢ Spent step
-    begins first step = go (is_marked_out mark)
+    begins first step = go (is_marked_out file.mark.value)
       where
         go : (spent : Bool)
-            → (if spent then Spent (at_first (record (started_on plan slots list mark).next { mark = mark }))
-            else Goes (started_on plan slots list mark)) ≡ Goes first
+            → (if spent then Spent (at_first (record (started_on plan file).next { file = file }))
+            else Goes (started_on plan file)) ≡ Goes first
             → act first.next Time 0 ≢ Spent step
         go true is = absurd (cc)
         go false is =
             subst (λ (s : EquipmentView). act s Time 0 ≢ Spent step)
             (ap (λ (went : Went EquipmentView Happening). (step_in went).next) is)
-            (first-goes plan slots list mark step)
+            (first-goes plan file step)

@@ -1,6 +1,6 @@
 -- That the equipment keeps the law of an end wherever its power is lost, and so all of it: proofs, which stand here
 -- since an impl cites them.
-use Rattle.std.proofs.Common.{◌⊎◌, inl, inr, ◌≡◌, refl, sym, subst, ◌+◌, arith, Bool, true, false, not, ℕ, ◌<◌, ◌≤◌, zero, suc, List, [], ◌∷◌, ◌++◌, All, length, map, Some, if◌then◌else◌, ◌&&◌}
+use Rattle.std.proofs.Common.{◌⊎◌, inl, inr, ◌≡◌, refl, sym, ap, subst, ◌∙◌, ◌+◌, arith, Bool, true, false, not, ℕ, ◌<◌, ◌≤◌, zero, suc, List, [], ◌∷◌, ◌++◌, All, length, map, Some, if◌then◌else◌, ◌&&◌}
 use Rattle.std.proofs.Math.Nat.{le_trans}
 use Rattle.std.proofs.lemmas.List.Elements.{All-head, All-tail}
 use Rattle.disk_base.specs.declared.cut.CutChoice.{CutChoice}
@@ -14,76 +14,77 @@ use Rattle.message_end.specs.Core.Went.{Goes, Spent}
 use Rattle.message_end.specs.Doings.{Doing, own_of}
 use Rattle.message_end.specs.Ends.{HasRestarted, HasStarted, Input, KeepsLaw, Loss, OnStart}
 use Rattle.message_end.specs.Own.{Has, drawn_in}
-use Rattle.message_end.specs.Parts.{Node, after_parts}
-use Rattle.spool_slots.specs.Losses.{gate_counts}
-use Rattle.spool_slots.specs.Slot.{Message as Kept}
+use Rattle.message_end.specs.Parts.{after_parts}
+use Rattle.spool_slots.specs.File.{SpoolFile}
+use Rattle.spool_slots.specs.Losses.{file_left, gate_counts, names_spare}
 use Rattle.trace_log.specs.Commands.{ToolCommandFits}
 use Rattle.trace_log.specs.declared.commands.ToolCommand.{ToolCommand}
 use Rattle.trace_log.specs.Log.{Happening}
 use Rattle.equipment_tables.specs.declared.plan.EquipmentPlan.{EquipmentPlan}
 use Rattle.equipment_tables.specs.Plan.{EquipmentPlanFits}
-use Rattle.tool_step.specs.declared.kind.Kind.{Kind}
 use Rattle.spool_works.specs.DiskWorks.{DiskWork, behind_change, up_to_change}
 use Rattle.tool_step.specs.Disk.{read_works, standing_in, takes_up, works_behind, works_of}
 use Rattle.spool_works.specs.DiskWorks.DiskWork.{Change, ReadOldest, Reserve}
 use Rattle.tool_step.specs.End.{machine}
-use Rattle.tool_step.specs.Equipment.{EquipmentView, act, begun_step, ended_step, is_marked_out, needs_numbers, node_step, oldest_of, parts_done, reserved, restarts, settled, settled_step, settled_went, starts, went_with_file}
+use Rattle.tool_step.specs.Equipment.{EquipmentView, act, begun_step, ended_step, is_marked_out, needs_numbers, parts_done, reserved, restarts, settled_went, starts}
 use Rattle.tool_law.proofs.Lawful.{IsGoodView, Loses, begun-good, lawful-so, starts-at, stops-are, stops-unended}
 use Rattle.tool_law.proofs.KeptSteps.{goes-on}
 use Rattle.tool_law.specs.Laws.{DidOf}
 use Rattle.tool_step.proofs.LossCalls.{AtEach, at-call, losses-counted}
+use Rattle.tool_step.proofs.StepFiles.{ended-file, parts-file, settled-mark}
 use Rattle.spool_works.proofs.LossCounts.{Each}
 use Rattle.tool_step.specs.Losses.{left_as}
-use Rattle.tool_step.specs.Own.{OwnView}
 use Rattle.tool_law.specs.Sound.{AllCanBeSent, PutsGood}
-use Rattle.spool_works.specs.SpoolLosses.{Left, by_gate, closes, marks, opens, purge_calls, work_calls}
+use Rattle.spool_works.specs.SpoolLosses.{Left, by_gate, closes, opens, purge_calls, work_calls}
 use Rattle.tool_law.proofs.SpoolSound.{list-good}
-use Rattle.tool_step.specs.Step.{end_plan, first_parts, last_parts}
+use Rattle.tool_step.specs.Step.{end_plan, first_parts}
 
 -- ---- the mark of a step
 
 -- the works of a step and what it does behind them leave the mark as it is
-pub parts-mark : (file : EquipmentView) (went : Went (Node OwnView Kind) Happening)
-    → (step_in (went_with_file file went)).next.mark ≡ file.mark
-parts-mark file (Goes step) = refl
-parts-mark file (Spent step) = refl
-
-pub ended-mark : (went : Went EquipmentView Happening) (now : ℕ)
-    → (step_in (and_then (settled_went went) (ended_step now))).next.mark ≡ (step_in went).next.mark
-ended-mark (Goes step) now =
-    parts-mark (settled step.next)
-    (after_parts Some (last_parts (oldest_of (settled step.next)) now) (node_step (settled_step step)))
-ended-mark (Spent step) now = refl
+ended-mark : (went : Went EquipmentView Happening) (now : ℕ)
+    → (step_in (and_then (settled_went went) (ended_step now))).next.file.mark.value
+    ≡ (step_in went).next.file.mark.value
+ended-mark went now =
+    ap (λ (file : SpoolFile). file.mark.value) (ended-file went now)
+    ∙ settled-mark (step_in went).next.node.own.ledger (step_in went).next.file
 
 -- ---- what is left at each call
 
--- the messages that are left can be sent, and the mark is no lower than it was; behind a note it is no lower than this
-pub record IsLeftWell (old last : ℕ) (front : List Happening) (st : Standing) : Type 0 where
-  pub can : AllCanBeSent st.list
-  pub above : old ≤ st.mark
-  pub most : (front ≡ []) ⊎ (last ≤ st.mark)
+-- the messages that are left can be sent, there are as many slots as there were, and the mark is no lower than it was;
+-- behind a note it is no lower than this
+pub record IsLeftWell (was : SpoolFile) (last : ℕ) (front : List Happening) (file : SpoolFile) : Type 0 where
+  pub can : AllCanBeSent file.list
+  pub slots_are : file.slots ≡ was.slots
+  pub above : was.mark.value ≤ file.mark.value
+  pub most : (front ≡ []) ⊎ (last ≤ file.mark.value)
 
-module _ (old last : ℕ) where
+module _ (was : SpoolFile) (last : ℕ) where
   abbrev pub LeavesWell : List Happening → Left → Type 0
-  LeavesWell front left = (choice : CutChoice) → IsLeftWell old last front (left choice)
+  LeavesWell front left = (choice : CutChoice) → IsLeftWell was last front (left choice)
 
   gate-well :
-      (front : List Happening) (means : ℕ → Bool) (done undone : Standing) → IsLeftWell old last front done
-      → IsLeftWell old last front undone → LeavesWell front (by_gate means done undone)
+      (front : List Happening) (means : ℕ → Bool) (done undone : Standing) → IsLeftWell was last front done.file
+      → IsLeftWell was last front undone.file → LeavesWell front (by_gate means done undone)
   gate-well front means done undone is is_not choice = go (gate_counts choice means)
     where
-      go : (counts : Bool) → IsLeftWell old last front (if counts then done else undone)
+      go : (counts : Bool) → IsLeftWell was last front (file_left counts done.file undone.file)
       go true = is
       go false = is_not
 
   after-well :
-      (front : List Happening) (st : Standing) (one : Work) → PutsGood one → IsLeftWell old last front st
-      → IsLeftWell old last front (standing_after st one)
+      (front : List Happening) (st : Standing) (one : Work) → PutsGood one → IsLeftWell was last front st.file
+      → IsLeftWell was last front (standing_after st one).file
   after-well front st one good is =
-      record { can = list-good st.next st.list one is.can good; above = is.above; most = is.most }
+      record {
+        can = list-good st.next st.file.list one is.can good;
+        slots_are = is.slots_are;
+        above = is.above;
+        most = is.most;
+      }
 
   purge-well :
-      (front : List Happening) (left : ℕ) (st : Standing) → IsLeftWell old last front st
+      (front : List Happening) (left : ℕ) (st : Standing) → IsLeftWell was last front st.file
       → Each (LeavesWell front) (purge_calls left st)
   purge-well front zero st is = tt
   purge-well front (suc left) st is =
@@ -92,7 +93,7 @@ module _ (old last : ℕ) where
       (gate, (gate, purge-well front left (standing_after st work.DropOldest) next))
 
   work-well :
-      (front : List Happening) (st : Standing) (one : Work) → PutsGood one → IsLeftWell old last front st
+      (front : List Happening) (st : Standing) (one : Work) → PutsGood one → IsLeftWell was last front st.file
       → Each (LeavesWell front) (work_calls st one)
   work-well front st (work.Put stream function body) good is =
       let gate =
@@ -104,61 +105,73 @@ module _ (old last : ℕ) where
       let gate =
       gate-well front closes (standing_after st work.DropOldest) st (after-well front st work.DropOldest tt is) is
       in (gate, (gate, tt))
-  work-well front st work.Purge good is = purge-well front (length st.list) st is
+  work-well front st work.Purge good is = purge-well front (length st.file.list) st is
 
-  -- where the mark is such
-  at-mark : (front : List Happening) (st : Standing) → AllCanBeSent st.list → old ≤ st.mark → last ≤ st.mark
-      → IsLeftWell old last front st
-  at-mark front st can above most = record { can = can; above = above; most = inr most }
+  -- the messages can be sent, and the mark is high enough whatever was noted
+  record IsHighEnough (file : SpoolFile) : Type 0 where
+    can : AllCanBeSent file.list
+    slots_are : file.slots ≡ was.slots
+    above : was.mark.value ≤ file.mark.value
+    most : last ≤ file.mark.value
+
+  at-mark : (front : List Happening) (file : SpoolFile) → IsHighEnough file → IsLeftWell was last front file
+  at-mark front file is =
+      record { can = is.can; slots_are = is.slots_are; above = is.above; most = inr is.most }
 
   read-well :
-      (went : Went EquipmentView Happening) (st : Standing) (before notes : List Happening) → AllCanBeSent st.list
-      → old ≤ st.mark → last ≤ st.mark → AtEach LeavesWell st before (read_works went) notes
-  read-well (Goes step) st before notes can above most = go (takes_up step.next.node.own)
+      (went : Went EquipmentView Happening) (st : Standing) (before notes : List Happening) → IsHighEnough st.file
+      → AtEach LeavesWell st before (read_works went) notes
+  read-well (Goes step) st before notes is = go (takes_up step.next.node.own)
     where
       go : (takes : Bool) → AtEach LeavesWell st before (if takes then ReadOldest ∷ [] else []) notes
-      go true = ((λ choice. at-mark (before ++ notes) st can above most, tt), tt)
+      go true = ((λ choice. at-mark (before ++ notes) st.file is, tt), tt)
       go false = tt
-  read-well (Spent step) st before notes can above most = tt
+  read-well (Spent step) st before notes is = tt
 
   works-well :
       (works : List Work) (went : Went EquipmentView Happening) (st : Standing) (before notes : List Happening)
-      → All PutsGood works → AllCanBeSent st.list → old ≤ st.mark → last ≤ st.mark
+      → All PutsGood works → IsHighEnough st.file
       → AtEach LeavesWell st before (map Change works ++ read_works went) notes
-  works-well [] went st before notes good can above most = read-well went st before notes can above most
-  works-well (one ∷ works) went st before notes good can above most =
+  works-well [] went st before notes good is = read-well went st before notes is
+  works-well (one ∷ works) went st before notes good is =
       let front = before ++ up_to_change notes in (
-        work-well front st one (All-head PutsGood one works good) (at-mark front st can above most),
+        work-well front st one (All-head PutsGood one works good) (at-mark front st.file is),
         works-well works went (standing_after st one) front (behind_change notes) (All-tail PutsGood one works good)
-            (list-good st.next st.list one can (All-head PutsGood one works good)) above most,
+            (record {
+              can = list-good st.next st.file.list one is.can (All-head PutsGood one works good);
+              slots_are = is.slots_are;
+              above = is.above;
+              most = is.most;
+            }),
       )
 
 -- where system bytes are reserved first, nothing was noted before
 reserve-well :
-    (s : EquipmentView) (works : List DiskWork) (notes : List Happening) → AllCanBeSent s.list
-    → AtEach (LeavesWell s.mark (s.mark + 4096)) (standing_in (reserved s)) [] works notes
-    → AtEach (LeavesWell s.mark (s.mark + 4096)) (standing_in s) [] (Reserve ∷ works) notes
+    (s : EquipmentView) (works : List DiskWork) (notes : List Happening) → AllCanBeSent s.file.list
+    → AtEach (LeavesWell s.file (s.file.mark.value + 4096)) (standing_in (reserved s)) [] works notes
+    → AtEach (LeavesWell s.file (s.file.mark.value + 4096)) (standing_in s) [] (Reserve ∷ works) notes
 reserve-well s works notes can rest =
-    let same : IsLeftWell s.mark (s.mark + 4096) [] (standing_in s) =
-    record { can = can; above = omega arith; most = inl refl } in
-    let more : IsLeftWell s.mark (s.mark + 4096) [] (standing_in (reserved s)) =
-    record { can = can; above = omega arith; most = inl refl } in
+    let same : IsLeftWell s.file (s.file.mark.value + 4096) [] s.file =
+    record { can = can; slots_are = refl; above = omega arith; most = inl refl } in
+    let more : IsLeftWell s.file (s.file.mark.value + 4096) [] (reserved s).file =
+    record { can = can; slots_are = refl; above = omega arith; most = inl refl } in
     let gate =
-    gate-well s.mark (s.mark + 4096) [] (marks s.mark) (standing_in (reserved s)) (standing_in s) more same in
+    gate-well s.file (s.file.mark.value + 4096) [] (names_spare s.file.mark) (standing_in (reserved s))
+    (standing_in s) more same in
     ((λ choice. same, (λ choice. same, (λ choice. same, (gate, (gate, tt))))), rest)
 
 module _ (plan : EquipmentPlan) (fits : EquipmentPlanFits plan) where
   pub all-well :
       (s : EquipmentView) (input : Input ToolCommand) (now : ℕ) → IsGoodView plan fits s
-      → AtEach (LeavesWell s.mark (step_in (act s input now)).next.mark) (standing_in s) [] (works_of s input now)
-      (step_in (begun_step s input now)).notes
+      → AtEach (LeavesWell s.file (step_in (act s input now)).next.file.mark.value) (standing_in s) []
+      (works_of s input now) (step_in (begun_step s input now)).notes
   all-well s input now good =
       subst
       (λ (mark : ℕ).
-      AtEach (LeavesWell s.mark mark) (standing_in s) [] (works_of s input now)
+      AtEach (LeavesWell s.file mark) (standing_in s) [] (works_of s input now)
       (step_in (begun_step s input now)).notes)
       (sym (ended-mark (begun_step s input now) now))
-      (go (needs_numbers s) (is_marked_out s.mark) (begun-good plan fits s input now good))
+      (go (needs_numbers s) (is_marked_out s.file.mark.value) (begun-good plan fits s input now good))
     where
       -- what is begun, and which works there are before it
       begun : Bool → Bool → Went EquipmentView Happening
@@ -169,77 +182,84 @@ module _ (plan : EquipmentPlan) (fits : EquipmentPlanFits plan) where
 
       behind :
           (file : EquipmentView) (went : Went EquipmentView Happening) (last : ℕ)
-          → IsGoodView plan fits (step_in went).next → AllCanBeSent file.list → s.mark ≤ file.mark
-          → last ≤ file.mark
-          → AtEach (LeavesWell s.mark last) (standing_in file) [] (works_behind went) (step_in went).notes
-      behind file went last so can above most =
-          works-well s.mark last (step_in went).next.node.own.ledger.works went (standing_in file) []
-          (step_in went).notes
-          so.own.ledger.works can above most
+          → IsGoodView plan fits (step_in went).next → IsHighEnough s.file last file.file
+          → AtEach (LeavesWell s.file last) (standing_in file) [] (works_behind went) (step_in went).notes
+      behind file went last so is =
+          works-well s.file last (step_in went).next.node.own.ledger.works went (standing_in file) []
+          (step_in went).notes so.own.ledger.works is
 
       go : (needs spent : Bool) → IsGoodView plan fits (step_in (begun needs spent)).next
-          → AtEach (LeavesWell s.mark (step_in (begun needs spent)).next.mark) (standing_in s) []
+          → AtEach (LeavesWell s.file (step_in (begun needs spent)).next.file.mark.value) (standing_in s) []
           ((if needs && not spent then Reserve ∷ [] else []) ++ works_behind (begun needs spent))
           (step_in (begun needs spent)).notes
-      go true true so = behind s (begun true true) s.mark so good.list (omega arith) (omega arith)
+      go true true so =
+          behind s (begun true true) s.file.mark.value so
+          (record { can = good.list; slots_are = refl; above = omega arith; most = omega arith })
       go true false so =
           let mark =
-          parts-mark (reserved s) (after_parts Some (first_parts input now) (at_first (reserved s).node)) in
+          ap (λ (file : SpoolFile). file.mark.value)
+          (parts-file (reserved s) (after_parts Some (first_parts input now) (at_first (reserved s).node))) in
           subst
           (λ (last : ℕ).
-          AtEach (LeavesWell s.mark last) (standing_in s) [] (Reserve ∷ works_behind (begun true false))
+          AtEach (LeavesWell s.file last) (standing_in s) [] (Reserve ∷ works_behind (begun true false))
           (step_in (begun true false)).notes)
           (sym mark)
           (reserve-well s (works_behind (begun true false)) (step_in (begun true false)).notes good.list
-          (behind (reserved s) (begun true false) (s.mark + 4096) so good.list (omega arith) (omega arith)))
+          (behind (reserved s) (begun true false) (s.file.mark.value + 4096) so
+          (record { can = good.list; slots_are = refl; above = omega arith; most = omega arith })))
       go false spent so =
-          let mark = parts-mark s (after_parts Some (first_parts input now) (at_first s.node)) in
+          let mark =
+          ap (λ (file : SpoolFile). file.mark.value)
+          (parts-file s (after_parts Some (first_parts input now) (at_first s.node))) in
           subst
           (λ (last : ℕ).
-          AtEach (LeavesWell s.mark last) (standing_in s) [] (works_behind (begun false spent))
+          AtEach (LeavesWell s.file last) (standing_in s) [] (works_behind (begun false spent))
           (step_in (begun false spent)).notes)
           (sym mark)
-          (behind s (begun false spent) s.mark so good.list (omega arith) (omega arith))
+          (behind s (begun false spent) s.file.mark.value so
+          (record { can = good.list; slots_are = refl; above = omega arith; most = omega arith }))
 
   -- ---- a start anew behind what was done
 
   -- it draws above all that was drawn by then
   restarted-at :
-      (base : ℕ) (doings : List Doing) (slots : ℕ) (list : List Kept) (mark : ℕ) → AllCanBeSent list → base ≤ mark
-      → ((drawn : ℕ) → Has (drawn_in (own_of (end_plan plan) doings)) drawn → drawn < mark)
-      → OnStart (HasRestarted (end_plan plan) (DidOf plan) base doings) (starts plan slots list mark)
-  restarted-at base doings slots list mark can least above =
-      by (starts plan slots list mark) (starts-at plan fits slots list mark mark can (omega arith))
+      (base : ℕ) (doings : List Doing) (file : SpoolFile) → AllCanBeSent file.list → base ≤ file.mark.value
+      → ((drawn : ℕ) → Has (drawn_in (own_of (end_plan plan) doings)) drawn → drawn < file.mark.value)
+      → OnStart (HasRestarted (end_plan plan) (DidOf plan) base doings) (starts plan file)
+  restarted-at base doings file can least above =
+      by (starts plan file) (starts-at plan fits file file.mark.value can (omega arith))
     where
-      by : (went : Went EquipmentView Happening) → OnStart (HasStarted (end_plan plan) (DidOf plan) mark) went
+      by : (went : Went EquipmentView Happening)
+          → OnStart (HasStarted (end_plan plan) (DidOf plan) file.mark.value) went
           → OnStart (HasRestarted (end_plan plan) (DidOf plan) base doings) went
       by (Goes step) started =
-          record { least = mark; no_lower = least; above = above; started = started }
+          record { least = file.mark.value; no_lower = least; above = above; started = started }
       by (Spent step) none = none
 
   left-starts :
       (base : ℕ) (doings : List Doing) (s : EquipmentView) (input : Input ToolCommand) (now last : ℕ)
-      (all : List Doing) (next : EquipmentView) (front : List Happening) (st : Standing) → DidOf plan base doings s
-      → DidOf plan base (all ++ doings) next → next.mark ≡ last → IsLeftWell s.mark last front st
+      (all : List Doing) (next : EquipmentView) (front : List Happening) (file : SpoolFile) → DidOf plan base doings s
+      → DidOf plan base (all ++ doings) next → next.file.mark.value ≡ last
+      → IsLeftWell s.file last front file
       → (first : IsFirstOf (end_plan plan) (DidOf plan) base doings input now all front)
       → OnStart (HasRestarted (end_plan plan) (DidOf plan) base (first.so_far.done ++ doings))
-      (restarts (left_as s st) now)
-  left-starts base doings s input now last all next front st did after mark well first =
+      (restarts (left_as s file) now)
+  left-starts base doings s input now last all next front file did after mark well first =
       subst
       (λ (p : EquipmentPlan).
-      OnStart (HasRestarted (end_plan plan) (DidOf plan) base (first.so_far.done ++ doings))
-      (starts p s.node.own.ledger.slots st.list st.mark))
+      OnStart (HasRestarted (end_plan plan) (DidOf plan) base (first.so_far.done ++ doings)) (starts p file))
       (sym did.sound.own.plan_is)
-      (restarted-at base (first.so_far.done ++ doings) s.node.own.ledger.slots st.list st.mark well.can
+      (restarted-at base (first.so_far.done ++ doings) file well.can
       (le_trans (le_trans did.is.core.numbers.least (under doings s did)) well.above)
       (by well.most))
     where
-      under : (doings : List Doing) (s : EquipmentView) → DidOf plan base doings s → s.node.core.numbers.next ≤ s.mark
+      under : (doings : List Doing) (s : EquipmentView) → DidOf plan base doings s
+          → s.node.core.numbers.next ≤ s.file.mark.value
       under doings s did =
           subst (λ (mark : ℕ). s.node.core.numbers.next ≤ mark) did.sound.mark did.is.core.numbers.left.ordered
 
-      by : (front ≡ []) ⊎ (last ≤ st.mark) → (drawn : ℕ)
-          → Has (drawn_in (own_of (end_plan plan) (first.so_far.done ++ doings))) drawn → drawn < st.mark
+      by : (front ≡ []) ⊎ (last ≤ file.mark.value) → (drawn : ℕ)
+          → Has (drawn_in (own_of (end_plan plan) (first.so_far.done ++ doings))) drawn → drawn < file.mark.value
       by (inl none) drawn has =
           let done : Has (drawn_in (own_of (end_plan plan) doings)) drawn =
           subst (λ (ds : List Doing). Has (drawn_in (own_of (end_plan plan) (ds ++ doings))) drawn) (first.none none)
@@ -247,7 +267,7 @@ module _ (plan : EquipmentPlan) (fits : EquipmentPlanFits plan) where
           le_trans (did.is.core.numbers.above drawn done) (le_trans (under doings s did) well.above)
       by (inr most) drawn has =
           let done = first.drawn drawn has in
-          let below : drawn < next.mark =
+          let below : drawn < next.file.mark.value =
           le_trans (after.is.core.numbers.above drawn done) (under (all ++ doings) next after) in
           le_trans (subst (λ (m : ℕ). drawn < m) mark below) most
 
@@ -265,8 +285,8 @@ module _ (plan : EquipmentPlan) (fits : EquipmentPlanFits plan) where
       (λ base doings s input now did may. goes-on plan base fits doings s input now did may) base doings s input now did
       may loss.front (stops-are s input now loss.front ((losses-counted s input now).1 loss has)) in
       let at =
-      at-call (LeavesWell s.mark (step_in (act s input now)).next.mark) s (works_of s input now) (standing_in s) []
-      (step_in (begun_step s input now)).notes loss
+      at-call (LeavesWell s.file (step_in (act s input now)).next.file.mark.value) s (works_of s input now)
+      (standing_in s) [] (step_in (begun_step s input now)).notes loss
       (all-well s input now (record { own = did.sound.own; list = did.sound.list })) has in
       record {
         so_far = first.2.so_far;
@@ -279,13 +299,13 @@ module _ (plan : EquipmentPlan) (fits : EquipmentPlanFits plan) where
             OnStart (HasRestarted (end_plan plan) (DidOf plan) base (first.2.so_far.done ++ doings))
             (restarts (one.left choice) now))
             (sym at.is)
-            (left-starts base doings s input now (step_in (act s input now)).next.mark first.0
+            (left-starts base doings s input now (step_in (act s input now)).next.file.mark.value first.0
             (step_in (act s input now)).next loss.front (at.left choice) did first.1 refl (at.at choice) first.2);
       }
 
 -- ---- the law
 
 pub equipment_lawful :
-    (plan : EquipmentPlan) (slots : ℕ) (list : List Kept) (mark : ℕ) → EquipmentPlanFits plan → AllCanBeSent list
-    → KeepsLaw (end_plan plan) (DidOf plan) ToolCommandFits (starts plan slots list mark) machine
-equipment_lawful plan slots list mark fits can = lawful-so plan slots list mark fits can (loses-so plan fits)
+    (plan : EquipmentPlan) (file : SpoolFile) → EquipmentPlanFits plan → AllCanBeSent file.list
+    → KeepsLaw (end_plan plan) (DidOf plan) ToolCommandFits (starts plan file) machine
+equipment_lawful plan file fits can = lawful-so plan file fits can (loses-so plan fits)

@@ -277,7 +277,7 @@ module _ (input : Input ToolCommand) (now : ℕ) where
   so-few new old few = omega (arith, few)
 
   few-drawn : (s : EquipmentView) → (file_numbers (step_in (act s input now)).next).next < (file_numbers s).next + 128
-  few-drawn s = go (needs_numbers s) (is_marked_out s.mark)
+  few-drawn s = go (needs_numbers s) (is_marked_out s.file.mark.value)
     where
       go : (needs out : Bool)
           → (file_numbers (step_in (acts_on (opening needs out s))).next).next < (file_numbers s).next + 128
@@ -296,16 +296,16 @@ module _ (input : Input ToolCommand) (now : ℕ) where
   left-reserved next end mark ordered same room = grind (arith, nat_tests, ordered, same, room)
 
   spent-so :
-      (s : EquipmentView) → (file_numbers s).next ≤ (file_numbers s).end → (file_numbers s).end ≡ s.mark
+      (s : EquipmentView) → (file_numbers s).next ≤ (file_numbers s).end → (file_numbers s).end ≡ s.file.mark.value
       → ends_spent (act s input now) ≡ finds_spent s input now
-  spent-so s ordered mark = go (needs_numbers s) (is_marked_out s.mark) refl refl
+  spent-so s ordered mark = go (needs_numbers s) (is_marked_out s.file.mark.value) refl refl
     where
-      go : (needs out : Bool) → needs_numbers s ≡ needs → is_marked_out s.mark ≡ out
+      go : (needs out : Bool) → needs_numbers s ≡ needs → is_marked_out s.file.mark.value ≡ out
           → ends_spent (acts_on (opening needs out s)) ≡ ((needs && out) || where_goes parts_lack (opening needs out s))
       go true true needed is = refl
       go true false needed is =
           (acts-cost (reserved s)).cause
-          (left-reserved (file_numbers s).next (file_numbers s).end s.mark ordered mark is)
+          (left-reserved (file_numbers s).next (file_numbers s).end s.file.mark.value ordered mark is)
       go false out needed is = (acts-cost s).cause (left-then (file_numbers s) needed)
 
 pub draws-few : DrawsFew

@@ -10,7 +10,9 @@ use Rattle.gem_spool.specs.declared.spool.Room.{Room}
 use Rattle.gem_spool.specs.declared.spool.Room.TheVariants as room
 use Rattle.gem_spool.specs.declared.works.Work.{Work}
 use Rattle.gem_spool.specs.declared.works.Work.TheVariants as work
-use Rattle.gem_spool.specs.Works.{list_after, lists_after, next_after}
+use Rattle.gem_spool.specs.Standing.{Standing}
+use Rattle.gem_spool.specs.Works.{list_after, standing_after, standings_after}
+use Rattle.spool_slots.specs.File.{SpoolFile}
 use Rattle.spool_slots.specs.Slot.{Message}
 use Rattle.trace_log.specs.declared.names.Cause.{Cause}
 use Rattle.trace_log.specs.declared.names.Cause.TheVariants.{Confirmed, Overwritten, Purged}
@@ -24,7 +26,7 @@ use Rattle.spool_ledger.specs.Activity.{activated, changed, is_done, rested}
 use Rattle.spool_ledger.specs.Ledger.{Booked, LedgerView, and_then, carried_out, decided_count, new_ledger, owed, quiet, room_for}
 use Rattle.spool_ledger.specs.Storing.{all_out, oldest_out, put, stored, stored_by}
 use Rattle.spool_ledger.specs.Unloading.{after_next, confirmed, counted, is_oldest_tried, is_over, let_go, settled, taken_up, trying, unload_next, waiting_in, with_each, with_unload}
-use Rattle.tool_step.specs.Equipment.{settled_list}
+use Rattle.tool_step.specs.Equipment.{settled_file}
 use Rattle.spool_works.specs.Found.{spooled_of}
 use Rattle.tool_law.specs.Sound.{AllCanBeSent, CanBeSent, IsGoodLedger, PutsGood}
 use Rattle.tool_step.specs.Spooling.{Stores, stores_all, stores_behind, stores_none}
@@ -316,14 +318,14 @@ list-good next list (work.Put stream function body) all is = All-snoc Sendable l
 list-good next list work.DropOldest all is = all-tail list all
 list-good next list work.Purge all is = All-nil Sendable
 
-lists-good : (next : ℕ) (list : List Message) (works : List Work) → AllCanBeSent list → All PutsGood works
-    → AllCanBeSent (lists_after next list works)
-lists-good next list [] all is = all
-lists-good next list (one ∷ works) all is =
-    lists-good (next_after next one) (list_after next list one) works
-    (list-good next list one all (All-head PutsGood one works is)) (All-tail PutsGood one works is)
+lists-good : (st : Standing) (works : List Work) → AllCanBeSent st.file.list → All PutsGood works
+    → AllCanBeSent (standings_after st works).file.list
+lists-good st [] all is = all
+lists-good st (one ∷ works) all is =
+    lists-good (standing_after st one) works
+    (list-good st.next st.file.list one all (All-head PutsGood one works is)) (All-tail PutsGood one works is)
 
 pub settled-good :
-    {slots : ℕ} {stood : Stand} (v : LedgerView) (list : List Message) → IsGoodLedger slots stood v → AllCanBeSent list
-    → AllCanBeSent (settled_list v list)
-settled-good v list is all = lists-good _ list v.works all is.works
+    {slots : ℕ} {stood : Stand} (v : LedgerView) (file : SpoolFile) → IsGoodLedger slots stood v
+    → AllCanBeSent file.list → AllCanBeSent (settled_file v file).list
+settled-good v file is all = lists-good _ v.works all is.works

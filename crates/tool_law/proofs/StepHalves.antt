@@ -357,8 +357,8 @@ module _ (plan : EquipmentPlan) (base : ℕ) (fits : EquipmentPlanFits plan) (sl
     -- so it is of the equipment with its spool, whose messages can be sent, and whose mark is where the numbers end
     pub record FileAt (Called : List LineCall → Type 0) (step : FileStep) : Type 0 where
       pub node : SomeAt Called (node_step step)
-      pub list : AllCanBeSent step.next.list
-      pub mark : step.next.mark ≡ limit
+      pub list : AllCanBeSent step.next.file.list
+      pub mark : step.next.file.mark.value ≡ limit
 
     abbrev pub FileStepped : FileStep → Type 0
     FileStepped step = FileAt (AreOfStep input now) step
@@ -374,7 +374,7 @@ module _ (plan : EquipmentPlan) (base : ℕ) (fits : EquipmentPlanFits plan) (sl
 
     -- parts leave the file as it is
     pub parts-at :
-        (parts : List ToolPart) (step : FileStep) → AllCanBeSent step.next.list → step.next.mark ≡ limit
+        (parts : List ToolPart) (step : FileStep) → AllCanBeSent step.next.file.list → step.next.file.mark.value ≡ limit
         → OnEither HasStepped HasBegun (after_parts Some parts (node_step step))
         → OnEither FileStepped FileBegun (parts_done parts step)
     parts-at parts step list mark = go (after_parts Some parts (node_step step))
@@ -385,7 +385,7 @@ module _ (plan : EquipmentPlan) (base : ℕ) (fits : EquipmentPlanFits plan) (sl
         go (Spent next) at = record { node = at; list = list; mark = mark }
 
     last-parts-at :
-        (parts : List ToolPart) (step : FileStep) → AllCanBeSent step.next.list → step.next.mark ≡ limit
+        (parts : List ToolPart) (step : FileStep) → AllCanBeSent step.next.file.list → step.next.file.mark.value ≡ limit
         → OnEither HasClosed HasBegun (after_parts Some parts (node_step step))
         → OnEither FileClosed FileBegun (parts_done parts step)
     last-parts-at parts step list mark = go (after_parts Some parts (node_step step))
@@ -407,7 +407,7 @@ module _ (plan : EquipmentPlan) (base : ℕ) (fits : EquipmentPlanFits plan) (sl
     pub ended-at : (step : FileStep) → FileStepped step → OnEither FileClosed FileBegun (ended_step now step)
     ended-at step at =
         last-parts-at (last_parts (oldest_of step.next) now) step at.list at.mark
-        (last-at (oldest_of step.next) (oldest-can step.next.list at.list) (node_step step) at.node)
+        (last-at (oldest_of step.next) (oldest-can step.next.file.list at.list) (node_step step) at.node)
 
     -- what the equipment has done by then
     pub file-does : (Such : List LineCall → Type 0) (step : FileStep) → FileAt Such step

@@ -1,5 +1,5 @@
 -- That the calls of a step write few bytes.
-use Rattle.std.proofs.Common.{arith, ℕ, ◌&&◌, not, Bool, true, false, List, [], ◌∷◌, ◌++◌, All, map, if◌then◌else◌}
+use Rattle.std.proofs.Common.{arith, ℕ, ◌&&◌, not, Bool, true, false, List, [], ◌∷◌, ◌++◌, All, map, if◌then◌else◌, ◌+◌, length}
 use Rattle.std.proofs.lemmas.List.Elements.{All-head, All-tail}
 use Rattle.gem_spool.specs.declared.works.Work.{Work}
 use Rattle.gem_spool.specs.declared.works.Work.TheVariants as work
@@ -27,27 +27,27 @@ abbrev IsShort : DiskWork → Type 0
 IsShort (Change one) = PutsGood one
 IsShort _ = Unit {0}
 
-work-few : (bytes : List ℕ) (st : Standing) (one : DiskWork) → IsShort one → WriteFew (disk_calls bytes st one)
-work-few bytes st Reserve is = one-few bytes st Reserve (omega arith) (omega arith)
-work-few bytes st ReadOldest is = one-few bytes st ReadOldest (omega arith) (omega arith)
-work-few bytes st (Change (work.Put stream function body)) is =
+work-few : (st : Standing) (one : DiskWork) → IsShort one → WriteFew (disk_calls st one)
+work-few st Reserve is = one-few st Reserve (omega arith) (omega arith)
+work-few st ReadOldest is = one-few st ReadOldest (omega arith) (omega arith)
+work-few st (Change (work.Put stream function body)) is =
     let short = is.1 in
-    one-few bytes st (Change (work.Put stream function body)) (omega (arith, short)) (omega (arith, short))
-work-few bytes st (Change work.DropOldest) is =
-    one-few bytes st (Change work.DropOldest) (omega arith) (omega arith)
-work-few bytes st (Change work.Purge) is =
-    purge-few (count_in st).slots (oldest_in (count_in st)) (count_in st).len
+    one-few st (Change (work.Put stream function body)) (omega (arith, short)) (omega (arith, short))
+work-few st (Change work.DropOldest) is =
+    one-few st (Change work.DropOldest) (omega arith) (omega arith)
+work-few st (Change work.Purge) is =
+    purge-few st.file.slots (oldest_in (count_in st)) (length st.file.list)
 
 abbrev AreShort : List DiskWork → Type 0
 AreShort [] = Unit {0}
 AreShort (one ∷ works) = IsShort one × AreShort works
 
-works-few : (bytes : List ℕ) (st : Standing) (works : List DiskWork) → AreShort works
-    → WriteFew (all_disk_calls bytes st works)
-works-few bytes st [] are = few-none
-works-few bytes st (one ∷ works) are =
-    few-both (disk_calls bytes st one) (all_disk_calls bytes (standing_behind st one) works)
-    (work-few bytes st one are.0) (works-few bytes (standing_behind st one) works are.1)
+works-few : (st : Standing) (works : List DiskWork) → AreShort works
+    → WriteFew (all_disk_calls st works)
+works-few st [] are = few-none
+works-few st (one ∷ works) are =
+    few-both (disk_calls st one) (all_disk_calls (standing_behind st one) works)
+    (work-few st one are.0) (works-few (standing_behind st one) works are.1)
 
 -- ---- a step
 
@@ -56,7 +56,7 @@ short-both [] ys first second = second
 short-both (x ∷ xs) ys first second = (first.0, short-both xs ys first.1 second)
 
 reserve-short : (s : EquipmentView) → AreShort (reserve_works s)
-reserve-short s = go (needs_numbers s && not (is_marked_out s.mark))
+reserve-short s = go (needs_numbers s && not (is_marked_out s.file.mark.value))
   where
     go : (reserves : Bool) → AreShort (if reserves then Reserve ∷ [] else [])
     go true = (tt, tt)
@@ -77,10 +77,10 @@ read-short (Spent step) = tt
 
 pub step-few :
     (plan : EquipmentPlan) (fits : EquipmentPlanFits plan) (s : EquipmentView) → IsGoodView plan fits s
-    → (input : Input ToolCommand) (now : ℕ) (bytes : List ℕ)
-    → WriteFew (all_disk_calls bytes (standing_in s) (works_of s input now))
-step-few plan fits s good input now bytes =
-    works-few bytes (standing_in s) (works_of s input now)
+    → (input : Input ToolCommand) (now : ℕ)
+    → WriteFew (all_disk_calls (standing_in s) (works_of s input now))
+step-few plan fits s good input now =
+    works-few (standing_in s) (works_of s input now)
     (short-both (reserve_works s) _ (reserve-short s)
     (short-both (map Change (step_in (begun_step s input now)).next.node.own.ledger.works)
     (read_works (begun_step s input now))

@@ -154,8 +154,7 @@ same-lines one two base same =
 -- the shelf amid a work: what stood, the message that is being stored, and why messages leave
 pub record IsAmid (next : ℕ) (list : List Message) (one : Work) (shelf : Shelf) : Type 0 where
   pub stands : shelf.stands ≡ found_in list
-  pub storing : shelf.storing ≡ storing_at (record { slots = 0; next = next; mark = 0; list = list })
-      (DiskWork.Change one)
+  pub storing : shelf.storing ≡ storing_at next (DiskWork.Change one)
   pub leaving : MayLeaveAt (DiskWork.Change one) shelf.leaving
 
 -- behind what was noted before, over a list with this next number

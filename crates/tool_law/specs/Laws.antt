@@ -1,6 +1,6 @@
 -- What holds of the equipment whatever it is told.
 use Rattle.std.specs.Prelude.{◌≡◌, ℕ, List}
-use Rattle.spool_slots.specs.Slot.{Message}
+use Rattle.spool_slots.specs.File.{SpoolFile}
 use Rattle.message_end.specs.Doings.{Doing}
 use Rattle.message_end.specs.Ends.{KeepsLaw}
 use Rattle.message_end.specs.History.{IsHistoryOf}
@@ -26,5 +26,5 @@ pub record DidOf (plan : EquipmentPlan) (base : ℕ) (doings : List Doing) (s : 
 -- whatever it is told, over a spool with whatever messages that can be sent, it keeps the law of an end
 abbrev pub EquipmentKeepsItsLaw : Type 0
 EquipmentKeepsItsLaw =
-    (plan : EquipmentPlan) (slots : ℕ) (list : List Message) (mark : ℕ) → EquipmentPlanFits plan → AllCanBeSent list
-    → KeepsLaw (end_plan plan) (DidOf plan) ToolCommandFits (starts plan slots list mark) machine
+    (plan : EquipmentPlan) (file : SpoolFile) → EquipmentPlanFits plan → AllCanBeSent file.list
+    → KeepsLaw (end_plan plan) (DidOf plan) ToolCommandFits (starts plan file) machine

@@ -60,5 +60,5 @@ AllCanBeSent = All (λ message. CanBeSent (spooled_of message))
 -- so can the messages of the spool; and the mark stands where the system bytes end that are left
 pub record IsKept (plan : EquipmentPlan) (s : EquipmentView) : Type 0 where
   pub own : IsSound plan s.node.own.ledger.slots s.node.own.ledger.stood s.node.own
-  pub list : AllCanBeSent s.list
-  pub mark : s.node.core.numbers.end ≡ s.mark
+  pub list : AllCanBeSent s.file.list
+  pub mark : s.node.core.numbers.end ≡ s.file.mark.value

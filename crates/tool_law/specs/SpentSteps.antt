@@ -18,7 +18,7 @@ ends_spent (Spent step) = true
 
 -- it needs more system bytes, and the mark can't move on: the one above it is of more than four bytes
 abbrev pub finds_mark_spent : EquipmentView → Bool
-finds_mark_spent s = needs_numbers s && is_marked_out s.mark
+finds_mark_spent s = needs_numbers s && is_marked_out s.file.mark.value
 
 -- it puts a message, and `room` answers that the numbers of the spool are at their end
 abbrev pub finds_spool_spent : EquipmentView → Input ToolCommand → ℕ → Bool

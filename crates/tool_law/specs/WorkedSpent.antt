@@ -1,5 +1,6 @@
 -- Steps that end with their numbers spent, followed by hand.
 use Rattle.std.specs.Prelude.{◌≡◌, ◌-◌, ◌^◌, ℕ, true, false, [], ◌∷◌}
+use Rattle.spool_slots.specs.Changes.{with_mark}
 use Rattle.message_end.specs.Ends.Input.{Time}
 use Rattle.tool_step.specs.Equipment.{EquipmentView, act, with_core}
 use Rattle.tool_law.specs.Putting.{line_timer_puts}
@@ -11,7 +12,7 @@ abbrev pub marked_at : ℕ → ℕ → EquipmentView → EquipmentView
 marked_at next mark s =
     record s {
       node = with_core (record s.node.core { numbers = record { next = next; end = mark } }) s.node;
-      mark = mark;
+      file = with_mark (record { value = mark; second = false }) s.file;
     }
 
 -- as the line fails three reports are to be put, and there is a number for the first of them alone. Where the mark is

@@ -14,5 +14,5 @@ use Rattle.spool_works.specs.WritesFew.{WriteFew}
 abbrev pub StepsWriteFew : Type 0
 StepsWriteFew =
     (plan : EquipmentPlan) → EquipmentPlanFits plan → (base : ℕ) (doings : List Doing) (s : EquipmentView)
-    → DidOf plan base doings s → (input : Input ToolCommand) (now : ℕ) (bytes : List ℕ)
-    → WriteFew (all_disk_calls bytes (standing_in s) (works_of s input now))
+    → DidOf plan base doings s → (input : Input ToolCommand) (now : ℕ)
+    → WriteFew (all_disk_calls (standing_in s) (works_of s input now))

@@ -2,7 +2,7 @@
 use Rattle.std.proofs.lemmas.List.Elements.{All-nil}
 use Rattle.std.specs.Prelude.{IfSome}
 use Rattle.spool_ledger.specs.Ledger.{LedgerView, carried_out, new_ledger}
-use Rattle.spool_slots.specs.Slot.{Message as Kept}
+use Rattle.spool_slots.specs.File.{SpoolFile}
 use Rattle.tool_step.specs.Grants.{GrantView}
 use Rattle.tool_step.specs.Live.{ReportView}
 use Rattle.std.proofs.Common.{◌≡◌, refl, sym, ap, subst, ◌∙◌, ◌%◌, ◌==◌, length, arith, Bool, true, false, ℕ, List, [], ◌∷◌, Option, Some, None, if◌then◌else◌}
@@ -86,7 +86,7 @@ module _ (plan : EquipmentPlan) (fits : EquipmentPlanFits plan) (looked : Tables
       (said : List ToolCommand) (before : List Happening) (input : Input ToolCommand) (now : ℕ) (s : EquipmentView)
       → Holds plan said s.node.own s.node.core.drawn before
       → FileEnds (with_command input said) before (begun_step s input now)
-  begun-keeps said before input now s holds = begun (needs_numbers s) (is_marked_out s.mark)
+  begun-keeps said before input now s holds = begun (needs_numbers s) (is_marked_out s.file.mark.value)
     where
       to : List ToolCommand
       to = with_command input said
@@ -122,7 +122,7 @@ module _ (plan : EquipmentPlan) (fits : EquipmentPlanFits plan) (looked : Tables
           (after_parts Some (last_parts (oldest_of (settled step.next)) now) (node_step (settled_step step)))
           ((last-keeps plan fits looked) to before (oldest_of (settled step.next))
           (odd-of (oldest_of (settled step.next))
-          (oldest-good plan fits (settled step.next).list (settled-view-good plan fits step.next so).list)) now
+          (oldest-good plan fits (settled step.next).file.list (settled-view-good plan fits step.next so).list)) now
           (node_step (settled_step step)) (settled-so to before (Goes step) at))
 
   -- ---- up to a call of the disk
@@ -194,27 +194,27 @@ module _ (plan : EquipmentPlan) (fits : EquipmentPlanFits plan) (looked : Tables
   went-so said before (Spent step) at good = at
 
   started-so :
-      (other : EquipmentPlan) (slots : ℕ) (list : List Kept) (mark : ℕ) (notes : List Happening) → other ≡ plan
-      → AllCanBeSent list → AreSettled plan notes
-      → IsCourseSo [] (went_on (starts other slots list mark) notes)
-  started-so other slots list mark notes same can so = go (is_marked_out mark)
+      (other : EquipmentPlan) (file : SpoolFile) (notes : List Happening) → other ≡ plan → AllCanBeSent file.list
+      → AreSettled plan notes → IsCourseSo [] (went_on (starts other file) notes)
+  started-so other file notes same can so = go (is_marked_out file.mark.value)
     where
       go : (spent : Bool)
           → IsCourseSo []
           (went_on
-          (if spent then Spent (at_first (record (started_on other slots list mark).next { mark = mark }))
-          else Goes (started_on other slots list mark)) notes)
+          (if spent then Spent (at_first (record (started_on other file).next { file = file }))
+          else Goes (started_on other file)) notes)
       go true = so
       go false = record {
         holds =
-            starts-so other (new_ledger slots (first_in list) (length list)) (found_in list) mark notes same so;
+            starts-so other (new_ledger file.slots (first_in file.list) (length file.list)) (found_in file.list)
+            file.mark.value notes same so;
         good = record {
           own = record {
             plan_is = same;
             texts = All-nil (λ (one : GrantView). IsText one.body);
             traced = All-nil (λ (one : GrantView). IsText one.body);
             reports = All-nil (λ (one : ReportView). CanBeSent one.message);
-            ledger = new-good slots (first_in list) (length list);
+            ledger = new-good file.slots (first_in file.list) (length file.list);
           };
           list = can;
         };
@@ -232,7 +232,7 @@ module _ (plan : EquipmentPlan) (fits : EquipmentPlanFits plan) (looked : Tables
       (λ (left : EquipmentView).
       IsCourseSo [] (went_on (restarts left now) (Happening.Power ∷ noted_behind loss.front notes)))
       (ap (λ (one : Loss EquipmentView). one.left choice) (sym at.is))
-      (started-so s.node.own.plan s.node.own.ledger.slots (at.left choice).list (at.left choice).mark
+      (started-so s.node.own.plan (at.left choice)
       (Happening.Power ∷ noted_behind loss.front notes) so.holds.plan_is (at.at choice).can
       (settled-more plan Happening.Power (noted_behind loss.front notes) refl tt refl
       (front-so said notes input now s loss.front so.holds ((losses-counted s input now).1 loss has))))
@@ -240,10 +240,11 @@ module _ (plan : EquipmentPlan) (fits : EquipmentPlanFits plan) (looked : Tables
       has : Has (losses s input now) loss
       has = has-call call (losses s input now) loss is
 
-      at : IsAtCall (LeavesWell s.mark (step_in (act s input now)).next.mark) s loss
+      at : IsAtCall (LeavesWell s.file (step_in (act s input now)).next.file.mark.value) s loss
       at =
-          at-call (LeavesWell s.mark (step_in (act s input now)).next.mark) s (works_of s input now) (standing_in s) []
-          (step_in (begun_step s input now)).notes loss (all-well plan fits s input now so.good) has
+          at-call (LeavesWell s.file (step_in (act s input now)).next.file.mark.value) s
+          (works_of s input now) (standing_in s) [] (step_in (begun_step s input now)).notes loss
+          (all-well plan fits s input now so.good) has
 
   -- there is no room for one
   filled-keeps :
@@ -264,8 +265,7 @@ module _ (plan : EquipmentPlan) (fits : EquipmentPlanFits plan) (looked : Tables
       went-so (with_command input said) notes (act s input now) (step-keeps said notes input now s so.holds so.good)
       (act-good plan fits s input now so.good)
   meeting-keeps (Restarts now) said (Reached s notes) so =
-      started-so s.node.own.plan s.node.own.ledger.slots s.list s.mark notes so.holds.plan_is so.good.list
-      so.holds.settled
+      started-so s.node.own.plan s.file notes so.holds.plan_is so.good.list so.holds.settled
   meeting-keeps (Writes characters) said (Reached s notes) so = record {
     holds =
         holds-as plan said s.node.own notes (Happening.Wrote characters ∷ notes) so.holds
@@ -283,12 +283,13 @@ module _ (plan : EquipmentPlan) (fits : EquipmentPlanFits plan) (looked : Tables
       filled-keeps input now call said s notes (call_of call (losses s input now)) refl so
 
   pub course-so :
-      (slots : ℕ) (list : List Kept) (mark : ℕ) → AllCanBeSent list → (meetings : List (Meeting ToolCommand))
-      → IsCourseSo (commands_met (started_on plan slots list mark) meetings)
-      (course_of (started_on plan slots list mark) machine meetings)
-  course-so slots list mark can [] = record {
+      (file : SpoolFile) → AllCanBeSent file.list → (meetings : List (Meeting ToolCommand))
+      → IsCourseSo (commands_met (started_on plan file) meetings)
+      (course_of (started_on plan file) machine meetings)
+  course-so file can [] = record {
     holds =
-        starts-so plan (new_ledger slots (first_in list) (length list)) (found_in list) mark [] refl
+        starts-so plan (new_ledger file.slots (first_in file.list) (length file.list)) (found_in file.list)
+        file.mark.value [] refl
         (record { reported = tt; none_due = refl });
     good = record {
       own = record {
@@ -296,24 +297,24 @@ module _ (plan : EquipmentPlan) (fits : EquipmentPlanFits plan) (looked : Tables
         texts = All-nil (λ (one : GrantView). IsText one.body);
         traced = All-nil (λ (one : GrantView). IsText one.body);
         reports = All-nil (λ (one : ReportView). CanBeSent one.message);
-        ledger = new-good slots (first_in list) (length list);
+        ledger = new-good file.slots (first_in file.list) (length file.list);
       };
       list = can;
     };
   }
-  course-so slots list mark can (meeting ∷ meetings) =
-      meeting-keeps meeting (commands_met (started_on plan slots list mark) meetings)
-      (course_of (started_on plan slots list mark) machine meetings) (course-so slots list mark can meetings)
+  course-so file can (meeting ∷ meetings) =
+      meeting-keeps meeting (commands_met (started_on plan file) meetings)
+      (course_of (started_on plan file) machine meetings) (course-so file can meetings)
 
   pub reports-so :
-      (slots : ℕ) (list : List Kept) (mark : ℕ) → AllCanBeSent list → (meetings : List (Meeting ToolCommand))
-      → ReportsHold plan (course_of (started_on plan slots list mark) machine meetings)
-      (commands_met (started_on plan slots list mark) meetings)
-  reports-so slots list mark can meetings =
-      go (course_of (started_on plan slots list mark) machine meetings) (course-so slots list mark can meetings)
+      (file : SpoolFile) → AllCanBeSent file.list → (meetings : List (Meeting ToolCommand))
+      → ReportsHold plan (course_of (started_on plan file) machine meetings)
+      (commands_met (started_on plan file) meetings)
+  reports-so file can meetings =
+      go (course_of (started_on plan file) machine meetings) (course-so file can meetings)
     where
       said : List ToolCommand
-      said = commands_met (started_on plan slots list mark) meetings
+      said = commands_met (started_on plan file) meetings
 
       go : (course : Course EquipmentView) → IsCourseSo said course → ReportsHold plan course said
       go (Reached s notes) so = record {
@@ -324,25 +325,25 @@ module _ (plan : EquipmentPlan) (fits : EquipmentPlanFits plan) (looked : Tables
       go (Stopped notes) so = record { reported = so.reported; counted = tt; done = so.none_due }
 
   pub tables-so :
-      (slots : ℕ) (list : List Kept) (mark : ℕ) → AllCanBeSent list → (meetings : List (Meeting ToolCommand))
-      → HasWhatWasSet plan (course_of (started_on plan slots list mark) machine meetings)
-  tables-so slots list mark can meetings =
-      go (course_of (started_on plan slots list mark) machine meetings) (course-so slots list mark can meetings)
+      (file : SpoolFile) → AllCanBeSent file.list → (meetings : List (Meeting ToolCommand))
+      → HasWhatWasSet plan (course_of (started_on plan file) machine meetings)
+  tables-so file can meetings =
+      go (course_of (started_on plan file) machine meetings) (course-so file can meetings)
     where
-      go : (course : Course EquipmentView) → IsCourseSo (commands_met (started_on plan slots list mark) meetings) course
+      go : (course : Course EquipmentView) → IsCourseSo (commands_met (started_on plan file) meetings) course
           → HasWhatWasSet plan course
       go (Reached s notes) so = so.holds.tables_are
       go (Stopped notes) so = tt
 
   -- also within a step
   pub steps-so :
-      (slots : ℕ) (list : List Kept) (mark : ℕ) → AllCanBeSent list → (meetings : List (Meeting ToolCommand))
-      → SetsInSteps plan (course_of (started_on plan slots list mark) machine meetings)
-  steps-so slots list mark can meetings =
-      go (course_of (started_on plan slots list mark) machine meetings) (course-so slots list mark can meetings)
+      (file : SpoolFile) → AllCanBeSent file.list → (meetings : List (Meeting ToolCommand))
+      → SetsInSteps plan (course_of (started_on plan file) machine meetings)
+  steps-so file can meetings =
+      go (course_of (started_on plan file) machine meetings) (course-so file can meetings)
     where
       said : List ToolCommand
-      said = commands_met (started_on plan slots list mark) meetings
+      said = commands_met (started_on plan file) meetings
 
       so-far : (all : List ToolCommand) (notes : List Happening) (went : Went EquipmentView Happening)
           → FileEnds all notes went → HasSetSoFar plan notes went

@@ -1,6 +1,6 @@
 -- What holds of the reports of the equipment whatever it meets.
-use Rattle.std.specs.Prelude.{ℕ, List}
-use Rattle.spool_slots.specs.Slot.{Message}
+use Rattle.std.specs.Prelude.{List}
+use Rattle.spool_slots.specs.File.{SpoolFile}
 use Rattle.message_end.specs.Course.{Meeting, course_of}
 use Rattle.trace_log.specs.declared.commands.ToolCommand.{ToolCommand}
 use Rattle.equipment_tables.specs.declared.plan.EquipmentPlan.{EquipmentPlan}
@@ -16,7 +16,7 @@ use Rattle.tool_law.specs.Sound.{AllCanBeSent}
 -- counts, in its order (SEMI E30, event data collection)
 abbrev pub ReportsAreOfTheirEvents : Type 0
 ReportsAreOfTheirEvents =
-    (plan : EquipmentPlan) (slots : ℕ) (list : List Message) (mark : ℕ) → EquipmentPlanFits plan → AllCanBeSent list
+    (plan : EquipmentPlan) (file : SpoolFile) → EquipmentPlanFits plan → AllCanBeSent file.list
     → (meetings : List (Meeting ToolCommand))
-    → ReportsHold plan (course_of (started_on plan slots list mark) machine meetings)
-    (commands_met (started_on plan slots list mark) meetings)
+    → ReportsHold plan (course_of (started_on plan file) machine meetings)
+    (commands_met (started_on plan file) meetings)

@@ -1,6 +1,6 @@
 -- That the equipment's tables are what its history makes of the plan's.
 use Rattle.std.specs.Prelude.{◌≡◌, ℕ, List}
-use Rattle.spool_slots.specs.Slot.{Message}
+use Rattle.spool_slots.specs.File.{SpoolFile}
 use Rattle.trace_log.specs.declared.commands.ToolCommand.{ToolCommand}
 use Rattle.message_end.specs.Core.{Went}
 use Rattle.message_end.specs.Core.Went.{Goes, Spent}
@@ -26,9 +26,9 @@ HasWhatWasSet plan (Stopped notes) = Unit {0}
 -- be sent
 abbrev pub TablesAreWhatWasSet : Type 0
 TablesAreWhatWasSet =
-    (plan : EquipmentPlan) (slots : ℕ) (list : List Message) (mark : ℕ) → EquipmentPlanFits plan → AllCanBeSent list
+    (plan : EquipmentPlan) (file : SpoolFile) → EquipmentPlanFits plan → AllCanBeSent file.list
     → (meetings : List (Meeting ToolCommand))
-    → HasWhatWasSet plan (course_of (started_on plan slots list mark) machine meetings)
+    → HasWhatWasSet plan (course_of (started_on plan file) machine meetings)
 
 -- behind all that is due and given in a step, before its disk is asked: by all that was noted so far
 abbrev pub HasSetSoFar : EquipmentPlan → List Happening → Went EquipmentView Happening → Type 0
@@ -45,6 +45,6 @@ SetsInSteps plan (Stopped notes) = Unit {0}
 -- each S5F1, the delay and what becomes of the spool are of what was set last
 abbrev pub StepsHaveWhatWasSet : Type 0
 StepsHaveWhatWasSet =
-    (plan : EquipmentPlan) (slots : ℕ) (list : List Message) (mark : ℕ) → EquipmentPlanFits plan → AllCanBeSent list
+    (plan : EquipmentPlan) (file : SpoolFile) → EquipmentPlanFits plan → AllCanBeSent file.list
     → (meetings : List (Meeting ToolCommand))
-    → SetsInSteps plan (course_of (started_on plan slots list mark) machine meetings)
+    → SetsInSteps plan (course_of (started_on plan file) machine meetings)

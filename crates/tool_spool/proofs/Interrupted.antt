@@ -12,7 +12,8 @@ use Rattle.message_end.specs.Core.{Went}
 use Rattle.message_end.specs.Core.Went.{Goes, Spent}
 use Rattle.message_end.specs.Course.{noted_behind}
 use Rattle.spool_law.specs.Shelf.{IsFoundOf, Shelf, shelf_of}
-use Rattle.spool_slots.specs.Losses.{gate_counts}
+use Rattle.spool_slots.specs.File.{SpoolFile}
+use Rattle.spool_slots.specs.Losses.{file_left, gate_counts, names_spare}
 use Rattle.spool_slots.specs.Run.{IsRunFrom}
 use Rattle.spool_slots.specs.Slot.{Message}
 use Rattle.trace_log.specs.Log.{Happening}
@@ -25,7 +26,7 @@ use Rattle.spool_works.specs.Found.{found_in}
 use Rattle.tool_law.proofs.Lawful.{split-change}
 use Rattle.tool_step.proofs.LossCalls.{AtEach}
 use Rattle.spool_works.proofs.LossCounts.{Each}
-use Rattle.spool_works.specs.SpoolLosses.{Left, by_gate, closes, marks, opens, purge_calls, work_calls}
+use Rattle.spool_works.specs.SpoolLosses.{Left, by_gate, closes, opens, purge_calls, work_calls}
 use Rattle.tool_spool.proofs.Shelved.{run-last, run-rest}
 use Rattle.message_end.proofs.Growing.{behind-both}
 use Rattle.tool_law.proofs.WorkLines.{Walks}
@@ -35,108 +36,143 @@ use Rattle.spool_ledger.proofs.Keeping.{tests_fit}
 
 -- ---- numbers and room
 
--- the numbers rise one by one up to the next one, and there are no more messages than slots
+-- the numbers rise one by one up to the next one, and there are so many slots, and no more messages
 pub record StandsWell (slots : ℕ) (st : Standing) : Type 0 where
   pub first : ℕ
-  pub run : IsRunFrom first st.list
-  pub next_is : first + length st.list ≡ st.next
-  pub room : length st.list ≤ slots
+  pub run : IsRunFrom first st.file.list
+  pub next_is : first + length st.file.list ≡ st.next
+  pub room : length st.file.list ≤ slots
   pub bound : st.next ≤ 2 ^ 63 + 65535
+  pub slots_are : st.file.slots ≡ slots
+
+-- so it is of a file, whatever comes behind its numbers
+pub record IsWell (slots : ℕ) (file : SpoolFile) : Type 0 where
+  pub first : ℕ
+  pub run : IsRunFrom first file.list
+  pub room : length file.list ≤ slots
+  pub bound : first + length file.list ≤ 2 ^ 63 + 65535
+  pub slots_are : file.slots ≡ slots
 
 module _ (slots : ℕ) where
-  after-put :
-      (st : Standing) (stream function : ℕ) (body : List ℕ) → st.slots ≡ slots
-      → room_in (count_in st) (length body) ≡ room.Fits → StandsWell slots st
-      → StandsWell slots (standing_after st (work.Put stream function body))
-  after-put st stream function body all fits is = record {
+  file-well : (st : Standing) → StandsWell slots st → IsWell slots st.file
+  file-well st is = record {
     first = is.first;
-    run = run-last is.first st.list one is.run (sym is.next_is);
+    run = is.run;
+    room = is.room;
+    bound = let next = is.next_is in let bound = is.bound in omega (arith, next, bound);
+    slots_are = is.slots_are;
+  }
+
+  after-put :
+      (st : Standing) (stream function : ℕ) (body : List ℕ) → room_in (count_in st) (length body) ≡ room.Fits
+      → StandsWell slots st → StandsWell slots (standing_after st (work.Put stream function body))
+  after-put st stream function body fits is = record {
+    first = is.first;
+    run = run-last is.first st.file.list one is.run (sym is.next_is);
     next_is = let next = is.next_is in omega (arith, long, next);
     room =
-        let most = is.room in
-        let free : (length st.list == st.slots) ≡ false = may.1 in
-        let less : length st.list + 1 ≤ st.slots = grind (arith, nat_tests, free, all, most) in
+        let most = is.room in let all = is.slots_are in
+        let free : (length st.file.list == st.file.slots) ≡ false = may.1 in
+        let less : length st.file.list + 1 ≤ st.file.slots = grind (arith, nat_tests, free, all, most) in
         omega (arith, long, less, all);
     bound = let few : st.next < 2 ^ 63 = grind (arith, nat_tests, spent) in omega (arith, few);
+    slots_are = is.slots_are;
   }
     where
       one : Message
       one = record { number = st.next; stream = stream; function = function; body = body }
 
-      long : length (st.list ++ one ∷ []) ≡ length st.list + 1
-      long = length-append st.list (one ∷ [])
+      long : length (st.file.list ++ one ∷ []) ≡ length st.file.list + 1
+      long = length-append st.file.list (one ∷ [])
 
-      may : (nat_le (2 ^ 63) st.next ≡ false) × ((length st.list == st.slots) ≡ false)
-      may = tests_fit (nat_lt 4081 (length body)) (nat_le (2 ^ 63) st.next) (length st.list == st.slots) fits
+      may : (nat_le (2 ^ 63) st.next ≡ false) × ((length st.file.list == st.file.slots) ≡ false)
+      may =
+          tests_fit (nat_lt 4081 (length body)) (nat_le (2 ^ 63) st.next) (length st.file.list == st.file.slots) fits
 
       spent : nat_le (2 ^ 63) st.next ≡ false
       spent = may.0
 
-  after-drop : (st : Standing) → 0 < length st.list → StandsWell slots st
+  after-drop : (st : Standing) → 0 < length st.file.list → StandsWell slots st
       → StandsWell slots (standing_after st work.DropOldest)
   after-drop st some is = record {
     first = is.first + 1;
-    run = run-rest is.first st.list is.run;
+    run = run-rest is.first st.file.list is.run;
     next_is = let next = is.next_is in omega (arith, next, less, some);
     room = let most = is.room in omega (arith, most, less);
     bound = is.bound;
+    slots_are = is.slots_are;
   }
     where
-      less : length (drop 1 st.list) ≡ length st.list - 1
-      less = length-drop-one st.list
+      less : length (drop 1 st.file.list) ≡ length st.file.list - 1
+      less = length-drop-one st.file.list
 
   after-purge : (st : Standing) → StandsWell slots st → StandsWell slots (standing_after st work.Purge)
-  after-purge st is =
-      record { first = st.next; run = tt; next_is = omega arith; room = omega arith; bound = is.bound }
+  after-purge st is = record {
+    first = st.next;
+    run = tt;
+    next_is = omega arith;
+    room = omega arith;
+    bound = is.bound;
+    slots_are = is.slots_are;
+  }
+
+  pub after-reserve : (st : Standing) → StandsWell slots st → StandsWell slots (reserved st)
+  after-reserve st is = record {
+    first = is.first;
+    run = is.run;
+    next_is = is.next_is;
+    room = is.room;
+    bound = is.bound;
+    slots_are = is.slots_are;
+  }
 
   after-well :
-      (st : Standing) (one : Work) → st.slots ≡ slots → IsDue (count_in st) one → StandsWell slots st
+      (st : Standing) (one : Work) → IsDue (count_in st) one → StandsWell slots st
       → StandsWell slots (standing_after st one)
-  after-well st (work.Put stream function body) all due is = after-put st stream function body all due.2 is
-  after-well st work.DropOldest all due is = after-drop st due is
-  after-well st work.Purge all due is = after-purge st is
+  after-well st (work.Put stream function body) due is = after-put st stream function body due.2 is
+  after-well st work.DropOldest due is = after-drop st due is
+  after-well st work.Purge due is = after-purge st is
 
   abbrev WellLeft : Left → Type 0
-  WellLeft left = (choice : CutChoice) → StandsWell slots (left choice)
+  WellLeft left = (choice : CutChoice) → IsWell slots (left choice)
 
   gate-well :
       (means : ℕ → Bool) (done undone : Standing) → StandsWell slots done → StandsWell slots undone
       → WellLeft (by_gate means done undone)
   gate-well means done undone is is_not choice = go (gate_counts choice means)
     where
-      go : (counts : Bool) → StandsWell slots (if counts then done else undone)
-      go true = is
-      go false = is_not
+      go : (counts : Bool) → IsWell slots (file_left counts done.file undone.file)
+      go true = file-well done is
+      go false = file-well undone is_not
 
-  purge-well : (left : ℕ) (st : Standing) → left ≤ length st.list → StandsWell slots st
+  purge-well : (left : ℕ) (st : Standing) → left ≤ length st.file.list → StandsWell slots st
       → Each WellLeft (purge_calls left st)
   purge-well zero st most is = tt
   purge-well (suc left) st most is =
       let next = after-drop st (omega (arith, most)) is in
       let gate = gate-well closes (standing_after st work.DropOldest) st next is in
-      let less = length-drop-one st.list in
+      let less = length-drop-one st.file.list in
       (gate, (gate, purge-well left (standing_after st work.DropOldest) (omega (arith, most, less)) next))
 
   work-well :
-      (st : Standing) (one : Work) → st.slots ≡ slots → IsDue (count_in st) one → StandsWell slots st
-      → Each WellLeft (work_calls st one)
-  work-well st (work.Put stream function body) all due is =
+      (st : Standing) (one : Work) → IsDue (count_in st) one → StandsWell slots st → Each WellLeft (work_calls st one)
+  work-well st (work.Put stream function body) due is =
       let gate =
       gate-well opens (standing_after st (work.Put stream function body)) st
-      (after-well st (work.Put stream function body) all due is) is
+      (after-well st (work.Put stream function body) due is) is
       in
-      (λ choice. is, (λ choice. is, (gate, (gate, tt))))
-  work-well st work.DropOldest all due is =
+      (λ choice. file-well st is, (λ choice. file-well st is, (gate, (gate, tt))))
+  work-well st work.DropOldest due is =
       let gate = gate-well closes (standing_after st work.DropOldest) st (after-drop st due is) is in
       (gate, (gate, tt))
-  work-well st work.Purge all due is = purge-well (length st.list) st (omega arith) is
+  work-well st work.Purge due is = purge-well (length st.file.list) st (omega arith) is
 
   -- ---- what is found behind what was noted
 
   -- what is left is what a start may find then
-  pub record IsFoundAt (shelf : Shelf) (st : Standing) : Type 0 where
-    pub found : IsFoundOf shelf.stands shelf.storing shelf.leaving (found_in st.list)
-    pub well : StandsWell slots st
+  pub record IsFoundAt (shelf : Shelf) (file : SpoolFile) : Type 0 where
+    pub found : IsFoundOf shelf.stands shelf.storing shelf.leaving (found_in file.list)
+    pub well : IsWell slots file
 
   abbrev FoundIn : Shelf → Left → Type 0
   FoundIn shelf left = (choice : CutChoice) → IsFoundAt shelf (left choice)
@@ -160,17 +196,9 @@ module _ (slots : ℕ) where
     each-found stood storing shelf calls stands stores found.1 well.1,
   )
 
-  same-storing :
-      (st : Standing) (one : Work)
-      → storing_at (record { slots = 0; next = st.next; mark = 0; list = st.list }) (Change one)
-      ≡ storing_at st (Change one)
-  same-storing st (work.Put stream function body) = refl
-  same-storing st work.DropOldest = refl
-  same-storing st work.Purge = refl
-
   -- at rest all is found
-  rest-found : (shelf : Shelf) (st : Standing) → shelf.stands ≡ found_in st.list → StandsWell slots st
-      → IsFoundAt shelf st
+  rest-found : (shelf : Shelf) (st : Standing) → shelf.stands ≡ found_in st.file.list → StandsWell slots st
+      → IsFoundAt shelf st.file
   rest-found shelf st stands is = record {
     found = record {
       missing = 0;
@@ -178,7 +206,7 @@ module _ (slots : ℕ) where
       at_most = omega arith;
       is = sym stands ∙ sym (append-nil shelf.stands);
     };
-    well = is;
+    well = file-well st is;
   }
 
   module _ (base : List Happening) where
@@ -197,7 +225,7 @@ module _ (slots : ℕ) where
 
     read-found :
         (went : Went EquipmentView Happening) (st : Standing) (front lines : List Happening)
-        → WhereGoes went ((shelf_of (noted_behind (front ++ lines) base)).stands ≡ found_in st.list)
+        → WhereGoes went ((shelf_of (noted_behind (front ++ lines) base)).stands ≡ found_in st.file.list)
         → StandsWell slots st → AtEach FoundAt st front (read_works went) lines
     read-found (Goes step) st front lines stands is = go (takes_up step.next.node.own)
       where
@@ -208,24 +236,24 @@ module _ (slots : ℕ) where
 
     pub works-found :
         (works : List Work) (went : Went EquipmentView Happening) (st : Standing) (front lines : List Happening)
-        → st.slots ≡ slots → AreDue (count_in st) works → StandsWell slots st
-        → Walks st.next st.list (noted_behind front base) works lines
+        → AreDue (count_in st) works → StandsWell slots st
+        → Walks st.next st.file.list (noted_behind front base) works lines
         → WhereGoes went
-        ((shelf_of (noted_behind (front ++ lines) base)).stands ≡ found_in (lists_after st.next st.list works))
+        ((shelf_of (noted_behind (front ++ lines) base)).stands ≡ found_in (lists_after st.next st.file.list works))
         → AtEach FoundAt st front (map Change works ++ read_works went) lines
-    works-found [] went st front lines all due is walks stands = read-found went st front lines stands is
-    works-found (one ∷ works) went st front lines all due is walks stands = (
+    works-found [] went st front lines due is walks stands = read-found went st front lines stands is
+    works-found (one ∷ works) went st front lines due is walks stands = (
       subst (λ (ns : List Happening). Each (FoundIn (shelf_of ns)) (work_calls st one)) (sym here)
-          (each-found st.list (storing_at st (Change one)) shelf (work_calls st one) walks.1.stands
-          (walks.1.storing ∙ same-storing st one) (each-call st (Change one) shelf.leaving walks.1.leaving)
-          (work-well st one all due.0 is)),
-      works-found works went (standing_after st one) (front ++ up_to_change lines) (behind_change lines) all
-          (subst (λ (n : ℕ). AreDue (record { slots = st.slots; next = next_after st.next one; len = n }) works)
+          (each-found st.file.list (storing_at st.next (Change one)) shelf (work_calls st one) walks.1.stands
+          walks.1.storing (each-call st (Change one) shelf.leaving walks.1.leaving) (work-well st one due.0 is)),
+      works-found works went (standing_after st one) (front ++ up_to_change lines) (behind_change lines)
+          (subst (λ (n : ℕ). AreDue (record { slots = st.file.slots; next = next_after st.next one; len = n }) works)
           (sym (len-is st one)) due.1)
-          (after-well st one all due.0 is)
+          (after-well st one due.0 is)
           (subst
           (λ (ns : List Happening).
-          Walks (next_after st.next one) (list_after st.next st.list one) ns works (behind_change lines)) (sym here)
+          Walks (next_after st.next one) (list_after st.next st.file.list one) ns works (behind_change lines))
+          (sym here)
           walks.2)
           (where-as went _ _ (λ same.
           ap (λ (ns : List Happening). (shelf_of (noted_behind ns base)).stands) (sym whole) ∙ same)
@@ -245,28 +273,23 @@ module _ (slots : ℕ) where
             ∙ sym (append_assoc front (up_to_change lines) (behind_change lines))
 
         len-is : (st : Standing) (one : Work)
-            → length (list_after st.next st.list one) ≡ len_after (length st.list) one
-        len-is st (work.Put stream function body) = length-append st.list _
-        len-is st work.DropOldest = length-drop-one st.list
+            → length (list_after st.next st.file.list one) ≡ len_after (length st.file.list) one
+        len-is st (work.Put stream function body) = length-append st.file.list _
+        len-is st work.DropOldest = length-drop-one st.file.list
         len-is st work.Purge = refl
 
     -- where system bytes are reserved first
     pub reserve-found :
-        (st : Standing) (works : List DiskWork) (lines : List Happening) → (shelf_of base).stands ≡ found_in st.list
-        → StandsWell slots st → AtEach FoundAt (standing_behind st Reserve) [] works lines
-        → AtEach FoundAt st [] (Reserve ∷ works) lines
+        (st : Standing) (works : List DiskWork) (lines : List Happening)
+        → (shelf_of base).stands ≡ found_in st.file.list → StandsWell slots st
+        → AtEach FoundAt (standing_behind st Reserve) [] works lines → AtEach FoundAt st [] (Reserve ∷ works) lines
     reserve-found st works lines stands is rest =
-        let more : StandsWell slots (reserved st) =
-        record { first = is.first; run = is.run; next_is = is.next_is; room = is.room; bound = is.bound } in
         let same = rest-found (shelf_of base) st stands is in
-        let gate = λ (choice : CutChoice).
-        gate-found choice (rest-found (shelf_of base) (reserved st) stands more) same in
+        let more = rest-found (shelf_of base) (reserved st) stands (after-reserve st is) in
+        let gate = λ (choice : CutChoice). gate-found (gate_counts choice (names_spare st.file.mark)) more same in
         ((λ choice. same, (λ choice. same, (λ choice. same, (gate, (gate, tt))))), rest)
       where
-        gate-found : (choice : CutChoice) → IsFoundAt (shelf_of base) (reserved st) → IsFoundAt (shelf_of base) st
-            → IsFoundAt (shelf_of base) (by_gate (marks st.mark) (reserved st) st choice)
-        gate-found choice done undone = go (gate_counts choice (marks st.mark))
-          where
-            go : (counts : Bool) → IsFoundAt (shelf_of base) (if counts then reserved st else st)
-            go true = done
-            go false = undone
+        gate-found : (counts : Bool) → IsFoundAt (shelf_of base) (reserved st).file → IsFoundAt (shelf_of base) st.file
+            → IsFoundAt (shelf_of base) (file_left counts (reserved st).file st.file)
+        gate-found true done undone = done
+        gate-found false done undone = undone

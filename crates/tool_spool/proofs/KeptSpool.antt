@@ -3,21 +3,25 @@ use Rattle.std.proofs.Common.{◌≡◌, refl, sym, ap, subst, ◌∙◌, inl, i
 use Rattle.std.proofs.lemmas.List.Elements.{All-nil}
 use Rattle.trace_log.specs.declared.commands.ToolCommand.{ToolCommand}
 use Rattle.trace_log.specs.Log.{Happening}
-use Rattle.message_end.specs.Core.{Went, at_first, step_in}
+use Rattle.message_end.specs.Core.{Went, at_first, step_in, EndView, noted}
+use Rattle.transact.specs.Numbers.{numbers_from}
 use Rattle.message_end.specs.Core.Went.{Goes, Spent}
 use Rattle.message_end.specs.Course.{Course, Meeting, broken_at, course_of, filled_at, noted_behind, notes_of, went_on, with_meeting}
 use Rattle.message_end.specs.Course.Course.{Reached, Stopped}
 use Rattle.message_end.specs.Course.Meeting.{Acts, Breaks, Fills, LosesPower, Restarts, Writes}
 use Rattle.message_end.specs.Ends.{Input, IsFront, Loss, call_of}
+use Rattle.message_end.specs.Laws.{new_end}
 use Rattle.message_end.specs.Own.{Has}
 use Rattle.disk_base.specs.declared.cut.CutChoice.{CutChoice}
 use Rattle.spool_law.specs.Shelf.{change_of, shelf_of}
 use Rattle.spool_law.specs.Shelf.Change.{Other}
-use Rattle.spool_ledger.specs.Ledger.{LedgerView, decided_count, next_of, stood_count}
+use Rattle.spool_ledger.specs.Ledger.{LedgerView, decided_count, new_ledger, next_of, stood_count}
 use Rattle.spool_ledger.specs.declared.ledger.Stand.{Stand}
+use Rattle.spool_slots.specs.File.{SpoolFile}
+use Rattle.spool_slots.specs.Format.{empty_file}
 use Rattle.spool_slots.specs.Run.{IsRunFrom}
 use Rattle.spool_slots.specs.Slot.{Message as Put}
-use Rattle.gem_spool.specs.Standing.{Standing, count_in}
+use Rattle.gem_spool.specs.Standing.{count_in}
 use Rattle.gem_spool.specs.Works.{AreDue, counts_after, lists_after, reserved as marked}
 use Rattle.gem_spool.specs.declared.count.Count.{Count}
 use Rattle.gem_spool.specs.declared.works.Work.{Work}
@@ -25,7 +29,7 @@ use Rattle.equipment_tables.specs.declared.plan.EquipmentPlan.{EquipmentPlan}
 use Rattle.equipment_tables.specs.Laws.{TablesAreLookedBackFor}
 use Rattle.equipment_tables.specs.Plan.{EquipmentPlanFits}
 use Rattle.tool_step.specs.End.{machine}
-use Rattle.tool_step.specs.Equipment.{EquipmentView, act, begun_step, is_marked_out, needs_numbers, restarts, settled_list, started_on}
+use Rattle.tool_step.specs.Equipment.{EquipmentView, act, begun_step, is_marked_out, needs_numbers, new_own, restarts, settled_list, started_on}
 use Rattle.spool_works.specs.Found.{first_in, found_in, spooled_of}
 use Rattle.tool_step.specs.Disk.{owed_in, standing_in, works_behind, works_of as step_works}
 use Rattle.spool_works.specs.DiskWorks.DiskWork.{Reserve}
@@ -37,12 +41,15 @@ use Rattle.tool_law.proofs.Lawful.{IsGoodView, begun-stood, fronts-are}
 use Rattle.tool_spool.proofs.FromStarts.{KeepsOn, begins-course, kept-before, kept-empty, kept-from, left-in-steps, room-used, some-behind, some-kept}
 use Rattle.tool_spool.proofs.PairedLines.{AreTold}
 use Rattle.tool_spool.proofs.UsedRoom.{fronts-used}
-use Rattle.tool_spool.proofs.Interrupted.{FoundAt, IsFoundAt, StandsWell, WhereGoes, reserve-found, where-as, works-found}
+use Rattle.tool_spool.proofs.Interrupted.{FoundAt, IsFoundAt, StandsWell, WhereGoes, after-reserve, reserve-found, where-as, works-found}
 use Rattle.tool_law.specs.Sound.{CanBeSent}
 use Rattle.tool_spool.specs.InPairs.{AreInPairs, ArePairsOfStep, TellsWorks, WorksAreInPairs, changes_in}
 use Rattle.tool_spool.specs.LeavesInStep.{LeaveInTheirSteps, MessagesLeaveInStep}
 use Rattle.tool_spool.specs.MadeRoom.{IsRoomUsed, LeavesNoRoom, OverwritesForPuts, UsesRoom}
 use Rattle.tool_spool.specs.SpoolKept.{KeepsSpoolFrom, MayHold, SpoolIsKept, SpoolIsKeptFrom, policy_of}
+use Rattle.tool_step.specs.Step.{begun, end_plan}
+use Rattle.tool_step.specs.declared.kind.Kind.{Kind}
+use Rattle.tool_step.proofs.StepFiles.{act-slots}
 use Rattle.tool_reports.proofs.QuietReports.{Holds}
 use Rattle.tool_reports.proofs.Reporting.{IsCourseSo as IsReported, course-so as course-reported}
 use Rattle.tool_spool.proofs.ShelvedTurns.{Shelves}
@@ -56,8 +63,9 @@ module _ (plan : EquipmentPlan) (fits : EquipmentPlanFits plan) (looked : Tables
   -- ---- over all starts
 
   pub record IsSpoolSo (s : EquipmentView) (notes : List Happening) : Type 0 where
-    pub shelves : Shelves plan slots s.list notes notes s.node.own s.node.core notes
+    pub shelves : Shelves plan slots s.file.list notes notes s.node.own s.node.core notes
     pub none : s.node.own.ledger.works ≡ []
+    pub slots_are : s.file.slots ≡ slots
 
   abbrev pub IsCourseKept : Course EquipmentView → Type 0
   IsCourseKept (Reached s notes) = IsSpoolSo s notes
@@ -65,14 +73,17 @@ module _ (plan : EquipmentPlan) (fits : EquipmentPlanFits plan) (looked : Tables
 
   went-so :
       (said : List ToolCommand) (before : List Happening) (went : Went EquipmentView Happening)
-      → OnEither ((IsDone plan fits looked slots) said before) ((IsKeptFile plan fits looked slots) before) went → IsCourseKept (went_on went before)
-  went-so said before (Goes step) at = record {
+      → OnEither ((IsDone plan fits looked slots) said before) ((IsKeptFile plan fits looked slots) before) went
+      → (step_in went).next.file.slots ≡ slots → IsCourseKept (went_on went before)
+  went-so said before (Goes step) at same = record {
     shelves =
-        (rebased plan fits looked slots) step.next.list at.base before (noted_behind step.notes before) step.next.node.own step.next.node.core
+        (rebased plan fits looked slots) step.next.file.list at.base before (noted_behind step.notes before)
+        step.next.node.own step.next.node.core
         (noted_behind step.notes before) at.none at.both.1;
     none = at.none;
+    slots_are = same;
   }
-  went-so said before (Spent step) at = at
+  went-so said before (Spent step) at same = at
 
   -- the list as the file has it
   file-list : (v : LedgerView) (list : List Put) → v.works ≡ [] → settled_list v list ≡ list
@@ -80,35 +91,42 @@ module _ (plan : EquipmentPlan) (fits : EquipmentPlanFits plan) (looked : Tables
 
   module _ (some : 0 < slots) (most : slots < 2 ^ 16) where
     started-so :
-        (other : EquipmentPlan) (size : ℕ) (list : List Put) (mark : ℕ) (notes : List Happening) → other ≡ plan
-        → size ≡ slots → KeepsOn (policy_of plan slots) (Happening.EquipmentStarted (found_in list) mark ∷ notes)
-        → IsRunFrom (first_in list) list → length list ≤ slots
-        → first_in list + length list ≤ 2 ^ 63 + 65535
-        → IsSpoolSo (started_on other size list mark).next
-        (noted_behind (started_on other size list mark).notes notes)
-    started-so other size list mark notes same all kept run room bound =
+        (other : EquipmentPlan) (file : SpoolFile) (notes : List Happening) → other ≡ plan → file.slots ≡ slots
+        → KeepsOn (policy_of plan slots) (Happening.EquipmentStarted (found_in file.list) file.mark.value ∷ notes)
+        → IsRunFrom (first_in file.list) file.list → length file.list ≤ slots
+        → first_in file.list + length file.list ≤ 2 ^ 63 + 65535
+        → IsSpoolSo (started_on other file).next (noted_behind (started_on other file).notes notes)
+    started-so other file notes same all kept run room bound =
         subst
-        (λ (p : EquipmentPlan).
-        IsSpoolSo (started_on p size list mark).next (noted_behind (started_on p size list mark).notes notes))
+        (λ (p : EquipmentPlan). IsSpoolSo (started_on p file).next (noted_behind (started_on p file).notes notes))
         (sym same)
-        (subst
-        (λ (n : ℕ).
-        IsSpoolSo (started_on plan n list mark).next (noted_behind (started_on plan n list mark).notes notes)) (sym all)
         (record {
           shelves =
-              (started-shelves plan fits looked slots) list mark (Happening.EquipmentStarted (found_in list) mark ∷ notes) notes some most kept
-              run room bound;
+              subst
+              (λ (n : ℕ).
+              Shelves plan slots file.list started started
+              (new_own plan (new_ledger n (first_in file.list) (length file.list))) core started) (sym all)
+              ((started-shelves plan fits looked slots) file.list file.mark.value started notes some most kept run room
+              bound);
           none = refl;
-        }))
+          slots_are = all;
+        })
+      where
+        started : List Happening
+        started = Happening.EquipmentStarted (found_in file.list) file.mark.value ∷ notes
+
+        core : EndView Kind
+        core = new_end (end_plan plan) (numbers_from file.mark.value 4096)
 
     noted-so :
         (s : EquipmentView) (notes : List Happening) (what : Happening) → change_of what ≡ Other → IsSpoolSo s notes
         → IsSpoolSo s (what ∷ notes)
     noted-so s notes what other so = record {
       shelves =
-          (rebased plan fits looked slots) s.list notes notes (what ∷ notes) s.node.own s.node.core (what ∷ notes) so.none
-          (full-so plan slots s.list notes notes s.node.own what (at_first s.node.core) other so.shelves);
+          (rebased plan fits looked slots) s.file.list notes notes (what ∷ notes) s.node.own s.node.core (what ∷ notes)
+          so.none (full-so plan slots s.file.list notes notes s.node.own what (at_first s.node.core) other so.shelves);
       none = so.none;
+      slots_are = so.slots_are;
     }
 
     -- ---- power is lost at a call of the disk
@@ -121,7 +139,7 @@ module _ (plan : EquipmentPlan) (fits : EquipmentPlanFits plan) (looked : Tables
         × AtEach (FoundAt slots before) (standing_in s) [] (step_works s input now)
         (step_in (begun_step s input now)).notes
     lost-so said before input now s holds good so =
-        (begun.kept, go (needs_numbers s && not (is_marked_out s.mark)))
+        (begun.kept, go (needs_numbers s && not (is_marked_out s.file.mark.value)))
       where
         went : Went EquipmentView Happening
         went = begun_step s input now
@@ -139,10 +157,10 @@ module _ (plan : EquipmentPlan) (fits : EquipmentPlanFits plan) (looked : Tables
         begun : (IsBegunSo plan fits looked slots) before went
         begun = (begun-so plan fits looked slots) (with_command input said) before went ((begun-both plan fits looked slots) said before input now s holds so.shelves)
 
-        same : settled_list w s.list ≡ s.list
-        same = file-list w s.list so.none
+        same : settled_list w s.file.list ≡ s.file.list
+        same = file-list w s.file.list so.none
 
-        long : length s.list ≡ w.len
+        long : length s.file.list ≡ w.len
         long = ap (λ (l : List Put). length l) (sym same) ∙ so.shelves.shelved.long
 
         well : StandsWell slots (standing_in s)
@@ -153,21 +171,13 @@ module _ (plan : EquipmentPlan) (fits : EquipmentPlanFits plan) (looked : Tables
           room =
               let is = so.shelves.is.room in let all = so.shelves.all in let l = long in omega (arith, is, all, l);
           bound = so.shelves.is.bound;
+          slots_are = so.slots_are;
         }
 
-        reserved-well : StandsWell slots (marked (standing_in s))
-        reserved-well = record {
-          first = well.first;
-          run = well.run;
-          next_is = well.next_is;
-          room = well.room;
-          bound = well.bound;
-        }
-
-        stands : (shelf_of before).stands ≡ found_in s.list
+        stands : (shelf_of before).stands ≡ found_in s.file.list
         stands = so.shelves.shelved.stands ∙ ap found_in same
 
-        stays : ((step_in went).next.list ≡ s.list) × (v.stood ≡ w.stood)
+        stays : ((step_in went).next.file.list ≡ s.file.list) × (v.stood ≡ w.stood)
         stays = begun-stood plan fits s input now good
 
         -- the disk has what was decided before the step
@@ -181,28 +191,28 @@ module _ (plan : EquipmentPlan) (fits : EquipmentPlanFits plan) (looked : Tables
 
         due : AreDue (count_in (standing_in s)) v.works
         due =
-            subst (λ (n : ℕ). AreDue (record { slots = n; next = next_of w; len = length s.list }) v.works)
-            (sym so.shelves.all)
+            subst (λ (n : ℕ). AreDue (record { slots = n; next = next_of w; len = length s.file.list }) v.works)
+            (sym so.slots_are)
             (subst (λ (n : ℕ). AreDue (record { slots = slots; next = next_of w; len = n }) v.works)
             (ap (λ (at : Stand). at.len) stays.1 ∙ ap (λ (c : Count). c.len) stood-is ∙ sym long)
             (subst (λ (n : ℕ). AreDue (record { slots = slots; next = n; len = v.stood.len }) v.works) next-is
             begun.due))
 
-        walks : Walks (next_of w) s.list before v.works notes
+        walks : Walks (next_of w) s.file.list before v.works notes
         walks =
-            subst (λ (ls : List Happening). Walks (next_of w) s.list before v.works ls)
+            subst (λ (ls : List Happening). Walks (next_of w) s.file.list before v.works ls)
             (sym (same-lines notes begun.lines.lines before begun.lines.noted))
             (subst (λ (list : List Put). Walks (next_of w) list before v.works begun.lines.lines) stays.0
             (subst
-            (λ (n : ℕ). Walks n (step_in went).next.list before v.works begun.lines.lines) next-is
+            (λ (n : ℕ). Walks n (step_in went).next.file.list before v.works begun.lines.lines) next-is
             begun.lines.walks))
 
         ended : WhereGoes slots before went
-            ((shelf_of (noted_behind notes before)).stands ≡ found_in (lists_after (next_of w) s.list v.works))
+            ((shelf_of (noted_behind notes before)).stands ≡ found_in (lists_after (next_of w) s.file.list v.works))
         ended =
             where-as slots before went _ _
             (λ is.
-            is ∙ ap (λ (n : ℕ). found_in (lists_after n (step_in went).next.list v.works)) next-is
+            is ∙ ap (λ (n : ℕ). found_in (lists_after n (step_in went).next.file.list v.works)) next-is
             ∙ ap (λ (list : List Put). found_in (lists_after (next_of w) list v.works)) stays.0)
             begun.stands
 
@@ -211,11 +221,10 @@ module _ (plan : EquipmentPlan) (fits : EquipmentPlanFits plan) (looked : Tables
             ((if reserves then Reserve ∷ [] else []) ++ works_behind went) notes
         go true =
             reserve-found slots before (standing_in s) (works_behind went) notes stands well
-            (works-found slots before v.works went (marked (standing_in s)) [] notes so.shelves.all due reserved-well
-            walks
-            ended)
+            (works-found slots before v.works went (marked (standing_in s)) [] notes due
+            (after-reserve slots (standing_in s) well) walks ended)
         go false =
-            works-found slots before v.works went (standing_in s) [] notes so.shelves.all due well walks ended
+            works-found slots before v.works went (standing_in s) [] notes due well walks ended
 
     -- so do those at a call of the disk
     kept-at-call :
@@ -267,7 +276,7 @@ module _ (plan : EquipmentPlan) (fits : EquipmentPlanFits plan) (looked : Tables
         subst
         (λ (left : EquipmentView).
         IsCourseKept (went_on (restarts left now) (Happening.Power ∷ noted_behind loss.front notes)))
-        (ap (λ (one : Loss EquipmentView). one.left choice) (sym at.is)) (go (is_marked_out st.mark))
+        (ap (λ (one : Loss EquipmentView). one.left choice) (sym at.is)) (go (is_marked_out file.mark.value))
       where
         has : Has (losses s input now) loss
         has = has-call call (losses s input now) loss is
@@ -282,10 +291,10 @@ module _ (plan : EquipmentPlan) (fits : EquipmentPlanFits plan) (looked : Tables
             at-call (FoundAt slots notes) s (step_works s input now) (standing_in s) []
             (step_in (begun_step s input now)).notes loss lost.1 has
 
-        st : Standing
-        st = at.left choice
+        file : SpoolFile
+        file = at.left choice
 
-        is-found : IsFoundAt slots (shelf_of (noted_behind loss.front notes)) st
+        is-found : IsFoundAt slots (shelf_of (noted_behind loss.front notes)) file
         is-found = at.at choice
 
         kept : KeepsOn (policy_of plan slots) (noted_behind loss.front notes)
@@ -294,26 +303,20 @@ module _ (plan : EquipmentPlan) (fits : EquipmentPlanFits plan) (looked : Tables
         used : IsRoomUsed (noted_behind loss.front notes)
         used = used-at-call input now said s notes loss has holds good so
 
-        below : is-found.well.first + length st.list ≤ 2 ^ 63 + 65535
-        below =
-            let next = is-found.well.next_is in let bound = is-found.well.bound in omega (arith, next, bound)
-
         go : (spent : Bool)
             → IsCourseKept
             (went_on
-            (if spent then
-            Spent
-            (at_first
-            (record (started_on s.node.own.plan s.node.own.ledger.slots st.list st.mark).next { mark = st.mark }))
-            else Goes (started_on s.node.own.plan s.node.own.ledger.slots st.list st.mark))
+            (if spent then Spent (at_first (record (started_on s.node.own.plan file).next { file = file }))
+            else Goes (started_on s.node.own.plan file))
             (Happening.Power ∷ noted_behind loss.front notes))
         go true = inr (tt, inl used, tt, kept)
         go false =
-            started-so s.node.own.plan s.node.own.ledger.slots st.list st.mark
-            (Happening.Power ∷ noted_behind loss.front notes) holds.plan_is so.shelves.all
+            started-so s.node.own.plan file (Happening.Power ∷ noted_behind loss.front notes) holds.plan_is
+            is-found.well.slots_are
             (inr (is-found.found, inl tt, tt, inr (tt, inl used, tt, kept)))
-            ((first-run plan fits looked slots) is-found.well.first st.list is-found.well.run) is-found.well.room
-            ((first-bound plan fits looked slots) is-found.well.first (2 ^ 63 + 65535) st.list is-found.well.run below)
+            ((first-run plan fits looked slots) is-found.well.first file.list is-found.well.run) is-found.well.room
+            ((first-bound plan fits looked slots) is-found.well.first (2 ^ 63 + 65535) file.list is-found.well.run
+            is-found.well.bound)
 
     meeting-so :
         (meeting : Meeting ToolCommand) (said : List ToolCommand) (course : Course EquipmentView)
@@ -323,43 +326,45 @@ module _ (plan : EquipmentPlan) (fits : EquipmentPlanFits plan) (looked : Tables
     meeting-so (Acts input now) said (Reached s notes) reported so =
         went-so (with_command input said) notes (act s input now)
         ((step-both plan fits looked slots) said notes input now s reported.holds so.shelves reported.good)
-    meeting-so (Restarts now) said (Reached s notes) reported so = go (is_marked_out s.mark)
+        (act-slots s input now ∙ so.slots_are)
+    meeting-so (Restarts now) said (Reached s notes) reported so = go (is_marked_out s.file.mark.value)
       where
         v : LedgerView
         v = s.node.own.ledger
 
-        same : settled_list v s.list ≡ s.list
-        same = file-list v s.list so.none
+        same : settled_list v s.file.list ≡ s.file.list
+        same = file-list v s.file.list so.none
 
-        long : length s.list ≡ v.len
+        long : length s.file.list ≡ v.len
         long = ap (λ (l : List Put). length l) (sym same) ∙ so.shelves.shelved.long
 
-        run : IsRunFrom v.first s.list
+        run : IsRunFrom v.first s.file.list
         run = subst (IsRunFrom v.first) same so.shelves.shelved.run
 
-        room : length s.list ≤ slots
+        room : length s.file.list ≤ slots
         room =
             let is = so.shelves.is.room in let all = so.shelves.all in let l = long in omega (arith, is, all, l)
 
-        bound : v.first + length s.list ≤ 2 ^ 63 + 65535
+        bound : v.first + length s.file.list ≤ 2 ^ 63 + 65535
         bound = let is = so.shelves.is.bound in let l = long in omega (arith, is, l)
 
         go : (spent : Bool)
             → IsCourseKept
             (went_on
             (if spent then
-            Spent (at_first (record (started_on s.node.own.plan v.slots s.list s.mark).next { mark = s.mark }))
-            else Goes (started_on s.node.own.plan v.slots s.list s.mark)) notes)
+            Spent (at_first (record (started_on s.node.own.plan s.file).next { file = s.file }))
+            else Goes (started_on s.node.own.plan s.file)) notes)
         go true = so.shelves.shelved.kept
         go false =
-            started-so s.node.own.plan v.slots s.list s.mark notes reported.holds.plan_is so.shelves.all
+            started-so s.node.own.plan s.file notes reported.holds.plan_is so.slots_are
             (inr (
-              (finds-all plan fits looked slots) notes s.list (so.shelves.shelved.stands ∙ ap found_in same),
+              (finds-all plan fits looked slots) notes s.file.list (so.shelves.shelved.stands ∙ ap found_in same),
               inl so.shelves.shelved.closed,
               tt,
               so.shelves.shelved.kept,
             ))
-            ((first-run plan fits looked slots) v.first s.list run) room ((first-bound plan fits looked slots) v.first (2 ^ 63 + 65535) s.list run bound)
+            ((first-run plan fits looked slots) v.first s.file.list run) room
+            ((first-bound plan fits looked slots) v.first (2 ^ 63 + 65535) s.file.list run bound)
     meeting-so (Writes characters) said (Reached s notes) reported so =
         noted-so s notes (Happening.Wrote characters) refl so
     meeting-so LosesPower said (Reached s notes) reported so = noted-so s notes Happening.Power refl so
@@ -375,14 +380,14 @@ module _ (plan : EquipmentPlan) (fits : EquipmentPlanFits plan) (looked : Tables
     told-so :
         (said : List ToolCommand) (before : List Happening) (input : Input ToolCommand) (now : ℕ) (s : EquipmentView)
         → Holds plan said s.node.own s.node.core.drawn before → IsGoodView plan fits s → IsSpoolSo s before
-        → AreInPairs (standing_in s).next s.list (owed_in (begun_step s input now))
+        → AreInPairs (standing_in s).next s.file.list (owed_in (begun_step s input now))
         (changes_in (step_in (begun_step s input now)).notes)
     told-so said before input now s holds good so =
-        subst (λ (lines : List Happening). AreInPairs (next_of w) s.list v.works (changes_in lines))
+        subst (λ (lines : List Happening). AreInPairs (next_of w) s.file.list v.works (changes_in lines))
         (sym (same-lines notes told.lines before told.noted))
         (subst (λ (list : List Put). AreInPairs (next_of w) list v.works (changes_in told.lines)) stays.0
         (subst
-        (λ (n : ℕ). AreInPairs n (step_in went).next.list v.works (changes_in told.lines)) next-is told.pairs))
+        (λ (n : ℕ). AreInPairs n (step_in went).next.file.list v.works (changes_in told.lines)) next-is told.pairs))
       where
         went : Went EquipmentView Happening
         went = begun_step s input now
@@ -396,12 +401,12 @@ module _ (plan : EquipmentPlan) (fits : EquipmentPlanFits plan) (looked : Tables
         v : LedgerView
         v = (step_in went).next.node.own.ledger
 
-        told : AreTold v (step_in went).next.list before (noted_behind notes before)
+        told : AreTold v (step_in went).next.file.list before (noted_behind notes before)
         told =
             ((begun-so plan fits looked slots) (with_command input said) before went
             ((begun-both plan fits looked slots) said before input now s holds so.shelves)).told
 
-        stays : ((step_in went).next.list ≡ s.list) × (v.stood ≡ w.stood)
+        stays : ((step_in went).next.file.list ≡ s.file.list) × (v.stood ≡ w.stood)
         stays = begun-stood plan fits s input now good
 
         stood-is : stood_count w ≡ decided_count w
@@ -422,29 +427,30 @@ module _ (plan : EquipmentPlan) (fits : EquipmentPlanFits plan) (looked : Tables
         record {
           by_then = by_then;
           in_all =
-              subst (AreInPairs (standing_in s).next s.list (owed_in (begun_step s input now)))
+              subst (AreInPairs (standing_in s).next s.file.list (owed_in (begun_step s input now)))
               (sym ((step-lines plan fits looked slots) said before input now s holds so.shelves good)) by_then;
         }
 
-    module _ (list : List Put) (mark : ℕ) (may : MayHold slots list) where
+    module _ (file : SpoolFile) (all : file.slots ≡ slots) (may : MayHold file) where
       course-kept : (meetings : List (Meeting ToolCommand))
-          → IsCourseKept (course_of (started_on plan slots list mark) machine meetings)
+          → IsCourseKept (course_of (started_on plan file) machine meetings)
       course-kept [] =
-          started-so plan slots list mark [] refl refl
-          (inl (record { found = found_in list; is = refl; alone = refl })) may.run may.room may.bound
+          started-so plan file [] refl all (inl (record { found = found_in file.list; is = refl; alone = refl }))
+          may.run
+          (subst (λ (n : ℕ). length file.list ≤ n) all may.room) may.bound
       course-kept (meeting ∷ meetings) =
-          meeting-so meeting (commands_met (started_on plan slots list mark) meetings)
-          (course_of (started_on plan slots list mark) machine meetings)
-          (course-reported plan fits looked slots list mark may.sent meetings) (course-kept meetings)
+          meeting-so meeting (commands_met (started_on plan file) meetings)
+          (course_of (started_on plan file) machine meetings)
+          (course-reported plan fits looked file may.sent meetings) (course-kept meetings)
 
       pub pairs-so : (meetings : List (Meeting ToolCommand)) (input : Input ToolCommand) (now : ℕ)
-          → TellsWorks (course_of (started_on plan slots list mark) machine meetings) input now
+          → TellsWorks (course_of (started_on plan file) machine meetings) input now
       pairs-so meetings input now =
-          go (course_of (started_on plan slots list mark) machine meetings)
-          (course-reported plan fits looked slots list mark may.sent meetings) (course-kept meetings)
+          go (course_of (started_on plan file) machine meetings)
+          (course-reported plan fits looked file may.sent meetings) (course-kept meetings)
         where
           said : List ToolCommand
-          said = commands_met (started_on plan slots list mark) meetings
+          said = commands_met (started_on plan file) meetings
 
           go : (course : Course EquipmentView) → IsReported plan fits looked said course → IsCourseKept course
               → TellsWorks course input now
@@ -452,8 +458,8 @@ module _ (plan : EquipmentPlan) (fits : EquipmentPlanFits plan) (looked : Tables
           go (Stopped notes) reported so = tt
 
       kept-on : (meetings : List (Meeting ToolCommand))
-          → KeepsOn (policy_of plan slots) (notes_of (course_of (started_on plan slots list mark) machine meetings))
-      kept-on meetings = go (course_of (started_on plan slots list mark) machine meetings) (course-kept meetings)
+          → KeepsOn (policy_of plan slots) (notes_of (course_of (started_on plan file) machine meetings))
+      kept-on meetings = go (course_of (started_on plan file) machine meetings) (course-kept meetings)
         where
           go : (course : Course EquipmentView) → IsCourseKept course
               → KeepsOn (policy_of plan slots) (notes_of course)
@@ -461,12 +467,12 @@ module _ (plan : EquipmentPlan) (fits : EquipmentPlanFits plan) (looked : Tables
           go (Stopped notes) so = so
 
       pub room-so : (meetings : List (Meeting ToolCommand))
-          → UsesRoom (course_of (started_on plan slots list mark) machine meetings)
+          → UsesRoom (course_of (started_on plan file) machine meetings)
       room-so meetings = record {
         puts =
-            room-used (policy_of plan slots) (notes_of (course_of (started_on plan slots list mark) machine meetings))
+            room-used (policy_of plan slots) (notes_of (course_of (started_on plan file) machine meetings))
             (kept-on meetings);
-        none = go (course_of (started_on plan slots list mark) machine meetings) (course-kept meetings);
+        none = go (course_of (started_on plan file) machine meetings) (course-kept meetings);
       }
         where
           go : (course : Course EquipmentView) → IsCourseKept course → LeavesNoRoom course
@@ -475,31 +481,31 @@ module _ (plan : EquipmentPlan) (fits : EquipmentPlanFits plan) (looked : Tables
 
       pub steps-so : (meetings : List (Meeting ToolCommand))
           → LeaveInTheirSteps (policy_of plan slots)
-          (notes_of (course_of (started_on plan slots list mark) machine meetings))
+          (notes_of (course_of (started_on plan file) machine meetings))
       steps-so meetings =
           left-in-steps (policy_of plan slots)
-          (notes_of (course_of (started_on plan slots list mark) machine meetings)) (kept-on meetings)
+          (notes_of (course_of (started_on plan file) machine meetings)) (kept-on meetings)
 
       pub kept-so : (meetings : List (Meeting ToolCommand))
-          → KeepsSpoolFrom (policy_of plan slots) (found_in list)
-          (notes_of (course_of (started_on plan slots list mark) machine meetings))
+          → KeepsSpoolFrom (policy_of plan slots) (found_in file.list)
+          (notes_of (course_of (started_on plan file) machine meetings))
       kept-so meetings =
-          kept-from (policy_of plan slots) (found_in list) mark
-          (notes_of (course_of (started_on plan slots list mark) machine meetings))
-          (begins-course machine (Happening.EquipmentStarted (found_in list) mark) (started_on plan slots list mark)
-          refl meetings)
+          kept-from (policy_of plan slots) (found_in file.list) file.mark.value
+          (notes_of (course_of (started_on plan file) machine meetings))
+          (begins-course machine (Happening.EquipmentStarted (found_in file.list) file.mark.value)
+          (started_on plan file) refl meetings)
           (kept-on meetings)
 
 -- whatever it meets, over whatever its file holds
 pub spool-is-kept-from : TablesAreLookedBackFor → SpoolIsKeptFrom
-spool-is-kept-from looked plan slots list mark fits some most may meetings =
-    kept-so plan fits looked slots some most list mark may meetings
+spool-is-kept-from looked plan file fits some most may meetings =
+    kept-so plan fits looked file.slots some most file refl may meetings
 
 -- over an empty file
 pub spool-is-kept : TablesAreLookedBackFor → SpoolIsKept
 spool-is-kept looked plan slots fits some most meetings =
-    kept-empty (policy_of plan slots) (notes_of (course_of (started_on plan slots [] 0) machine meetings))
-    (spool-is-kept-from looked plan slots [] 0 fits some most
+    kept-empty (policy_of plan slots) (notes_of (course_of (started_on plan (empty_file slots)) machine meetings))
+    (spool-is-kept-from looked plan (empty_file slots) fits some most
     (record {
       run = tt;
       room = omega arith;
@@ -510,15 +516,15 @@ spool-is-kept looked plan slots fits some most meetings =
 
 -- whatever it is given next
 pub works-in-pairs : TablesAreLookedBackFor → WorksAreInPairs
-works-in-pairs looked plan slots list mark fits some most may meetings input now =
-    pairs-so plan fits looked slots some most list mark may meetings input now
+works-in-pairs looked plan file fits some most may meetings input now =
+    pairs-so plan fits looked file.slots some most file refl may meetings input now
 
 -- whatever is overwritten
 pub overwrites-for-puts : TablesAreLookedBackFor → OverwritesForPuts
-overwrites-for-puts looked plan slots list mark fits some most may meetings =
-    room-so plan fits looked slots some most list mark may meetings
+overwrites-for-puts looked plan file fits some most may meetings =
+    room-so plan fits looked file.slots some most file refl may meetings
 
 -- whatever leaves
 pub messages-leave-in-step : TablesAreLookedBackFor → MessagesLeaveInStep
-messages-leave-in-step looked plan slots list mark fits some most may meetings =
-    steps-so plan fits looked slots some most list mark may meetings
+messages-leave-in-step looked plan file fits some most may meetings =
+    steps-so plan fits looked file.slots some most file refl may meetings

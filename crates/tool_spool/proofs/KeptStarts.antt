@@ -26,6 +26,7 @@ use Rattle.tool_reports.specs.Histories.{with_command}
 use Rattle.tool_law.proofs.Lawful.{IsGoodView, begun-good, oldest-good, settled-view-good}
 use Rattle.tool_spool.proofs.Interrupted.{WhereGoes}
 use Rattle.tool_step.specs.Own.{OwnView}
+use Rattle.tool_step.proofs.StepFiles.{settled-list-is}
 use Rattle.tool_spool.specs.InPairs.{AreInPairs, changes_in}
 use Rattle.tool_spool.specs.SpoolKept.{policy_of}
 use Rattle.tool_step.specs.Step.{begun, end_plan, first_parts, last_parts}
@@ -37,7 +38,7 @@ use Rattle.tool_spool.proofs.PairedLines.{AreTold, changes-both, told-none}
 use Rattle.tool_reports.proofs.PlainTurns.{booked-stays}
 use Rattle.tool_reports.proofs.QuietNotes.{AreSettled}
 use Rattle.tool_reports.proofs.Reporting.{odd-of}
-use Rattle.tool_spool.proofs.Shelved.{settled-shelved}
+use Rattle.tool_spool.proofs.Shelved.{IsShelved, settled-shelved}
 use Rattle.tool_spool.proofs.ShelvedTurns.{IsSpentAt, Shelves, count_at, spent-at}
 use Rattle.message_end.proofs.Growing.{behind-both}
 use Rattle.tool_law.proofs.WorkLines.{AreLines, lines-none, same-lines}
@@ -53,7 +54,7 @@ module _ (plan : EquipmentPlan) (fits : EquipmentPlanFits plan) (looked : Tables
   abbrev IsBoth : List ToolCommand → (base before : List Happening) → FileStep → Type 0
   IsBoth said base before step =
       Holds plan said step.next.node.own step.next.node.core.drawn (noted_behind step.notes before)
-      × Shelves plan slots step.next.list base before step.next.node.own step.next.node.core
+      × Shelves plan slots step.next.file.list base before step.next.node.own step.next.node.core
       (noted_behind step.notes before)
 
   abbrev IsSettled : List ToolCommand → (base before : List Happening) → FileStep → Type 0
@@ -62,7 +63,7 @@ module _ (plan : EquipmentPlan) (fits : EquipmentPlanFits plan) (looked : Tables
   abbrev IsRightFile : (base before : List Happening) → FileStep → Type 0
   IsRightFile base before step =
       AreSettled plan (noted_behind step.notes before)
-      × IsSpentAt plan slots step.next.list base before step.next.node.own.ledger (noted_behind step.notes before)
+      × IsSpentAt plan slots step.next.file.list base before step.next.node.own.ledger (noted_behind step.notes before)
 
   -- the same, where nothing is owed
   abbrev IsRightRest : (base before : List Happening) → FileStep → Type 0
@@ -71,7 +72,7 @@ module _ (plan : EquipmentPlan) (fits : EquipmentPlanFits plan) (looked : Tables
   with-file :
       (said : List ToolCommand) (base before : List Happening) (s : EquipmentView)
       (went : Went (Node OwnView Kind) Happening)
-      → (BothEnd plan fits looked slots) s.list base before said went
+      → (BothEnd plan fits looked slots) s.file.list base before said went
       → OnEither (IsBoth said base before) (IsRightFile base before) (went_with_file s went)
   with-file said base before s (Goes step) at = at
   with-file said base before s (Spent step) at = at
@@ -79,8 +80,8 @@ module _ (plan : EquipmentPlan) (fits : EquipmentPlanFits plan) (looked : Tables
   with-settled :
       (said : List ToolCommand) (base before : List Happening) (s : EquipmentView)
       (went : Went (Node OwnView Kind) Happening)
-      → OnEither ((Settled plan fits looked slots) s.list base before said)
-      ((SettledRight plan fits looked slots) s.list base before) went
+      → OnEither ((Settled plan fits looked slots) s.file.list base before said)
+      ((SettledRight plan fits looked slots) s.file.list base before) went
       → OnEither (IsSettled said base before) (IsRightRest base before) (went_with_file s went)
   with-settled said base before s (Goes step) at = at
   with-settled said base before s (Spent step) at = at
@@ -94,11 +95,16 @@ module _ (plan : EquipmentPlan) (fits : EquipmentPlanFits plan) (looked : Tables
       holds-less plan said step.next.node.own (settled_own step.next.node.own) (noted_behind step.notes before) both.0
           (booked-stays step.next.node.own (carried_out step.next.node.own.ledger)),
       record {
-        is = one-call plan slots step.next.list base Call.TakeWorks step.next.node.own.ledger both.1.is tt;
+        is = one-call plan slots step.next.file.list base Call.TakeWorks step.next.node.own.ledger both.1.is tt;
         all = both.1.all;
         shelved =
-            settled-shelved (policy_of plan slots) step.next.node.own.ledger step.next.list base
-            (noted_behind step.notes before) both.1.shelved;
+            subst
+            (λ (list : List Put).
+            IsShelved (policy_of plan slots) (carried_out step.next.node.own.ledger) list
+            (noted_behind step.notes before) (noted_behind step.notes before))
+            (sym (settled-list-is step.next.node.own.ledger step.next.file))
+            (settled-shelved (policy_of plan slots) step.next.node.own.ledger step.next.file.list base
+            (noted_behind step.notes before) both.1.shelved);
         drawn = both.1.drawn;
         asks = both.1.asks;
         under_way = both.1.under_way;
@@ -135,8 +141,8 @@ module _ (plan : EquipmentPlan) (fits : EquipmentPlanFits plan) (looked : Tables
   -- with more system bytes
   reserved-so :
       (s : EquipmentView) (before : List Happening)
-      → Shelves plan slots s.list before before s.node.own s.node.core before
-      → Shelves plan slots s.list before before s.node.own (reserved s).node.core before
+      → Shelves plan slots s.file.list before before s.node.own s.node.core before
+      → Shelves plan slots s.file.list before before s.node.own (reserved s).node.core before
   reserved-so s before holds = record {
     is = holds.is;
     all = holds.all;
@@ -151,9 +157,9 @@ module _ (plan : EquipmentPlan) (fits : EquipmentPlanFits plan) (looked : Tables
   pub begun-both :
       (said : List ToolCommand) (before : List Happening) (input : Input ToolCommand) (now : ℕ) (s : EquipmentView)
       → Holds plan said s.node.own s.node.core.drawn before
-      → Shelves plan slots s.list before before s.node.own s.node.core before
+      → Shelves plan slots s.file.list before before s.node.own s.node.core before
       → OnEither (IsBoth (with_command input said) before before) (IsRightFile before before) (begun_step s input now)
-  begun-both said before input now s holds shelves = begun (needs_numbers s) (is_marked_out s.mark)
+  begun-both said before input now s holds shelves = begun (needs_numbers s) (is_marked_out s.file.mark.value)
     where
       to : List ToolCommand
       to = with_command input said
@@ -165,42 +171,44 @@ module _ (plan : EquipmentPlan) (fits : EquipmentPlanFits plan) (looked : Tables
           (parts_done (first_parts input now)))
       begun true true = (
         holds.settled,
-        spent-at plan slots s.list before before s.node.own.ledger before shelves.is shelves.all shelves.shelved,
+        spent-at plan slots s.file.list before before s.node.own.ledger before shelves.is shelves.all shelves.shelved,
       )
       begun true false =
           with-file to before before (reserved s) (after_parts Some (first_parts input now)
           (at_first (reserved s).node))
-          ((first-both plan fits looked slots) s.list before before said input now (at_first (reserved s).node)
+          ((first-both plan fits looked slots) s.file.list before before said input now (at_first (reserved s).node)
           (holds, reserved-so s before shelves))
       begun false spent =
           with-file to before before s (after_parts Some (first_parts input now) (at_first s.node))
-          ((first-both plan fits looked slots) s.list before before said input now (at_first s.node) (holds, shelves))
+          ((first-both plan fits looked slots) s.file.list before before said input now (at_first s.node)
+          (holds, shelves))
 
   -- what was noted goes with the works, each of which finds room, or its message; and where the step goes on the shelf
   -- stands as they make the list
   pub record IsBegunSo (before : List Happening) (went : Went EquipmentView Happening) : Type 0 where
     pub kept : KeepsOn (policy_of plan slots) (noted_behind (step_in went).notes before)
     pub lines :
-        AreLines (step_in went).next.node.own.ledger (step_in went).next.list before
+        AreLines (step_in went).next.node.own.ledger (step_in went).next.file.list before
         (noted_behind (step_in went).notes before)
     pub told :
-        AreTold (step_in went).next.node.own.ledger (step_in went).next.list before
+        AreTold (step_in went).next.node.own.ledger (step_in went).next.file.list before
         (noted_behind (step_in went).notes before)
     pub closed : IsRoomUsed (noted_behind (step_in went).notes before)
     pub due :
-        AreDue (count_at plan slots (step_in went).next.list before before (step_in went).next.node.own.ledger.stood)
+        AreDue
+        (count_at plan slots (step_in went).next.file.list before before (step_in went).next.node.own.ledger.stood)
         (step_in went).next.node.own.ledger.works
     pub stands :
         WhereGoes slots before went
         ((shelf_of (noted_behind (step_in went).notes before)).stands
-        ≡ found_in (settled_list (step_in went).next.node.own.ledger (step_in went).next.list))
+        ≡ found_in (settled_list (step_in went).next.node.own.ledger (step_in went).next.file.list))
 
   pub begun-so :
       (said : List ToolCommand) (before : List Happening) (went : Went EquipmentView Happening)
       → OnEither (IsBoth said before before) (IsRightFile before before) went → IsBegunSo before went
   begun-so said before (Goes step) at =
       let spent =
-      spent-at plan slots step.next.list before before step.next.node.own.ledger (noted_behind step.notes before)
+      spent-at plan slots step.next.file.list before before step.next.node.own.ledger (noted_behind step.notes before)
       at.1.is
       at.1.all at.1.shelved in
       record {
@@ -240,15 +248,15 @@ module _ (plan : EquipmentPlan) (fits : EquipmentPlanFits plan) (looked : Tables
       let base = noted_behind step.notes before in
       with-settled said base before (settled step.next)
       (after_parts Some (last_parts (oldest_of (settled step.next)) now) (node_step (settled_step step)))
-      ((last-both plan fits looked slots) (settled step.next).list base before said (oldest_of (settled step.next))
+      ((last-both plan fits looked slots) (settled step.next).file.list base before said (oldest_of (settled step.next))
       (odd-of plan fits looked (oldest_of (settled step.next))
-      (oldest-good plan fits (settled step.next).list (settled-view-good plan fits step.next good).list)) refl now
+      (oldest-good plan fits (settled step.next).file.list (settled-view-good plan fits step.next good).list)) refl now
       (node_step (settled_step step)) (settled-both said before before step both))
 
   pub step-both :
       (said : List ToolCommand) (before : List Happening) (input : Input ToolCommand) (now : ℕ) (s : EquipmentView)
       → Holds plan said s.node.own s.node.core.drawn before
-      → Shelves plan slots s.list before before s.node.own s.node.core before → IsGoodView plan fits s
+      → Shelves plan slots s.file.list before before s.node.own s.node.core before → IsGoodView plan fits s
       → OnEither (IsDone (with_command input said) before) (IsKeptFile before) (act s input now)
   step-both said before input now s holds shelves good =
       ends (begun_step s input now) (begun-both said before input now s holds shelves)
@@ -286,7 +294,7 @@ module _ (plan : EquipmentPlan) (fits : EquipmentPlanFits plan) (looked : Tables
   pub step-lines :
       (said : List ToolCommand) (before : List Happening) (input : Input ToolCommand) (now : ℕ) (s : EquipmentView)
       → Holds plan said s.node.own s.node.core.drawn before
-      → Shelves plan slots s.list before before s.node.own s.node.core before → IsGoodView plan fits s
+      → Shelves plan slots s.file.list before before s.node.own s.node.core before → IsGoodView plan fits s
       → changes_in (step_in (act s input now)).notes ≡ changes_in (step_in (begun_step s input now)).notes
   step-lines said before input now s holds shelves good =
       ends (begun_step s input now) (begun-both said before input now s holds shelves)
@@ -310,10 +318,10 @@ module _ (plan : EquipmentPlan) (fits : EquipmentPlanFits plan) (looked : Tables
               → OnEither (IsSettled to base before) (IsRightRest base before) last
               → changes_in (step_in last).notes ≡ changes_in step.notes
           behind (Goes last) so =
-              rest-lines step.notes last.next.node.own.ledger last.next.list before last.notes so.1
+              rest-lines step.notes last.next.node.own.ledger last.next.file.list before last.notes so.1
               so.0.1.shelved.told
           behind (Spent last) so =
-              rest-lines step.notes last.next.node.own.ledger last.next.list before last.notes so.1 so.0.1.told
+              rest-lines step.notes last.next.node.own.ledger last.next.file.list before last.notes so.1 so.0.1.told
 
   -- ---- starts
 

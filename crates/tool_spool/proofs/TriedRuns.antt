@@ -241,5 +241,5 @@ module _ (plan : EquipmentPlan) (start : Went EquipmentView Happening)
         go (Stopped notes) so = so
 
 pub runs-in-turn : EquipmentKeepsItsLaw → RunsTryInTurn
-runs-in-turn keeps plan slots list mark fits can first is meetings may =
-    run-so plan (starts plan slots list mark) (keeps plan slots list mark fits can) first is meetings may
+runs-in-turn keeps plan file fits can first is meetings may =
+    run-so plan (starts plan file) (keeps plan file fits can) first is meetings may

@@ -11,6 +11,7 @@ use Rattle.message_end.specs.Course.Course.{Reached, Stopped}
 use Rattle.message_end.specs.Ends.{Input}
 use Rattle.spool_law.specs.Shelf.{Change, IsFirst, change_of}
 use Rattle.spool_law.specs.Shelf.Change.{HasGone, HasStored, Leaves, Stores}
+use Rattle.spool_slots.specs.File.{SpoolFile}
 use Rattle.spool_slots.specs.Slot.{Message}
 use Rattle.spool_works.specs.Found.{found_in}
 use Rattle.trace_log.specs.declared.commands.ToolCommand.{ToolCommand}
@@ -77,10 +78,10 @@ AreInPairs next list (one ∷ works) (before ∷ behind ∷ rest) =
 -- the numbers are spent
 pub record ArePairsOfStep (s : EquipmentView) (input : Input ToolCommand) (now : ℕ) : Type 0 where
   pub by_then :
-      AreInPairs (standing_in s).next s.list (owed_in (begun_step s input now))
+      AreInPairs (standing_in s).next s.file.list (owed_in (begun_step s input now))
       (changes_in (step_in (begun_step s input now)).notes)
   pub in_all :
-      AreInPairs (standing_in s).next s.list (owed_in (begun_step s input now))
+      AreInPairs (standing_in s).next s.file.list (owed_in (begun_step s input now))
       (changes_in (step_in (act s input now)).notes)
 
 abbrev pub TellsWorks : Course EquipmentView → Input ToolCommand → ℕ → Type 0
@@ -90,6 +91,6 @@ TellsWorks (Stopped notes) input now = Unit {0}
 -- whatever it has met over all its starts, over whatever its file held, and whatever it is given next (this profile)
 abbrev pub WorksAreInPairs : Type 0
 WorksAreInPairs =
-    (plan : EquipmentPlan) (slots : ℕ) (list : List Message) (mark : ℕ) → EquipmentPlanFits plan → 0 < slots
-    → slots < 2 ^ 16 → MayHold slots list → (meetings : List (Meeting ToolCommand)) (input : Input ToolCommand)
-    (now : ℕ) → TellsWorks (course_of (started_on plan slots list mark) machine meetings) input now
+    (plan : EquipmentPlan) (file : SpoolFile) → EquipmentPlanFits plan → 0 < file.slots
+    → file.slots < 2 ^ 16 → MayHold file → (meetings : List (Meeting ToolCommand)) (input : Input ToolCommand)
+    (now : ℕ) → TellsWorks (course_of (started_on plan file) machine meetings) input now

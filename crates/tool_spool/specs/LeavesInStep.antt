@@ -5,7 +5,7 @@ use Rattle.message_end.specs.Course.{Meeting, course_of, notes_of}
 use Rattle.message_end.specs.Own.{Has}
 use Rattle.spool_law.specs.Shelf.{Change, IsPurge, Policy, Tried, change_of, shelf_of, told_with}
 use Rattle.spool_law.specs.Shelf.Change.{Leaves}
-use Rattle.spool_slots.specs.Slot.{Message as Kept}
+use Rattle.spool_slots.specs.File.{SpoolFile}
 use Rattle.trace_log.specs.InStep.{received_in_step}
 use Rattle.trace_log.specs.declared.commands.ToolCommand.{ToolCommand}
 use Rattle.trace_log.specs.declared.names.Cause.{Cause}
@@ -54,6 +54,6 @@ LeaveInTheirSteps policy (what ∷ before) =
 -- so does the equipment, whatever it meets over all its starts, over whatever its file held (this profile)
 abbrev pub MessagesLeaveInStep : Type 0
 MessagesLeaveInStep =
-    (plan : EquipmentPlan) (slots : ℕ) (list : List Kept) (mark : ℕ) → EquipmentPlanFits plan → 0 < slots
-    → slots < 2 ^ 16 → MayHold slots list → (meetings : List (Meeting ToolCommand))
-    → LeaveInTheirSteps (policy_of plan slots) (notes_of (course_of (started_on plan slots list mark) machine meetings))
+    (plan : EquipmentPlan) (file : SpoolFile) → EquipmentPlanFits plan → 0 < file.slots
+    → file.slots < 2 ^ 16 → MayHold file → (meetings : List (Meeting ToolCommand))
+    → LeaveInTheirSteps (policy_of plan file.slots) (notes_of (course_of (started_on plan file) machine meetings))

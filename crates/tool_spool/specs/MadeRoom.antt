@@ -1,10 +1,10 @@
 -- That the oldest message of the spool is overwritten for a put alone. The newest note comes first.
-use Rattle.std.specs.Prelude.{◌⊎◌, ◌<◌, ◌^◌, ℕ, List, [], ◌∷◌, Option, None, Some}
+use Rattle.std.specs.Prelude.{◌⊎◌, ◌<◌, ◌^◌, List, [], ◌∷◌, Option, None, Some}
 use Rattle.message_end.specs.Course.{Course, Meeting, course_of, notes_of}
 use Rattle.message_end.specs.Course.Course.{Reached, Stopped}
 use Rattle.spool_law.specs.Shelf.{Change, change_of, shelf_of}
 use Rattle.spool_law.specs.Shelf.Change.{HasGone}
-use Rattle.spool_slots.specs.Slot.{Message}
+use Rattle.spool_slots.specs.File.{SpoolFile}
 use Rattle.trace_log.specs.declared.commands.ToolCommand.{ToolCommand}
 use Rattle.trace_log.specs.declared.names.Cause.{Cause}
 use Rattle.trace_log.specs.declared.names.Cause.TheVariants as cause
@@ -60,6 +60,6 @@ pub record UsesRoom (course : Course EquipmentView) : Type 0 where
 -- whatever it meets over all its starts, over whatever its file held (this profile)
 abbrev pub OverwritesForPuts : Type 0
 OverwritesForPuts =
-    (plan : EquipmentPlan) (slots : ℕ) (list : List Message) (mark : ℕ) → EquipmentPlanFits plan → 0 < slots
-    → slots < 2 ^ 16 → MayHold slots list → (meetings : List (Meeting ToolCommand))
-    → UsesRoom (course_of (started_on plan slots list mark) machine meetings)
+    (plan : EquipmentPlan) (file : SpoolFile) → EquipmentPlanFits plan → 0 < file.slots
+    → file.slots < 2 ^ 16 → MayHold file → (meetings : List (Meeting ToolCommand))
+    → UsesRoom (course_of (started_on plan file) machine meetings)

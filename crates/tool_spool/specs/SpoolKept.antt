@@ -6,8 +6,9 @@ use Rattle.trace_log.specs.declared.commands.ToolCommand.{ToolCommand}
 use Rattle.message_end.specs.Course.{Meeting, course_of, notes_of}
 use Rattle.spool_law.specs.Shelf.{Change, KeepsSpool, MayChange, Policy, change_of}
 use Rattle.spool_law.specs.Shelf.Change.{Finds}
+use Rattle.spool_slots.specs.File.{SpoolFile}
+use Rattle.spool_slots.specs.Format.{empty_file}
 use Rattle.spool_slots.specs.Run.{IsRunFrom}
-use Rattle.spool_slots.specs.Slot.{Message}
 use Rattle.spool_works.specs.Found.{first_in, found_in}
 use Rattle.trace_log.specs.Log.{Happening}
 use Rattle.trace_log.specs.Names.{Spooled}
@@ -36,13 +37,13 @@ policy_of plan slots = record {
 
 -- ---- over a file of an earlier run
 
--- what the file of so many slots may hold as the equipment starts over it: as many messages at most, numbered one after
+-- what a file may hold as the equipment starts over it: as many messages as slots at most, numbered one after
 -- the other, each of which can be sent (this profile)
-pub record MayHold (slots : ℕ) (list : List Message) : Type 0 where
-  pub run : IsRunFrom (first_in list) list
-  pub room : length list ≤ slots
-  pub bound : first_in list + length list ≤ 2 ^ 63 + 65535
-  pub sent : AllCanBeSent list
+pub record MayHold (file : SpoolFile) : Type 0 where
+  pub run : IsRunFrom (first_in file.list) file.list
+  pub room : length file.list ≤ file.slots
+  pub bound : first_in file.list + length file.list ≤ 2 ^ 63 + 65535
+  pub sent : AllCanBeSent file.list
 
 -- the first of all notes is a start that finds these messages; each later one agrees with all before it
 abbrev pub StartsWith : List (ℕ × Spooled) → Change → Type 0
@@ -68,12 +69,12 @@ abbrev pub SpoolIsKept : Type 0
 SpoolIsKept =
     (plan : EquipmentPlan) (slots : ℕ) → EquipmentPlanFits plan → 0 < slots → slots < 2 ^ 16
     → (meetings : List (Meeting ToolCommand))
-    → KeepsSpool (policy_of plan slots) (notes_of (course_of (started_on plan slots [] 0) machine meetings))
+    → KeepsSpool (policy_of plan slots) (notes_of (course_of (started_on plan (empty_file slots)) machine meetings))
 
 -- the same over whatever its file holds before its first start
 abbrev pub SpoolIsKeptFrom : Type 0
 SpoolIsKeptFrom =
-    (plan : EquipmentPlan) (slots : ℕ) (list : List Message) (mark : ℕ) → EquipmentPlanFits plan → 0 < slots
-    → slots < 2 ^ 16 → MayHold slots list → (meetings : List (Meeting ToolCommand))
-    → KeepsSpoolFrom (policy_of plan slots) (found_in list)
-    (notes_of (course_of (started_on plan slots list mark) machine meetings))
+    (plan : EquipmentPlan) (file : SpoolFile) → EquipmentPlanFits plan → 0 < file.slots
+    → file.slots < 2 ^ 16 → MayHold file → (meetings : List (Meeting ToolCommand))
+    → KeepsSpoolFrom (policy_of plan file.slots) (found_in file.list)
+    (notes_of (course_of (started_on plan file) machine meetings))

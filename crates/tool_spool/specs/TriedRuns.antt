@@ -7,7 +7,7 @@ use Rattle.message_end.specs.Course.Meeting.{Acts, Breaks, Fills, LosesPower, Re
 use Rattle.message_end.specs.Doings.{AreLawful, Doing}
 use Rattle.message_end.specs.Ends.{MayTake}
 use Rattle.message_end.specs.History.{noted_in}
-use Rattle.spool_slots.specs.Slot.{Message}
+use Rattle.spool_slots.specs.File.{SpoolFile}
 use Rattle.trace_log.specs.Commands.{ToolCommandFits}
 use Rattle.trace_log.specs.declared.commands.ToolCommand.{ToolCommand}
 use Rattle.trace_log.specs.Log.{Happening}
@@ -48,7 +48,7 @@ pub record HasTriedInTurn (plan : EquipmentPlan) (notes : List Happening) : Type
 -- (this profile)
 abbrev pub RunsTryInTurn : Type 0
 RunsTryInTurn =
-    (plan : EquipmentPlan) (slots : ℕ) (list : List Message) (mark : ℕ) → EquipmentPlanFits plan → AllCanBeSent list
-    → (first : Step EquipmentView Happening) → starts plan slots list mark ≡ Goes first
+    (plan : EquipmentPlan) (file : SpoolFile) → EquipmentPlanFits plan → AllCanBeSent file.list
+    → (first : Step EquipmentView Happening) → starts plan file ≡ Goes first
     → (meetings : List (Meeting ToolCommand)) → MayMeetAll meetings
     → HasTriedInTurn plan (notes_of (course_of first machine meetings))

@@ -1,2 +1,3 @@
 pub mod LossCalls
 pub mod SpoolRuns
+pub mod StepFiles

@@ -4,7 +4,7 @@ use Rattle.gate_cell.specs.Cell.{copy_bytes}
 use Rattle.line_end.specs.Frames.{block_in, is_frame, sum_cause}
 use Rattle.tool_step.specs.Sampling.{sample_parts}
 use Rattle.tool_step.specs.Step.{late_parts}
-use Rattle.spool_works.specs.WorkedCalls.{CallsOfWorks}
+use Rattle.spool_works.specs.WorkedCalls.{CallsOfWorks, KeptBehindWorks}
 use Rattle.tool_step.specs.WorkedSpool.{FullSpools, LosesInOrder, PutsTheLast, SpoolingBegins, UnloadsInOrder}
 
 pub spooling-begins : SpoolingBegins
@@ -28,3 +28,6 @@ unloads-in-order = record { first = refl; left = refl; second = refl; none = ref
 pub calls-of-works : CallsOfWorks
 unfolding copy_bytes
 calls-of-works = record { puts = refl; drops = refl; purges = refl; tries = refl; reserves = refl; overwrites = refl }
+
+pub kept-behind-works : KeptBehindWorks
+kept-behind-works = record { put = refl; dropped = refl; purged = refl; reserved = refl; overwritten = refl }

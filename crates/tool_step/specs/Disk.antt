@@ -17,7 +17,7 @@ use Rattle.spool_works.specs.DiskWorks.DiskWork.{Change, ReadOldest, Reserve}
 
 -- no more are reserved where there are none of four bytes
 abbrev pub reserve_works : EquipmentView → List DiskWork
-reserve_works s = if needs_numbers s && not (is_marked_out s.mark) then Reserve ∷ [] else []
+reserve_works s = if needs_numbers s && not (is_marked_out s.file.mark.value) then Reserve ∷ [] else []
 
 -- what the spool owes behind all that is due and given, also where the numbers are spent by then
 abbrev pub owed_in : Went EquipmentView Happening → List Work
@@ -46,12 +46,7 @@ stops s input now = fronts_of [] (works_of s input now) (step_in (begun_step s i
 
 -- how the spool stands between two steps
 abbrev pub standing_in : EquipmentView → Standing
-standing_in s = record {
-  slots = s.node.own.ledger.slots;
-  next = next_of s.node.own.ledger;
-  mark = s.mark;
-  list = s.list;
-}
+standing_in s = record { next = next_of s.node.own.ledger; file = s.file }
 
 -- what a step asks of it, and what a start does
 abbrev pub asks : EquipmentView → Input ToolCommand → ℕ → Asked

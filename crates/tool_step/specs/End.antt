@@ -19,5 +19,5 @@ machine = record {
   asks = asks;
   start_asks = reserve_asks;
   losses = losses;
-  start_calls = λ s. s.node.own.ledger.slots + 7;
+  start_calls = λ s. s.file.slots + 7;
 }

@@ -1,9 +1,11 @@
 -- The equipment with its spool: a step as a whole, its starts, and the equipment as an end.
 use Rattle.std.specs.Prelude.{ℕ, Bool, false, ◌+◌, ◌^◌, nat_lt, List, [], ◌∷◌, length, slice_get, Option, Some, None, if◌then◌else◌}
 use Rattle.std.specs.Option.{option_map}
-use Rattle.gem_spool.specs.Works.{lists_after}
+use Rattle.gem_spool.specs.Works.{lists_after, standings_after}
 use Rattle.gem_states.specs.Comms.{comms_after}
 use Rattle.gem_states.specs.Control.{new_control}
+use Rattle.spool_slots.specs.Changes.{with_mark_moved}
+use Rattle.spool_slots.specs.File.{SpoolFile}
 use Rattle.spool_slots.specs.Slot.{Message}
 use Rattle.trace_log.specs.declared.commands.ToolCommand.{ToolCommand}
 use Rattle.trace_log.specs.Log.{Happening}
@@ -24,12 +26,11 @@ use Rattle.tool_step.specs.Own.{OwnView, ToolPart, TracingView, with_ledger}
 use Rattle.tool_step.specs.Step.{end_plan, first_parts, last_parts}
 use Rattle.spool_works.specs.Found.{spooled_of, first_in, found_in}
 
--- the equipment, and what the file of its spool stands for: the messages, each with its number, and the mark, below
--- which all system bytes lie that it may have drawn
+-- the equipment, and the file of its spool, which is all that a loss of power keeps: below its mark all system bytes
+-- lie that it may have drawn
 pub record EquipmentView : Type 0 where
   pub node : Node OwnView Kind
-  pub list : List Message
-  pub mark : ℕ
+  pub file : SpoolFile
 
 -- ---- system bytes
 
@@ -47,13 +48,12 @@ with_core core node = record node { core = core }
 abbrev pub reserved : EquipmentView → EquipmentView
 reserved s = record {
   node = with_core (core_after (More 4096) s.node.core) s.node;
-  list = s.list;
-  mark = s.mark + 4096;
+  file = with_mark_moved s.file;
 }
 
 abbrev pub reserving : EquipmentView → Went EquipmentView Happening
 reserving s =
-    if needs_numbers s then if is_marked_out s.mark then Spent (at_first s) else Goes (at_first (reserved s))
+    if needs_numbers s then if is_marked_out s.file.mark.value then Spent (at_first s) else Goes (at_first (reserved s))
     else Goes (at_first s)
 
 -- ---- parts of a step, while the file stays as it is
@@ -80,14 +80,18 @@ parts_done parts step = went_with_file step.next (after_parts Some parts (node_s
 abbrev pub settled_own : OwnView → OwnView
 settled_own own = with_ledger (carried_out own.ledger) own
 
+-- what the works make of the list, and of all of the file
 abbrev pub settled_list : LedgerView → List Message → List Message
 settled_list ledger list = lists_after (stood_count ledger).next list ledger.works
+
+abbrev pub settled_file : LedgerView → SpoolFile → SpoolFile
+settled_file ledger file =
+    (standings_after (record { next = (stood_count ledger).next; file = file }) ledger.works).file
 
 abbrev pub settled : EquipmentView → EquipmentView
 settled s = record {
   node = record s.node { own = settled_own s.node.own };
-  list = settled_list s.node.own.ledger s.list;
-  mark = s.mark;
+  file = settled_file s.node.own.ledger s.file;
 }
 
 abbrev pub settled_step : Step EquipmentView Happening → Step EquipmentView Happening
@@ -106,7 +110,7 @@ begun_step s input now = and_then (reserving s) (parts_done (first_parts input n
 
 -- what goes out behind the works of the disk
 abbrev pub oldest_of : EquipmentView → Option Spooled
-oldest_of s = option_map spooled_of (slice_get s.list 0)
+oldest_of s = option_map spooled_of (slice_get s.file.list 0)
 
 abbrev pub ended_step : ℕ → Step EquipmentView Happening → Went EquipmentView Happening
 ended_step now step = parts_done (last_parts (oldest_of step.next) now) step
@@ -136,27 +140,26 @@ new_own plan ledger = record {
   has_begun = false;
 }
 
--- over a file with so many slots, this list and this mark: the system bytes from the mark on are reserved
-abbrev pub started_on : EquipmentPlan → ℕ → List Message → ℕ → Step EquipmentView Happening
-started_on plan slots list mark = record {
+-- over what a file stands for: the system bytes from its mark on are reserved
+abbrev pub started_on : EquipmentPlan → SpoolFile → Step EquipmentView Happening
+started_on plan file = record {
   next = record {
     node = record {
-      own = new_own plan (new_ledger slots (first_in list) (length list));
-      core = new_end (end_plan plan) (numbers_from mark 4096);
+      own = new_own plan (new_ledger file.slots (first_in file.list) (length file.list));
+      core = new_end (end_plan plan) (numbers_from file.mark.value 4096);
     };
-    list = list;
-    mark = mark + 4096;
+    file = with_mark_moved file;
   };
-  notes = EquipmentStarted (found_in list) mark ∷ [];
+  notes = EquipmentStarted (found_in file.list) file.mark.value ∷ [];
   written = [];
 }
 
 -- where there are none any more, nothing is noted, and the file stays as it is
-abbrev pub starts : EquipmentPlan → ℕ → List Message → ℕ → Went EquipmentView Happening
-starts plan slots list mark =
-    if is_marked_out mark then Spent (at_first (record (started_on plan slots list mark).next { mark = mark }))
-    else Goes (started_on plan slots list mark)
+abbrev pub starts : EquipmentPlan → SpoolFile → Went EquipmentView Happening
+starts plan file =
+    if is_marked_out file.mark.value then Spent (at_first (record (started_on plan file).next { file = file }))
+    else Goes (started_on plan file)
 
--- a start anew finds what the file stands for
+-- a start anew finds what is kept
 abbrev pub restarts : EquipmentView → ℕ → Went EquipmentView Happening
-restarts s now = starts s.node.own.plan s.node.own.ledger.slots s.list s.mark
+restarts s now = starts s.node.own.plan s.file

@@ -3,7 +3,7 @@ use Rattle.std.specs.Prelude.{◌≡◌, ℕ, List, take, Some}
 use Rattle.std.specs.List.{slice_get}
 use Rattle.disk_base.specs.Story.{Moment}
 use Rattle.disk_base.specs.Through.{EachImage}
-use Rattle.gem_spool.specs.Standing.{Standing, file_of}
+use Rattle.gem_spool.specs.Standing.{Standing}
 use Rattle.spool_slots.specs.File.{StandsFor}
 use Rattle.message_flow.specs.declared.step.StepOut.{StepOut}
 use Rattle.trace_log.specs.declared.commands.ToolCommand.{ToolCommand}
@@ -18,7 +18,7 @@ use Rattle.tool_step.specs.Equipment.{EquipmentView, act}
 
 -- a spool that stands so
 abbrev pub Holds : Standing → Moment → Type 0
-Holds st moment = EachImage (λ image. StandsFor image (file_of st)) moment
+Holds st moment = EachImage (λ image. StandsFor image st.file) moment
 
 -- how it stands behind some first works of a step
 abbrev pub standing_at : EquipmentView → Input ToolCommand → ℕ → ℕ → Standing

@@ -1,6 +1,7 @@
 -- Where power may be lost in a step of the equipment, and what that leaves of its spool (this profile).
 use Rattle.std.specs.Prelude.{◌≡◌, ℕ, List, [], ◌∷◌, ◌++◌, length, map}
 use Rattle.gem_spool.specs.Standing.{Standing}
+use Rattle.spool_slots.specs.File.{SpoolFile}
 use Rattle.message_end.specs.Core.{step_in}
 use Rattle.message_end.specs.Ends.{Input, Loss}
 use Rattle.message_end.specs.Own.{Has}
@@ -12,9 +13,9 @@ use Rattle.tool_step.specs.Equipment.{EquipmentView, begun_step}
 use Rattle.spool_works.specs.SpoolLosses.{Left}
 use Rattle.spool_works.specs.WorkLosses.{calls_at}
 
--- all else is gone with the power, and a start anew asks for none of it but the plan and the count of the slots
-abbrev pub left_as : EquipmentView → Standing → EquipmentView
-left_as s st = record s { list = st.list; mark = st.mark }
+-- all else is gone with the power, and a start anew asks for none of it but the plan
+abbrev pub left_as : EquipmentView → SpoolFile → EquipmentView
+left_as s file = record s { file = file }
 
 abbrev pub loss_at : EquipmentView → List Happening → Left → Loss EquipmentView
 loss_at s front left = record { front = front; left = λ choice. left_as s (left choice) }

@@ -7,10 +7,10 @@ use Rattle.tool_step.specs.WorkedSpool.{last_view}
 
 -- how many messages stand behind a loss at each call
 abbrev pub stand_then : List ℕ
-stand_then = map (λ loss. length (loss.left New).list) (losses last_view Time 10000)
+stand_then = map (λ loss. length (loss.left New).file.list) (losses last_view Time 10000)
 
 abbrev pub stand_filled : List ℕ
-stand_filled = map (λ loss. length (loss.left (Fill 165)).list) (losses last_view Time 10000)
+stand_filled = map (λ loss. length (loss.left (Fill 165)).file.list) (losses last_view Time 10000)
 
 -- the line fails, and a report is put: its message stands from the write of the gate on, where that is left
 pub record LosesAtCalls : Type 0 where

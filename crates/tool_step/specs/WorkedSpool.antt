@@ -1,5 +1,5 @@
 -- Runs of the equipment with its spool that can be followed by hand.
-use Rattle.std.specs.Prelude.{◌≡◌, ◌-◌, ◌^◌, ℕ, true, false, List, [], ◌∷◌, ◌++◌, codes, drop, length, map, replicate, slice_index, take, None, Some}
+use Rattle.std.specs.Prelude.{◌≡◌, ◌-◌, ◌^◌, ℕ, true, false, List, [], ◌∷◌, ◌++◌, codes, drop, fold, length, map, replicate, slice_index, take, None, Some}
 use Rattle.block_codec.specs.Frame.{frame_bytes}
 use Rattle.gem_shapes.specs.declared.request.TablesRequest.TheVariants as tables_request
 use Rattle.gem_spool.specs.declared.works.Work.TheVariants.{Put}
@@ -11,6 +11,9 @@ use Rattle.line_end.specs.declared.event.Phase.TheVariants.{Gathering}
 use Rattle.message_flow.specs.declared.message.Message.{Message}
 use Rattle.message_flow.specs.Blocks.{header_of}
 use Rattle.secs_items.specs.declared.item.Item.TheVariants as item
+use Rattle.spool_slots.specs.Changes.{with_message}
+use Rattle.spool_slots.specs.File.{SpoolFile}
+use Rattle.spool_slots.specs.Format.{empty_file}
 use Rattle.spool_slots.specs.Slot as slot
 use Rattle.trace_log.specs.declared.commands.ToolCommand.{ToolCommand}
 use Rattle.trace_log.specs.declared.names.Cause.TheVariants.{Confirmed, Overwritten}
@@ -34,7 +37,7 @@ use Rattle.equipment_tables.specs.Tables.{TablesState, tables_after}
 use Rattle.tool_step.specs.declared.kind.Kind.{Kind}
 use Rattle.tool_step.specs.Disk.{works_of}
 use Rattle.spool_works.specs.DiskWorks.DiskWork.{Change}
-use Rattle.tool_step.specs.Equipment.{EquipmentView, act, parts_done, settled_list, settled_went, started_on, with_core}
+use Rattle.tool_step.specs.Equipment.{EquipmentView, act, parts_done, settled_file, settled_went, started_on, with_core}
 use Rattle.tool_step.specs.Own.{OwnView, ToolCommands, ToolDuty, ToolTurn, with_comms, with_ledger, with_tables}
 use Rattle.tool_step.specs.Sent.{establish_commands, establish_request, grant_request, live_report, online_request}
 use Rattle.tool_step.specs.Spooling.{lines_commands, stored_turn, unloaded}
@@ -75,11 +78,15 @@ reporting t =
 abbrev pub with_own : (OwnView → OwnView) → EquipmentView → EquipmentView
 with_own change s = record s { node = record s.node { own = change s.node.own } }
 
+-- a new file of so many slots, with these messages put into it
+abbrev pub holding : ℕ → List slot.Message → SpoolFile
+holding slots list = fold (λ file message. with_message message file) (empty_file slots) list
+
 -- a start on a spool of three slots, with its first step behind it
 abbrev pub on_spool : EquipmentPlan → List slot.Message → EquipmentView
 on_spool plan list =
     with_own (λ own. record (with_tables (reporting own.tables) own) { has_begun = true })
-    (started_on plan 3 list 0).next
+    (started_on plan (holding 3 list)).next
 
 -- the host is there
 abbrev pub with_host : EquipmentView → EquipmentView
@@ -195,9 +202,9 @@ pub record FullSpools : Type 0 where
   pub over :
       full_over.notes
       ≡ Happening.Leaving 0 Overwritten ∷ Happening.Gone 0 ∷ Happening.Storing 3 (report 3 7) ∷ Happening.Stored 3 ∷ []
-  pub later : full_over.next.list ≡ kept 1 (report 1 7) ∷ kept 2 (report 2 7) ∷ kept 3 (report 3 7) ∷ []
+  pub later : full_over.next.file.list ≡ kept 1 (report 1 7) ∷ kept 2 (report 2 7) ∷ kept 3 (report 3 7) ∷ []
   pub discarded : full_kept.notes ≡ Happening.Discarded event_name ∷ []
-  pub same : full_kept.next.list ≡ three
+  pub same : full_kept.next.file.list ≡ three
 
 -- ---- an unload
 
@@ -249,7 +256,7 @@ pub record UnloadsInOrder : Type 0 where
       ∷ Happening.Received (aborted 1)
       ∷ Happening.StepEnded
       ∷ []
-  pub left : first_unload.next.list ≡ kept 2 (report 2 5) ∷ kept 3 (report 3 5) ∷ []
+  pub left : first_unload.next.file.list ≡ kept 2 (report 2 5) ∷ kept 3 (report 3 5) ∷ []
   pub second :
       second_unload.notes
       ≡ Happening.Try 2 2
@@ -271,7 +278,7 @@ pub record UnloadsInOrder : Type 0 where
       ∷ Happening.Spool false
       ∷ Happening.StepEnded
       ∷ []
-  pub none : second_unload.next.list ≡ []
+  pub none : second_unload.next.file.list ≡ []
   pub inactive : rsda_of second_unload.next.node.own.ledger ≡ 2
 
 -- ---- the communication is lost
@@ -346,7 +353,7 @@ pub record LosesInOrder : Type 0 where
       ∷ [])
       ++ establish_commands lost_own)
       ∷ []
-  pub stands : settled_list loss.own.ledger (kept 4 (report 4 7) ∷ []) ≡ kept 6 long_report ∷ []
+  pub stands : settled_file loss.own.ledger (holding 1 (kept 4 (report 4 7) ∷ [])) ≡ holding 1 (kept 6 long_report ∷ [])
 
 -- ---- the last number
 
@@ -366,8 +373,7 @@ last_view =
             ∷ Primary (live_report (report 2 7))
             ∷ Offer 0 ∷ []) s.node.core;
       };
-      list = [];
-      mark = s.mark;
+      file = s.file;
     }
 
 abbrev pub last_step : Step EquipmentView Happening
@@ -383,5 +389,5 @@ pub record PutsTheLast : Type 0 where
       ∷ Happening.Storing (2 ^ 63 - 1) (report 0 7)
       ∷ Happening.Stored (2 ^ 63 - 1)
       ∷ []
-  pub stands : last_step.next.list ≡ kept (2 ^ 63 - 1) (report 0 7) ∷ []
+  pub stands : last_step.next.file.list ≡ kept (2 ^ 63 - 1) (report 0 7) ∷ []
   pub works : works_of last_view Time 10000 ≡ Change (Put 6 11 (report_text 0 7)) ∷ []

@@ -11,7 +11,7 @@ use Rattle.secs_items.specs.declared.encode_fault.EncodeFault.{EncodeFault}
 use Rattle.secs_items.specs.declared.item.Item.{Item}
 use Rattle.secs_items.specs.Encoding.{encode_fault}
 use Rattle.secs_items.specs.Spelling.{shortest_spelling}
-use Rattle.spool_slots.specs.Slot.{Message as Kept}
+use Rattle.spool_slots.specs.File.{SpoolFile}
 use Rattle.trace_log.specs.declared.commands.ToolCommand.{ToolCommand}
 use Rattle.trace_log.specs.Log.{Happening}
 use Rattle.message_end.specs.Core.{Step, Went, and_then, at_first, step_in}
@@ -204,7 +204,7 @@ module _ (plan : EquipmentPlan) where
 
     begun-keeps : (input : Input ToolCommand) (s : EquipmentView) → s.node.own.tables ≡ tables_in plan notes
         → IsReachedSo steps s notes → OnEither WellEnds FewEnds (begun_step s input now)
-    begun-keeps input s tables so = go (needs_numbers s) (is_marked_out s.mark)
+    begun-keeps input s tables so = go (needs_numbers s) (is_marked_out s.file.mark.value)
       where
         -- more numbers change nothing of that
         reserved_so : IsReachedSo steps (reserved s) notes
@@ -353,15 +353,14 @@ module _ (plan : EquipmentPlan) where
 
   -- ---- over all starts
 
-  started-so : (other : EquipmentPlan) (slots : ℕ) (list : List Kept) (mark : ℕ) (steps : List Stepped)
-      (notes : List Happening) → AreFew steps notes
-      → IsCourseSo (steps_started (starts other slots list mark) steps) (went_on (starts other slots list mark) notes)
-  started-so other slots list mark steps notes few = go (is_marked_out mark)
+  started-so : (other : EquipmentPlan) (file : SpoolFile) (steps : List Stepped) (notes : List Happening)
+      → AreFew steps notes → IsCourseSo (steps_started (starts other file) steps) (went_on (starts other file) notes)
+  started-so other file steps notes few = go (is_marked_out file.mark.value)
     where
       went : Bool → FileWent
       went spent =
-          if spent then Spent (at_first (record (started_on other slots list mark).next { mark = mark }))
-          else Goes (started_on other slots list mark)
+          if spent then Spent (at_first (record (started_on other file).next { file = file }))
+          else Goes (started_on other file)
 
       go : (spent : Bool) → IsCourseSo (steps_started (went spent) steps) (went_on (went spent) notes)
       go true = few
@@ -398,8 +397,8 @@ module _ (plan : EquipmentPlan) where
         (broken_at machine now choice s notes found)
     broken-so input now call choice steps s notes None is tables so = so
     broken-so input now call choice steps s notes (Some loss) is tables so =
-        started-so (loss.left choice).node.own.plan (loss.left choice).node.own.ledger.slots (loss.left choice).list
-        (loss.left choice).mark (with_step now notes loss.front steps) (Happening.Power ∷ noted_behind loss.front notes)
+        started-so (loss.left choice).node.own.plan (loss.left choice).file (with_step now notes loss.front steps)
+        (Happening.Power ∷ noted_behind loss.front notes)
         (power-so (with_step now notes loss.front steps) (noted_behind loss.front notes)
         (few-with steps notes now loss.front (few-so steps s notes so)
         (lost-so input now call steps s notes loss is tables so).few))
@@ -423,8 +422,7 @@ module _ (plan : EquipmentPlan) where
         step-so looked bound steps notes now (act s input now)
         (act-keeps looked bound steps notes now input s tables so) (few-so steps s notes so)
     meeting-so (Restarts now) steps (Reached s notes) tables so =
-        started-so s.node.own.plan s.node.own.ledger.slots s.list s.mark steps notes
-        (few-so steps s notes so)
+        started-so s.node.own.plan s.file steps notes (few-so steps s notes so)
     meeting-so (Writes characters) steps (Reached s notes) tables so =
         record { runs = so.runs; most = so.most; all = so.all; odd = so.odd; sound = so.sound; few = so.few }
     meeting-so LosesPower steps (Reached s notes) tables so =
@@ -435,11 +433,11 @@ module _ (plan : EquipmentPlan) where
         filled-so input now call steps s notes (call_of call (losses s input now)) refl tables so
 
     pub course-so :
-        (fits : EquipmentPlanFits plan) (tables : TablesAreLookedBackFor) (slots : ℕ) (list : List Kept) (mark : ℕ)
-        → AllCanBeSent list → (meetings : List (Meeting ToolCommand))
-        → IsCourseSo (steps_met (started_on plan slots list mark) meetings)
-        (course_of (started_on plan slots list mark) machine meetings)
-    course-so fits tables slots list mark can [] =
+        (fits : EquipmentPlanFits plan) (tables : TablesAreLookedBackFor) (file : SpoolFile)
+        → AllCanBeSent file.list → (meetings : List (Meeting ToolCommand))
+        → IsCourseSo (steps_met (started_on plan file) meetings)
+        (course_of (started_on plan file) machine meetings)
+    course-so fits tables file can [] =
         record {
           runs = refl;
           most = omega (arith);
@@ -448,11 +446,11 @@ module _ (plan : EquipmentPlan) where
           sound = (tt, tt);
           few = λ body. omega (arith);
         }
-    course-so fits tables slots list mark can (meeting ∷ meetings) =
-        meeting-so meeting (steps_met (started_on plan slots list mark) meetings)
-        (course_of (started_on plan slots list mark) machine meetings)
-        (tables-so plan fits tables slots list mark can meetings)
-        (course-so fits tables slots list mark can meetings)
+    course-so fits tables file can (meeting ∷ meetings) =
+        meeting-so meeting (steps_met (started_on plan file) meetings)
+        (course_of (started_on plan file) machine meetings)
+        (tables-so plan fits tables file can meetings)
+        (course-so fits tables file can meetings)
 
 -- ---- what is said of them
 
@@ -492,15 +490,15 @@ sampled-so plan steps notes so = record {
 
 pub traces-so :
     (plan : EquipmentPlan) → EquipmentPlanFits plan → TablesAreLookedBackFor → WhatRunsIsLookedBackFor → FewTracesRun
-    → (slots : ℕ) (list : List Kept) (mark : ℕ) → AllCanBeSent list → (meetings : List (Meeting ToolCommand))
-    → TracesHold plan (course_of (started_on plan slots list mark) machine meetings)
-    (steps_met (started_on plan slots list mark) meetings)
-traces-so plan fits tables looked bound slots list mark can meetings =
-    go (course_of (started_on plan slots list mark) machine meetings)
-    (course-so plan looked bound fits tables slots list mark can meetings)
+    → (file : SpoolFile) → AllCanBeSent file.list → (meetings : List (Meeting ToolCommand))
+    → TracesHold plan (course_of (started_on plan file) machine meetings)
+    (steps_met (started_on plan file) meetings)
+traces-so plan fits tables looked bound file can meetings =
+    go (course_of (started_on plan file) machine meetings)
+    (course-so plan looked bound fits tables file can meetings)
   where
     steps : List Stepped
-    steps = steps_met (started_on plan slots list mark) meetings
+    steps = steps_met (started_on plan file) meetings
 
     go : (course : Course EquipmentView) → IsCourseSo plan steps course → TracesHold plan course steps
     go (Reached s notes) so =

@@ -1,7 +1,7 @@
 -- What holds of the trace data of the equipment whatever it meets.
-use Rattle.std.specs.Prelude.{◌≡◌, ◌≤◌, ℕ, List, [], length}
+use Rattle.std.specs.Prelude.{◌≡◌, ◌≤◌, List, [], length}
 use Rattle.gem_trace.specs.History.{traces_at}
-use Rattle.spool_slots.specs.Slot.{Message}
+use Rattle.spool_slots.specs.File.{SpoolFile}
 use Rattle.trace_log.specs.declared.commands.ToolCommand.{ToolCommand}
 use Rattle.message_end.specs.Course.{Course, Meeting, course_of, notes_of}
 use Rattle.message_end.specs.Course.Course.{Reached, Stopped}
@@ -32,7 +32,7 @@ pub record TracesHold (plan : EquipmentPlan) (course : Course EquipmentView) (st
 -- E30, trace data collection)
 abbrev pub TracesAreSampled : Type 0
 TracesAreSampled =
-    (plan : EquipmentPlan) (slots : ℕ) (list : List Message) (mark : ℕ) → EquipmentPlanFits plan → AllCanBeSent list
+    (plan : EquipmentPlan) (file : SpoolFile) → EquipmentPlanFits plan → AllCanBeSent file.list
     → (meetings : List (Meeting ToolCommand))
-    → TracesHold plan (course_of (started_on plan slots list mark) machine meetings)
-    (steps_met (started_on plan slots list mark) meetings)
+    → TracesHold plan (course_of (started_on plan file) machine meetings)
+    (steps_met (started_on plan file) meetings)

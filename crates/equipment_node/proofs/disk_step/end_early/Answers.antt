@@ -40,18 +40,18 @@ returns-in-DiskFailed-clause-asks g c s input now stops begin =
     (subst (λ (end : Stop). StopsAt s input now (node_of c.args.tool.now) c.args.out.now end) c.in-DiskFailed.is stops)
 
 pub returns-in-NumbersSpent-clause-calls : goal.returns-in-NumbersSpent-clause-calls
-returns-in-NumbersSpent-clause-calls g c s input now stops begin bytes =
+returns-in-NumbersSpent-clause-calls g c s input now stops begin =
     c.stop_spent.ensures.calls s input now
     (subst (λ (end : Stop). StopsAt s input now (node_of c.args.tool.now) c.args.out.now end) c.in-NumbersSpent.is
     stops)
-    begin bytes
+    begin
 
 pub returns-in-NoMemory-clause-calls : goal.returns-in-NoMemory-clause-calls
-returns-in-NoMemory-clause-calls g c s input now stops begin bytes =
-    none-called g.D.Disk s input now bytes c.args.spool begin.clear c.retire.result c.retire.ensures.disk
+returns-in-NoMemory-clause-calls g c s input now stops begin =
+    none-called g.D.Disk s input now c.args.spool begin.clear c.retire.result c.retire.ensures.disk
 
 pub returns-in-DiskFailed-clause-calls : goal.returns-in-DiskFailed-clause-calls
-returns-in-DiskFailed-clause-calls g c s input now stops begin bytes =
+returns-in-DiskFailed-clause-calls g c s input now stops begin =
     absurd
     (subst (λ (end : Stop). StopsAt s input now (node_of c.args.tool.now) c.args.out.now end) c.in-DiskFailed.is stops)
 

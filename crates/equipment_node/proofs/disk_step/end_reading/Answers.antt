@@ -85,36 +85,36 @@ returns-in-Err-Failed-clause-asks g c =
     look-fallen g.D.Disk c.args.spool.spool c.oldest_message.new.self.spool (first_slot c.args.spool.spool) reads.0
 
 pub returns-in-Ok-clause-calls : goal.returns-in-Ok-clause-calls
-returns-in-Ok-clause-calls g c st count some bytes =
-    looked-called g.D.Disk bytes st c.args.spool.spool count c.oldest_message.new.self
+returns-in-Ok-clause-calls g c st count some =
+    looked-called g.D.Disk st c.args.spool.spool count c.oldest_message.new.self
     (taking (Some (c.args.number, c.report_of-report.result)) ∷ end_of_spooling ∷ offer c.args.now ∷ closes ∷ [])
     (node_of c.args.tool.now) (node_of c.end_with.new.tool) c.args.out.now c.end_with.new.out c.end_with.result
     c.in-Ok.ensures.reads.0 c.end_with.ensures.ends
 
 pub returns-in-Err-Empty-clause-calls : goal.returns-in-Err-Empty-clause-calls
-returns-in-Err-Empty-clause-calls g c st count some bytes =
+returns-in-Err-Empty-clause-calls g c st count some =
     let reads =
     subst
     (λ (why : Unread). ReadsOldest g.D.Disk c.args.spool.spool c.oldest_message.new.self.spool (Err why))
     c.in-Err-Empty.field-0-is c.in-Err-Empty.ensures.reads in
-    absurd (some-there g.D.Disk bytes st c.args.spool.spool count reads.1 some)
+    absurd (some-there g.D.Disk st c.args.spool.spool count reads.1 some)
 
 pub returns-in-Err-Failed-clause-calls : goal.returns-in-Err-Failed-clause-calls
-returns-in-Err-Failed-clause-calls g c st count some bytes =
+returns-in-Err-Failed-clause-calls g c st count some =
     let reads =
     subst
     (λ (why : Unread). ReadsOldest g.D.Disk c.args.spool.spool c.oldest_message.new.self.spool (Err why))
     c.in-Err-Failed.field-0-is c.in-Err-Failed.ensures.reads in
-    look-called g.D.Disk bytes st c.args.spool.spool count c.oldest_message.new.self.spool c.retire.result reads.0
+    look-called g.D.Disk st c.args.spool.spool count c.oldest_message.new.self.spool c.retire.result reads.0
     c.retire.ensures.disk
 
 pub returns-in-Err-NoMemory-clause-calls : goal.returns-in-Err-NoMemory-clause-calls
-returns-in-Err-NoMemory-clause-calls g c st count some bytes =
+returns-in-Err-NoMemory-clause-calls g c st count some =
     let reads =
     subst
     (λ (why : Unread). ReadsOldest g.D.Disk c.args.spool.spool c.oldest_message.new.self.spool (Err why))
     c.in-Err-NoMemory.field-0-is c.in-Err-NoMemory.ensures.reads in
-    unread-called g.D.Disk bytes st c.args.spool.spool count c.oldest_message.new.self.spool
+    unread-called g.D.Disk st c.args.spool.spool count c.oldest_message.new.self.spool
     c.retire-in-Err-NoMemory.result reads.0 c.retire-in-Err-NoMemory.ensures.disk
 
 pub returns-in-Ok-clause-disk : goal.returns-in-Ok-clause-disk
@@ -162,27 +162,27 @@ returns-in-Err-NoMemory-clause-disk g c =
     c.retire-in-Err-NoMemory.ensures.disk)
 
 pub returns-in-Ok-clause-breaks : goal.returns-in-Ok-clause-breaks
-returns-in-Ok-clause-breaks g c s st stands some same told front noted =
-    looked-breaks g.D.Disk (λ d u told. g.met.D.Disk.sized d u told) s c.args.spool.spool c.oldest_message.new.self
+returns-in-Ok-clause-breaks g c s st stands some told front noted =
+    looked-breaks g.D.Disk s c.args.spool.spool c.oldest_message.new.self
     (first_slot c.args.spool.spool) st front
     (taking (Some (c.args.number, c.report_of-report.result)) ∷ end_of_spooling ∷ offer c.args.now ∷ closes ∷ [])
     (node_of c.args.tool.now) (node_of c.end_with.new.tool) c.args.out.now c.end_with.new.out c.end_with.new.out.notes
-    c.end_with.result told c.in-Ok.ensures.reads.0 c.end_with.ensures.ends
+    c.end_with.result c.in-Ok.ensures.reads.0 c.end_with.ensures.ends
 
 pub returns-in-Err-Empty-clause-breaks : goal.returns-in-Err-Empty-clause-breaks
-returns-in-Err-Empty-clause-breaks g c s st stands some same told front noted =
+returns-in-Err-Empty-clause-breaks g c s st stands some told front noted =
     let reads =
     subst
     (λ (why : Unread). ReadsOldest g.D.Disk c.args.spool.spool c.oldest_message.new.self.spool (Err why))
     c.in-Err-Empty.field-0-is c.in-Err-Empty.ensures.reads in
-    absurd (some-there g.D.Disk [] st c.args.spool.spool stands.count reads.1 some)
+    absurd (some-there g.D.Disk st c.args.spool.spool stands.count reads.1 some)
 
 pub returns-in-Err-Failed-clause-breaks : goal.returns-in-Err-Failed-clause-breaks
-returns-in-Err-Failed-clause-breaks g c s st stands some same told front noted goes =
+returns-in-Err-Failed-clause-breaks g c s st stands some told front noted goes =
     let reads =
     subst
     (λ (why : Unread). ReadsOldest g.D.Disk c.args.spool.spool c.oldest_message.new.self.spool (Err why))
     c.in-Err-Failed.field-0-is c.in-Err-Failed.ensures.reads in
-    look-breaks g.D.Disk (λ d u told. g.met.D.Disk.sized d u told) s c.args.spool.spool
+    look-breaks g.D.Disk s c.args.spool.spool
     c.oldest_message.new.self.spool (first_slot c.args.spool.spool) c.retire.result st front c.args.out.now.notes stands
-    same noted reads.0 c.retire.ensures.disk goes
+    told noted reads.0 c.retire.ensures.disk goes

@@ -63,17 +63,17 @@ returns-in-None-clause-asks g c =
     c.end_with.new.out (read_asks (own_of c.args.tool.now.own)) c.end_with.result c.end_with.ensures.ends
 
 pub returns-in-Some-clause-calls : goal.returns-in-Some-clause-calls
-returns-in-Some-clause-calls g c t at bytes =
+returns-in-Some-clause-calls g c t at =
     let some = number-is (node_of c.args.tool.now) t at.node_is (Some c.in-Some.number) c.in-Some.ensures.number in
-    reads-by g.D.Disk t bytes c.args.spool.spool.disk c.end_reading.result (Some c.in-Some.number) some
+    reads-by g.D.Disk t c.args.spool.spool.disk c.end_reading.result (Some c.in-Some.number) some
     (c.end_reading.ensures.calls (standing_in t.next) at.clear.stands.count
-    (some-asked g.D.Disk c.args.spool.spool t c.in-Some.number at.clear some) bytes)
+    (some-asked g.D.Disk c.args.spool.spool t c.in-Some.number at.clear some))
 
 pub returns-in-None-clause-calls : goal.returns-in-None-clause-calls
-returns-in-None-clause-calls g c t at bytes =
-    reads-by g.D.Disk t bytes c.args.spool.spool.disk c.end_with.result None
+returns-in-None-clause-calls g c t at =
+    reads-by g.D.Disk t c.args.spool.spool.disk c.end_with.result None
     (number-is (node_of c.args.tool.now) t at.node_is None c.in-None.ensures.number)
-    (last-called g.D.Disk bytes (standing_in t.next) c.args.spool
+    (last-called g.D.Disk (standing_in t.next) c.args.spool
     (taking None ∷ end_of_spooling ∷ offer c.args.now ∷ closes ∷ []) (node_of c.next_unload.new.self)
     (node_of c.end_with.new.tool) c.args.out.now c.end_with.new.out c.end_with.result c.end_with.ensures.ends)
 
@@ -87,17 +87,17 @@ returns-in-None-clause-disk g c =
     c.end_with.ensures.ends
 
 pub returns-in-Some-clause-breaks : goal.returns-in-Some-clause-breaks
-returns-in-Some-clause-breaks g c t at s same =
+returns-in-Some-clause-breaks g c t at s =
     let some = number-is (node_of c.args.tool.now) t at.node_is (Some c.in-Some.number) c.in-Some.ensures.number in
     reads-breaks g.D.Disk s t c.args.spool.spool.disk c.end_reading.new.out.notes c.end_reading.result
     (Some c.in-Some.number) some
     (c.end_reading.ensures.breaks s (standing_in t.next) at.clear.stands
-    (some-asked g.D.Disk c.args.spool.spool t c.in-Some.number at.clear some) same at.told t.notes at.notes)
+    (some-asked g.D.Disk c.args.spool.spool t c.in-Some.number at.clear some) at.told t.notes at.notes)
 
 pub returns-in-None-clause-breaks : goal.returns-in-None-clause-breaks
-returns-in-None-clause-breaks g c t at s same =
+returns-in-None-clause-breaks g c t at s =
     reads-breaks g.D.Disk s t c.args.spool.spool.disk c.end_with.new.out.notes c.end_with.result None
     (number-is (node_of c.args.tool.now) t at.node_is None c.in-None.ensures.number)
     (last-breaks g.D.Disk c.args.spool (taking None ∷ end_of_spooling ∷ offer c.args.now ∷ closes ∷ [])
-    (node_of c.next_unload.new.self) (node_of c.end_with.new.tool) c.args.out.now c.end_with.new.out t.next.mark
+    (node_of c.next_unload.new.self) (node_of c.end_with.new.tool) c.args.out.now c.end_with.new.out
     c.end_with.new.out.notes c.end_with.result c.end_with.ensures.ends)

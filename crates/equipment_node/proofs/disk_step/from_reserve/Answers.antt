@@ -41,17 +41,16 @@ returns-in-Err-clause-asks g c s node_is on told =
     (c.in-Err.ensures.asks s node_is on told)
 
 pub returns-in-Ok-clause-calls : goal.returns-in-Ok-clause-calls
-returns-in-Ok-clause-calls g c s node_is on t told =
-    let begin = c.in-Ok.ensures.opens s node_is on (t, told) in
+returns-in-Ok-clause-calls g c s node_is on told =
+    let begin = c.in-Ok.ensures.opens s node_is on told in
     step-called g.D.Disk s (input_of c.args.input) c.args.now c.args.spool.spool.disk c.in-Ok.spool.spool.disk
-    t.now.bytes c.from_input.result begin.went (c.in-Ok.ensures.calls s node_is on t told)
-    (c.from_input.ensures.calls s begin t.now.bytes)
+    c.from_input.result begin.went (c.in-Ok.ensures.calls s node_is on told) (c.from_input.ensures.calls s begin)
 
 pub returns-in-Err-clause-calls : goal.returns-in-Err-clause-calls
-returns-in-Err-clause-calls g c s node_is on t told =
-    not-called g.D.Disk s (input_of c.args.input) c.args.now c.args.spool.spool.disk t.now.bytes
-    (node_of c.reserve.new.tool) c.in-Err.ended on.clear.owes (c.in-Err.ensures.opens s node_is on (t, told))
-    (c.in-Err.ensures.calls s node_is on t told)
+returns-in-Err-clause-calls g c s node_is on told =
+    not-called g.D.Disk s (input_of c.args.input) c.args.now c.args.spool.spool.disk (node_of c.reserve.new.tool)
+    c.in-Err.ended on.clear.owes (c.in-Err.ensures.opens s node_is on told)
+    (c.in-Err.ensures.calls s node_is on told)
 
 pub returns-in-Ok-clause-disk : goal.returns-in-Ok-clause-disk
 returns-in-Ok-clause-disk g c =
@@ -65,12 +64,11 @@ pub returns-in-Ok-clause-breaks : goal.returns-in-Ok-clause-breaks
 returns-in-Ok-clause-breaks g c s node_is on told =
     let begin = c.in-Ok.ensures.opens s node_is on told in
     step-breaks g.D.Disk s (input_of c.args.input) c.args.now c.args.spool.spool.disk c.in-Ok.spool.spool.disk
-    c.from_input.new.out.notes c.from_input.result begin.went begin.told
+    c.from_input.new.out.notes c.from_input.result begin.went
     (c.in-Ok.ensures.breaks s node_is on told c.requires.out.notes) (c.from_input.ensures.breaks s begin)
 
 pub returns-in-Err-clause-breaks : goal.returns-in-Err-clause-breaks
 returns-in-Err-clause-breaks g c s node_is on told =
     unopened-breaks g.D.Disk s (input_of c.args.input) c.args.now c.args.spool.spool.disk c.reserve.new.out.notes
     (node_of c.reserve.new.tool) c.in-Err.ended on.clear.owes (c.in-Err.ensures.opens s node_is on told)
-    (c.in-Err.ensures.notes ∙ c.requires.out.notes)
     (c.in-Err.ensures.breaks s node_is on told c.requires.out.notes)

@@ -52,20 +52,19 @@ returns-in-Err-clause-asks g c s input begun begin =
     c.carry_out.new.out begun c.in-Err.ended begin.clear c.in-Err.ensures.works
 
 pub returns-in-Ok-clause-calls : goal.returns-in-Ok-clause-calls
-returns-in-Ok-clause-calls g c s input begun begin bytes =
-    behind-called g.D.Disk s input c.args.now bytes c.args.spool begin.clear begin.went c.in-Ok.spool
+returns-in-Ok-clause-calls g c s input begun begin =
+    behind-called g.D.Disk s input c.args.now c.args.spool begin.clear begin.went c.in-Ok.spool
     (node_of c.args.tool.now) c.args.out.now begun c.from_read.result c.requires.ready.count c.in-Ok.ensures.come_to
     c.in-Ok.ensures.works.0
     (c.from_read.ensures.calls (settled_step begun.step)
     (at-settled g.D.Disk s input c.args.now begin.went c.args.spool c.in-Ok.spool (node_of c.args.tool.now)
     (node_of c.carry_out.new.tool) c.args.out.now c.carry_out.new.out begun begin.clear begin.told
     c.requires.ready.count c.in-Ok.ensures.come_to c.in-Ok.ensures.works.0 c.in-Ok.ensures.node
-    c.in-Ok.ensures.works.1)
-    bytes)
+    c.in-Ok.ensures.works.1))
 
 pub returns-in-Err-clause-calls : goal.returns-in-Err-clause-calls
-returns-in-Err-clause-calls g c s input begun begin bytes =
-    behind-stops g.D.Disk s input c.args.now bytes c.args.spool begin.clear (node_of c.args.tool.now) c.args.out.now
+returns-in-Err-clause-calls g c s input begun begin =
+    behind-stops g.D.Disk s input c.args.now c.args.spool begin.clear (node_of c.args.tool.now) c.args.out.now
     c.carry_out.new.out begun c.in-Err.ended c.in-Err.ensures.works
 
 pub returns-in-Ok-clause-disk : goal.returns-in-Ok-clause-disk
@@ -85,13 +84,12 @@ returns-in-Ok-clause-breaks g c s input begun begin =
     (node_of c.carry_out.new.tool) c.args.out.now c.carry_out.new.out begun begin.clear begin.told
     c.requires.ready.count c.in-Ok.ensures.come_to c.in-Ok.ensures.works.0 c.in-Ok.ensures.node c.in-Ok.ensures.works.1
     in
-    behind-breaks g.D.Disk s input c.args.now (λ d u told. g.met.D.Disk.sized d u told) c.args.spool begin.clear
+    behind-breaks g.D.Disk s input c.args.now c.args.spool begin.clear
     begin.went c.in-Ok.spool (node_of c.args.tool.now) c.args.out.now begun c.from_read.new.out.notes c.from_read.result
-    c.requires.ready.count c.in-Ok.ensures.come_to c.in-Ok.ensures.works.0 at.told
-    (λ same. c.from_read.ensures.breaks (settled_step begun.step) at s same)
+    c.requires.ready.count c.in-Ok.ensures.come_to c.in-Ok.ensures.works.0
+    (c.from_read.ensures.breaks (settled_step begun.step) at s)
 
 pub returns-in-Err-clause-breaks : goal.returns-in-Err-clause-breaks
 returns-in-Err-clause-breaks g c s input begun begin =
-    behind-broken g.D.Disk s input c.args.now (λ d u told. g.met.D.Disk.sized d u told) c.args.spool begin.clear
-    begin.went (node_of c.args.tool.now) c.args.out.now c.carry_out.new.out begun c.in-Err.ended
-    c.in-Err.ensures.works
+    behind-broken g.D.Disk s input c.args.now c.args.spool begin.clear (node_of c.args.tool.now) c.args.out.now
+    c.carry_out.new.out begun c.in-Err.ended begin.told c.in-Err.ensures.works

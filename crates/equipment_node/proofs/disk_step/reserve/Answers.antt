@@ -28,14 +28,14 @@ returns-clause-asks g c s node_is on told =
     (need s (node_of c.args.tool.now) node_is (sym c.if-has_enough.ensures) (made-ordered s on.made)) on
 
 pub returns-then-has_enough-clause-calls : goal.returns-then-has_enough-clause-calls
-returns-then-has_enough-clause-calls g c s node_is on t told =
-    not-reserved g.D.Disk s c.args.spool.spool.disk t.now.bytes
+returns-then-has_enough-clause-calls g c s node_is on told =
+    not-reserved g.D.Disk s c.args.spool.spool.disk
     (no-need s (node_of c.args.tool.now) node_is (sym c.if-has_enough.ensures))
 
 pub returns-clause-calls : goal.returns-clause-calls
-returns-clause-calls g c s node_is on t told =
+returns-clause-calls g c s node_is on told =
     c.reserve_more.ensures.calls s node_is
-    (need s (node_of c.args.tool.now) node_is (sym c.if-has_enough.ensures) (made-ordered s on.made)) on t told
+    (need s (node_of c.args.tool.now) node_is (sym c.if-has_enough.ensures) (made-ordered s on.made)) on told
 
 pub returns-then-has_enough-clause-disk : goal.returns-then-has_enough-clause-disk
 returns-then-has_enough-clause-disk g c = kept-still g.D.Disk c.args.spool.spool.disk

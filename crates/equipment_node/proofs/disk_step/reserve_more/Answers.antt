@@ -72,25 +72,25 @@ returns-in-Err-clause-asks g c s node_is needs on =
     mark-fallen g.D.Disk s c.args.spool needs on.clear c.in-Err.spent c.in-Err.ensures.reserve
 
 pub returns-in-Ok-default-Some-clause-calls : goal.returns-in-Ok-default-Some-clause-calls
-returns-in-Ok-default-Some-clause-calls g c s node_is needs on t told =
+returns-in-Ok-default-Some-clause-calls g c s node_is needs on told =
     let made =
     subst
     (λ (b : Option ℕ). ReservesFrom g.D.Disk c.args.spool c.in-Ok-default-Some.spool b)
     c.in-Ok-default-Some.field-0-1-is c.in-Ok-default-Some.ensures.reserve in
-    reserve-made g.D.Disk s c.args.spool needs on.clear t told c.in-Ok-default-Some.spool _ made
+    reserve-made g.D.Disk s c.args.spool needs on.clear told c.in-Ok-default-Some.spool _ made
 
 pub returns-in-Ok-default-None-clause-calls : goal.returns-in-Ok-default-None-clause-calls
-returns-in-Ok-default-None-clause-calls g c s node_is needs on t told =
+returns-in-Ok-default-None-clause-calls g c s node_is needs on told =
     let made =
     subst
     (λ (b : Option ℕ). ReservesFrom g.D.Disk c.args.spool c.in-Ok-default-None.spool b)
     c.in-Ok-default-None.field-0-1-is c.in-Ok-default-None.ensures.reserve in
-    reserve-spent g.D.Disk s c.args.spool needs on.clear t told c.in-Ok-default-None.spool c.retire.result made
+    reserve-spent g.D.Disk s c.args.spool needs on.clear told c.in-Ok-default-None.spool c.retire.result made
     c.retire.ensures.disk
 
 pub returns-in-Err-clause-calls : goal.returns-in-Err-clause-calls
-returns-in-Err-clause-calls g c s node_is needs on t told =
-    reserve-stops g.D.Disk s c.args.spool needs on.clear t told c.in-Err.spent c.in-Err.ensures.reserve
+returns-in-Err-clause-calls g c s node_is needs on told =
+    reserve-stops g.D.Disk s c.args.spool needs on.clear told c.in-Err.spent c.in-Err.ensures.reserve
 
 pub returns-in-Ok-default-Some-clause-disk : goal.returns-in-Ok-default-Some-clause-disk
 returns-in-Ok-default-Some-clause-disk g c =
@@ -119,10 +119,10 @@ returns-in-Ok-default-None-clause-breaks g c s node_is needs on told noted =
     subst
     (λ (b : Option ℕ). ReservesFrom g.D.Disk c.args.spool c.in-Ok-default-None.spool b)
     c.in-Ok-default-None.field-0-1-is c.in-Ok-default-None.ensures.reserve in
-    marked-out-breaks g.D.Disk s c.args.spool needs on.clear c.in-Ok-default-None.spool c.retire.result told.0 told.1
+    marked-out-breaks g.D.Disk s c.args.spool needs on.clear c.in-Ok-default-None.spool c.retire.result told
     made c.retire.ensures.disk
 
 pub returns-in-Err-clause-breaks : goal.returns-in-Err-clause-breaks
 returns-in-Err-clause-breaks g c s node_is needs on told noted goes =
-    reserve-breaks g.D.Disk (λ d u told. g.met.D.Disk.sized d u told) s c.args.spool c.in-Err.spent
-    c.args.out.now.notes needs on.clear c.in-Err.ensures.reserve noted goes
+    reserve-breaks g.D.Disk s c.args.spool c.in-Err.spent c.args.out.now.notes needs on.clear told
+    c.in-Err.ensures.reserve noted goes

@@ -32,10 +32,10 @@ pub returns-in-Err-clause-asks : goal.returns-in-Err-clause-asks
 returns-in-Err-clause-asks g c s node_is on told = c.in-Err.ensures.asks s node_is on told
 
 pub returns-in-Ok-clause-calls : goal.returns-in-Ok-clause-calls
-returns-in-Ok-clause-calls g c s node_is on t told = c.in-Ok.ensures.calls s node_is on t told
+returns-in-Ok-clause-calls g c s node_is on told = c.in-Ok.ensures.calls s node_is on told
 
 pub returns-in-Err-clause-calls : goal.returns-in-Err-clause-calls
-returns-in-Err-clause-calls g c s node_is on t told = c.in-Err.ensures.calls s node_is on t told
+returns-in-Err-clause-calls g c s node_is on told = c.in-Err.ensures.calls s node_is on told
 
 pub returns-in-Ok-clause-disk : goal.returns-in-Ok-clause-disk
 returns-in-Ok-clause-disk g c = c.in-Ok.ensures.disk

@@ -1,14 +1,12 @@
 use Rattle.std.proofs.Common.{ap}
 use Rattle.std.specs.Prelude.{Ok, Err}
 use Rattle.message_flow.specs.declared.step.StepOut.{StepOut}
-use Rattle.equipment_node.specs.Amid.{opened}
-use Rattle.tool_step.specs.Disk.{standing_in}
 use Rattle.tool_core.specs.Node.{node_of}
 use Rattle.equipment_node.proofs.Asking.{spent-fallen}
 use Rattle.equipment_node.proofs.HandingBack.{kept-at, kept-then, works-back}
 use Rattle.equipment_node.proofs.OverDisk.{carry-spent-failed, spent-before}
 use Rattle.equipment_node.proofs.StepCalls.{spent-called, spent-stops}
-use Rattle.equipment_node.proofs.StepBreaks.{carried-told, spent-breaks, spent-broken}
+use Rattle.equipment_node.proofs.StepBreaks.{spent-breaks, spent-broken}
 use Rattle.equipment_node.proofs.disk_step.stop_spent.Goals as goal
 
 pub returns-in-Ok-clause-acts : goal.returns-in-Ok-clause-acts
@@ -30,13 +28,13 @@ returns-in-Err-clause-asks g c s input now stops begin =
     c.in-Err.ended begin.clear c.in-Err.ensures.works
 
 pub returns-in-Ok-clause-calls : goal.returns-in-Ok-clause-calls
-returns-in-Ok-clause-calls g c s input now stops begin bytes =
-    spent-called g.D.Disk s input now bytes c.args.spool begin.clear c.in-Ok.spool (node_of c.args.tool.now)
+returns-in-Ok-clause-calls g c s input now stops begin =
+    spent-called g.D.Disk s input now c.args.spool begin.clear c.in-Ok.spool (node_of c.args.tool.now)
     c.args.out.now stops c.retire.result c.in-Ok.ensures.works.0 c.retire.ensures.disk
 
 pub returns-in-Err-clause-calls : goal.returns-in-Err-clause-calls
-returns-in-Err-clause-calls g c s input now stops begin bytes =
-    spent-stops g.D.Disk s input now bytes c.args.spool begin.clear (node_of c.args.tool.now) c.args.out.now
+returns-in-Err-clause-calls g c s input now stops begin =
+    spent-stops g.D.Disk s input now c.args.spool begin.clear (node_of c.args.tool.now) c.args.out.now
     c.carry_out.new.out stops c.in-Err.ended c.in-Err.ensures.works
 
 pub returns-in-Ok-clause-disk : goal.returns-in-Ok-clause-disk
@@ -51,14 +49,10 @@ returns-in-Err-clause-disk g c =
 
 pub returns-in-Ok-clause-breaks : goal.returns-in-Ok-clause-breaks
 returns-in-Ok-clause-breaks g c s input now stops begin =
-    spent-breaks g.D.Disk s input now (λ d u told. g.met.D.Disk.sized d u told) c.args.spool begin.clear begin.went
-    c.in-Ok.spool (node_of c.args.tool.now) c.args.out.now stops c.carry_out.new.out.notes c.retire.result
-    c.in-Ok.ensures.works.0
-    (carried-told g.D.Disk (λ d u told. g.met.D.Disk.sized d u told) c.args.spool c.in-Ok.spool _ (standing_in
-    (opened s))
-    begin.clear.stands begin.told c.in-Ok.ensures.works.0) c.retire.ensures.disk
+    spent-breaks g.D.Disk s input now c.args.spool begin.clear c.in-Ok.spool (node_of c.args.tool.now) c.args.out.now
+    stops c.carry_out.new.out.notes c.retire.result c.in-Ok.ensures.works.0 c.retire.ensures.disk
 
 pub returns-in-Err-clause-breaks : goal.returns-in-Err-clause-breaks
 returns-in-Err-clause-breaks g c s input now stops begin =
-    spent-broken g.D.Disk s input now (λ d u told. g.met.D.Disk.sized d u told) c.args.spool begin.clear begin.went
-    (node_of c.args.tool.now) c.args.out.now c.carry_out.new.out stops c.in-Err.ended c.in-Err.ensures.works
+    spent-broken g.D.Disk s input now c.args.spool begin.clear (node_of c.args.tool.now) c.args.out.now
+    c.carry_out.new.out stops c.in-Err.ended begin.told c.in-Err.ensures.works

@@ -5,7 +5,6 @@ use Rattle.gem_spool.specs.Works.{standing_after_reserve}
 use Rattle.equipment_node.proofs.Beginning.{none-left, start-asked, start-failed, start-fallen, start-ready, started}
 use Rattle.equipment_node.proofs.HandingBack.{kept-at, kept-then, reserved-back, seat-then, seated-back, unreserved-back}
 use Rattle.equipment_node.proofs.StartCalled.{mark-moved, mark-stays, move-stops}
-use Rattle.equipment_node.proofs.StartMarked.{start-marked}
 use Rattle.equipment_node.proofs.equipment.start_over.Goals as goal
 
 pub start_with-requires : goal.start_with-requires
@@ -66,23 +65,26 @@ returns-in-Err-clause-asks g c =
     start-fallen g.D.Disk c.args.plan.now c.args.spool c.in-Err.spent c.in-Err.ensures.reserve
 
 pub returns-in-Some-clause-calls : goal.returns-in-Some-clause-calls
-returns-in-Some-clause-calls g c t told =
-    mark-moved g.D.Disk c.args.spool t told c.args.plan.now c.in-Ok.spool c.in-Some.base c.in-Some.base c.args.out.now
+returns-in-Some-clause-calls g c told =
+    mark-moved g.D.Disk c.args.spool (standing_of g.D.Disk c.args.spool.spool) c.len.ensures.stands told
+    c.args.plan.now c.in-Ok.spool c.in-Some.base c.in-Some.base c.args.out.now
     c.start_with.new.out c.start_with.result
     (subst (λ (b : Option ℕ). ReservesFrom g.D.Disk c.args.spool c.in-Ok.spool b) c.in-Some.is
     c.in-Ok.ensures.reserve)
     c.start_with.ensures.starts
 
 pub returns-in-None-clause-calls : goal.returns-in-None-clause-calls
-returns-in-None-clause-calls g c t told =
-    mark-stays g.D.Disk c.args.spool t told c.in-Ok.spool c.retire.result
+returns-in-None-clause-calls g c told =
+    mark-stays g.D.Disk c.args.spool (standing_of g.D.Disk c.args.spool.spool) c.len.ensures.stands told
+    c.in-Ok.spool c.retire.result
     (subst (λ (b : Option ℕ). ReservesFrom g.D.Disk c.args.spool c.in-Ok.spool b) c.in-None.is
     c.in-Ok.ensures.reserve)
     c.retire.ensures.disk
 
 pub returns-in-Err-clause-calls : goal.returns-in-Err-clause-calls
-returns-in-Err-clause-calls g c t told =
-    move-stops g.D.Disk c.args.spool t told c.in-Err.spent c.in-Err.ensures.reserve
+returns-in-Err-clause-calls g c told =
+    move-stops g.D.Disk c.args.spool (standing_of g.D.Disk c.args.spool.spool) c.len.ensures.stands told
+    c.in-Err.spent c.in-Err.ensures.reserve
 
 pub returns-in-Some-clause-disk : goal.returns-in-Some-clause-disk
 returns-in-Some-clause-disk g c =
@@ -99,11 +101,3 @@ returns-in-None-clause-disk g c =
 
 pub returns-in-Err-clause-disk : goal.returns-in-Err-clause-disk
 returns-in-Err-clause-disk g c = unreserved-back g.D.Disk c.args.spool c.in-Err.spent c.in-Err.ensures.reserve
-
-pub returns-in-Some-clause-marked : goal.returns-in-Some-clause-marked
-returns-in-Some-clause-marked g c =
-    start-marked g.D.Disk c.args.spool c.in-Ok.spool c.in-Some.base
-    (subst (λ (b : Option ℕ). ReservesFrom g.D.Disk c.args.spool c.in-Ok.spool b) c.in-Some.is
-    c.in-Ok.ensures.reserve)
-    c.args.plan.now c.in-Some.base c.args.out.now c.start_with.new.out c.start_with.result
-    c.start_with.ensures.starts

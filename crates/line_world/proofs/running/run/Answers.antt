@@ -1,7 +1,7 @@
 -- The log is safe by the laws of the layers below, whether there was memory for a disk or not; its text is that of the
 -- pair's run.
 
-use Rattle.std.proofs.Common.{[], refl, subst}
+use Rattle.std.proofs.Common.{[], arith, refl, subst}
 use Rattle.end_pair.specs.Laws.{IsOfMoves}
 use Rattle.end_pair.specs.Run as pair
 use Rattle.tool_step.specs.End as equipment
@@ -13,7 +13,7 @@ use Rattle.trace_log.specs.Log.{Happening}
 use Rattle.line_world.specs.Run.{EquipmentView, equipment_start, host_start, trace_text}
 use Rattle.line_world.specs.Safe.{HostDid, plans_of}
 use Rattle.line_world.proofs.Claims.{LawsHold, safe}
-use Rattle.line_world.proofs.Disks.{blank-first, blank-opens, blank_spool, first-is, hands-over, holds-blank, holds_empty, opens_empty, runs-over}
+use Rattle.line_world.proofs.Disks.{blank-empty, blank_spool, first-is, hands-over, holds_empty, opens_empty, runs-over}
 use Rattle.line_world.proofs.Events.{all-happen, all-have}
 use Rattle.line_world.proofs.running.run.Goals as goal
 
@@ -35,12 +35,15 @@ returns-in_default g c =
       few = c.few_traces_run.ensures;
     }
     in
+    let blank = blank-empty plans.slots (omega (arith, fit.slots_at_most)) in
     let moved =
     subst (λ (first : Step EquipmentView Happening).
     IsOfMoves (DidOf plans.equipment) (HostDid plans.host) (plans_of plans)
-    (pair.log_of equipment.machine host.host_machine first (host_start plans.host) events)) (blank-first plans)
+    (pair.log_of equipment.machine host.host_machine first (host_start plans.host) events))
+    (first-is plans (blank_spool plans.slots) blank)
     (c.runs_are_moves.ensures plans.equipment (blank_spool plans.slots) plans.host tt (plans_of plans) events
-    fit.equipment fit.host (holds-blank plans.slots) tt (blank-opens plans) tt
+    fit.equipment fit.host (holds_empty plans.slots (blank_spool plans.slots) blank) tt
+    (opens_empty plans (blank_spool plans.slots) blank) tt
     (record { equipment_is = refl; host_is = refl }) (all-happen events c.requires.schedule.events)
     (all-have events c.requires.schedule.events))
     in
@@ -80,12 +83,14 @@ returns g c =
       few = c.few_traces_run.ensures;
     }
     in
+    let empty = c.in-Ok.ensures in
+    let is = first-is plans c.in-Ok.spool empty in
     let moved =
     subst (λ (first : Step EquipmentView Happening).
     IsOfMoves (DidOf plans.equipment) (HostDid plans.host) (plans_of plans)
-    (pair.log_of equipment.machine host.host_machine first (host_start plans.host) events)) (blank-first plans)
-    (c.runs_are_moves.ensures plans.equipment (blank_spool plans.slots) plans.host tt (plans_of plans) events
-    fit.equipment fit.host (holds-blank plans.slots) tt (blank-opens plans) tt
+    (pair.log_of equipment.machine host.host_machine first (host_start plans.host) events)) is
+    (c.runs_are_moves.ensures plans.equipment c.in-Ok.spool plans.host tt (plans_of plans) events fit.equipment
+    fit.host (holds_empty plans.slots c.in-Ok.spool empty) tt (opens_empty plans c.in-Ok.spool empty) tt
     (record { equipment_is = refl; host_is = refl }) (all-happen events c.requires.schedule.events)
     (all-have events c.requires.schedule.events))
     in
@@ -93,7 +98,6 @@ returns g c =
     c.entries_are_of_courses.ensures equipment.machine host.host_machine (equipment_start plans)
     (host_start plans.host) events
     in
-    let is = first-is plans c.in-Ok.spool c.in-Ok.ensures in
     record {
       text = runs-over plans c.args.schedule.now _ is _ c.run-end.result.0 c.run-end.ensures.text;
       world =

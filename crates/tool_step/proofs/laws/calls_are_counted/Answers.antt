@@ -3,7 +3,7 @@ use Rattle.spool_works.proofs.Counted.{works-long, works-written}
 use Rattle.tool_step.proofs.laws.calls_are_counted.Goals as goal
 
 pub returns : goal.returns
-returns c = λ bytes s input now. (
-  works-long bytes (standing_in s) (works_of s input now),
-  works-written bytes (standing_in s) (works_of s input now),
+returns c = λ s input now. (
+  works-long (standing_in s) (works_of s input now),
+  works-written (standing_in s) (works_of s input now),
 )

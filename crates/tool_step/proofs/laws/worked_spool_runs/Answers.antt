@@ -1,4 +1,4 @@
-use Rattle.tool_step.proofs.SpoolRuns.{calls-of-works, full-spools, loses-in-order, puts-the-last, spooling-begins, unloads-in-order}
+use Rattle.tool_step.proofs.SpoolRuns.{calls-of-works, full-spools, kept-behind-works, loses-in-order, puts-the-last, spooling-begins, unloads-in-order}
 use Rattle.tool_step.proofs.laws.worked_spool_runs.Goals as goal
 
 pub returns-clause-begins : goal.returns-clause-begins
@@ -18,3 +18,6 @@ returns-clause-last c = puts-the-last
 
 pub returns-clause-calls : goal.returns-clause-calls
 returns-clause-calls c = calls-of-works
+
+pub returns-clause-kept : goal.returns-clause-kept
+returns-clause-kept c = kept-behind-works

@@ -57,9 +57,9 @@ returns-in-Ok-clause-calls g c in_state =
     CallsInStep g.D.Disk disk_held h.spool.spool.disk (view_in g.D.Disk h) (input_of c.args.input) c.args.now
     (Ok (record { tool = c.step_on.new.tool; spool = c.in-Ok.spool })))
     c.self.view_is
-    (λ t told.
+    (λ told.
     c.in-Ok.ensures.calls (view_in g.D.Disk (record { tool = c.self.inside.tool.value; spool = c.self.inside.spool }))
-    (ap (λ (x : Tool). node_of x) c.deref_mut.ensures.value) was.on t told)
+    (ap (λ (x : Tool). node_of x) c.deref_mut.ensures.value) was.on told)
 
 pub returns-in-Err-clause-calls : goal.returns-in-Err-clause-calls
 returns-in-Err-clause-calls g c in_state =
@@ -69,9 +69,9 @@ returns-in-Err-clause-calls g c in_state =
     CallsInStep g.D.Disk disk_held h.spool.spool.disk (view_in g.D.Disk h) (input_of c.args.input) c.args.now
     (Err c.in-Err.ended))
     c.self.view_is
-    (λ t told.
+    (λ told.
     c.in-Err.ensures.calls (view_in g.D.Disk (record { tool = c.self.inside.tool.value; spool = c.self.inside.spool }))
-    (ap (λ (x : Tool). node_of x) c.deref_mut.ensures.value) was.on t told)
+    (ap (λ (x : Tool). node_of x) c.deref_mut.ensures.value) was.on told)
 
 pub returns-in-Ok-clause-spent : goal.returns-in-Ok-clause-spent
 returns-in-Ok-clause-spent g c in_state =

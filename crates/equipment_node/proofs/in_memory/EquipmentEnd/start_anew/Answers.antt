@@ -1,9 +1,8 @@
-use Rattle.std.proofs.Common.{ap, false, subst, sym, ◌∙◌, Some}
+use Rattle.std.proofs.Common.{ap, false, subst, ◌∙◌, Some}
 use Rattle.disk_base.specs.MemDisk.{DiskState}
 use Rattle.disk_base.specs.contracts.mem_disk.MemDiskDisk.TheImpl.{ghosts}
 use Rattle.gem_spool.specs.declared.spool.GemSpool.{GemSpool}
 use Rattle.equipment_tables.specs.declared.plan.EquipmentPlan.{EquipmentPlan}
-use Rattle.spool_works.specs.Breaking.{KeepsMarked}
 use Rattle.equipment_node.specs.InMemory.{stop_told}
 use Rattle.equipment_node.specs.StartOver.{HasStartedOver}
 use Rattle.equipment_node.proofs.in_memory.EquipmentEnd.start_anew.Goals as goal
@@ -28,10 +27,3 @@ returns-in-Err-clause-restarts c = record {
   end_is = c.stop_as.ensures ∙ ap (stop_told false) c.stop_of.ensures;
   started = λ fresh. c.in-Err.ensures.starts fresh;
 }
-
-pub returns-in-Ok-clause-marked : goal.returns-in-Ok-clause-marked
-returns-in-Ok-clause-marked c =
-    subst
-    (λ (g : GemSpool DiskState).
-    KeepsMarked (Some c.args.spool.spool.disk.story) c.args.spool.spool.mark (Some g.spool.disk.story) g.spool.mark)
-    (sym c.armed.ensures) c.in-Ok.ensures.marked

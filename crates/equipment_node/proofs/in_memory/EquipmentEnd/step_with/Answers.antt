@@ -1,4 +1,4 @@
-use Rattle.std.proofs.Common.{Bool, ap, refl, subst, sym, ◌∙◌, [], Some}
+use Rattle.std.proofs.Common.{Bool, ap, refl, subst, sym, ◌∙◌, None, Some}
 use Rattle.std.specs.Prelude.{Err}
 use Rattle.disk_base.specs.contracts.mem_disk.MemDiskDisk.TheImpl.{ghosts}
 use Rattle.message_end.specs.declared.end.Stop.{Stop}
@@ -34,7 +34,7 @@ returns-in-Ok-clause-step c =
 pub returns-in-Err-clause-step : goal.returns-in-Err-clause-step
 returns-in-Err-clause-step c =
     let was = view_of ghosts (node_of c.args.self.now.tool.value) (Some c.args.spool) in
-    let next : EquipmentView = record { node = node_of c.step_on.new.tool; list = []; mark = 0 } in
+    let next : EquipmentView = view_of ghosts (node_of c.step_on.new.tool) None in
     let fronts = stops was (input_of c.args.input) c.args.now in
     let went = act was (input_of c.args.input) c.args.now in
     subst (λ (e : Stop). Leaves fronts went next c.step_on.new.out (Err e)) (sym c.stop_as.ensures)

@@ -43,7 +43,7 @@ returns-in-Ok-clause-sound c is =
     (subst (λ (d : DiskState). Recovers ghosts d (Ok c.in-Ok.spool)) c.new.ensures c.in-Ok.ensures) c.new-in-Ok.result
     (ap (λ h. h.spool) c.new-in-Ok.ensures.made) c.args.self.now.plan c.start_anew.ensures.fits c.start_anew.new.out
     c.start_anew.new.self.tool.value
-    c.start_anew.new.self.spool c.start_anew.result c.start_anew.ensures.restarts c.start_anew.ensures.marked))
+    c.start_anew.new.self.spool c.start_anew.result c.start_anew.ensures.restarts))
 
 pub returns-in-Err-clause-sound : goal.returns-in-Err-clause-sound
 returns-in-Err-clause-sound c is =

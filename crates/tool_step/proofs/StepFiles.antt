@@ -1,0 +1,86 @@
+-- What works and a step make of the file: a step changes it by its works alone, and no work changes its slots.
+use Rattle.std.proofs.Common.{◌≡◌, refl, ap, ◌∙◌, Bool, true, false, ℕ, List, [], ◌∷◌, Some, if◌then◌else◌}
+use Rattle.gate_cell.specs.Cell.{Cell}
+use Rattle.gem_spool.specs.Standing.{Standing}
+use Rattle.gem_spool.specs.Works.{lists_after, standing_after, standings_after}
+use Rattle.gem_spool.specs.declared.works.Work.{Work}
+use Rattle.message_end.specs.Core.{Went, and_then, at_first, step_in}
+use Rattle.message_end.specs.Core.Went.{Goes, Spent}
+use Rattle.message_end.specs.Ends.{Input}
+use Rattle.message_end.specs.Parts.{Node, after_parts}
+use Rattle.spool_ledger.specs.Ledger.{LedgerView, stood_count}
+use Rattle.spool_slots.specs.File.{SpoolFile}
+use Rattle.trace_log.specs.declared.commands.ToolCommand.{ToolCommand}
+use Rattle.trace_log.specs.Log.{Happening}
+use Rattle.tool_step.specs.declared.kind.Kind.{Kind}
+use Rattle.tool_step.specs.Equipment.{EquipmentView, act, begun_step, ended_step, is_marked_out, needs_numbers, node_step, oldest_of, parts_done, reserved, settled, settled_file, settled_list, settled_step, settled_went, went_with_file}
+use Rattle.tool_step.specs.Own.{OwnView}
+use Rattle.tool_step.specs.Step.{first_parts, last_parts}
+
+-- ---- works
+
+pub lists-behind : (st : Standing) (works : List Work)
+    → (standings_after st works).file.list ≡ lists_after st.next st.file.list works
+lists-behind st [] = refl
+lists-behind st (one ∷ works) = lists-behind (standing_after st one) works
+
+slots-behind : (st : Standing) (works : List Work) → (standings_after st works).file.slots ≡ st.file.slots
+slots-behind st [] = refl
+slots-behind st (one ∷ works) = slots-behind (standing_after st one) works
+
+mark-behind : (st : Standing) (works : List Work) → (standings_after st works).file.mark ≡ st.file.mark
+mark-behind st [] = refl
+mark-behind st (one ∷ works) = mark-behind (standing_after st one) works
+
+-- those that a ledger owes
+module _ (ledger : LedgerView) (file : SpoolFile) where
+  abbrev stood : Standing
+  stood = record { next = (stood_count ledger).next; file = file }
+
+  pub settled-list-is : (settled_file ledger file).list ≡ settled_list ledger file.list
+  settled-list-is = lists-behind stood ledger.works
+
+  pub settled-slots : (settled_file ledger file).slots ≡ file.slots
+  settled-slots = slots-behind stood ledger.works
+
+  pub settled-mark : (settled_file ledger file).mark.value ≡ file.mark.value
+  settled-mark = ap (λ (cell : Cell). cell.value) (mark-behind stood ledger.works)
+
+-- ---- a step
+
+-- parts leave it as it is
+pub parts-file : (s : EquipmentView) (went : Went (Node OwnView Kind) Happening)
+    → (step_in (went_with_file s went)).next.file ≡ s.file
+parts-file s (Goes step) = refl
+parts-file s (Spent step) = refl
+
+-- what comes behind the works
+pub ended-file : (went : Went EquipmentView Happening) (now : ℕ)
+    → (step_in (and_then (settled_went went) (ended_step now))).next.file ≡ (settled (step_in went).next).file
+ended-file (Goes step) now =
+    parts-file (settled step.next)
+    (after_parts Some (last_parts (oldest_of (settled step.next)) now) (node_step (settled_step step)))
+ended-file (Spent step) now = refl
+
+begun-slots : (s : EquipmentView) (input : Input ToolCommand) (now : ℕ)
+    → (step_in (begun_step s input now)).next.file.slots ≡ s.file.slots
+begun-slots s input now = go (needs_numbers s) (is_marked_out s.file.mark.value)
+  where
+    go : (needs spent : Bool)
+        → (step_in (and_then
+        (if needs then if spent then Spent (at_first s) else Goes (at_first (reserved s)) else Goes (at_first s))
+        (parts_done (first_parts input now)))).next.file.slots ≡ s.file.slots
+    go true true = refl
+    go true false =
+        ap (λ (file : SpoolFile). file.slots)
+        (parts-file (reserved s) (after_parts Some (first_parts input now) (at_first (reserved s).node)))
+    go false spent =
+        ap (λ (file : SpoolFile). file.slots)
+        (parts-file s (after_parts Some (first_parts input now) (at_first s.node)))
+
+pub act-slots : (s : EquipmentView) (input : Input ToolCommand) (now : ℕ)
+    → (step_in (act s input now)).next.file.slots ≡ s.file.slots
+act-slots s input now =
+    ap (λ (file : SpoolFile). file.slots) (ended-file (begun_step s input now) now)
+    ∙ settled-slots (step_in (begun_step s input now)).next.node.own.ledger (step_in (begun_step s input now)).next.file
+    ∙ begun-slots s input now
