@@ -6,6 +6,8 @@ mod list_works;
 #[cfg(test)]
 mod memory_disk;
 #[cfg(test)]
+mod recipes;
+#[cfg(test)]
 mod shown_spool;
 #[cfg(test)]
 mod slot_file;

@@ -1,0 +1,10 @@
+pub mod Changes
+pub mod File
+pub mod Laws
+pub mod Listing
+pub mod Map
+pub mod Opening
+pub mod Reading
+pub mod Slot
+pub mod Survey
+pub mod Worked
