@@ -2,7 +2,7 @@
 use Rattle.std.proofs.Common.{◌≡◌, refl, sym, ap, subst, ◌∙◌, arith, inr, ℕ, suc, ◌+◌, List, [], ◌∷◌, ◌++◌, length, Some, None}
 use Rattle.std.proofs.lemmas.Bool.Decides.{nat_tests}
 use Rattle.std.proofs.lemmas.List.Elements.{All-nil}
-use Rattle.std.specs.Prelude.{IfOk, Result, Ok, Err}
+use Rattle.std.specs.Prelude.{Result, Ok, Err}
 use Rattle.disk_base.specs.Story.{Story}
 use Rattle.disk_base.specs.Through.{GoesThrough}
 use Rattle.disk_base.specs.declared.disk.Disk as disk
@@ -13,10 +13,9 @@ use Rattle.gem_spool.specs.Standing.{Standing, Stands, standing_of}
 use Rattle.gem_spool.specs.Works.{IsMarked, reserved}
 use Rattle.message_flow.specs.declared.step.Note.{Note}
 use Rattle.message_flow.specs.declared.step.StepOut.{StepOut}
-use Rattle.spool_slots.specs.Changes.{Reserves, with_mark_moved}
+use Rattle.spool_slots.specs.Changes.{with_mark_moved}
 use Rattle.spool_slots.specs.Slot.{Message}
 use Rattle.spool_slots.specs.Spool.{SpoolView}
-use Rattle.spool_slots.specs.declared.states.Reserving.TheVariants as reserving
 use Rattle.spool_slots.specs.declared.states.Spent.{Spent as Device}
 use Rattle.trace_log.specs.Log.Happening.{EquipmentStarted}
 use Rattle.trace_log.specs.Text.{note_of}
@@ -25,57 +24,47 @@ use Rattle.message_end.specs.Parts.{Node}
 use Rattle.spool_ledger.specs.Ledger.{LedgerView, new_ledger}
 use Rattle.equipment_tables.specs.declared.plan.EquipmentPlan.{EquipmentPlan}
 use Rattle.equipment_tables.specs.Plan.{EquipmentPlanFits}
-use Rattle.spool_works.specs.declared.ended.Ended.{Ended}
-use Rattle.spool_works.specs.declared.ended.Ended.TheVariants as ended
-use Rattle.equipment_node.specs.declared.equipment.Seat.{Seat}
+use Rattle.equipment_node.specs.declared.equipment.Starting.{Starting}
+use Rattle.equipment_node.specs.declared.equipment.Starting.TheVariants as starting
 use Rattle.tool_step.specs.declared.kind.Kind.{Kind}
 use Rattle.equipment_node.specs.Amid.{IsReady}
-use Rattle.equipment_node.specs.Asked.{HasSpared}
 use Rattle.tool_step.specs.Equipment.{EquipmentView}
 use Rattle.spool_works.specs.Found.{first_in, found_in}
 use Rattle.tool_step.specs.Grants.{GrantView}
 use Rattle.tool_step.specs.Live.{ReportView}
-use Rattle.tool_core.specs.Node.{node_of}
+use Rattle.equipment_node.specs.Held.{Held}
 use Rattle.tool_step.specs.Own.{OwnView}
 use Rattle.tool_law.specs.Sound.{CanBeSent}
 use Rattle.tool_law.proofs.SpoolSound.{new-good}
-use Rattle.equipment_node.specs.StartOver.{IsFresh, StartAsks, StartsOver, StartsWith, started_over}
+use Rattle.equipment_node.specs.StartOver.{IsFresh, StartsOver, StartsWith, started_over}
 use Rattle.tool_core.specs.Starting.{new_node}
 use Rattle.equipment_node.specs.Stepping.{IsClear, IsTold}
 use Rattle.message_end.specs.Core.{IsText}
-use Rattle.equipment_node.proofs.Asking.{fallen-fault, spared-used}
 use Rattle.equipment_node.proofs.Opened.{at-last}
 use Rattle.equipment_node.proofs.OnDisk.{kept-of}
 
 -- ---- it is ready for its first step
 
-module _ {D : Type 0} (plan : EquipmentPlan) (fits : EquipmentPlanFits plan) where
-  new-ready :
-      (g : GemSpool D) (base : ℕ) → g.spool.next ≡ g.spool.first + g.spool.len
-      → IsReady g.spool (new_node plan (new_ledger g.spool.slots g.spool.first g.spool.len) base)
-  new-ready g base even = record {
-    count = ap (λ (n : ℕ). record { slots = g.spool.slots; next = n; len = g.spool.len }) even;
-    sound = record {
-      plan = plan;
-      fits = fits;
+pub new-ready :
+    {D : Type 0} (plan : EquipmentPlan) → EquipmentPlanFits plan → (g : GemSpool D) (base : ℕ)
+    → g.spool.next ≡ g.spool.first + g.spool.len → (node : Node OwnView Kind)
+    → node ≡ new_node plan (new_ledger g.spool.slots g.spool.first g.spool.len) base → IsReady g.spool node
+new-ready plan fits g base even node is =
+    subst (λ (n : Node OwnView Kind). IsReady g.spool n) (sym is)
+    (record {
+      count = ap (λ (n : ℕ). record { slots = g.spool.slots; next = n; len = g.spool.len }) even;
       sound = record {
-        plan_is = refl;
-        texts = All-nil (λ (one : GrantView). IsText one.body);
-        traced = All-nil (λ (one : GrantView). IsText one.body);
-        reports = All-nil (λ (one : ReportView). CanBeSent one.message);
-        ledger = new-good g.spool.slots g.spool.first g.spool.len;
+        plan = plan;
+        fits = fits;
+        sound = record {
+          plan_is = refl;
+          texts = All-nil (λ (one : GrantView). IsText one.body);
+          traced = All-nil (λ (one : GrantView). IsText one.body);
+          reports = All-nil (λ (one : ReportView). CanBeSent one.message);
+          ledger = new-good g.spool.slots g.spool.first g.spool.len;
+        };
       };
-    };
-  }
-
-  pub start-ready :
-      (g : GemSpool D) (base : ℕ) (out_old out_new : StepOut) (result : Result (Seat D) (Ended D))
-      → g.spool.next ≡ g.spool.first + g.spool.len → StartsWith plan g base out_old out_new result
-      → IfOk result (λ e. IsReady e.spool.spool (node_of e.tool.value))
-  start-ready g base out_old out_new (Err end) even is = tt
-  start-ready g base out_old out_new (Ok e) even is =
-      subst (λ (h : GemSpool D). IsReady h.spool (node_of e.tool.value)) (sym is.0)
-      (subst (λ (n : Node OwnView Kind). IsReady g.spool n) (sym is.1) (new-ready g base even))
+    })
 
 -- ---- what it comes to
 
@@ -106,11 +95,10 @@ module _ {D : Type 0} (members : disk.Ghosts D) (plan : EquipmentPlan) (g : GemS
     -- no system bytes are left
     pub none-left :
         (h : GemSpool D) (spent : Device D) → ReservesFrom members g h None → spent.disk ≡ h.spool.disk
-        → StartsOver members plan g out_old (Err (ended.NumbersSpent spent))
+        → StartsOver members plan g out_old (Err (starting.NumbersSpent spent))
     none-left h spent done same = (
+      empty,
       (let none = done.1 in let mark = stands.mark in grind (arith, nat_tests, none, mark)),
-      empty.notes,
-      empty.line,
       kept-of members g.spool st spent (same ∙ ap (λ (x : GemSpool D). x.spool.disk) done.0) stands,
     )
 
@@ -118,10 +106,9 @@ module _ {D : Type 0} (members : disk.Ghosts D) (plan : EquipmentPlan) (g : GemS
     pub start-failed :
         (spent : Device D)
         → ((s : Story) → members.told g.spool.disk ≡ Some s → GoesThrough s (members.told spent.disk) (IsMarked st))
-        → StartsOver members plan g out_old (Err (ended.DiskFailed spent))
+        → StartsOver members plan g out_old (Err (starting.DiskFailed spent))
     start-failed spent moments = (
-      empty.notes,
-      empty.line,
+      empty,
       record {
         left = λ t is. at-last fresh.told.0 _ _ t (moments fresh.told.0 fresh.told.1) is;
       },
@@ -149,7 +136,7 @@ module _ {D : Type 0} (members : disk.Ghosts D) (plan : EquipmentPlan) (g : GemS
         long-is = found-long st.file.list ∙ sym len-is ∙ sym (ap (λ (v : SpoolView D). v.len) done.0.2)
 
         pub started :
-            (result : Result (Seat D) (Ended D)) → StartsWith plan h base out_old out_new result
+            (result : Result (Held D) (Starting D)) → StartsWith plan h base out_old out_new result
             → StartsOver members plan g out_new result
         started (Ok e) is = record {
           room = let left = done.0.0.left in let mark = stands.mark in grind (arith, nat_tests, left, mark);
@@ -179,34 +166,13 @@ module _ {D : Type 0} (members : disk.Ghosts D) (plan : EquipmentPlan) (g : GemS
               ∙ ap (λ (n : ℕ). note_of (EquipmentStarted (found_in st.file.list) n) ∷ []) base-is;
           quiet = ap (λ l. l.items) line ∙ empty.line;
         }
-        started (Err (ended.NoMemory spent)) is = (
+        started (Err (starting.NoMemory spent)) is = (
           ap (λ l. l.items) line ∙ empty.line,
           record {
             left = λ t told image image_is.
                 inr (kept-of members h.spool (reserved st) spent is marked t told image image_is);
           },
         )
-        started (Err (ended.NumbersSpent spent)) is = absurd is
-        started (Err (ended.DiskFailed spent)) is = absurd is
-
--- ---- what it asks of the disk
-
-module _ {D : Type 0} (members : disk.Ghosts D) (plan : EquipmentPlan) (g : GemSpool D) where
-  pub start-asked :
-      (h : GemSpool D) (base first : ℕ) (out_old out_new : StepOut) (result : Result (Seat D) (Ended D))
-      → ReservesFrom members g h (Some base) → StartsWith plan h first out_old out_new result
-      → StartAsks members g.spool.disk result
-  start-asked h base first out_old out_new (Ok e) done is =
-      subst
-      (λ (x : GemSpool D).
-      HasSpared (members.health g.spool.disk) (members.health x.spool.disk) (record { calls = 5; bytes = 9 }))
-      (sym is.0) (spared-used (members.health g.spool.disk) (members.health h.spool.disk) 5 9 done.0.0.cause)
-  start-asked h base first out_old out_new (Err (ended.NoMemory spent)) done is = tt
-  start-asked h base first out_old out_new (Err (ended.NumbersSpent spent)) done is = tt
-  start-asked h base first out_old out_new (Err (ended.DiskFailed spent)) done is = absurd is
-
-  pub start-fallen :
-      (spent : Device D) → Reserves members g.spool (Err (reserving.Failed spent))
-      → StartAsks members g.spool.disk (Err (ended.DiskFailed spent))
-  start-fallen spent done =
-      fallen-fault (members.health g.spool.disk) (members.health spent.disk) 5 9 _ (λ lacking. lacking) done.0.cause
+        started (Err (starting.NumbersSpent spent)) is = absurd is
+        started (Err (starting.DiskFailed spent)) is = absurd is
+        started (Err (starting.NotSpool raw break)) is = absurd is

@@ -1,46 +1,36 @@
--- That a start over what a disk was left with finds what its bytes say.
+-- That the equipment in a world goes on with its power, and that a start over what its disk was left with finds what
+-- the bytes say.
 use Rattle.std.proofs.Common.{◌≡◌, refl, sym, ap, subst, ◌∙◌, Bool, true, false, ℕ, [], ◌∷◌, List, length, Option, Some, None, if◌then◌else◌}
-use Rattle.std.specs.Prelude.{OnOk, Result, Ok, Err}
+use Rattle.std.specs.Prelude.{Result, Ok, Err}
 use Rattle.disk_base.specs.Cut.{image_of, settled_before, settled_if}
 use Rattle.disk_base.specs.MemDisk.{DiskState, after_cut, disk_health}
 use Rattle.disk_base.specs.declared.cut.CutChoice.{CutChoice}
 use Rattle.disk_base.proofs.Marks.{AreIn, image_is}
 use Rattle.disk_base.proofs.Moments.{only_now}
 use Rattle.disk_base.specs.contracts.mem_disk.MemDiskDisk.TheImpl.{ghosts}
-use Rattle.gem_spool.specs.declared.spool.GemSpool.{GemSpool}
-use Rattle.gem_spool.specs.Standing.{standing_of}
+use Rattle.gem_spool.specs.declared.count.Count.{Count}
 use Rattle.message_flow.specs.declared.step.StepOut.{StepOut}
-use Rattle.spool_slots.specs.Changes.{Ends, Recovers}
-use Rattle.spool_slots.specs.File.{SpoolFile, StandsFor, file_in}
-use Rattle.spool_slots.specs.Spool.{SpoolView}
+use Rattle.spool_slots.specs.Changes.{Ends}
+use Rattle.spool_slots.specs.File.{SpoolFile, file_in}
 use Rattle.trace_log.specs.Log.{Happening}
 use Rattle.message_end.specs.declared.end.Stop.{Stop}
-use Rattle.message_end.specs.Core.{Went}
-use Rattle.message_end.specs.Ends.{HasGone, IsNotStopped, Leaves, calls_left}
-use Rattle.message_end.specs.Parts.{Node}
+use Rattle.message_end.specs.Core.{Went, at_first, step_in}
+use Rattle.message_end.specs.Core.Went.{Goes, Spent}
+use Rattle.message_end.specs.Ends.{IsNotStopped, Leaves, calls_left}
 use Rattle.equipment_tables.specs.declared.plan.EquipmentPlan.{EquipmentPlan}
-use Rattle.equipment_tables.specs.Plan.{EquipmentPlanFits}
-use Rattle.tool_step.specs.declared.kind.Kind.{Kind}
-use Rattle.tool_core.specs.declared.own.Tool.{Tool}
-use Rattle.equipment_node.specs.Asked.{HasSpared, IsSureDisk}
-use Rattle.spool_works.specs.DiskWorks.{reserve_asks}
+use Rattle.equipment_node.specs.declared.equipment.Starting.{Starting}
 use Rattle.tool_step.specs.End.{machine}
-use Rattle.tool_step.specs.Equipment.{EquipmentView, starts}
-use Rattle.equipment_node.specs.InMemory.{HasPower, IsArmed, IsFileOf, IsLost, IsWhole, Restarts, anew_over, disk_of, file_cut, left_behind, planned_in, starts_over, stop_told, with_stop}
+use Rattle.tool_step.specs.Equipment.{EquipmentView, is_marked_out, started_on, starts}
+use Rattle.equipment_node.specs.Held.{Begins, HasBegunOn, Held, IsIn, view_in}
+use Rattle.equipment_node.specs.InMemory.{HasPower, IsLost, IsStartable, IsWhole, StartsAnew, anew_over, disk_of, file_cut, left_behind, planned_in, starts_over, state_in, stop_at_start, with_stop}
 use Rattle.tool_core.specs.Node.{node_of}
-use Rattle.tool_step.specs.Own.{OwnView}
 use Rattle.tool_law.specs.Sound.{AllCanBeSent}
-use Rattle.equipment_node.specs.StartOver.{HasStartedOver, IsFresh}
-use Rattle.equipment_node.specs.Stepping.{stop_by, view_of}
-use Rattle.equipment_node.proofs.Asking.{spared-used}
-use Rattle.equipment_node.proofs.Seated.{start-ends, start-gone, start-on, told-whole, view-is}
-use Rattle.equipment_node.proofs.TakenUp.{file-is, is-fresh}
+use Rattle.equipment_node.specs.StartOver.{IsSureDisk, KeepsSure}
+use Rattle.equipment_node.proofs.Seated.{begun-ends, start-whole}
 
--- where another call is planned it is the same spool
-pub armed-power :
-    (plan : EquipmentPlan) (slots : ℕ) (node : Node OwnView Kind) (g : GemSpool DiskState) (call : ℕ)
-    → HasPower ghosts plan slots node g → HasPower ghosts plan slots node (with_stop call g)
-armed-power plan slots node g call is = record {
+-- where another call is planned it is the same equipment
+armed-in : (h : Held DiskState) (call : ℕ) → IsIn ghosts h → IsIn ghosts (with_stop call h)
+armed-in h call is = record {
   on = record {
     clear = record {
       stands = record {
@@ -56,228 +46,183 @@ armed-power plan slots node g call is = record {
     };
     made = is.on.made;
   };
+  told = is.told;
+}
+
+armed-power : (plan : EquipmentPlan) (h : Held DiskState) (call : ℕ) → HasPower ghosts plan h
+    → HasPower ghosts plan (with_stop call h)
+armed-power plan h call is = record {
+  in_state = armed-in h call is.in_state;
   fails_not = is.fails_not;
   going = is.going;
   plan_is = is.plan_is;
-  slots_are = is.slots_are;
 }
 
 -- a call is planned, or what was planned stands
-module _ (plan : EquipmentPlan) (slots : ℕ) (node : Node OwnView Kind) (g : GemSpool DiskState) (call : ℕ) where
+module _ (plan : EquipmentPlan) (h : Held DiskState) (call : ℕ) where
   pub within-power :
-      (within : Bool) → HasPower ghosts plan slots node g
-      → HasPower ghosts plan slots node (if within then with_stop call g else g)
-  within-power true is = armed-power plan slots node g call is
+      (within : Bool) → HasPower ghosts plan h → HasPower ghosts plan (if within then with_stop call h else h)
+  within-power true is = armed-power plan h call is
   within-power false is = is
 
   pub within-planned :
       (within : Bool)
-      → planned_in (Some (if within then with_stop call g else g)) ≡ (if within then call else planned_in (Some g))
+      → planned_in (Some (if within then with_stop call h else h)) ≡ (if within then call else planned_in (Some h))
   within-planned true = refl
   within-planned false = refl
 
   pub within-means :
-      (within : Bool)
-      → view_of ghosts node (Some (if within then with_stop call g else g)) ≡ view_of ghosts node (Some g)
+      (within : Bool) → view_in ghosts (if within then with_stop call h else h) ≡ view_in ghosts h
   within-means true = refl
   within-means false = refl
 
--- a start over a spool, by a copy of its plan, and with its slots
-module _ (plan : EquipmentPlan) (fits : EquipmentPlanFits plan) (g k : GemSpool DiskState) (tool : Tool) (out : StepOut)
-    (slots : ℕ) (started : HasStartedOver ghosts plan g tool k out) (same : g.spool.slots ≡ slots)
+-- ---- a start, behind which the first call too many is planned
+
+module _ (h : Held DiskState) (in_state : IsIn ghosts h) where
+  abbrev armed : Held DiskState
+  armed = with_stop (left_behind h.spool.spool.slots) h
+
+  pub seated-planned : planned_in (Some armed) ≡ calls_left machine (view_in ghosts armed)
+  seated-planned = ap left_behind (ap (λ (c : Count). c.slots) in_state.on.clear.stands.count)
+
+  pub seated-power :
+      (plan : EquipmentPlan) → IsSureDisk (disk_health h.spool.spool.disk)
+      → (node_of h.tool).own.plan ≡ plan → HasPower ghosts plan armed
+  seated-power plan sure same =
+      armed-power plan h (left_behind h.spool.spool.slots)
+      (record {
+        in_state = in_state;
+        fails_not = sure.fails_not;
+        going = sure.going;
+        plan_is = same;
+      })
+
+-- it is by its plan
+start-plan :
+    (plan : EquipmentPlan) (file : SpoolFile) → (step_in (starts plan file)).next.node.own.plan ≡ plan
+start-plan plan file = go (is_marked_out file.mark.value)
   where
-    pub seated-slots : (view_of ghosts (node_of tool) (Some k)).file.slots ≡ slots
-    seated-slots =
-        ap (λ (t : EquipmentView). t.file.slots) (sym (view-is ghosts plan fits g k tool out started))
-        ∙ sym started.slots_are ∙ same
+    go : (out : Bool)
+        → (step_in (if out then Spent (at_first (record (started_on plan file).next { file = file }))
+        else Goes (started_on plan file))).next.node.own.plan ≡ plan
+    go true = refl
+    go false = refl
 
-    pub seated-power :
-        AllCanBeSent (standing_of ghosts g.spool).file.list
-        → HasSpared (disk_health g.spool.disk) (disk_health k.spool.disk) reserve_asks
-        → IsSureDisk (disk_health g.spool.disk) → (copy : EquipmentPlan) → plan ≡ copy
-        → HasPower ghosts copy slots (node_of tool) (with_stop (left_behind slots) k)
-    seated-power can spared sure copy copied =
-        armed-power copy slots (node_of tool) k (left_behind slots)
-        (record {
-          on = start-on ghosts plan fits g k tool out started can;
-          fails_not = (spared.sure sure).fails_not;
-          going = (spared.sure sure).going;
-          plan_is = ap (λ (n : Node OwnView Kind). n.own.plan) started.node_is ∙ copied;
-          slots_are = seated-slots;
-        })
+-- it doesn't go on
+pub not-anew :
+    (plan : EquipmentPlan) (went : Went EquipmentView Happening) (going : Option (Held DiskState)) → going ≡ None
+    → (out : StepOut) (why : Stop) → Leaves ([] ∷ []) went (state_in ghosts plan going) out (Err why)
+    → IsNotStopped {R = Unit {0}} (Err why) → StartsAnew ghosts plan went going out (Err why)
+not-anew plan went going gone out why leaves whole = record {
+  start = leaves;
+  whole = whole;
+  planned = tt;
+  sound = subst (λ (o : Option (Held DiskState)). IsWhole ghosts plan o None) (sym gone) tt;
+}
 
-module _ (slots : ℕ) (disk : DiskState) (is : IsFileOf slots disk) (v : SpoolView DiskState)
-    (recovers : Recovers ghosts disk (Ok v)) (h : GemSpool DiskState) (made : h.spool ≡ v) (plan : EquipmentPlan)
-    (fits : EquipmentPlanFits plan)
-  where
-    fresh : IsFresh ghosts h
-    fresh = is-fresh ghosts disk disk.story refl v recovers h made
+module _ (plan : EquipmentPlan) (disk : DiskState) (is : IsStartable disk) (out : StepOut) where
+  pub anew-on :
+      (h : Held DiskState) → HasBegunOn ghosts plan disk.story.now.bytes out h
+      → KeepsSure ghosts disk h.spool.spool.disk
+      → StartsAnew ghosts plan (starts_over plan disk)
+      (Some (with_stop (left_behind h.spool.spool.slots) h)) out (Ok tt)
+  anew-on h begun keeps =
+      record {
+        start = begun.gone;
+        whole = tt;
+        planned = seated-planned h (begun.can_go is.can);
+        sound =
+            seated-power h (begun.can_go is.can) plan (keeps is.sure)
+            (sym (ap (λ (went : Went EquipmentView Happening). (step_in went).next.node.own.plan) begun.gone.is
+            ∙ ap (λ (s : EquipmentView). s.node.own.plan) begun.gone.next_is)
+            ∙ start-plan plan (file_in disk.story.now.bytes));
+      }
 
-    same-file : (standing_of ghosts h.spool).file ≡ file_in disk.story.now.bytes
-    same-file = file-is ghosts disk disk.story refl v recovers h made
-
-    starts-so : starts plan (standing_of ghosts h.spool).file ≡ starts_over plan disk
-    starts-so = ap (λ (file : SpoolFile). starts plan file) same-file
-
-    same-slots : h.spool.slots ≡ slots
-    same-slots =
-        ap (λ (x : SpoolView DiskState). x.slots) made ∙ (recovers.1 disk.story refl).0.slots_are ∙ is.slots_are
-
-    can : AllCanBeSent (standing_of ghosts h.spool).file.list
-    can = subst (λ (file : SpoolFile). AllCanBeSent file.list) (sym same-file) is.can
-
-    sure : IsSureDisk (ghosts.health h.spool.disk)
-    sure =
-        subst (λ (x : SpoolView DiskState). IsSureDisk (ghosts.health x.disk)) (sym made)
-        ((spared-used recovers.0.synced (ghosts.health v.disk) recovers.0.reads.made 0 recovers.0.reads.cause).sure
-        ((spared-used (ghosts.health disk) recovers.0.synced 1 0 recovers.0.cause).sure is.sure))
-
-    module _ (out : StepOut) where
-      pub from-leaves :
-          (tool : Tool) (spool : Option (GemSpool DiskState)) (result : Result (Unit {0}) Stop)
-          → Restarts ghosts plan slots h tool spool out result
-          → Leaves ([] ∷ []) (starts_over plan disk) (view_of ghosts (node_of tool) spool) out result
-      from-leaves tool spool (Ok done) has =
-          subst
-          (λ (o : Option (GemSpool DiskState)). HasGone (starts_over plan disk) (view_of ghosts (node_of tool) o) out)
-          (sym has.spool_is)
-          (subst
-          (λ (went : Went EquipmentView Happening). HasGone went (view_of ghosts (node_of tool) (Some has.seated)) out)
-          starts-so (start-gone ghosts plan fits h has.seated tool out (has.started fresh)))
-      from-leaves tool spool (Err end) has =
-          subst
-          (λ (e : Stop). Leaves ([] ∷ []) (starts_over plan disk) (view_of ghosts (node_of tool) spool) out (Err e))
-          (sym has.end_is)
-          (subst
-          (λ (went : Went EquipmentView Happening).
-          Leaves ([] ∷ []) went (view_of ghosts (node_of tool) spool) out (Err (stop_told false (stop_by has.ended))))
-          starts-so
-          (start-ends ghosts plan fits h out has.ended (has.started fresh) (view_of ghosts (node_of tool) spool)))
-
-      pub from-whole :
-          (tool : Tool) (spool : Option (GemSpool DiskState)) (result : Result (Unit {0}) Stop)
-          → Restarts ghosts plan slots h tool spool out result → IsWhole ghosts plan slots (node_of tool) spool None
-      from-whole tool spool (Ok done) has =
-          subst (λ (o : Option (GemSpool DiskState)). IsWhole ghosts plan slots (node_of tool) o None)
-          (sym has.spool_is)
-          (seated-power plan fits h has.seated tool out slots (has.started fresh) same-slots can has.spared sure plan
-          refl)
-      from-whole tool spool (Err end) has =
-          subst (λ (o : Option (GemSpool DiskState)). IsWhole ghosts plan slots (node_of tool) o None)
-          (sym has.spool_is) tt
-
--- no start anew is stopped by its disk, and one that goes on has planned how far that goes
-module _ (plan : EquipmentPlan) (slots : ℕ) (h : GemSpool DiskState) (tool : Tool) (spool : Option (GemSpool DiskState))
-    (out : StepOut)
-  where
-    pub anew-whole :
-        (result : Result (Unit {0}) Stop) → Restarts ghosts plan slots h tool spool out result → IsNotStopped result
-    anew-whole (Ok done) has = tt
-    anew-whole (Err end) has =
-        subst (λ (e : Stop). IsNotStopped {R = Unit {0}} (Err e)) (sym has.end_is)
-        (told-whole (Unit {0}) (stop_by has.ended))
-
-    pub anew-armed :
-        (result : Result (Unit {0}) Stop) → Restarts ghosts plan slots h tool spool out result
-        → OnOk result (IsArmed slots spool)
-    anew-armed (Ok done) has = subst (IsArmed slots) (sym has.spool_is) refl
-    anew-armed (Err end) has = tt
-
--- what is planned then is what its state says
-pub planned-left :
-    (plan : EquipmentPlan) (slots : ℕ) (node : Node OwnView Kind) (spool : Option (GemSpool DiskState))
-    (lost : Option DiskState) (result : Result (Unit {0}) Stop) → IsWhole ghosts plan slots node spool lost
-    → OnOk result (IsArmed slots spool)
-    → OnOk result (planned_in spool ≡ calls_left machine (view_of ghosts node spool))
-planned-left plan slots node spool lost (Ok done) whole armed = go spool lost whole armed
-  where
-    go : (o : Option (GemSpool DiskState)) (lost : Option DiskState) → IsWhole ghosts plan slots node o lost
-        → IsArmed slots o → planned_in o ≡ calls_left machine (view_of ghosts node o)
-    go None lost whole armed = absurd armed
-    go (Some g) None whole armed = armed ∙ ap left_behind (sym whole.slots_are)
-    go (Some g) (Some lost) whole armed = absurd whole
-planned-left plan slots node spool lost (Err end) whole armed = tt
+  pub anew-off :
+      (why : Starting DiskState) → Begins ghosts plan disk.story out (Err why) → (going : Option (Held DiskState))
+      → going ≡ None → (told : Stop) → told ≡ stop_at_start why
+      → StartsAnew ghosts plan (starts_over plan disk) going out (Err told)
+  anew-off why begins going gone told told_is =
+      subst (λ (e : Stop). StartsAnew ghosts plan (starts_over plan disk) going out (Err e)) (sym told_is)
+      (not-anew plan (starts_over plan disk) going gone out (stop_at_start why)
+      (begun-ends ghosts plan out disk.story (state_in ghosts plan going) why begins) (start-whole (Unit {0}) why))
 
 -- ---- what a disk is left with
 
 -- of a lost disk, whatever is chosen
-pub cut-file :
-    (slots : ℕ) (lost : DiskState) → IsLost slots lost → (choice : CutChoice) → IsFileOf slots (after_cut choice lost)
-cut-file slots lost is choice = record {
-  stands = is.stands choice;
-  settled = refl;
+pub cut-startable : (lost : DiskState) → IsLost lost → (choice : CutChoice) → IsStartable (after_cut choice lost)
+cut-startable lost is choice = record {
   can = is.can choice;
   sure = record { fails_not = refl; stops_not = refl; going = refl };
-  slots_are = is.slots_are choice;
 }
 
 pub power-in :
-    (plan : EquipmentPlan) (slots : ℕ) (node : Node OwnView Kind) (spool : Option (GemSpool DiskState))
-    (lost : Option DiskState) (g : GemSpool DiskState) → spool ≡ Some g
-    → IsWhole ghosts plan slots node spool lost
-    → HasPower ghosts plan slots node g × (lost ≡ None)
-power-in plan slots node spool lost g same is =
-    go lost (subst (λ (o : Option (GemSpool DiskState)). IsWhole ghosts plan slots node o lost) same is)
+    (plan : EquipmentPlan) (going : Option (Held DiskState)) (lost : Option DiskState) (h : Held DiskState)
+    → going ≡ Some h → IsWhole ghosts plan going lost → HasPower ghosts plan h × (lost ≡ None)
+power-in plan going lost h same is =
+    go lost (subst (λ (o : Option (Held DiskState)). IsWhole ghosts plan o lost) same is)
   where
-    go : (lost : Option DiskState) → IsWhole ghosts plan slots node (Some g) lost
-        → HasPower ghosts plan slots node g × (lost ≡ None)
+    go : (lost : Option DiskState) → IsWhole ghosts plan (Some h) lost → HasPower ghosts plan h × (lost ≡ None)
     go None is = (is, refl)
     go (Some lost) is = absurd is
 
 -- a disk that nothing is asked of keeps its bytes
-module _ (plan : EquipmentPlan) (slots : ℕ) (node : Node OwnView Kind) (g : GemSpool DiskState)
-    (is : HasPower ghosts plan slots node g) where
-  abbrev here : SpoolFile
-  here = (view_of ghosts node (Some g)).file
+module _ (plan : EquipmentPlan) (h : Held DiskState) (is : HasPower ghosts plan h) where
+  ends : Ends h.spool.spool.disk.story (view_in ghosts h).file
+  ends = is.in_state.on.clear.stands.file h.spool.spool.disk.story refl
 
-  ends : Ends g.spool.disk.story here
-  ends = is.on.clear.stands.file g.spool.disk.story refl
-
-  same-image : (choice : CutChoice) → image_of choice g.spool.disk.story ≡ g.spool.disk.story.now.bytes
+  same-image : (choice : CutChoice) → image_of choice h.spool.spool.disk.story ≡ h.spool.spool.disk.story.now.bytes
   same-image choice =
-      only_now g.spool.disk.story.now (image_of choice g.spool.disk.story) ends.settled
-      (image_is choice g.spool.disk.story
-      (subst (AreIn (length g.spool.disk.story.now.bytes)) (sym ends.settled) tt)
-      (ap (λ (loose : List (ℕ × ℕ)).
-      length (settled_if loose g.spool.disk.story.now.bytes (settled_before g.spool.disk.story.past))) ends.settled))
+      let story = h.spool.spool.disk.story in
+      only_now story.now (image_of choice story) ends.settled
+      (image_is choice story (subst (AreIn (length story.now.bytes)) (sym ends.settled) tt)
+      (ap (λ (loose : List (ℕ × ℕ)). length (settled_if loose story.now.bytes (settled_before story.past)))
+      ends.settled))
 
-  same-cut : (choice : CutChoice) → file_cut g.spool.disk choice ≡ here
+  same-cut : (choice : CutChoice) → file_cut h.spool.spool.disk choice ≡ (view_in ghosts h).file
   same-cut choice = ap file_in (same-image choice) ∙ sym ends.stands.is
 
-  pub power-lost : IsLost slots g.spool.disk
+  power-lost : IsLost h.spool.spool.disk
   power-lost = record {
-    stands = λ choice.
-        subst (λ (bytes : List ℕ). StandsFor bytes (file_in bytes)) (sym (same-image choice))
-        (subst (StandsFor g.spool.disk.story.now.bytes) ends.stands.is ends.stands);
     can = λ choice.
-        subst (λ (file : SpoolFile). AllCanBeSent file.list) (sym (same-cut choice)) is.on.made.did.sound.list;
-    slots_are = λ choice. ap (λ (file : SpoolFile). file.slots) (same-cut choice) ∙ is.slots_are;
+        subst (λ (file : SpoolFile). AllCanBeSent file.list) (sym (same-cut choice))
+        is.in_state.on.made.did.sound.list;
   }
 
-  pub power-anew : (choice : CutChoice) (now : ℕ)
-      → anew_over ghosts plan node None (Some g.spool.disk) choice now
-      ≡ anew_over ghosts plan node (Some g) None choice now
+  power-anew : (choice : CutChoice) (now : ℕ)
+      → starts_over plan (after_cut choice h.spool.spool.disk) ≡ anew_over ghosts plan (Some h) None choice now
   power-anew choice now =
       ap (λ (file : SpoolFile). starts plan file) (same-cut choice)
-      ∙ ap (λ (p : EquipmentPlan). starts p here) (sym is.plan_is)
+      ∙ ap (λ (p : EquipmentPlan). starts p (view_in ghosts h).file) (sym is.plan_is)
 
 -- whichever disk there is, a start anew finds what it is left with
-pub anew-of :
-    (plan : EquipmentPlan) (slots : ℕ) (node : Node OwnView Kind) (spool : Option (GemSpool DiskState))
-    (lost : Option DiskState) (disk : DiskState)
-    → IsWhole ghosts plan slots node spool lost → disk_of lost spool ≡ Some disk
-    → IsLost slots disk × ((choice : CutChoice) (now : ℕ)
-    → anew_over ghosts plan node None (Some disk) choice now ≡ anew_over ghosts plan node spool lost choice now)
-anew-of plan slots node None (Some lost) disk is same =
-    subst
-    (λ (d : DiskState). IsLost slots d × ((choice : CutChoice) (now : ℕ)
-    → anew_over ghosts plan node None (Some d) choice now ≡ anew_over ghosts plan node None (Some lost) choice now))
-    (let one : lost ≡ disk = cc in one) (is, λ choice now. refl)
-anew-of plan slots node (Some g) (Some lost) disk is same = absurd is
-anew-of plan slots node (Some g) None disk is same =
-    subst
-    (λ (d : DiskState). IsLost slots d × ((choice : CutChoice) (now : ℕ)
-    → anew_over ghosts plan node None (Some d) choice now ≡ anew_over ghosts plan node (Some g) None choice now))
-    (let one : g.spool.disk ≡ disk = cc in one)
-    (power-lost plan slots node g is, λ choice now. power-anew plan slots node g is choice now)
-anew-of plan slots node None None disk is same = absurd (cc)
+module _ (plan : EquipmentPlan) (disk : DiskState) (choice : CutChoice) (now : ℕ) where
+  -- it is lost then, and a start over what it is left with is the start anew
+  abbrev IsAnew : DiskState → Option (Held DiskState) → Option DiskState → Type 0
+  IsAnew d going lost =
+      IsLost d × (starts_over plan (after_cut choice d) ≡ anew_over ghosts plan going lost choice now)
+
+  anew-of : (going : Option (Held DiskState)) (lost : Option DiskState) → IsWhole ghosts plan going lost
+      → disk_of lost going ≡ Some disk → IsAnew disk going lost
+  anew-of None (Some lost) is same =
+      subst (λ (d : DiskState). IsAnew d None (Some lost)) (let one : lost ≡ disk = cc in one) (is, refl)
+  anew-of (Some h) (Some lost) is same = absurd is
+  anew-of (Some h) None is same =
+      subst (λ (d : DiskState). IsAnew d (Some h) None) (let one : h.spool.spool.disk ≡ disk = cc in one)
+      (power-lost plan h is, power-anew plan h is choice now)
+  anew-of None None is same = absurd (cc)
+
+  -- by what was taken out of it
+  pub restarted :
+      (going going_taken : Option (Held DiskState)) (lost lost_taken found : Option DiskState)
+      → found ≡ disk_of lost_taken going_taken → lost_taken ≡ lost → going_taken ≡ going → found ≡ Some disk
+      → IsWhole ghosts plan going lost → (new : EquipmentPlan) (after : Option (Held DiskState)) (out : StepOut)
+      (result : Result (Unit {0}) Stop)
+      → (IsLost disk → StartsAnew ghosts new (starts_over plan (after_cut choice disk)) after out result)
+      → StartsAnew ghosts new (anew_over ghosts plan going lost choice now) after out result
+  restarted going going_taken lost lost_taken found found_is lost_is going_is some is new after out result anew =
+      let same =
+      sym (found_is ∙ ap (λ (o : Option DiskState). disk_of o going_taken) lost_is
+      ∙ ap (λ (o : Option (Held DiskState)). disk_of lost o) going_is) ∙ some in
+      let both = anew-of going lost is same in
+      subst (λ (went : Went EquipmentView Happening). StartsAnew ghosts new went after out result) both.1 (anew both.0)

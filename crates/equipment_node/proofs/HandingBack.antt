@@ -27,14 +27,13 @@ use Rattle.message_end.specs.Parts.{Node}
 use Rattle.equipment_tables.specs.declared.plan.EquipmentPlan.{EquipmentPlan}
 use Rattle.spool_works.specs.declared.ended.Ended.{Ended}
 use Rattle.spool_works.specs.declared.ended.Ended.TheVariants as ended
-use Rattle.equipment_node.specs.declared.equipment.Seat.{Seat}
 use Rattle.equipment_node.specs.declared.equipment.Starting.{Starting}
 use Rattle.equipment_node.specs.declared.equipment.Starting.TheVariants as starting
 use Rattle.tool_step.specs.declared.kind.Kind.{Kind}
 use Rattle.equipment_node.specs.Amid.{Carries, DoesLast}
 use Rattle.tool_core.specs.Calls.{IsReached}
 use Rattle.spool_works.specs.HandedBack.{HandsBack, HasFailed, IsEnded, IsKept}
-use Rattle.equipment_node.specs.HandedBack.{SeatHandsBack, StartHandsBack}
+use Rattle.equipment_node.specs.HandedBack.{StartHandsBack}
 use Rattle.equipment_node.specs.Held.{Held, starting_by}
 use Rattle.tool_step.specs.Own.{OwnView, ToolPart}
 use Rattle.equipment_node.specs.StartOver.{StartsWith}
@@ -183,18 +182,14 @@ module _ {D : Type 0} (members : disk.Ghosts D) where
   untaken-back old (recovering.Failed spent) (inr is) = unread-back old spent.disk _ is
 
   pub seated-back :
-      (plan : EquipmentPlan) (g : GemSpool D) (base : ℕ) (out after : StepOut) (result : Result (Seat D) (Ended D))
-      → StartsWith plan g base out after result → SeatHandsBack members g.spool.disk result
-  seated-back plan g base out after (Ok e) starts =
+      (plan : EquipmentPlan) (g : GemSpool D) (base : ℕ) (out after : StepOut) (result : Result (Held D) (Starting D))
+      → StartsWith plan g base out after result → StartHandsBack members g.spool.disk result
+  seated-back plan g base out after (Ok h) starts =
       subst (λ (x : GemSpool D). IsKept members g.spool.disk x.spool.disk) (sym starts.0) (kept-still g.spool.disk)
-  seated-back plan g base out after (Err (ended.NoMemory spent)) starts = kept-at g.spool.disk spent.disk starts
-  seated-back plan g base out after (Err (ended.NumbersSpent spent)) starts = absurd starts
-  seated-back plan g base out after (Err (ended.DiskFailed spent)) starts = absurd starts
-
-  pub seat-then : (a b : D) (result : Result (Seat D) (Ended D)) → IsKept members a b
-      → SeatHandsBack members b result → SeatHandsBack members a result
-  seat-then a b (Ok e) one two = kept-then a b e.spool.spool.disk one two
-  seat-then a b (Err end) one two = ended-then a b end one two
+  seated-back plan g base out after (Err (starting.NoMemory spent)) starts = kept-at g.spool.disk spent.disk starts
+  seated-back plan g base out after (Err (starting.NumbersSpent spent)) starts = absurd starts
+  seated-back plan g base out after (Err (starting.DiskFailed spent)) starts = absurd starts
+  seated-back plan g base out after (Err (starting.NotSpool raw break)) starts = absurd starts
 
   pub start-then : (a b : D) (result : Result (Held D) (Starting D)) → IsKept members a b
       → StartHandsBack members b result → StartHandsBack members a result

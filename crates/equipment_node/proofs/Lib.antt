@@ -1,4 +1,3 @@
-pub mod Asking
 pub mod Beginning
 pub mod BreakPlaces
 pub mod Broken
@@ -17,6 +16,7 @@ pub mod OverDisk
 pub mod Readying
 pub mod Seated
 pub mod SpentMoves
+pub mod Standings
 pub mod StartCalled
 pub mod Staying
 pub mod StepBreaks

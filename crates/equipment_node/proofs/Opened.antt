@@ -138,9 +138,3 @@ module _ (old new : EndView Kind) (out_old out_new : StepOut)
     (is : IsCarried (Command.More 4096) old out_old new out_new) where
   pub more-core : new ≡ core_after (Command.More 4096) old
   more-core = sym (ap (λ (x : Step (EndView Kind) Note). x.next) (goes-same is))
-
-  pub more-notes : out_new.notes ≡ out_old.notes
-  more-notes = sym (ap (λ (x : Step (EndView Kind) Note). x.notes) (goes-same is))
-
-  pub more-line : out_new.line.items ≡ out_old.line.items
-  more-line = sym (ap (λ (x : Step (EndView Kind) Note). x.written) (goes-same is))

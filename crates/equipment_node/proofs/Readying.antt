@@ -21,7 +21,7 @@ use Rattle.spool_ledger.specs.declared.ledger.Stand.{Stand}
 use Rattle.spool_works.specs.declared.ended.Ended.{Ended}
 use Rattle.tool_step.specs.declared.kind.Kind.{Kind}
 use Rattle.equipment_node.specs.Amid.{DoesLast, IsReady, IsSendable, IsSoundOwn, asked_node, settled_node}
-use Rattle.tool_step.specs.Equipment.{EquipmentView, settled_own}
+use Rattle.tool_step.specs.Equipment.{settled_own}
 use Rattle.tool_law.proofs.Lawful.{AllKeepSound, KeepsSound, ended-sound, parts-sound, taking-sound}
 use Rattle.tool_law.proofs.MildCommands.{sound-self}
 use Rattle.tool_step.specs.Own.{OwnView}
@@ -29,22 +29,8 @@ use Rattle.tool_law.specs.Sound.{IsSound}
 use Rattle.tool_step.specs.Spooling.{end_of_spooling}
 use Rattle.tool_law.proofs.SpoolSound.{carried-good, next-good}
 use Rattle.tool_step.specs.Step.{offer}
-use Rattle.equipment_node.specs.Stepping.{IsOn}
 use Rattle.tool_step.specs.Taking.{taking}
 use Rattle.equipment_node.proofs.FirstParts.{same-count}
-use Rattle.equipment_node.proofs.OnDisk.{counted}
-
--- ---- from a state that doings have made
-
-pub on-ready :
-    {D : Type 0} (members : disk.Ghosts D) (v : SpoolView D) (node : Node OwnView Kind) (s : EquipmentView)
-    → node ≡ s.node → IsOn members v s → IsReady v node
-on-ready members v node s same on = record {
-  count = counted members v s on.clear ∙ ap (λ (n : Node OwnView Kind). stood_count n.own.ledger) (sym same);
-  sound =
-      subst (λ (n : Node OwnView Kind). IsSoundOwn n.own) (sym same)
-      (record { plan = on.made.plan; fits = on.made.fits; sound = on.made.did.sound.own });
-}
 
 -- ---- where the numbers stay
 

@@ -1,30 +1,31 @@
 -- That the spool in hand tells its state, and what becomes of it in a step and at a start.
-use Rattle.std.proofs.Common.{◌≡◌, sym, ap, subst, ◌∙◌, ℕ, Bool, false, [], ◌∷◌, Option, Some, if◌then◌else◌}
+use Rattle.std.proofs.Common.{◌≡◌, sym, ap, subst, ◌∙◌, ℕ, Bool, true, [], ◌∷◌, Option, Some, if◌then◌else◌}
 use Rattle.std.specs.Prelude.{Err}
 use Rattle.disk_base.specs.Story.{Story}
 use Rattle.disk_base.specs.declared.disk.Disk as disk
 use Rattle.gem_spool.specs.declared.spool.GemSpool.{GemSpool}
 use Rattle.gem_spool.specs.Standing.{file_told, standing_of}
 use Rattle.message_flow.specs.declared.step.StepOut.{StepOut}
-use Rattle.spool_slots.specs.File.{SpoolFile}
+use Rattle.spool_slots.specs.File.{SpoolFile, file_in}
 use Rattle.spool_slots.specs.Spool.{known_of}
 use Rattle.trace_log.specs.declared.commands.ToolCommand.{ToolCommand}
 use Rattle.trace_log.specs.Log.{Happening}
 use Rattle.message_end.specs.declared.end.Stop.{Stop}
-use Rattle.message_end.specs.declared.end.Stop.TheVariants as stop
 use Rattle.message_end.specs.Core.{Step, Went, at_first}
 use Rattle.message_end.specs.Core.Went.{Goes, Spent}
-use Rattle.message_end.specs.Ends.{HasGone, HasStarted, Input, IsNotStopped, Leaves, OnStart, Starts}
+use Rattle.message_end.specs.Ends.{HasGone, HasSpent, HasStarted, Input, IsEmpty, IsNotStopped, Leaves, OnStart, Starts}
 use Rattle.message_end.specs.Parts.{Node}
 use Rattle.equipment_tables.specs.declared.plan.EquipmentPlan.{EquipmentPlan}
 use Rattle.equipment_tables.specs.Plan.{EquipmentPlanFits}
 use Rattle.spool_works.specs.declared.ended.Ended.{Ended}
 use Rattle.spool_works.specs.declared.ended.Ended.TheVariants as ended
+use Rattle.equipment_node.specs.declared.equipment.Starting.{Starting}
+use Rattle.equipment_node.specs.declared.equipment.Starting.TheVariants as starting
 use Rattle.tool_step.specs.declared.kind.Kind.{Kind}
-use Rattle.tool_core.specs.declared.own.Tool.{Tool}
 use Rattle.tool_step.specs.Disk.{stops}
-use Rattle.tool_step.specs.Equipment.{EquipmentView, act, started_on, starts}
-use Rattle.equipment_node.specs.InMemory.{stop_told}
+use Rattle.tool_step.specs.Equipment.{EquipmentView, act, is_marked_out, started_on, starts}
+use Rattle.equipment_node.specs.Held.{Begins, HasMoved, Held, IsIn, view_in}
+use Rattle.equipment_node.specs.InMemory.{stop_at_start}
 use Rattle.tool_law.specs.Laws.{DidOf}
 use Rattle.tool_law.proofs.LawfulLosses.{equipment_lawful}
 use Rattle.tool_core.specs.Node.{node_of}
@@ -50,30 +51,22 @@ module _ {D : Type 0} (members : disk.Ghosts D) where
 
   -- ---- a step
 
-  pub step-gone :
-      (s : EquipmentView) (input : Input ToolCommand) (now : ℕ) (node : Node OwnView Kind) (out : StepOut)
-      (g : GemSpool D) → HasStepped members s input now node out g
-      → HasGone (act s input now) (view_of members node (Some g)) out
-  step-gone s input now node out g is = record {
-    step = is.step;
-    is = is.is;
-    next_is = seen g node is.step.next is.on.clear is.told (sym is.node_is);
-    notes = is.notes;
-    written = is.written;
-  }
-
-  pub step-on :
-      (s : EquipmentView) (input : Input ToolCommand) (now : ℕ) (node : Node OwnView Kind) (out : StepOut)
-      (g : GemSpool D) → HasStepped members s input now node out g
-      → IsOn members g.spool (view_of members node (Some g))
-  step-on s input now node out g is =
-      subst (λ (t : EquipmentView). IsOn members g.spool t)
-      (seen g node is.step.next is.on.clear is.told (sym is.node_is)) is.on
+  pub step-moved :
+      (h k : Held D) (input : Input ToolCommand) (now : ℕ) (out : StepOut)
+      → HasStepped members (view_in members h) input now (node_of k.tool) out k.spool
+      → HasMoved members h input now out k
+  step-moved h k input now out is =
+      let same = seen k.spool (node_of k.tool) is.step.next is.on.clear is.told (sym is.node_is) in
+      record {
+        gone = record { step = is.step; is = is.is; next_is = same; notes = is.notes; written = is.written };
+        in_state =
+            record { on = subst (λ (t : EquipmentView). IsOn members k.spool.spool t) same is.on; told = is.told };
+      }
 
   -- ---- a start
 
-  module _ (plan : EquipmentPlan) (fits : EquipmentPlanFits plan) (g h : GemSpool D) (tool : Tool) (out : StepOut)
-      (is : HasStartedOver members plan g tool h out)
+  module _ (plan : EquipmentPlan) (fits : EquipmentPlanFits plan) (g : GemSpool D) (h : Held D) (out : StepOut)
+      (is : HasStartedOver members plan g h out)
     where
       abbrev file : SpoolFile
       file = (standing_of members g.spool).file
@@ -85,10 +78,10 @@ module _ {D : Type 0} (members : disk.Ghosts D) where
       goes =
           ap (λ (out : Bool). if out then Spent (at_first (record step.next { file = file })) else Goes step) is.room
 
-      pub view-is : step.next ≡ view_of members (node_of tool) (Some h)
-      view-is = seen h (node_of tool) step.next is.clear is.told is.node_is
+      view-is : step.next ≡ view_in members h
+      view-is = seen h.spool (node_of h.tool) step.next is.clear is.told is.node_is
 
-      pub start-gone : HasGone (starts plan file) (view_of members (node_of tool) (Some h)) out
+      pub start-gone : HasGone (starts plan file) (view_in members h) out
       start-gone =
           record { step = step; is = goes; next_is = view-is; notes = is.notes; written = is.quiet }
 
@@ -101,10 +94,13 @@ module _ {D : Type 0} (members : disk.Ghosts D) where
           goes law.starts in
           record { plan = plan; fits = fits; base = start.base; doings = []; did = start.is }
 
-      pub start-on : AllCanBeSent file.list → IsOn members h.spool (view_of members (node_of tool) (Some h))
-      start-on can =
-          subst (λ (t : EquipmentView). IsOn members h.spool t) view-is
-          (record { clear = is.clear; made = made can })
+      pub start-in : AllCanBeSent file.list → IsIn members h
+      start-in can = record {
+        on =
+            subst (λ (t : EquipmentView). IsOn members h.spool.spool t) view-is
+            (record { clear = is.clear; made = made can });
+        told = is.told;
+      }
 
 -- ---- an end that may have stopped
 
@@ -128,49 +124,51 @@ stops-by members s input now node next out (ended.NumbersSpent spent) steps = st
 
 -- ---- a start of an end
 
-module _ {D : Type 0} (members : disk.Ghosts D) (plan : EquipmentPlan) (fits : EquipmentPlanFits plan) (g : GemSpool D)
-    (out : StepOut)
-  where
-    abbrev kept : SpoolFile
-    kept = (standing_of members g.spool).file
-
-    abbrev first : Went EquipmentView Happening
-    first = starts plan kept
-
-    abbrev whole : Step EquipmentView Happening
-    whole = started_on plan kept
-
-    abbrev unmarked : Step EquipmentView Happening
-    unmarked = at_first (record whole.next { file = kept })
-
-    -- nothing is noted where it doesn't start
-    pub start-ends :
-        (end : Ended D) → StartsOver members plan g out (Err end) → (next : EquipmentView)
-        → Leaves ([] ∷ []) first next out (Err (stop_told false (stop_by end)))
-    start-ends (ended.NoMemory spent) is next = is.0
-    start-ends (ended.DiskFailed spent) is next = is.1
-    start-ends (ended.NumbersSpent spent) is next = record {
+-- no system bytes are left
+start-spent :
+    (plan : EquipmentPlan) (file : SpoolFile) (out : StepOut) → is_marked_out file.mark.value ≡ true → IsEmpty out
+    → HasSpent (starts plan file) out
+start-spent plan file out marked empty =
+    let whole : Step EquipmentView Happening = started_on plan file in
+    let unmarked : Step EquipmentView Happening = at_first (record whole.next { file = file }) in
+    record {
       step = unmarked;
-      is = ap (λ (out : Bool). if out then Spent unmarked else Goes whole) is.0;
-      notes = is.1;
-      quiet = is.2;
+      is = ap (λ (out : Bool). if out then Spent unmarked else Goes whole) marked;
+      notes = empty.notes;
+      quiet = empty.line;
     }
 
-    -- the same of a first start
-    pub started-ends :
-        {E : Type 0} (means : E → EquipmentView) (end : Ended D) → StartsOver members plan g out (Err end)
-        → (why : Stop) → why ≡ stop_told false (stop_by end) → Starts {E = E} ([] ∷ []) first means out (Err why)
-    started-ends {E} means end is why why_is =
-        subst (λ (e : Stop). Starts {E = E} ([] ∷ []) first means out (Err e)) (sym why_is) (go end is)
-      where
-        go : (end : Ended D) → StartsOver members plan g out (Err end)
-            → Starts {E = E} ([] ∷ []) first means out (Err (stop_told false (stop_by end)))
-        go (ended.NoMemory spent) is = start-ends (ended.NoMemory spent) is whole.next
-        go (ended.DiskFailed spent) is = start-ends (ended.DiskFailed spent) is whole.next
-        go (ended.NumbersSpent spent) is = start-ends (ended.NumbersSpent spent) is whole.next
+module _ {D : Type 0} (members : disk.Ghosts D) (plan : EquipmentPlan) (out : StepOut) where
+  -- nothing is noted where it doesn't start, over a spool in hand
+  pub started-ends :
+      {E : Type 0} (g : GemSpool D) (means : E → EquipmentView) (why : Starting D)
+      → StartsOver members plan g out (Err why) → (told : Stop) → told ≡ stop_at_start why
+      → Starts {E = E} ([] ∷ []) (starts plan (standing_of members g.spool).file) means out (Err told)
+  started-ends {E} g means why is told told_is =
+      subst
+      (λ (e : Stop). Starts {E = E} ([] ∷ []) (starts plan (standing_of members g.spool).file) means out (Err e))
+      (sym told_is) (go why is)
+    where
+      go : (why : Starting D) → StartsOver members plan g out (Err why)
+          → Starts {E = E} ([] ∷ []) (starts plan (standing_of members g.spool).file) means out
+          (Err (stop_at_start why))
+      go (starting.NoMemory spent) is = is.0
+      go (starting.NotSpool raw break) is = absurd is
+      go (starting.DiskFailed spent) is = is.0.line
+      go (starting.NumbersSpent spent) is = start-spent plan (standing_of members g.spool).file out is.1 is.0
+
+  -- nor over a device that tells its bytes
+  pub begun-ends :
+      (s : Story) (next : EquipmentView) (why : Starting D) → Begins members plan s out (Err why)
+      → Leaves ([] ∷ []) (starts plan (file_in s.now.bytes)) next out (Err (stop_at_start why))
+  begun-ends s next (starting.NoMemory spent) is = is.0
+  begun-ends s next (starting.NotSpool raw break) is = is.0.line
+  begun-ends s next (starting.DiskFailed spent) is = is.0.line
+  begun-ends s next (starting.NumbersSpent spent) is = start-spent plan (file_in s.now.bytes) out is.1 is.0
 
 -- nor does its disk stop it
-pub told-whole : (R : Type 0) (why : Stop) → IsNotStopped {R = R} (Err (stop_told false why))
-told-whole R stop.NoMemory = tt
-told-whole R stop.NumbersSpent = tt
-told-whole R stop.DiskFailed = tt
+pub start-whole : {D : Type 0} (R : Type 0) (why : Starting D) → IsNotStopped {R = R} (Err (stop_at_start why))
+start-whole R (starting.NoMemory spent) = tt
+start-whole R (starting.NotSpool raw break) = tt
+start-whole R (starting.DiskFailed spent) = tt
+start-whole R (starting.NumbersSpent spent) = tt

@@ -19,14 +19,11 @@ use Rattle.spool_slots.specs.declared.states.Recovering.TheVariants as recoverin
 use Rattle.spool_slots.specs.declared.states.Reserving.TheVariants as reserving
 use Rattle.spool_slots.specs.declared.states.Spent.{Spent as Device}
 use Rattle.equipment_tables.specs.declared.plan.EquipmentPlan.{EquipmentPlan}
-use Rattle.spool_works.specs.declared.ended.Ended.{Ended}
-use Rattle.spool_works.specs.declared.ended.Ended.TheVariants as ended
-use Rattle.equipment_node.specs.declared.equipment.Seat.{Seat}
 use Rattle.equipment_node.specs.declared.equipment.Starting.{Starting}
 use Rattle.equipment_node.specs.declared.equipment.Starting.TheVariants as starting
 use Rattle.spool_works.specs.DiskCalls.{HasMade, mark_calls, syncs}
 use Rattle.equipment_node.specs.Held.{Held, starting_by}
-use Rattle.equipment_node.specs.StartCalls.{AreLooks, CallsInStart, MovesMark, StartMoves}
+use Rattle.equipment_node.specs.StartCalls.{AreLooks, CallsInStart, StartMoves}
 use Rattle.equipment_node.specs.StartOver.{StartsWith}
 use Rattle.spool_works.proofs.Called.{made-same, mark-made, mark-stops, with-both, with-none}
 use Rattle.equipment_node.specs.Stepping.{IsTold}
@@ -50,26 +47,27 @@ module _ {D : Type 0} (members : disk.Ghosts D) where
     where
       pub mark-moved :
           (plan : EquipmentPlan) (h : GemSpool D) (base first : ℕ) (out_old out_new : StepOut)
-          (result : Result (Seat D) (Ended D)) → ReservesFrom members g h (Some base)
-          → StartsWith plan h first out_old out_new result → MovesMark members g.spool.disk st.file result
+          (result : Result (Held D) (Starting D)) → ReservesFrom members g h (Some base)
+          → StartsWith plan h first out_old out_new result → StartMoves members g.spool.disk st.file result
       mark-moved plan h base first out_old out_new (Ok e) done is =
           subst (λ (x : GemSpool D). HasMade members g.spool.disk x.spool.disk (mark_calls st.file.mark)) (sym is.0)
           (mark-made members g.spool h.spool.disk st stands told.0 told.1 done.0.0)
-      mark-moved plan h base first out_old out_new (Err (ended.NoMemory spent)) done is =
+      mark-moved plan h base first out_old out_new (Err (starting.NoMemory spent)) done is =
           subst (λ (d : D). HasMade members g.spool.disk d (mark_calls st.file.mark)) (sym is)
           (mark-made members g.spool h.spool.disk st stands told.0 told.1 done.0.0)
-      mark-moved plan h base first out_old out_new (Err (ended.NumbersSpent spent)) done is = absurd is
-      mark-moved plan h base first out_old out_new (Err (ended.DiskFailed spent)) done is = absurd is
+      mark-moved plan h base first out_old out_new (Err (starting.NumbersSpent spent)) done is = absurd is
+      mark-moved plan h base first out_old out_new (Err (starting.DiskFailed spent)) done is = absurd is
+      mark-moved plan h base first out_old out_new (Err (starting.NotSpool raw break)) done is = absurd is
 
       pub mark-stays :
           (h : GemSpool D) (spent : Device D) → ReservesFrom members g h None → spent.disk ≡ h.spool.disk
-          → MovesMark members g.spool.disk st.file (Err (ended.NumbersSpent spent))
+          → StartMoves members g.spool.disk st.file (Err (starting.NumbersSpent spent))
       mark-stays h spent done same =
           made-same members g.spool.disk spent.disk (same ∙ ap (λ (x : GemSpool D). x.spool.disk) done.0)
 
       pub move-stops :
           (spent : Device D) → Reserves members g.spool (Err (reserving.Failed spent))
-          → MovesMark members g.spool.disk st.file (Err (ended.DiskFailed spent))
+          → StartMoves members g.spool.disk st.file (Err (starting.DiskFailed spent))
       move-stops spent done = mark-stops members g.spool spent.disk st stands told.0 told.1 done.0
 
   -- ---- from a device

@@ -39,7 +39,7 @@ use Rattle.tool_step.proofs.LossCalls.{losses-count}
 use Rattle.tool_step.specs.Losses.{loss_at, losses, losses_of}
 use Rattle.tool_step.specs.Own.{OwnView, ToolPart}
 use Rattle.equipment_node.specs.Stepping.{IsClear, IsTold}
-use Rattle.equipment_node.proofs.Asking.{calls-change, opened-behind}
+use Rattle.equipment_node.proofs.Standings.{calls-change, opened-behind}
 use Rattle.equipment_node.proofs.Broken.{breaks-before, breaks-behind, passes-both}
 use Rattle.spool_works.proofs.BrokenList.{works-break, works_left}
 use Rattle.spool_works.proofs.BrokenPasses.{used-passes}

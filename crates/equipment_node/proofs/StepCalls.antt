@@ -38,7 +38,7 @@ use Rattle.tool_step.specs.Equipment.{EquipmentView, begun_step, is_marked_out, 
 use Rattle.tool_step.specs.Own.{OwnView, ToolPart}
 use Rattle.tool_step.specs.Step.{first_parts}
 use Rattle.equipment_node.specs.Stepping.{IsClear, IsTold}
-use Rattle.equipment_node.proofs.Asking.{changes-stand, opened-behind}
+use Rattle.equipment_node.proofs.Standings.{changes-stand, opened-behind}
 use Rattle.spool_works.proofs.Called.{all-failed, all-made, failed-before, failed-behind, look-made, look-stops, made-same, made-then, mark-made, mark-stops}
 use Rattle.equipment_node.proofs.Opened.{mark-failed}
 use Rattle.equipment_node.proofs.OverDisk.{done-standing, takes-settled}

@@ -2,14 +2,12 @@
 use Rattle.std.proofs.Common.{◌≡◌, refl, sym, ap, subst, ◌∙◌, arith, zero, suc, ◌≤◌, ◌&&◌, nat_le, Bool, true, false, ℕ, List, [], ◌∷◌, length, Option, Some, None, is_some}
 use Rattle.std.proofs.lemmas.Bool.Decides.{nat_tests}
 use Rattle.std.specs.Prelude.{IfSome, slice_get, Err}
-use Rattle.disk_base.specs.Cut.{image_of}
 use Rattle.disk_base.specs.Faults.{IsAmong}
 use Rattle.disk_base.specs.MemDisk.{DiskState, disk_health}
 use Rattle.disk_base.specs.contracts.mem_disk.MemDiskDisk.TheImpl.{ghosts}
 use Rattle.disk_base.specs.declared.cut.CutChoice.{CutChoice}
-use Rattle.gem_spool.specs.declared.spool.GemSpool.{GemSpool}
 use Rattle.message_flow.specs.declared.step.StepOut.{StepOut}
-use Rattle.spool_slots.specs.File.{SpoolFile, StandsFor}
+use Rattle.spool_slots.specs.File.{SpoolFile}
 use Rattle.spool_slots.specs.declared.states.Spent.{Spent as Device}
 use Rattle.trace_log.specs.declared.commands.ToolCommand.{ToolCommand}
 use Rattle.trace_log.specs.Log.{Happening}
@@ -17,17 +15,16 @@ use Rattle.message_end.specs.declared.end.Stop.{Stop}
 use Rattle.message_end.specs.declared.end.Stop.TheVariants as stop
 use Rattle.message_end.specs.Core.{Went, step_in}
 use Rattle.message_end.specs.Ends.{EndsBy, HasLost, Input, IsNearer, Leaves, Loss, call_of}
-use Rattle.message_end.specs.Parts.{Node}
 use Rattle.equipment_tables.specs.declared.plan.EquipmentPlan.{EquipmentPlan}
 use Rattle.spool_works.specs.declared.ended.Ended.{Ended}
 use Rattle.spool_works.specs.declared.ended.Ended.TheVariants as ended
-use Rattle.tool_step.specs.declared.kind.Kind.{Kind}
 use Rattle.equipment_node.specs.Breaking.{BreaksAt, BreaksBy, HasBrokenAt, Passes}
 use Rattle.spool_works.specs.Breaking.{HasRoomLeft, IsGoingDisk, LeavesImages}
 use Rattle.tool_step.specs.Disk.{standing_in, works_of}
-use Rattle.spool_works.specs.DiskCalls.{disk_in}
+use Rattle.equipment_node.specs.DiskCalls.{disk_held}
 use Rattle.tool_step.specs.End.{machine}
 use Rattle.tool_step.specs.Equipment.{EquipmentView, act, begun_step, restarts, starts}
+use Rattle.equipment_node.specs.Held.{HasMoved, Held, view_in}
 use Rattle.equipment_node.specs.InMemory.{HasPower, IsLost, IsWhole, anew_over, file_cut, lost_by, lost_if, stop_told}
 use Rattle.spool_works.specs.SpoolLosses.{Left}
 use Rattle.tool_law.proofs.Lawful.{IsGoodView, act-good}
@@ -35,11 +32,8 @@ use Rattle.tool_law.proofs.LawfulLosses.{LeavesWell, all-well}
 use Rattle.tool_step.proofs.LossCalls.{IsAtCall, at-call}
 use Rattle.spool_works.proofs.LossCounts.{has-call}
 use Rattle.tool_step.specs.Losses.{left_as, losses}
-use Rattle.tool_step.specs.Own.{OwnView}
 use Rattle.tool_law.specs.Sound.{AllCanBeSent}
-use Rattle.equipment_node.specs.Stepping.{HasStepped, stop_by, view_of}
-use Rattle.tool_step.proofs.StepFiles.{act-slots}
-use Rattle.equipment_node.proofs.Seated.{seen, step-on}
+use Rattle.equipment_node.specs.Stepping.{IsMade, stop_by}
 
 -- ---- a call that isn't among these
 
@@ -62,64 +56,58 @@ three true true false is = absurd (cc)
 three true false c is = absurd (cc)
 three false b c is = absurd (cc)
 
-module _ (plan : EquipmentPlan) (slots : ℕ) (node : Node OwnView Kind) (g : GemSpool DiskState)
-    (power : HasPower ghosts plan slots node g) (input : Input ToolCommand) (now : ℕ) (out : StepOut)
+module _ (plan : EquipmentPlan) (h : Held DiskState) (power : HasPower ghosts plan h) (input : Input ToolCommand)
+    (now : ℕ) (out : StepOut)
   where
     abbrev s : EquipmentView
-    s = view_of ghosts node (Some g)
+    s = view_in ghosts h
 
     abbrev some : List (Loss EquipmentView)
     some = losses s input now
 
     abbrev call : ℕ
-    call = g.spool.disk.plan.stop_in
+    call = h.spool.spool.disk.plan.stop_in
 
-    good : IsGoodView power.on.made.plan power.on.made.fits s
-    good = record { own = power.on.made.did.sound.own; list = power.on.made.did.sound.list }
+    abbrev made : IsMade s
+    made = power.in_state.on.made
 
-    goes : IsGoingDisk (disk_health g.spool.disk)
+    good : IsGoodView made.plan made.fits s
+    good = record { own = made.did.sound.own; list = made.did.sound.list }
+
+    goes : IsGoingDisk (disk_health h.spool.spool.disk)
     goes =
         record { fails_not = power.fails_not; going = record { exact = refl; on = power.going } }
 
     -- ---- it goes on
 
-    module _ (mid : Node OwnView Kind) (h : GemSpool DiskState) (has : HasStepped ghosts s input now mid out h)
-        (passes : Passes ghosts g.spool.disk some h.spool.disk)
+    module _ (k : Held DiskState) (moved : HasMoved ghosts h input now out k)
+        (passes : Passes ghosts h.spool.spool.disk some k.spool.spool.disk)
       where
         pub ok-ends :
             (lost : Option DiskState) → lost ≡ None
-            → IsNearer some call h.spool.disk.plan.stop_in × (is_some lost ≡ false)
+            → IsNearer some call k.spool.spool.disk.plan.stop_in × (is_some lost ≡ false)
         ok-ends lost none = (
           record { passes = none-at call some (passes goes).passes; left = (passes goes).nearer },
           ap (λ (o : Option DiskState). is_some o) none,
         )
 
-        plan-is : mid.own.plan ≡ plan
-        plan-is =
-            ap (λ (n : Node OwnView Kind). n.own.plan) (sym has.node_is)
-            ∙ sym (ap (λ (went : Went EquipmentView Happening). (step_in went).next.node.own.plan) has.is)
-            ∙ (act-good power.on.made.plan power.on.made.fits s input now good).own.plan_is ∙ sym good.own.plan_is
-            ∙ power.plan_is
+        next-is : (step_in (act s input now)).next ≡ view_in ghosts k
+        next-is =
+            ap (λ (went : Went EquipmentView Happening). (step_in went).next) moved.gone.is ∙ moved.gone.next_is
 
-        slots-are : (view_of ghosts mid (Some h)).file.slots ≡ slots
-        slots-are =
-            ap (λ (t : EquipmentView). t.file.slots)
-            (sym (seen ghosts h mid has.step.next has.on.clear has.told (sym has.node_is)))
-            ∙ sym (ap (λ (went : Went EquipmentView Happening). (step_in went).next.file.slots) has.is)
-            ∙ act-slots s input now ∙ power.slots_are
-
-        ok-power : HasPower ghosts plan slots mid h
+        ok-power : HasPower ghosts plan k
         ok-power = record {
-          on = step-on ghosts s input now mid out h has;
+          in_state = moved.in_state;
           fails_not = (passes goes).on.fails_not;
           going = (passes goes).on.going.on;
-          plan_is = plan-is;
-          slots_are = slots-are;
+          plan_is =
+              ap (λ (x : EquipmentView). x.node.own.plan) (sym next-is)
+              ∙ (act-good made.plan made.fits s input now good).own.plan_is ∙ sym good.own.plan_is ∙ power.plan_is;
         }
 
-        pub ok-whole : (lost : Option DiskState) → lost ≡ None → IsWhole ghosts plan slots mid (Some h) lost
+        pub ok-whole : (lost : Option DiskState) → lost ≡ None → IsWhole ghosts plan (Some k) lost
         ok-whole lost none =
-            subst (λ (o : Option DiskState). IsWhole ghosts plan slots mid (Some h) o) (sym none) ok-power
+            subst (λ (o : Option DiskState). IsWhole ghosts plan (Some k) o) (sym none) ok-power
 
     -- ---- a planned call has stopped its disk
 
@@ -130,7 +118,7 @@ module _ (plan : EquipmentPlan) (slots : ℕ) (node : Node OwnView Kind) (g : Ge
       at-left : IsAtCall Well s at.loss
       at-left =
           at-call Well s (works_of s input now) (standing_in s) [] (step_in (begun_step s input now)).notes at.loss
-          (all-well power.on.made.plan power.on.made.fits s input now good) (has-call call some at.loss at.is)
+          (all-well made.plan made.fits s input now good) (has-call call some at.loss at.is)
 
       left-is : (choice : CutChoice) → at.loss.left choice ≡ left_as s (at-left.left choice)
       left-is choice = ap (λ (one : Loss EquipmentView). one.left choice) at-left.is
@@ -142,45 +130,37 @@ module _ (plan : EquipmentPlan) (slots : ℕ) (node : Node OwnView Kind) (g : Ge
       can-left choice =
           subst (λ (left : EquipmentView). AllCanBeSent left.file.list) (sym (left-is choice)) (at-left.at choice).can
 
-      slots-left : (choice : CutChoice) → (at.loss.left choice).file.slots ≡ slots
-      slots-left choice =
-          ap (λ (left : EquipmentView). left.file.slots) (left-is choice) ∙ (at-left.at choice).slots_are
-          ∙ power.slots_are
-
-      is-lost : IsLost slots lost
+      is-lost : IsLost lost
       is-lost = record {
-        stands = λ choice. subst (StandsFor (image_of choice lost.story)) (at.left choice).is (at.left choice);
         can = λ choice.
             subst (λ (file : SpoolFile). AllCanBeSent file.list) (sym (file-is choice)) (can-left choice);
-        slots_are = λ choice. ap (λ (file : SpoolFile). file.slots) (file-is choice) ∙ slots-left choice;
       }
 
-      starts-so : (mid : Node OwnView Kind) (choice : CutChoice) (later : ℕ)
-          → anew_over ghosts plan mid None (Some lost) choice later ≡ restarts (at.loss.left choice) later
-      starts-so mid choice later =
+      starts-so : (choice : CutChoice) (later : ℕ)
+          → anew_over ghosts plan None (Some lost) choice later ≡ restarts (at.loss.left choice) later
+      starts-so choice later =
           ap (λ (file : SpoolFile). starts plan file) (file-is choice)
           ∙ ap (λ (p : EquipmentPlan). starts p (at.loss.left choice).file)
           (sym (ap (λ (left : EquipmentView). left.node.own.plan) (left-is choice) ∙ power.plan_is))
 
-      has-lost : (mid : Node OwnView Kind)
-          → HasLost machine some call (λ choice later. anew_over ghosts plan mid None (Some lost) choice later) out
-      has-lost mid = record {
+      has-lost : HasLost machine some call (λ choice later. anew_over ghosts plan None (Some lost) choice later) out
+      has-lost = record {
         loss = at.loss;
         is = at.is;
         notes = at.noted;
-        starts = λ choice later. starts-so mid choice later;
+        starts = λ choice later. starts-so choice later;
       }
 
     -- ---- it ends
 
-    abbrev Ends : Node OwnView Kind → Option (GemSpool DiskState) → Option DiskState → ℕ → Stop → Type 0
-    Ends mid spool lost after why =
+    abbrev Ends : Option (Held DiskState) → Option DiskState → ℕ → Stop → Type 0
+    Ends going lost after why =
         EndsBy machine some call after (is_some lost)
-        (λ choice later. anew_over ghosts plan mid spool lost choice later) out (Err why)
+        (λ choice later. anew_over ghosts plan going lost choice later) out (Err why)
 
     module _ (spent : Device DiskState)
-        (breaks : IsGoingDisk (disk_health g.spool.disk)
-        → BreaksAt ghosts g.spool.disk some spent.disk out.notes)
+        (breaks : IsGoingDisk (disk_health h.spool.spool.disk)
+        → BreaksAt ghosts h.spool.spool.disk some spent.disk out.notes)
       where
         abbrev is_stopped : Bool
         is_stopped =
@@ -203,64 +183,63 @@ module _ (plan : EquipmentPlan) (slots : ℕ) (node : Node OwnView Kind) (g : Ge
                 record { calls = grind (arith, nat_tests, enough); bytes = grind (arith, nat_tests, wide) }
 
         failed-ends :
-            (mid : Node OwnView Kind) (after : ℕ) (is : Bool) → is_stopped ≡ is
+            (after : ℕ) (is : Bool) → is_stopped ≡ is
             → IfSome (lost_if is spent.disk) (λ (d : DiskState). LeavesImages d.story)
-            → Ends mid None (lost_if is spent.disk) after (stop_told (is_some (lost_if is spent.disk)) stop.DiskFailed)
-        failed-ends mid after true so images = has-lost spent.disk (broken so images) mid
-        failed-ends mid after false so images = tt
+            → Ends None (lost_if is spent.disk) after (stop_told (is_some (lost_if is spent.disk)) stop.DiskFailed)
+        failed-ends after true so images = has-lost spent.disk (broken so images)
+        failed-ends after false so images = tt
 
         failed-whole :
-            (mid : Node OwnView Kind) (is : Bool) → is_stopped ≡ is
+            (is : Bool) → is_stopped ≡ is
             → IfSome (lost_if is spent.disk) (λ (d : DiskState). LeavesImages d.story)
-            → IsWhole ghosts plan slots mid None (lost_if is spent.disk)
-        failed-whole mid true so images = is-lost spent.disk (broken so images)
-        failed-whole mid false so images = tt
+            → IsWhole ghosts plan None (lost_if is spent.disk)
+        failed-whole true so images = is-lost spent.disk (broken so images)
+        failed-whole false so images = tt
+
+    abbrev Breaks : Ended DiskState → Type 0
+    Breaks end = BreaksBy ghosts disk_held h.spool.spool.disk some out.notes (Err end)
 
     ends-at :
-        (mid : Node OwnView Kind) (end : Ended DiskState) (after : ℕ)
-        → IfSome (lost_by end) (λ (d : DiskState). LeavesImages d.story)
-        → BreaksBy ghosts disk_in g.spool.disk some out.notes (Err end)
-        → Ends mid None (lost_by end) after (stop_told (is_some (lost_by end)) (stop_by end))
-    ends-at mid (ended.NoMemory spent) after images breaks = tt
-    ends-at mid (ended.NumbersSpent spent) after images breaks = none-at call some (breaks goes).passes
-    ends-at mid (ended.DiskFailed spent) after images breaks =
-        failed-ends spent breaks mid after (is_stopped spent breaks) refl images
+        (end : Ended DiskState) (after : ℕ)
+        → IfSome (lost_by end) (λ (d : DiskState). LeavesImages d.story) → Breaks end
+        → Ends None (lost_by end) after (stop_told (is_some (lost_by end)) (stop_by end))
+    ends-at (ended.NoMemory spent) after images breaks = tt
+    ends-at (ended.NumbersSpent spent) after images breaks = none-at call some (breaks goes).passes
+    ends-at (ended.DiskFailed spent) after images breaks =
+        failed-ends spent breaks after (is_stopped spent breaks) refl images
 
     whole-at :
-        (mid : Node OwnView Kind) (end : Ended DiskState)
-        → IfSome (lost_by end) (λ (d : DiskState). LeavesImages d.story)
-        → BreaksBy ghosts disk_in g.spool.disk some out.notes (Err end)
-        → IsWhole ghosts plan slots mid None (lost_by end)
-    whole-at mid (ended.NoMemory spent) images breaks = tt
-    whole-at mid (ended.NumbersSpent spent) images breaks = tt
-    whole-at mid (ended.DiskFailed spent) images breaks =
-        failed-whole spent breaks mid (is_stopped spent breaks) refl images
+        (end : Ended DiskState) → IfSome (lost_by end) (λ (d : DiskState). LeavesImages d.story) → Breaks end
+        → IsWhole ghosts plan None (lost_by end)
+    whole-at (ended.NoMemory spent) images breaks = tt
+    whole-at (ended.NumbersSpent spent) images breaks = tt
+    whole-at (ended.DiskFailed spent) images breaks =
+        failed-whole spent breaks (is_stopped spent breaks) refl images
 
-    module _ (mid : Node OwnView Kind) (end : Ended DiskState) (lost : Option DiskState) (lost-is : lost ≡ lost_by end)
-        (images : IfSome lost (λ (d : DiskState). LeavesImages d.story)) (spool : Option (GemSpool DiskState))
-        (gone : spool ≡ None)
-        (breaks : BreaksBy ghosts disk_in g.spool.disk some out.notes (Err end))
+    module _ (end : Ended DiskState) (lost : Option DiskState) (lost-is : lost ≡ lost_by end)
+        (images : IfSome lost (λ (d : DiskState). LeavesImages d.story)) (going : Option (Held DiskState))
+        (gone : going ≡ None) (breaks : Breaks end)
       where
         images-by : IfSome (lost_by end) (λ (d : DiskState). LeavesImages d.story)
         images-by = subst (λ (o : Option DiskState). IfSome o (λ (d : DiskState). LeavesImages d.story)) lost-is images
 
         pub err-ends : (after : ℕ) (told why : Stop) → told ≡ stop_told (is_some lost) why → why ≡ stop_by end
-            → Ends mid spool lost after told
+            → Ends going lost after told
         err-ends after told why told_is why_is =
-            subst (λ (e : Stop). Ends mid spool lost after e) (sym told_is)
-            (subst (λ (e : Stop). Ends mid spool lost after (stop_told (is_some lost) e)) (sym why_is)
+            subst (λ (e : Stop). Ends going lost after e) (sym told_is)
+            (subst (λ (e : Stop). Ends going lost after (stop_told (is_some lost) e)) (sym why_is)
             (subst
-            (λ (o : Option (GemSpool DiskState)). Ends mid o lost after (stop_told (is_some lost) (stop_by end)))
+            (λ (o : Option (Held DiskState)). Ends o lost after (stop_told (is_some lost) (stop_by end)))
             (sym gone)
             (subst
-            (λ (o : Option DiskState). Ends mid None o after (stop_told (is_some o) (stop_by end))) (sym lost-is)
-            (ends-at mid end after images-by breaks))))
+            (λ (o : Option DiskState). Ends None o after (stop_told (is_some o) (stop_by end))) (sym lost-is)
+            (ends-at end after images-by breaks))))
 
-        pub err-whole : IsWhole ghosts plan slots mid spool lost
+        pub err-whole : IsWhole ghosts plan going lost
         err-whole =
-            subst (λ (o : Option (GemSpool DiskState)). IsWhole ghosts plan slots mid o lost) (sym gone)
-            (subst (λ (o : Option DiskState). IsWhole ghosts plan slots mid None o) (sym lost-is)
-            (whole-at mid end images-by breaks))
+            subst (λ (o : Option (Held DiskState)). IsWhole ghosts plan o lost) (sym gone)
+            (subst (λ (o : Option DiskState). IsWhole ghosts plan None o) (sym lost-is)
+            (whole-at end images-by breaks))
 
 -- where it is told as want of memory it sends nothing, either
 pub told-leaves :

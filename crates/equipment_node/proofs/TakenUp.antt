@@ -1,7 +1,7 @@
 -- That a start from a device comes to the start from what the device tells.
 use Rattle.std.proofs.Common.{◌≡◌, refl, sym, ap, subst, ◌∙◌, inl, inr, true, List, [], ◌∷◌, Option, Some, None}
 use Rattle.std.specs.Option.{option_map}
-use Rattle.std.specs.Prelude.{Result, Ok, Err}
+use Rattle.std.specs.Prelude.{IfOk, Result, Ok, Err}
 use Rattle.disk_base.specs.Story.{Story, with_sync}
 use Rattle.disk_base.specs.Through.{EachImage}
 use Rattle.disk_base.specs.declared.disk.Disk as disk
@@ -25,11 +25,12 @@ use Rattle.equipment_node.specs.declared.equipment.Starting.{Starting}
 use Rattle.equipment_node.specs.declared.equipment.Starting.TheVariants as starting
 use Rattle.spool_works.specs.Found.{first_in}
 use Rattle.tool_step.specs.Equipment.{is_marked_out, starts}
-use Rattle.equipment_node.specs.Held.{Begins, FindsFile, HasMark, Held, starting_by, view_in}
+use Rattle.equipment_node.specs.Held.{Begins, FindsFile, HasMark, Held, IsIn, starting_by, view_in}
 use Rattle.tool_law.specs.Sound.{AllCanBeSent}
-use Rattle.equipment_node.specs.StartOver.{BeginsOver, IsFresh}
+use Rattle.equipment_node.specs.StartOver.{HasStartedOver, IsFresh, IsSureDisk, KeepsSure, StartsOver}
+use Rattle.equipment_node.proofs.Standings.{used-sure}
 use Rattle.equipment_node.proofs.FoundBytes.{found-sent}
-use Rattle.equipment_node.proofs.Seated.{start-gone, start-on}
+use Rattle.equipment_node.proofs.Seated.{start-gone, start-in}
 
 same-story : (a b : Story) → Some a ≡ Some b → a ≡ b
 same-story a b same = cc
@@ -50,6 +51,19 @@ found s (Err (starting.DiskFailed spent)) sound = tt
 pub not-found : {D : Type 0} (s : Story) (why : Recovering D) → FindsFile s (Err (starting_by why))
 not-found s (recovering.NotSpool raw break) = tt
 not-found s (recovering.Failed spent) = tt
+
+-- a disk that a spool was taken up from is sure still
+pub taken-sure :
+    {D : Type 0} (members : disk.Ghosts D) (old : D) (v : SpoolView D) → Recovers members old (Ok v)
+    → (g : GemSpool D) → g.spool ≡ v → (result : Result (Held D) (Starting D))
+    → IfOk result (λ (h : Held D). KeepsSure members g.spool.disk h.spool.spool.disk)
+    → IfOk result (λ (h : Held D). KeepsSure members old h.spool.spool.disk)
+taken-sure members old v is g same (Err why) keeps = tt
+taken-sure {D} members old v is g same (Ok h) keeps = λ sure.
+    keeps
+    (subst (λ (x : SpoolView D). IsSureDisk (members.health x.disk)) (sym same)
+    (used-sure is.0.synced (members.health v.disk) is.0.reads.made 0 is.0.reads.cause
+    (used-sure (members.health old) is.0.synced 1 0 is.0.cause sure)))
 
 module _ {D : Type 0} (members : disk.Ghosts D) (old : D) (s : Story) (told : members.told old ≡ Some s) where
   abbrev file : SpoolFile
@@ -112,28 +126,32 @@ module _ {D : Type 0} (members : disk.Ghosts D) (old : D) (s : Story) (told : me
         → EachImage (HasMark file) t.now
     marked-is t left = subst (λ (f : SpoolFile). EachImage (HasMark f) t.now) file-is left
 
+    -- what its messages want to be sent, they have
+    begun-in :
+        (plan : EquipmentPlan) → EquipmentPlanFits plan → (out : StepOut) (h : Held D)
+        → HasStartedOver members plan g h out → AllCanBeSent file.list → IsIn members h
+    begun-in plan fits out h has can =
+        start-in members plan fits g h out has
+        (subst (λ (f : SpoolFile). AllCanBeSent f.list) (sym file-is) can)
+
     pub begun-over :
         (plan : EquipmentPlan) → EquipmentPlanFits plan → (out : StepOut) (result : Result (Held D) (Starting D))
-        → BeginsOver members plan g out result → Begins members plan s out result
+        → StartsOver members plan g out result → Begins members plan s out result
     begun-over plan fits out (Ok h) has = record {
       gone =
           subst
           (λ (f : SpoolFile). HasGone (starts plan f) (view_in members h) out)
-          file-is (start-gone members plan fits g h.spool h.tool out has);
-      in_state = λ are. record {
-        on =
-            start-on members plan fits g h.spool h.tool out has
-            (subst (λ (f : SpoolFile). AllCanBeSent f.list) (sym file-is) (found-sent s.now.bytes are rests.sound));
-        told = has.told;
-      };
+          file-is (start-gone members plan fits g h out has);
+      in_state = λ are. begun-in plan fits out h has (found-sent s.now.bytes are rests.sound);
+      can_go = λ can. begun-in plan fits out h has can;
     }
     begun-over plan fits out (Err (starting.NumbersSpent spent)) has = (
-      record { line = has.2; notes = has.1 },
-      subst (λ (f : SpoolFile). is_marked_out f.mark.value ≡ true) file-is has.0,
-      λ t now. subst (λ (f : SpoolFile). EachImage (λ image. StandsFor image f) t.now) file-is (has.3 t now),
+      has.0,
+      subst (λ (f : SpoolFile). is_marked_out f.mark.value ≡ true) file-is has.1,
+      λ t now. subst (λ (f : SpoolFile). EachImage (λ image. StandsFor image f) t.now) file-is (has.2 t now),
     )
     begun-over plan fits out (Err (starting.DiskFailed spent)) has =
-        (record { line = has.1; notes = has.0 }, (λ t now. inr (marked-is t (has.2.left t now))))
+        (has.0, (λ t now. inr (marked-is t (has.1.left t now))))
     begun-over plan fits out (Err (starting.NoMemory spent)) has =
         (has.0, (λ t now. marked-is t (has.1.left t now)))
     begun-over plan fits out (Err (starting.NotSpool raw break)) has = absurd has

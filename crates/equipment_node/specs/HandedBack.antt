@@ -3,7 +3,6 @@
 use Rattle.std.specs.Prelude.{Result, Ok, Err}
 use Rattle.disk_base.specs.declared.disk.Disk as disk
 use Rattle.spool_works.specs.declared.ended.Ended.{Ended}
-use Rattle.equipment_node.specs.declared.equipment.Seat.{Seat}
 use Rattle.equipment_node.specs.declared.equipment.Starting.{Starting}
 use Rattle.equipment_node.specs.declared.equipment.Starting.TheVariants as starting
 use Rattle.equipment_node.specs.Held.{Held}
@@ -15,10 +14,6 @@ StepHandsBack members old (Ok h) = IsKept members old h.spool.spool.disk
 StepHandsBack members old (Err end) = IsEnded members old end
 
 -- and of a start
-abbrev pub SeatHandsBack : {D : Type 0} → disk.Ghosts D → D → Result (Seat D) (Ended D) → Type 0
-SeatHandsBack members old (Ok e) = IsKept members old e.spool.spool.disk
-SeatHandsBack members old (Err end) = IsEnded members old end
-
 abbrev pub StartHandsBack : {D : Type 0} → disk.Ghosts D → D → Result (Held D) (Starting D) → Type 0
 StartHandsBack members old (Ok h) = IsKept members old h.spool.spool.disk
 StartHandsBack members old (Err (starting.NoMemory spent)) = IsKept members old spent.disk

@@ -21,6 +21,7 @@ use Rattle.equipment_node.specs.declared.equipment.Starting.TheVariants as start
 use Rattle.tool_core.specs.declared.own.Tool.{Tool}
 use Rattle.tool_step.specs.Equipment.{EquipmentView, act, is_marked_out, starts}
 use Rattle.tool_core.specs.Node.{node_of}
+use Rattle.tool_law.specs.Sound.{AllCanBeSent}
 use Rattle.equipment_node.specs.Stepping.{IsOn, IsTold, Steps, view_of}
 
 -- the tool, and the spool in hand
@@ -58,14 +59,15 @@ Moves members h input now out (Err end) = Steps members (view_in members h) inpu
 
 -- ---- a start from what the device tells
 
--- it is as the file says, and its numbers are those behind the mark; where the file's numbers are bytes, it can make
--- steps
+-- it is as the file says, and its numbers are those behind the mark; where the file's numbers are bytes, or its
+-- messages can be sent, it can make steps
 pub record HasBegunOn
     {D : Type 0} (members : disk.Ghosts D) (plan : EquipmentPlan) (bytes : List ℕ) (out : StepOut) (h : Held D)
     : Type 0 where
   pub gone :
       HasGone (starts plan (file_in bytes)) (view_in members h) out
   pub in_state : All (λ byte. byte < 256) bytes → IsIn members h
+  pub can_go : AllCanBeSent (file_in bytes).list → IsIn members h
 
 -- the file with the old mark, or with the new one
 abbrev pub HasMark : SpoolFile → List ℕ → Type 0

@@ -1,5 +1,4 @@
 pub mod Amid
-pub mod Asked
 pub mod Breaking
 pub mod Cut
 pub mod DiskCalls

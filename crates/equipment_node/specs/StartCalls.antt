@@ -8,9 +8,6 @@ use Rattle.disk_base.specs.declared.disk.Disk as disk
 use Rattle.disk_base.specs.declared.disk.DiskAnswer.TheVariants.{Failed}
 use Rattle.spool_slots.specs.Changes.{most_reads}
 use Rattle.spool_slots.specs.File.{SpoolFile}
-use Rattle.spool_works.specs.declared.ended.Ended.{Ended}
-use Rattle.spool_works.specs.declared.ended.Ended.TheVariants as ended
-use Rattle.equipment_node.specs.declared.equipment.Seat.{Seat}
 use Rattle.equipment_node.specs.declared.equipment.Starting.{Starting}
 use Rattle.equipment_node.specs.declared.equipment.Starting.TheVariants as starting
 use Rattle.spool_works.specs.DiskCalls.{HasFailedIn, HasMade, mark_calls, syncs, with_calls}
@@ -20,13 +17,6 @@ use Rattle.equipment_node.specs.Held.{Held}
 -- ---- over a spool in hand
 
 -- the mark is moved on, unless it can't be
-abbrev pub MovesMark : {D : Type 0} → disk.Ghosts D → D → SpoolFile → Result (Seat D) (Ended D) → Type 0
-MovesMark members old file (Ok e) = HasMade members old e.spool.spool.disk (mark_calls file.mark)
-MovesMark members old file (Err (ended.NoMemory spent)) = HasMade members old spent.disk (mark_calls file.mark)
-MovesMark members old file (Err (ended.NumbersSpent spent)) = HasMade members old spent.disk []
-MovesMark members old file (Err (ended.DiskFailed spent)) = HasFailedIn members old spent.disk (mark_calls file.mark)
-
--- the same, as the equipment
 abbrev pub StartMoves : {D : Type 0} → disk.Ghosts D → D → SpoolFile → Result (Held D) (Starting D) → Type 0
 StartMoves members old file (Ok h) = HasMade members old (disk_held h) (mark_calls file.mark)
 StartMoves members old file (Err (starting.NoMemory spent)) = HasMade members old spent.disk (mark_calls file.mark)

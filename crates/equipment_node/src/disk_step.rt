@@ -18,15 +18,14 @@ ghost use Rattle.spool_ledger.specs.Unloading.{next_number as unload_number};
 ghost use Rattle.equipment_tables.specs.Tables.{most_transmitted};
 ghost use Rattle.equipment_node.specs.Amid.{Acts, Carries, DoesLast, EndsSo, HasOpened, IsAt, IsBegun, IsReady, IsSendable, Opens, StopsAt, asked_node, opened, settled_node};
 ghost use Rattle.equipment_node.specs.Breaking.{BreaksBy};
-ghost use Rattle.equipment_node.specs.Asked.{HasAsked, asked_for, read_asks};
-ghost use Rattle.tool_step.specs.Disk.{asks, read_works, reserve_works, standing_in, works_behind};
+ghost use Rattle.tool_step.specs.Disk.{read_works, reserve_works, standing_in, works_behind};
 ghost use Rattle.spool_works.specs.DiskWorks.DiskWork.{ReadOldest};
 ghost use Rattle.equipment_node.specs.DiskCalls.{CallsInStep};
 ghost use Rattle.spool_works.specs.DiskCalls.{HasCalled, disk_in};
 ghost use Rattle.tool_step.specs.Equipment.{EquipmentView, begun_step, needs_numbers};
 ghost use Rattle.spool_works.specs.HandedBack.{HandsBack};
 ghost use Rattle.tool_step.specs.Losses.{losses, losses_of};
-ghost use Rattle.tool_core.specs.Node.{node_of, own_of};
+ghost use Rattle.tool_core.specs.Node.{node_of};
 ghost use Rattle.tool_law.specs.Sound.{CanBeSent};
 ghost use Rattle.tool_step.specs.Spooling.{end_of_spooling};
 ghost use Rattle.tool_step.specs.Step.{offer};
@@ -64,9 +63,6 @@ pub(crate) fn step_on<D: Disk>(
     ensures steps { (s : EquipmentView) → node_of tool.old ≡ s.node → IsOn D.Disk spool.spool s
         → IsTold (D.told spool.spool.disk)
         → Steps D.Disk s (input_of input.entry) now (node_of tool.new) out.new result }
-    ensures asks { (s : EquipmentView) → node_of tool.old ≡ s.node → IsOn D.Disk spool.spool s
-        → IsTold (D.told spool.spool.disk)
-        → HasAsked D.Disk spool.spool.disk (asks s (input_of input.entry) now) result }
     ensures calls { (s : EquipmentView) → node_of tool.old ≡ s.node → IsOn D.Disk spool.spool s
         → CallsInStep D.Disk disk_in spool.spool.disk s (input_of input.entry) now result }
     ensures breaks { (s : EquipmentView) → node_of tool.old ≡ s.node → IsOn D.Disk spool.spool s
@@ -100,9 +96,6 @@ fn from_reserve<D: Disk>(
     ensures acts { (s : EquipmentView) → node_of tool.old ≡ s.node → IsOn D.Disk spool.spool s
         → IsTold (D.told spool.spool.disk)
         → Acts D.Disk s (input_of input.entry) now (node_of tool.new) out.new result }
-    ensures asks { (s : EquipmentView) → node_of tool.old ≡ s.node → IsOn D.Disk spool.spool s
-        → IsTold (D.told spool.spool.disk)
-        → HasAsked D.Disk spool.spool.disk (asks s (input_of input.entry) now) result }
     ensures calls { (s : EquipmentView) → node_of tool.old ≡ s.node → IsOn D.Disk spool.spool s
         → CallsInStep D.Disk disk_in spool.spool.disk s (input_of input.entry) now result }
     ensures breaks { (s : EquipmentView) → node_of tool.old ≡ s.node → IsOn D.Disk spool.spool s
@@ -125,9 +118,6 @@ fn reserve<D: Disk>(
     requires ready { IsReady spool.spool (node_of tool.old) }
     ensures opens { (s : EquipmentView) → node_of tool.old ≡ s.node → IsOn D.Disk spool.spool s
         → IsTold (D.told spool.spool.disk) → Opens D.Disk s (node_of tool.new) result }
-    ensures asks { (s : EquipmentView) → node_of tool.old ≡ s.node → IsOn D.Disk spool.spool s
-        → IsTold (D.told spool.spool.disk)
-        → HasAsked D.Disk spool.spool.disk (asked_for (standing_in s) (reserve_works s)) result }
     ensures calls { (s : EquipmentView) → node_of tool.old ≡ s.node → IsOn D.Disk spool.spool s
         → IsTold (D.told spool.spool.disk)
         → HasCalled D.Disk disk_in spool.spool.disk (standing_in s) (reserve_works s) result }
@@ -163,9 +153,6 @@ fn reserve_more<D: Disk>(
     ensures opens { (s : EquipmentView) → node_of tool.old ≡ s.node → needs_numbers s ≡ true
         → IsOn D.Disk spool.spool s → IsTold (D.told spool.spool.disk)
         → Opens D.Disk s (node_of tool.new) result }
-    ensures asks { (s : EquipmentView) → node_of tool.old ≡ s.node → needs_numbers s ≡ true
-        → IsOn D.Disk spool.spool s
-        → HasAsked D.Disk spool.spool.disk (asked_for (standing_in s) (reserve_works s)) result }
     ensures calls { (s : EquipmentView) → node_of tool.old ≡ s.node → needs_numbers s ≡ true
         → IsOn D.Disk spool.spool s → IsTold (D.told spool.spool.disk)
         → HasCalled D.Disk disk_in spool.spool.disk (standing_in s) (reserve_works s) result }
@@ -204,10 +191,6 @@ fn from_input<D: Disk>(
     ensures ready { IfOk result (λ g. IsReady g.spool (node_of tool.new)) }
     ensures acts { (s : EquipmentView) → HasOpened D.Disk s (node_of tool.old) spool
         → Acts D.Disk s (input_of input.entry) now (node_of tool.new) out.new result }
-    ensures asks { (s : EquipmentView) → HasOpened D.Disk s (node_of tool.old) spool
-        → HasAsked D.Disk spool.spool.disk
-        (asked_for (standing_in (opened s)) (works_behind (begun_step s (input_of input.entry) now)))
-        result }
     ensures calls { (s : EquipmentView) → HasOpened D.Disk s (node_of tool.old) spool
         → HasCalled D.Disk disk_in spool.spool.disk (standing_in (opened s))
         (works_behind (begun_step s (input_of input.entry) now))
@@ -240,11 +223,6 @@ fn from_works<D: Disk>(
     ensures acts { (s : EquipmentView) → (input : Input ToolCommand)
         → IsBegun s input now (node_of tool.old) out.old → HasOpened D.Disk s (opened s).node spool
         → Acts D.Disk s input now (node_of tool.new) out.new result }
-    ensures asks { (s : EquipmentView) → (input : Input ToolCommand)
-        → IsBegun s input now (node_of tool.old) out.old → HasOpened D.Disk s (opened s).node spool
-        → HasAsked D.Disk spool.spool.disk
-        (asked_for (standing_in (opened s)) (works_behind (begun_step s input now)))
-        result }
     ensures calls { (s : EquipmentView) → (input : Input ToolCommand)
         → IsBegun s input now (node_of tool.old) out.old → HasOpened D.Disk s (opened s).node spool
         → HasCalled D.Disk disk_in spool.spool.disk (standing_in (opened s))
@@ -276,11 +254,6 @@ fn end_early<D: Disk>(
     ensures acts { (s : EquipmentView) → (input : Input ToolCommand) → (now : ℕ)
         → StopsAt s input now (node_of tool.old) out.old stop → HasOpened D.Disk s (opened s).node spool
         → Acts D.Disk s input now (node_of tool.new) out.new (Err result) }
-    ensures asks { (s : EquipmentView) → (input : Input ToolCommand) → (now : ℕ)
-        → StopsAt s input now (node_of tool.old) out.old stop → HasOpened D.Disk s (opened s).node spool
-        → HasAsked D.Disk spool.spool.disk
-        (asked_for (standing_in (opened s)) (works_behind (begun_step s input now)))
-        (Err result) }
     ensures calls { (s : EquipmentView) → (input : Input ToolCommand) → (now : ℕ)
         → StopsAt s input now (node_of tool.old) out.old stop → HasOpened D.Disk s (opened s).node spool
         → HasCalled D.Disk disk_in spool.spool.disk (standing_in (opened s))
@@ -316,11 +289,6 @@ fn stop_spent<D: Disk>(
     ensures acts { (s : EquipmentView) → (input : Input ToolCommand) → (now : ℕ)
         → StopsAt s input now (node_of tool.old) out.old NumbersSpent → HasOpened D.Disk s (opened s).node spool
         → Acts D.Disk s input now (node_of tool.new) out.new (Err result) }
-    ensures asks { (s : EquipmentView) → (input : Input ToolCommand) → (now : ℕ)
-        → StopsAt s input now (node_of tool.old) out.old NumbersSpent → HasOpened D.Disk s (opened s).node spool
-        → HasAsked D.Disk spool.spool.disk
-        (asked_for (standing_in (opened s)) (works_behind (begun_step s input now)))
-        (Err result) }
     ensures calls { (s : EquipmentView) → (input : Input ToolCommand) → (now : ℕ)
         → StopsAt s input now (node_of tool.old) out.old NumbersSpent → HasOpened D.Disk s (opened s).node spool
         → HasCalled D.Disk disk_in spool.spool.disk (standing_in (opened s))
@@ -372,7 +340,6 @@ fn from_read<D: Disk>(
     ensures ready { IfOk result (λ g. IsReady g.spool (node_of tool.new)) }
     ensures ends { (t : Step EquipmentView Happening) → IsAt D.Disk t (node_of tool.old) out.old spool
         → EndsSo D.Disk now t (node_of tool.new) out.new result }
-    ensures asks { HasAsked D.Disk spool.spool.disk (read_asks (own_of tool.old.own)) result }
     ensures calls { (t : Step EquipmentView Happening) → IsAt D.Disk t (node_of tool.old) out.old spool
         → HasCalled D.Disk disk_in spool.spool.disk (standing_in t.next) (read_works (Goes t)) result }
     ensures breaks { (t : Step EquipmentView Happening) → IsAt D.Disk t (node_of tool.old) out.old spool
@@ -403,7 +370,6 @@ fn end_reading<D: Disk>(
         → unload_number (most_transmitted t.next.node.own.tables) t.next.node.own.ledger ≡ Some number
         → IsAt D.Disk t t.next.node out.old spool
         → EndsSo D.Disk now t (node_of tool.new) out.new result }
-    ensures asks { HasAsked D.Disk spool.spool.disk (record { calls = 1; bytes = 0 }) result }
     ensures calls { (st : Standing) → count_of spool.spool ≡ count_in st → 0 < length st.file.list
         → HasCalled D.Disk disk_in spool.spool.disk st (ReadOldest ∷ []) result }
     ensures breaks { (s : EquipmentView) → (st : Standing) → Stands D.Disk spool.spool st → 0 < length st.file.list

@@ -1,22 +1,23 @@
 //! The equipment over the disk of its spool.
 
 ghost use Rattle.std.specs.Prelude.{◌≡◌, ◌+◌, ◌≤◌, ◌<◌, ◌^◌, IfOk, Some};
+ghost use Rattle.line_end.specs.Step.{is_due};
 ghost use Rattle.disk_base.specs.Story.{Story};
 ghost use Rattle.gem_spool.specs.Standing.{standing_of};
 ghost use Rattle.spool_slots.specs.File.{file_in};
 ghost use Rattle.trace_log.specs.Commands.{ToolCommandFits};
 ghost use Rattle.message_end.specs.Ends.{IsEmpty, MayTake, input_of};
 ghost use Rattle.equipment_tables.specs.Plan.{EquipmentPlanFits};
-ghost use Rattle.equipment_node.specs.Amid.{IsReady};
+ghost use Rattle.equipment_node.specs.Breaking.{BreaksBy};
 ghost use Rattle.equipment_node.specs.DiskCalls.{CallsInStep, disk_held};
-ghost use Rattle.equipment_node.specs.HandedBack.{SeatHandsBack, StartHandsBack, StepHandsBack};
+ghost use Rattle.equipment_node.specs.HandedBack.{StartHandsBack, StepHandsBack};
 ghost use Rattle.equipment_node.specs.Held.{Begins, FindsFile, IsIn, Moves, starting_by, view_in};
 ghost use Rattle.tool_core.specs.Node.{node_of};
 ghost use Rattle.equipment_node.specs.SpentSteps.{IsSpentByCause, IsStartSpentByCause};
-ghost use Rattle.equipment_node.specs.StartCalls.{CallsInStart, MovesMark, StartMoves};
-ghost use Rattle.equipment_node.specs.StartOver.{BeginsOver, IsFresh, StartAsks, StartsOver, StartsWith};
+ghost use Rattle.equipment_node.specs.StartCalls.{CallsInStart, StartMoves};
+ghost use Rattle.equipment_node.specs.StartOver.{IsFresh, KeepsSure, StartsOver, StartsWith};
 ghost use Rattle.equipment_node.specs.Stepping.{IsTold};
-ghost use Rattle.tool_core.specs.Starting.{IsStartNoted, new_node};
+ghost use Rattle.tool_step.specs.Losses.{losses};
 ghost use Rattle.tool_step.specs.Step.{deadline_of};
 
 use crate::disk_step::step_on;
@@ -38,8 +39,8 @@ use trace_log::ToolCommand;
 /// so that it is cheap to move.
 #[derive(Drop)]
 pub struct Equipment<D: Disk> {
-    pub(crate) tool: Box<Tool>,
-    pub(crate) spool: GemSpool<D>,
+    tool: Box<Tool>,
+    spool: GemSpool<D>,
 }
 
 impl<D: Disk> Model for Equipment<D> {
@@ -55,13 +56,6 @@ impl<D: Disk> Model for Equipment<D> {
     ghost view = { λ inside. record { tool = inside.tool.value; spool = inside.spool } };
 
     ghost invariant = { λ inside. IsReady inside.spool.spool (node_of inside.tool.value) };
-}
-
-/// An equipment that has started.
-#[derive(Drop)]
-pub(crate) struct Seat<D: Disk> {
-    pub(crate) tool: Box<Tool>,
-    pub(crate) spool: GemSpool<D>,
 }
 
 /// Why an equipment didn't start. Its device is handed back.
@@ -80,7 +74,7 @@ impl<D: Disk> Equipment<D> {
     /// is kept, and must fit. The disk's calls are a sync, reads, and those that move the mark. `NumbersSpent` comes
     /// where the mark of the file can't move on, and nowhere else, and no start goes on there. Whether the disk tells
     /// its bytes or not, it is handed back with its file, and counts a fault where the answer is `DiskFailed` and
-    /// nowhere else.
+    /// nowhere else. A disk of which no call is to fail stays such.
     pub fn start(
         alloc: Global,
         plan: &EquipmentPlan,
@@ -96,33 +90,12 @@ impl<D: Disk> Equipment<D> {
             → CallsInStart D.Disk raw.disk (file_in s.now.bytes) result }
         ensures finds { (s : Story) → D.told raw.disk ≡ Some s → FindsFile s result }
         ensures disk { StartHandsBack D.Disk raw.disk result }
+        ensures keeps { IfOk result (λ h. KeepsSure D.Disk raw.disk h.spool.spool.disk) }
     {
         let _ = now;
         match raw.recover() {
-            Ok(spool) => Equipment::start_on(alloc, plan, GemSpool::new(spool), out),
+            Ok(spool) => start_over(alloc, plan, GemSpool::new(spool), out),
             Err(unknown) => Err(why_not(unknown)),
-        }
-    }
-
-    // A start with a spool that was just taken up.
-    fn start_on(
-        alloc: Global,
-        plan: &EquipmentPlan,
-        spool: GemSpool<D>,
-        out: &mut StepOut,
-    ) -> Result<Equipment<D>, Starting<D>>
-        requires plan { EquipmentPlanFits plan.now }
-        requires out { IsEmpty out.old }
-        ensures begins { IsFresh D.Disk spool → BeginsOver D.Disk plan.now spool out.new result }
-        ensures calls { IsTold (D.told spool.spool.disk)
-            → StartMoves D.Disk spool.spool.disk (standing_of D.Disk spool.spool).file result }
-        ensures disk { StartHandsBack D.Disk spool.spool.disk result }
-    {
-        match start_over(alloc, plan, spool, out) {
-            Ok(Seat { tool, spool }) => Ok(Equipment { tool, spool }),
-            Err(Ended::NoMemory(spent)) => Err(Starting::NoMemory(spent)),
-            Err(Ended::DiskFailed(spent)) => Err(Starting::DiskFailed(spent)),
-            Err(Ended::NumbersSpent(spent)) => Err(Starting::NumbersSpent(spent)),
         }
     }
 
@@ -130,7 +103,8 @@ impl<D: Disk> Equipment<D> {
     /// is asked in a step is done before its characters are sent: its calls are those of the works of the step, in
     /// their order, up to the first that fails, and no others. `NumbersSpent` comes where it needs more system bytes
     /// and the mark of the file can't move on, or puts a message into a spool whose numbers are at their end, and
-    /// nowhere else; where there is such a cause, the step doesn't go on. The disk is handed back as by a start.
+    /// nowhere else; where there is such a cause, the step doesn't go on. The disk is handed back as by a start. Where
+    /// a planned call stops the disk, what is noted and what a crash leaves then is what that call comes to.
     pub fn step(
         self,
         alloc: Global,
@@ -151,6 +125,13 @@ impl<D: Disk> Equipment<D> {
             now
             result }
         ensures spent { IsIn D.Disk self → IsSpentByCause D.Disk self (input_of input.entry) now result }
+        ensures breaks { IsIn D.Disk self → BreaksBy
+            D.Disk
+            disk_held
+            self.spool.spool.disk
+            (losses (view_in D.Disk self) (input_of input.entry) now)
+            out.new.notes
+            result }
         ensures disk { StepHandsBack D.Disk self.spool.spool.disk result }
     {
         let Equipment { mut tool, spool } = self;
@@ -172,6 +153,23 @@ impl<D: Disk> Equipment<D> {
         ensures { result ≡ self.now.tool.core.line.phase }
     {
         self.tool.core.phase()
+    }
+
+    /// Whether the timer of its line is due.
+    pub(crate) fn is_late(&self, now: u64) -> bool
+        ensures { result ≡ is_due self.now.tool.core.line.deadline now }
+    {
+        match self.tool.core.line_deadline() {
+            Some(deadline) => deadline <= now,
+            None => false,
+        }
+    }
+
+    /// How many slots its spool has.
+    pub(crate) fn slots(&self) -> u32
+        ensures { result ≡ self.now.spool.spool.slots }
+    {
+        self.spool.count().slots
     }
 
     /// Gives the device back as it is.
@@ -199,6 +197,13 @@ impl Equipment<MemDisk> {
     {
         self.spool.arm(call);
     }
+
+    /// How many calls are left up to the one at which its disk is to stop, itself counted, 0 for none.
+    pub(crate) fn stops_in(&self) -> u32
+        ensures { result ≡ self.now.spool.spool.disk.plan.stop_in }
+    {
+        self.spool.stops_in()
+    }
 }
 
 // Why it doesn't start.
@@ -211,30 +216,29 @@ fn why_not<D: Disk>(unknown: Recovering<D>) -> Starting<D>
     }
 }
 
-/// A start over a spool that was taken up: system bytes are reserved.
+/// A start over a spool that was just taken up: system bytes are reserved.
 pub(crate) fn start_over<D: Disk>(
     alloc: Global,
     plan: &EquipmentPlan,
     spool: GemSpool<D>,
     out: &mut StepOut,
-) -> Result<Seat<D>, Ended<D>>
+) -> Result<Equipment<D>, Starting<D>>
     requires plan { EquipmentPlanFits plan.now }
     requires out { IsEmpty out.old }
-    ensures ready { IfOk result (λ e. IsReady e.spool.spool (node_of e.tool.value)) }
     ensures starts { IsFresh D.Disk spool → StartsOver D.Disk plan.now spool out.new result }
-    ensures asks { StartAsks D.Disk spool.spool.disk result }
     ensures calls { IsTold (D.told spool.spool.disk)
-        → MovesMark D.Disk spool.spool.disk (standing_of D.Disk spool.spool).file result }
-    ensures disk { SeatHandsBack D.Disk spool.spool.disk result }
+        → StartMoves D.Disk spool.spool.disk (standing_of D.Disk spool.spool).file result }
+    ensures disk { StartHandsBack D.Disk spool.spool.disk result }
+    ensures keeps { IfOk result (λ h. KeepsSure D.Disk spool.spool.disk h.spool.spool.disk) }
 {
     // (that it stands as it says is told by the call that counts its messages)
     let _ = spool.len();
     match spool.reserve() {
         Ok((spool, base)) => match base {
             Some(base) => start_with(alloc, plan, spool, base, out),
-            None => Err(Ended::NumbersSpent(spool.retire())),
+            None => Err(Starting::NumbersSpent(spool.retire())),
         },
-        Err(spent) => Err(Ended::DiskFailed(spent)),
+        Err(spent) => Err(Starting::DiskFailed(spent)),
     }
 }
 
@@ -245,16 +249,17 @@ fn start_with<D: Disk>(
     spool: GemSpool<D>,
     base: u32,
     out: &mut StepOut,
-) -> Result<Seat<D>, Ended<D>>
+) -> Result<Equipment<D>, Starting<D>>
     requires plan { EquipmentPlanFits plan.now }
     requires numbers { base + 4096 ≤ 2 ^ 32 }
+    requires even { spool.spool.next ≡ spool.spool.first + spool.spool.len }
     ensures starts { StartsWith plan.now spool base out.old out.new result }
     ensures line { out.new.line ≡ out.old.line }
 {
     let count = spool.count();
     let ledger = Ledger::new(alloc, count.slots, spool.first(), count.len);
     match Tool::start_on(alloc, plan, ledger, base, out) {
-        Ok(tool) => Ok(Seat { tool, spool }),
-        Err(NoMemory) => Err(Ended::NoMemory(spool.retire())),
+        Ok(tool) => Ok(Equipment { tool, spool }),
+        Err(NoMemory) => Err(Starting::NoMemory(spool.retire())),
     }
 }

@@ -1,23 +1,24 @@
-//! The equipment as an end of a world, with its spool on a disk in memory.
+//! The equipment as an end of a world, where it may lose its power.
 
-ghost use Rattle.std.specs.Prelude.{◌≡◌, ◌<◌, ◌^◌, nat_le, ℕ, [], ◌∷◌, IfSome, OnOk, Some, None, is_some, if◌then◌else◌};
+ghost use Rattle.std.specs.Option.{option_map};
+ghost use Rattle.std.specs.Prelude.{◌≡◌, ◌<◌, ◌^◌, nat_le, IfSome, None, is_some, if◌then◌else◌};
 ghost use Rattle.disk_base.specs.Cut.{image_of};
 ghost use Rattle.disk_base.specs.Images.{IsImage};
+ghost use Rattle.disk_base.specs.MemDisk.{after_cut};
 ghost use Rattle.disk_base.specs.declared.cut.CutChoice.{CutChoice};
-ghost use Rattle.equipment_tables.specs.Plan.{EquipmentPlanFits};
 ghost use Rattle.trace_log.specs.Commands.{ToolCommandFits};
-ghost use Rattle.message_end.specs.Ends.{EndsBy, IsEmpty, IsNotStopped, Leaves, MayTake, input_of};
+ghost use Rattle.message_end.specs.Ends.{EndsBy, IsEmpty, Leaves, MayTake, input_of};
 ghost use Rattle.tool_step.specs.Disk.{stops};
 ghost use Rattle.tool_step.specs.End.{machine as equipment_machine};
 ghost use Rattle.tool_step.specs.Equipment.{act};
-ghost use Rattle.equipment_node.specs.InMemory.{HasPower, IsArmed, IsFileOf, IsLost, IsWhole, Restarts, anew_over, disk_of};
-ghost use Rattle.equipment_node.specs.InMemory.{left_behind, lost_by, planned_in, starts_over, stop_told, with_stop};
 ghost use Rattle.tool_step.specs.Losses.{losses};
-ghost use Rattle.tool_core.specs.Node.{node_of};
-ghost use Rattle.equipment_node.specs.Stepping.{stop_by, view_of};
+ghost use Rattle.equipment_node.specs.Held.{view_in};
+ghost use Rattle.equipment_node.specs.InMemory.{HasPower, IsStartable, IsLost, IsWhole, StartsAnew, anew_over, disk_of};
+ghost use Rattle.equipment_node.specs.InMemory.{left_behind, lost_by, planned_in, starts_over, state_in};
+ghost use Rattle.equipment_node.specs.InMemory.{stop_at_start, stop_told, with_stop};
+ghost use Rattle.equipment_node.specs.Stepping.{stop_by};
 
-use crate::disk_step::step_on;
-use crate::equipment::{Seat, start_over};
+use crate::equipment::{Equipment, Starting, start_over};
 use disk_base::{CutChoice, Disk, MemDisk};
 use equipment_tables::EquipmentPlan;
 use gem_spool::GemSpool;
@@ -27,7 +28,7 @@ use message_flow::{NodeInput, StepOut};
 use spool_slots::Raw;
 use spool_works::Ended;
 use std::alloc::Global;
-use tool_core::{Planned, Tool};
+use tool_core::Planned;
 use trace_log::ToolCommand;
 
 /// For how many calls there is room in the list of a disk in memory: for 65,536, and for a few more, so that a disk
@@ -43,15 +44,12 @@ const WORK_CALLS: u32 = 5;
 
 const WORK_BYTES: u64 = 4_096;
 
-/// The equipment over a disk in memory. One that has stopped makes no step any more; where a planned call has stopped
-/// its disk it may start anew.
+/// The equipment over a disk in memory, as long as it has power, and what a start anew begins with. One that has
+/// stopped makes no step any more; where a planned call has stopped its disk it may start anew.
 #[derive(Drop)]
 pub struct EquipmentEnd {
-    tool: Box<Tool>,
-    // what a start anew begins with: the plan, and how many slots its spool has
     plan: Planned,
-    slots: u32,
-    spool: Option<GemSpool<MemDisk>>,
+    going: Option<Equipment<MemDisk>>,
     // the disk that a planned call has stopped
     lost: Option<MemDisk>,
 }
@@ -66,22 +64,20 @@ impl End for EquipmentEnd {
     ghost use Rattle.tool_step.specs.End.{machine};
     ghost use Rattle.tool_step.specs.Equipment.{EquipmentView, starts};
     ghost use Rattle.equipment_node.specs.LeftAnew.{settled_over};
-    ghost use Rattle.equipment_node.specs.InMemory.{Holds, IsWhole, anew_over, planned_in};
+    ghost use Rattle.equipment_node.specs.InMemory.{Holds, IsWhole, anew_over, planned_in, state_in};
     ghost use Rattle.tool_law.specs.Laws.{DidOf};
     ghost use Rattle.tool_law.proofs.LawfulLosses.{equipment_lawful};
     ghost use Rattle.std.specs.Prelude.{is_some};
-    ghost use Rattle.tool_core.specs.Node.{node_of};
     ghost use Rattle.tool_step.specs.Step.{deadline_of, end_plan};
-    ghost use Rattle.equipment_node.specs.Stepping.{view_of};
     ghost use Rattle.equipment_tables.specs.Plan.{EquipmentPlanFits};
     ghost use Rattle.gem_spool.specs.Standing.{standing_of};
     ghost use Rattle.trace_log.specs.Commands.{ToolCommandFits};
 
     ghost State = { EquipmentView };
 
-    ghost means = { λ end. view_of ⟦<MemDisk as Disk>⟧ (node_of end.tool.value) end.spool };
+    ghost means = { λ end. state_in ⟦<MemDisk as Disk>⟧ end.plan end.going };
 
-    ghost sound = { λ end. IsWhole ⟦<MemDisk as Disk>⟧ end.plan end.slots (node_of end.tool.value) end.spool end.lost };
+    ghost sound = { λ end. IsWhole ⟦<MemDisk as Disk>⟧ end.plan end.going end.lost };
 
     ghost fits = { EquipmentPlanFits };
 
@@ -91,15 +87,14 @@ impl End for EquipmentEnd {
 
     ghost loses = { Unit {0} };
 
-    ghost planned = { λ end. planned_in end.spool };
+    ghost planned = { λ end. planned_in end.going };
 
     ghost stopped = { λ end. is_some end.lost };
 
-    ghost anew = { λ end choice now. anew_over ⟦<MemDisk as Disk>⟧ end.plan (node_of end.tool.value) end.spool end.lost
-        choice now };
+    ghost anew = { λ end choice now. anew_over ⟦<MemDisk as Disk>⟧ end.plan end.going end.lost choice now };
 
-    ghost settled = { λ end sound going choice now. settled_over ⟦<MemDisk as Disk>⟧ end.plan (node_of end.tool.value)
-        end.spool end.lost going choice now };
+    ghost settled = { λ end sound going choice now. settled_over ⟦<MemDisk as Disk>⟧ end.plan end.going end.lost going
+        choice now };
 
     ghost plan_of = { end_plan };
 
@@ -123,25 +118,22 @@ impl End for EquipmentEnd {
         let Ok(kept) = plan.copy(alloc) else {
             return Err(Stop::NoMemory);
         };
-        let slots = store.count().slots;
         match start_over(alloc, plan, store, out) {
-            Ok(Seat { tool, spool }) => {
+            Ok(equipment) => {
                 Ok(EquipmentEnd {
-                    tool,
                     plan: Planned::of(kept),
-                    slots,
-                    spool: Some(armed(spool, slots)),
+                    going: Some(armed(equipment)),
                     lost: None,
                 })
             }
-            Err(ended) => Err(stop_as(stop_of(&ended), false)),
+            Err(why) => Err(stop_at_start(&why)),
         }
     }
 
     fn arm(&mut self, call: u32) -> bool {
         self.lost = None;
-        match &mut self.spool {
-            Some(spool) => arm_within(spool, call),
+        match &mut self.going {
+            Some(equipment) => arm_within(equipment, call),
             // (it makes no call that could be the one)
             None => call == 0,
         }
@@ -154,11 +146,10 @@ impl End for EquipmentEnd {
         now: u64,
         out: &mut StepOut,
     ) -> Result<(), Stop> {
-        let _ = now;
         let lost = self.lost.take();
-        let spool = self.spool.take();
-        match disk_in(lost, spool) {
-            Some(disk) => self.start_from(alloc, &disk, choice, out),
+        let going = self.going.take();
+        match disk_in(lost, going) {
+            Some(disk) => self.start_from(alloc, &disk, choice, now, out),
             None => Err(Stop::NoMemory),
         }
     }
@@ -171,127 +162,97 @@ impl End for EquipmentEnd {
         out: &mut StepOut,
     ) -> Result<(), Stop>
         requires now { now < 2 ^ 62 }
-        requires sound { IsWhole
-            ⟦<MemDisk as Disk>⟧
-            self.old.plan
-            self.old.slots
-            (node_of self.old.tool.value)
-            self.old.spool
-            self.old.lost }
+        requires sound { IsWhole ⟦<MemDisk as Disk>⟧ self.old.plan self.old.going self.old.lost }
         requires input { MayTake ToolCommandFits (input_of input) }
         requires out { IsEmpty out.old }
         ensures step { Leaves
-            (stops
-            (view_of ⟦<MemDisk as Disk>⟧ (node_of self.old.tool.value) self.old.spool)
-            (input_of input.entry)
-            now)
-            (act (view_of ⟦<MemDisk as Disk>⟧ (node_of self.old.tool.value) self.old.spool) (input_of input.entry) now)
-            (view_of ⟦<MemDisk as Disk>⟧ (node_of self.new.tool.value) self.new.spool)
+            (stops (state_in ⟦<MemDisk as Disk>⟧ self.old.plan self.old.going) (input_of input.entry) now)
+            (act (state_in ⟦<MemDisk as Disk>⟧ self.old.plan self.old.going) (input_of input.entry) now)
+            (state_in ⟦<MemDisk as Disk>⟧ self.new.plan self.new.going)
             out.new
             result }
         ensures ends { EndsBy
             equipment_machine
-            (losses
-            (view_of ⟦<MemDisk as Disk>⟧ (node_of self.old.tool.value) self.old.spool)
-            (input_of input.entry)
-            now)
-            (planned_in self.old.spool)
-            (planned_in self.new.spool)
+            (losses (state_in ⟦<MemDisk as Disk>⟧ self.old.plan self.old.going) (input_of input.entry) now)
+            (planned_in self.old.going)
+            (planned_in self.new.going)
             (is_some self.new.lost)
-            (λ choice now. anew_over
-            ⟦<MemDisk as Disk>⟧
-            self.new.plan
-            (node_of self.new.tool.value)
-            self.new.spool
-            self.new.lost
-            choice
-            now)
+            (λ choice now. anew_over ⟦<MemDisk as Disk>⟧ self.new.plan self.new.going self.new.lost choice now)
             out.new
             result }
-        ensures sound { IsWhole
-            ⟦<MemDisk as Disk>⟧
-            self.new.plan
-            self.new.slots
-            (node_of self.new.tool.value)
-            self.new.spool
-            self.new.lost }
+        ensures sound { IsWhole ⟦<MemDisk as Disk>⟧ self.new.plan self.new.going self.new.lost }
     {
-        match self.spool.take() {
-            Some(spool) => self.step_with(alloc, spool, input, now, out),
+        match self.going.take() {
+            Some(equipment) => self.step_with(alloc, equipment, input, now, out),
             None => Err(Stop::NoMemory),
         }
     }
 
     fn deadline(&self) -> Option<u64> {
-        self.tool.deadline()
+        match &self.going {
+            Some(equipment) => equipment.deadline(),
+            None => None,
+        }
     }
 
     fn phase(&self) -> Phase {
-        self.tool.core.phase()
+        match &self.going {
+            Some(equipment) => equipment.phase(),
+            None => Phase::Idle,
+        }
     }
 
     fn is_late(&self, now: u64) -> bool {
-        match self.tool.core.line_deadline() {
-            Some(deadline) => deadline <= now,
+        match &self.going {
+            Some(equipment) => equipment.is_late(now),
             None => false,
         }
     }
 }
 
 impl EquipmentEnd {
-    // One step, with the spool that it had in hand.
+    /// The equipment, as long as it has power.
+    pub fn equipment(&self) -> Option<&Equipment<MemDisk>>
+        ensures { option_map (λ equipment. equipment.now) result ≡ self.now.going }
+    {
+        self.going.as_ref()
+    }
+
+    // One step, of the equipment that it had in hand.
     fn step_with(
         &mut self,
         alloc: Global,
-        spool: GemSpool<MemDisk>,
+        equipment: Equipment<MemDisk>,
         input: NodeInput<'_, ToolCommand>,
         now: u64,
         out: &mut StepOut,
     ) -> Result<(), Stop>
         requires now { now < 2 ^ 62 }
-        requires power { HasPower
-            ⟦<MemDisk as Disk>⟧
-            self.old.plan
-            self.old.slots
-            (node_of self.old.tool.value)
-            spool }
-        requires gone { self.old.spool ≡ None }
+        requires power { HasPower ⟦<MemDisk as Disk>⟧ self.old.plan equipment }
+        requires gone { self.old.going ≡ None }
         requires none { self.old.lost ≡ None }
         requires input { MayTake ToolCommandFits (input_of input) }
         requires out { IsEmpty out.old }
         ensures step { Leaves
-            (stops (view_of ⟦<MemDisk as Disk>⟧ (node_of self.old.tool.value) (Some spool)) (input_of input.entry) now)
-            (act (view_of ⟦<MemDisk as Disk>⟧ (node_of self.old.tool.value) (Some spool)) (input_of input.entry) now)
-            (view_of ⟦<MemDisk as Disk>⟧ (node_of self.new.tool.value) self.new.spool)
+            (stops (view_in ⟦<MemDisk as Disk>⟧ equipment) (input_of input.entry) now)
+            (act (view_in ⟦<MemDisk as Disk>⟧ equipment) (input_of input.entry) now)
+            (state_in ⟦<MemDisk as Disk>⟧ self.new.plan self.new.going)
             out.new
             result }
         ensures ends { EndsBy
             equipment_machine
-            (losses (view_of ⟦<MemDisk as Disk>⟧ (node_of self.old.tool.value) (Some spool)) (input_of input.entry) now)
-            spool.spool.disk.plan.stop_in
-            (planned_in self.new.spool)
+            (losses (view_in ⟦<MemDisk as Disk>⟧ equipment) (input_of input.entry) now)
+            equipment.spool.spool.disk.plan.stop_in
+            (planned_in self.new.going)
             (is_some self.new.lost)
-            (λ choice now. anew_over
-            ⟦<MemDisk as Disk>⟧
-            self.new.plan
-            (node_of self.new.tool.value)
-            self.new.spool
-            self.new.lost
-            choice
-            now)
+            (λ choice now. anew_over ⟦<MemDisk as Disk>⟧ self.new.plan self.new.going self.new.lost choice now)
             out.new
             result }
-        ensures sound { IsWhole
-            ⟦<MemDisk as Disk>⟧
-            self.new.plan
-            self.new.slots
-            (node_of self.new.tool.value)
-            self.new.spool
-            self.new.lost }
+        ensures sound { IsWhole ⟦<MemDisk as Disk>⟧ self.new.plan self.new.going self.new.lost }
     {
-        match step_on(&mut self.tool, alloc, spool, input, now, out) {
-            Ok(spool) => {
-                self.spool = Some(spool);
+        match equipment.step(alloc, input, now, out) {
+            Ok(equipment) => {
+                self.going = Some(equipment);
                 Ok(())
             }
             Err(ended) => {
@@ -308,103 +269,64 @@ impl EquipmentEnd {
         alloc: Global,
         disk: &MemDisk,
         choice: CutChoice,
+        now: u64,
         out: &mut StepOut,
     ) -> Result<(), Stop>
-        requires gone { self.old.spool ≡ None }
+        requires gone { self.old.going ≡ None }
         requires none { self.old.lost ≡ None }
         requires out { IsEmpty out.old }
-        ensures start { (now : ℕ) → IsLost self.old.slots disk.now → Leaves
-            ([] ∷ [])
-            (anew_over ⟦<MemDisk as Disk>⟧ self.old.plan (node_of self.old.tool.value) None (Some disk.now) choice now)
-            (view_of ⟦<MemDisk as Disk>⟧ (node_of self.new.tool.value) self.new.spool)
-            out.new
-            result }
-        ensures whole { IsNotStopped result }
-        ensures armed { OnOk result (IsArmed self.new.slots self.new.spool) }
-        ensures sound { IsLost self.old.slots disk.now → IsWhole
+        ensures anew { IsLost disk.now → StartsAnew
             ⟦<MemDisk as Disk>⟧
             self.new.plan
-            self.new.slots
-            (node_of self.new.tool.value)
-            self.new.spool
-            None }
+            (starts_over self.old.plan (after_cut choice disk.now))
+            self.new.going
+            out.new
+            result }
         ensures lost { self.new.lost ≡ None }
     {
         match disk.cut(alloc, choice) {
-            Ok(disk) => self.take_up(alloc, disk, out),
+            Ok(disk) => self.take_up(alloc, disk, now, out),
             Err(_none) => Err(Stop::NoMemory),
         }
     }
 
     // A start with what the disk tells, which holds a spool file. (An empty spool begins with number 0 again.)
-    fn take_up(&mut self, alloc: Global, disk: MemDisk, out: &mut StepOut) -> Result<(), Stop>
-        requires gone { self.old.spool ≡ None }
-        requires out { IsEmpty out.old }
-        ensures start { IsFileOf self.old.slots disk → Leaves
-            ([] ∷ [])
-            (starts_over self.old.plan disk)
-            (view_of ⟦<MemDisk as Disk>⟧ (node_of self.new.tool.value) self.new.spool)
-            out.new
-            result }
-        ensures whole { IsNotStopped result }
-        ensures armed { OnOk result (IsArmed self.new.slots self.new.spool) }
-        ensures sound { IsFileOf self.old.slots disk → IsWhole
-            ⟦<MemDisk as Disk>⟧
-            self.new.plan
-            self.new.slots
-            (node_of self.new.tool.value)
-            self.new.spool
-            None }
-        ensures lost { self.new.lost ≡ self.old.lost }
-    {
-        match Raw::new(disk).recover() {
-            Ok(spool) => self.start_anew(alloc, GemSpool::new(spool), out),
-            // (the list of its calls has no memory for reading it)
-            Err(_unknown) => Err(Stop::NoMemory),
-        }
-    }
-
-    // A start with a spool that was just taken up.
-    fn start_anew(
+    fn take_up(
         &mut self,
         alloc: Global,
-        spool: GemSpool<MemDisk>,
+        disk: MemDisk,
+        now: u64,
         out: &mut StepOut,
     ) -> Result<(), Stop>
-        requires gone { self.old.spool ≡ None }
+        requires gone { self.old.going ≡ None }
         requires out { IsEmpty out.old }
-        ensures restarts { Restarts
+        ensures anew { IsStartable disk → StartsAnew
             ⟦<MemDisk as Disk>⟧
-            self.old.plan
-            self.old.slots
-            spool
-            self.new.tool.value
-            self.new.spool
+            self.new.plan
+            (starts_over self.old.plan disk)
+            self.new.going
             out.new
             result }
-        ensures fits { EquipmentPlanFits self.old.plan }
-        ensures plan { self.new.plan ≡ self.old.plan }
-        ensures slots { self.new.slots ≡ self.old.slots }
         ensures lost { self.new.lost ≡ self.old.lost }
     {
-        match start_over(alloc, self.plan.get(), spool, out) {
-            Ok(Seat { tool, spool }) => {
-                self.tool = tool;
-                self.spool = Some(armed(spool, self.slots));
+        match Equipment::start(alloc, self.plan.get(), Raw::new(disk), now, out) {
+            Ok(equipment) => {
+                self.going = Some(armed(equipment));
                 Ok(())
             }
-            Err(ended) => Err(stop_as(stop_of(&ended), false)),
+            Err(why) => Err(stop_at_start(&why)),
         }
     }
 }
 
-// A spool of so many slots behind a start, the disk of which stops at the first call too many.
-fn armed(spool: GemSpool<MemDisk>, slots: u32) -> GemSpool<MemDisk>
-    ensures { result ≡ with_stop (left_behind slots) spool }
+// An equipment behind its start, the disk of which stops at the first call too many.
+fn armed(equipment: Equipment<MemDisk>) -> Equipment<MemDisk>
+    ensures { result ≡ with_stop (left_behind equipment.spool.spool.slots) equipment }
 {
-    let mut spool = spool;
-    spool.arm(left_for(slots));
-    spool
+    let mut equipment = equipment;
+    let left = left_for(equipment.slots());
+    equipment.arm(left);
+    equipment
 }
 
 // How many calls are left to the disk of so many slots behind a start, up to the first one too many, itself counted.
@@ -415,25 +337,25 @@ fn left_for(slots: u32) -> u32
 }
 
 // Plans the call where there is room for so many, and answers whether there is.
-fn arm_within(spool: &mut GemSpool<MemDisk>, call: u32) -> bool
-    ensures within { result ≡ nat_le call spool.old.spool.disk.plan.stop_in }
-    ensures spool { spool.new ≡ (if result then with_stop call spool.old else spool.old) }
+fn arm_within(equipment: &mut Equipment<MemDisk>, call: u32) -> bool
+    ensures within { result ≡ nat_le call equipment.old.spool.spool.disk.plan.stop_in }
+    ensures equipment { equipment.new ≡ (if result then with_stop call equipment.old else equipment.old) }
 {
-    if call > spool.stops_in() {
+    if call > equipment.stops_in() {
         return false;
     }
-    spool.arm(call);
+    equipment.arm(call);
     true
 }
 
 // The disk that there is.
-fn disk_in(lost: Option<MemDisk>, spool: Option<GemSpool<MemDisk>>) -> Option<MemDisk>
-    ensures { result ≡ disk_of lost spool }
+fn disk_in(lost: Option<MemDisk>, going: Option<Equipment<MemDisk>>) -> Option<MemDisk>
+    ensures { result ≡ disk_of lost going }
 {
     match lost {
         Some(disk) => Some(disk),
-        None => match spool {
-            Some(spool) => Some(spool.retire().into_disk()),
+        None => match going {
+            Some(equipment) => Some(equipment.power_off().into_disk()),
             None => None,
         },
     }
@@ -485,5 +407,17 @@ fn stop_of(ended: &Ended<MemDisk>) -> Stop
         Ended::NoMemory(_) => Stop::NoMemory,
         Ended::DiskFailed(_) => Stop::DiskFailed,
         Ended::NumbersSpent(_) => Stop::NumbersSpent,
+    }
+}
+
+// Why it doesn't start.
+fn stop_at_start(why: &Starting<MemDisk>) -> Stop
+    ensures { result ≡ stop_at_start why.now }
+{
+    match why {
+        Starting::NumbersSpent(_) => Stop::NumbersSpent,
+        // (the list of its disk's calls has no memory for them, or for looking at the file)
+        Starting::NoMemory(_) | Starting::NotSpool(_, _) | Starting::DiskFailed(_) =>
+            Stop::NoMemory,
     }
 }

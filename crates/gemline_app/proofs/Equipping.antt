@@ -30,6 +30,7 @@ use Rattle.equipment_node.specs.HandedBack.{StartHandsBack}
 use Rattle.equipment_node.specs.Held.{Begins, FindsFile, Held, view_in}
 use Rattle.tool_step.specs.Own.{OwnView}
 use Rattle.equipment_node.specs.Stepping.{HasLeft, Steps, stop_by}
+use Rattle.equipment_node.proofs.Seated.{stops-by}
 use Rattle.end_run.specs.Counts.{Counted, Counts, Device, DeviceFails, StepCounts, counted_by}
 use Rattle.end_run.specs.Outcome.{ComesOver, RunsOver}
 use Rattle.end_run.specs.Scenes.{IsSo, StopAt}
@@ -88,21 +89,13 @@ module _ {D : Type 0} (members : disk.Ghosts D) where
   -- ---- a step that has stopped it
 
   module _ (end : Ended D) (why : Stop) (why_is : why ≡ stop_by end) where
-    ended_leaves :
-        (s : EquipmentView) (input : Input ToolCommand) (now : ℕ) (node : Node OwnView Kind) (next : EquipmentView)
-        (out : StepOut) (other : Ended D) → Steps members s input now node out (Err other)
-        → Leaves (stops s input now) (act s input now) next out (Err (stop_by other))
-    ended_leaves s input now node next out (ended.NoMemory spent) steps = steps.0
-    ended_leaves s input now node next out (ended.DiskFailed spent) steps = steps.0
-    ended_leaves s input now node next out (ended.NumbersSpent spent) steps = steps.0
-
     pub stopped_leaves :
         (s : EquipmentView) (input : Input ToolCommand) (now : ℕ) (node : Node OwnView Kind) (next : EquipmentView)
         (out : StepOut) → Steps members s input now node out (Err end)
         → Leaves (stops s input now) (act s input now) next out (Err why)
     stopped_leaves s input now node next out steps =
         subst (λ (w : Stop). Leaves (stops s input now) (act s input now) next out (Err w)) (sym why_is)
-        (ended_leaves s input now node next out end steps)
+        (stops-by members s input now node next out end steps)
 
     ended_left :
         (s : EquipmentView) (input : Input ToolCommand) (now : ℕ) (node : Node OwnView Kind) (out : StepOut)

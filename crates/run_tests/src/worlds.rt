@@ -63,15 +63,14 @@ fn plans(alloc: Global, line: LinePlan, host: LinePlan) -> Option<Plans> {
 type Left = Option<(Phase, Option<u64>, Phase, Option<u64>)>;
 
 fn left_of(world: &Option<World<EquipmentEnd, Host>>) -> Left {
-    match world {
-        Some(world) => Some((
-            world.equipment().phase(),
-            world.equipment().deadline(),
-            world.host().phase(),
-            world.host().deadline(),
-        )),
-        None => None,
-    }
+    let world = world.as_ref()?;
+    let equipment = world.equipment().equipment()?;
+    Some((
+        equipment.phase(),
+        equipment.deadline(),
+        world.host().phase(),
+        world.host().deadline(),
+    ))
 }
 
 /// How a run of a schedule ended, where the plans and the schedule are good ones, and what is left.

@@ -27,18 +27,6 @@ returns-in-DiskFailed-clause-acts g c s input now stops begin =
     absurd
     (subst (λ (end : Stop). StopsAt s input now (node_of c.args.tool.now) c.args.out.now end) c.in-DiskFailed.is stops)
 
-pub returns-in-NumbersSpent-clause-asks : goal.returns-in-NumbersSpent-clause-asks
-returns-in-NumbersSpent-clause-asks g c s input now stops begin =
-    c.stop_spent.ensures.asks s input now
-    (subst (λ (end : Stop). StopsAt s input now (node_of c.args.tool.now) c.args.out.now end) c.in-NumbersSpent.is
-    stops)
-    begin
-
-pub returns-in-DiskFailed-clause-asks : goal.returns-in-DiskFailed-clause-asks
-returns-in-DiskFailed-clause-asks g c s input now stops begin =
-    absurd
-    (subst (λ (end : Stop). StopsAt s input now (node_of c.args.tool.now) c.args.out.now end) c.in-DiskFailed.is stops)
-
 pub returns-in-NumbersSpent-clause-calls : goal.returns-in-NumbersSpent-clause-calls
 returns-in-NumbersSpent-clause-calls g c s input now stops begin =
     c.stop_spent.ensures.calls s input now

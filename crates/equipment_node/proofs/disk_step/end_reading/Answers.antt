@@ -10,7 +10,6 @@ use Rattle.tool_core.specs.Node.{node_of}
 use Rattle.tool_step.specs.Spooling.{end_of_spooling}
 use Rattle.tool_step.specs.Step.{offer}
 use Rattle.tool_step.specs.Taking.{taking}
-use Rattle.equipment_node.proofs.Asking.{look-fallen, looked-asked, unlooked-asked}
 use Rattle.equipment_node.proofs.HandingBack.{handed-then, kept-at, kept-then, last-back, looked-back, unlooked-back}
 use Rattle.equipment_node.proofs.LastParts.{last-done, no-list, none-there, read-at, read-there}
 use Rattle.equipment_node.proofs.OnDisk.{kept-of}
@@ -57,32 +56,6 @@ returns-in-Err-NoMemory-clause-ends g c t asked some at =
     kept-of g.D.Disk c.oldest_message.new.self.spool (standing_in t.next) c.retire-in-Err-NoMemory.result
     c.retire-in-Err-NoMemory.ensures.disk
     (c.in-Err-NoMemory.ensures.stands (standing_in t.next) at.clear.stands)
-
-pub returns-in-Ok-clause-asks : goal.returns-in-Ok-clause-asks
-returns-in-Ok-clause-asks g c =
-    looked-asked g.D.Disk c.args.spool.spool c.oldest_message.new.self (first_slot c.args.spool.spool)
-    (taking (Some (c.args.number, c.report_of-report.result)) ∷ end_of_spooling ∷ offer c.args.now ∷ closes ∷ [])
-    (node_of c.args.tool.now) (node_of c.end_with.new.tool) c.args.out.now c.end_with.new.out c.end_with.result
-    c.in-Ok.ensures.reads.0 c.end_with.ensures.ends
-
-pub returns-in-Err-Empty-clause-asks : goal.returns-in-Err-Empty-clause-asks
-returns-in-Err-Empty-clause-asks g c =
-    let reads =
-    subst
-    (λ (why : Unread). ReadsOldest g.D.Disk c.args.spool.spool c.oldest_message.new.self.spool (Err why))
-    c.in-Err-Empty.field-0-is c.in-Err-Empty.ensures.reads in
-    unlooked-asked g.D.Disk c.args.spool.spool c.oldest_message.new.self
-    (taking None ∷ end_of_spooling ∷ offer c.args.now ∷ closes ∷ []) (node_of c.args.tool.now)
-    (node_of c.end_with-in-Err-Empty.new.tool) c.args.out.now c.end_with-in-Err-Empty.new.out
-    c.end_with-in-Err-Empty.result reads.0 c.end_with-in-Err-Empty.ensures.ends
-
-pub returns-in-Err-Failed-clause-asks : goal.returns-in-Err-Failed-clause-asks
-returns-in-Err-Failed-clause-asks g c =
-    let reads =
-    subst
-    (λ (why : Unread). ReadsOldest g.D.Disk c.args.spool.spool c.oldest_message.new.self.spool (Err why))
-    c.in-Err-Failed.field-0-is c.in-Err-Failed.ensures.reads in
-    look-fallen g.D.Disk c.args.spool.spool c.oldest_message.new.self.spool (first_slot c.args.spool.spool) reads.0
 
 pub returns-in-Ok-clause-calls : goal.returns-in-Ok-clause-calls
 returns-in-Ok-clause-calls g c st count some =

@@ -39,22 +39,6 @@ returns-in-Err-clause-acts g c s begin =
     c.in-Err.stop c.in-Err.ensures.does)
     (record { went = begin.went; node_is = refl; clear = begin.clear; told = begin.told })
 
-pub returns-in-Ok-clause-asks : goal.returns-in-Ok-clause-asks
-returns-in-Ok-clause-asks g c s begin =
-    c.from_works.ensures.asks s (input_of c.args.input)
-    (begun-of (input_of c.args.input) c.args.now (node_of c.args.tool.now) (node_of c.do_first.new.self)
-    c.args.out.now c.do_first.new.out c.requires.out c.requires.ready.sound g.D.Disk s c.args.spool begin
-    c.in-Ok.ensures.does)
-    (record { went = begin.went; node_is = refl; clear = begin.clear; told = begin.told })
-
-pub returns-in-Err-clause-asks : goal.returns-in-Err-clause-asks
-returns-in-Err-clause-asks g c s begin =
-    c.end_early.ensures.asks s (input_of c.args.input) c.args.now
-    (stops-of (input_of c.args.input) c.args.now (node_of c.args.tool.now) (node_of c.do_first.new.self)
-    c.args.out.now c.do_first.new.out c.requires.out c.requires.ready.sound g.D.Disk s c.args.spool begin
-    c.in-Err.stop c.in-Err.ensures.does)
-    (record { went = begin.went; node_is = refl; clear = begin.clear; told = begin.told })
-
 pub returns-in-Ok-clause-calls : goal.returns-in-Ok-clause-calls
 returns-in-Ok-clause-calls g c s begin =
     c.from_works.ensures.calls s (input_of c.args.input)

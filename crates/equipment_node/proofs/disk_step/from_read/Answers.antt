@@ -1,12 +1,10 @@
 use Rattle.std.proofs.Common.{[], ◌∷◌, None, Some}
-use Rattle.equipment_node.specs.Asked.{read_asks}
 use Rattle.tool_step.specs.Disk.{standing_in}
 use Rattle.message_end.specs.Parts.{closes}
-use Rattle.tool_core.specs.Node.{node_of, own_of}
+use Rattle.tool_core.specs.Node.{node_of}
 use Rattle.tool_step.specs.Spooling.{end_of_spooling}
 use Rattle.tool_step.specs.Step.{offer}
 use Rattle.tool_step.specs.Taking.{taking}
-use Rattle.equipment_node.proofs.Asking.{last-asked, reads-one}
 use Rattle.equipment_node.proofs.HandingBack.{last-back}
 use Rattle.equipment_node.proofs.LastParts.{asked-is, last-done, none-asked, number-is, with-node}
 use Rattle.equipment_node.proofs.Readying.{asked-ready}
@@ -50,17 +48,6 @@ returns-in-None-clause-ends g c t at =
     c.in-None.ensures.core)
     (none-asked g.D.Disk t (number-is (node_of c.args.tool.now) t at.node_is None c.in-None.ensures.number))
     c.end_with.result c.end_with.ensures.ends
-
-pub returns-in-Some-clause-asks : goal.returns-in-Some-clause-asks
-returns-in-Some-clause-asks g c =
-    reads-one g.D.Disk (own_of c.args.tool.now.own) c.in-Some.number c.args.spool.spool.disk c.end_reading.result
-    c.in-Some.ensures.number c.end_reading.ensures.asks
-
-pub returns-in-None-clause-asks : goal.returns-in-None-clause-asks
-returns-in-None-clause-asks g c =
-    last-asked g.D.Disk c.args.spool (taking None ∷ end_of_spooling ∷ offer c.args.now ∷ closes ∷ [])
-    (node_of c.next_unload.new.self) (node_of c.end_with.new.tool) c.args.out.now
-    c.end_with.new.out (read_asks (own_of c.args.tool.now.own)) c.end_with.result c.end_with.ensures.ends
 
 pub returns-in-Some-clause-calls : goal.returns-in-Some-clause-calls
 returns-in-Some-clause-calls g c t at =

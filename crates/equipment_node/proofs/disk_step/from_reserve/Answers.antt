@@ -1,7 +1,6 @@
 use Rattle.std.proofs.Common.{◌∙◌}
 use Rattle.message_end.specs.Ends.{input_of}
 use Rattle.tool_core.specs.Node.{node_of}
-use Rattle.equipment_node.proofs.Asking.{reserve-fallen, step-asked}
 use Rattle.equipment_node.proofs.HandingBack.{handed-then}
 use Rattle.equipment_node.proofs.OverDisk.{not-opened}
 use Rattle.equipment_node.proofs.StepCalls.{not-called, step-called}
@@ -28,17 +27,6 @@ returns-in-Err-clause-acts g c s node_is on told =
     not-opened g.D.Disk s (input_of c.args.input) c.args.now (node_of c.reserve.new.tool) (node_of c.reserve.new.tool)
     c.reserve.new.out c.in-Err.ended (c.in-Err.ensures.notes ∙ c.requires.out.notes) on.clear.owes
     (c.in-Err.ensures.opens s node_is on told)
-
-pub returns-in-Ok-clause-asks : goal.returns-in-Ok-clause-asks
-returns-in-Ok-clause-asks g c s node_is on told =
-    let begin = c.in-Ok.ensures.opens s node_is on told in
-    step-asked g.D.Disk s (input_of c.args.input) c.args.now c.args.spool.spool.disk c.in-Ok.spool.spool.disk
-    c.from_input.result begin.went (c.in-Ok.ensures.asks s node_is on told) (c.from_input.ensures.asks s begin)
-
-pub returns-in-Err-clause-asks : goal.returns-in-Err-clause-asks
-returns-in-Err-clause-asks g c s node_is on told =
-    reserve-fallen g.D.Disk s (input_of c.args.input) c.args.now c.args.spool.spool.disk c.in-Err.ended
-    (c.in-Err.ensures.asks s node_is on told)
 
 pub returns-in-Ok-clause-calls : goal.returns-in-Ok-clause-calls
 returns-in-Ok-clause-calls g c s node_is on told =

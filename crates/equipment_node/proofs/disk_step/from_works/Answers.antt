@@ -3,7 +3,6 @@ use Rattle.std.specs.Prelude.{Ok, Err}
 use Rattle.arrayvec.specs.ArrayVec.{array_vec_len}
 use Rattle.tool_core.specs.Node.{node_of}
 use Rattle.tool_step.specs.Equipment.{settled_step}
-use Rattle.equipment_node.proofs.Asking.{behind-asked, behind-fallen}
 use Rattle.equipment_node.proofs.HandingBack.{handed-then, works-back}
 use Rattle.equipment_node.proofs.OverDisk.{at-settled, carry-failed, ends-acts}
 use Rattle.equipment_node.proofs.Readying.{settled-ready}
@@ -39,17 +38,6 @@ returns-in-Err-clause-acts g c s input begun begin =
     carry-failed g.D.Disk s input c.args.now begin.went c.args.spool (node_of c.args.tool.now)
     (node_of c.carry_out.new.tool) c.args.out.now c.carry_out.new.out c.in-Err.ended begun begin.clear begin.told
     c.in-Err.ensures.works
-
-pub returns-in-Ok-clause-asks : goal.returns-in-Ok-clause-asks
-returns-in-Ok-clause-asks g c s input begun begin =
-    behind-asked g.D.Disk s input c.args.now c.args.spool c.in-Ok.spool (node_of c.args.tool.now)
-    (node_of c.carry_out.new.tool) c.args.out.now begun c.from_read.result begin.clear c.in-Ok.ensures.works.0
-    c.in-Ok.ensures.node c.from_read.ensures.asks
-
-pub returns-in-Err-clause-asks : goal.returns-in-Err-clause-asks
-returns-in-Err-clause-asks g c s input begun begin =
-    behind-fallen g.D.Disk s input c.args.now c.args.spool (node_of c.args.tool.now) c.args.out.now
-    c.carry_out.new.out begun c.in-Err.ended begin.clear c.in-Err.ensures.works
 
 pub returns-in-Ok-clause-calls : goal.returns-in-Ok-clause-calls
 returns-in-Ok-clause-calls g c s input begun begin =

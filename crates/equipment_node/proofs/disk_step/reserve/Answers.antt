@@ -1,6 +1,5 @@
 use Rattle.std.proofs.Common.{sym}
 use Rattle.tool_core.specs.Node.{node_of}
-use Rattle.equipment_node.proofs.Asking.{spared-none}
 use Rattle.equipment_node.proofs.HandingBack.{kept-still}
 use Rattle.equipment_node.proofs.Opened.{made-ordered, need, no-need, opened-plain}
 use Rattle.equipment_node.proofs.StepCalls.{not-reserved}
@@ -18,14 +17,6 @@ returns-clause-opens g c s node_is on told =
     (need s (node_of c.args.tool.now) node_is (sym c.if-has_enough.ensures)
     (made-ordered s on.made))
     on told
-
-pub returns-then-has_enough-clause-asks : goal.returns-then-has_enough-clause-asks
-returns-then-has_enough-clause-asks g c s node_is on told = spared-none _ _
-
-pub returns-clause-asks : goal.returns-clause-asks
-returns-clause-asks g c s node_is on told =
-    c.reserve_more.ensures.asks s node_is
-    (need s (node_of c.args.tool.now) node_is (sym c.if-has_enough.ensures) (made-ordered s on.made)) on
 
 pub returns-then-has_enough-clause-calls : goal.returns-then-has_enough-clause-calls
 returns-then-has_enough-clause-calls g c s node_is on told =

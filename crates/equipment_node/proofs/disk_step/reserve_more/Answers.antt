@@ -9,7 +9,6 @@ use Rattle.tool_step.specs.Disk.{standing_in}
 use Rattle.tool_step.specs.Equipment.{with_core}
 use Rattle.tool_core.specs.Node.{node_of}
 use Rattle.tool_step.specs.Own.{OwnView}
-use Rattle.equipment_node.proofs.Asking.{mark-fallen, mark-spared}
 use Rattle.equipment_node.proofs.HandingBack.{kept-at, kept-then, reserved-back, unreserved-back}
 use Rattle.equipment_node.proofs.Opened.{at-last, mark-failed, marked-out, more-core, opened-more}
 use Rattle.equipment_node.proofs.Readying.{same-ready}
@@ -58,18 +57,6 @@ returns-in-Err-clause-opens g c s node_is needs on told = (
   λ t is.
       at-last told.0 _ _ t (c.in-Err.ensures.moments (standing_in s) on.clear.stands told.0 told.1) is,
 )
-
-pub returns-in-Ok-default-Some-clause-asks : goal.returns-in-Ok-default-Some-clause-asks
-returns-in-Ok-default-Some-clause-asks g c s node_is needs on =
-    let made =
-    subst
-    (λ (b : Option ℕ). ReservesFrom g.D.Disk c.args.spool c.in-Ok-default-Some.spool b)
-    c.in-Ok-default-Some.field-0-1-is c.in-Ok-default-Some.ensures.reserve in
-    mark-spared g.D.Disk s c.args.spool needs on.clear c.in-Ok-default-Some.spool _ made
-
-pub returns-in-Err-clause-asks : goal.returns-in-Err-clause-asks
-returns-in-Err-clause-asks g c s node_is needs on =
-    mark-fallen g.D.Disk s c.args.spool needs on.clear c.in-Err.spent c.in-Err.ensures.reserve
 
 pub returns-in-Ok-default-Some-clause-calls : goal.returns-in-Ok-default-Some-clause-calls
 returns-in-Ok-default-Some-clause-calls g c s node_is needs on told =

@@ -25,12 +25,6 @@ returns-in-Err-clause-steps g c s node_is on told =
     (record { line = c.clear.new.self; notes = c.from_reserve.new.out.notes }) refl
     c.clear.ensures
 
-pub returns-in-Ok-clause-asks : goal.returns-in-Ok-clause-asks
-returns-in-Ok-clause-asks g c s node_is on told = c.in-Ok.ensures.asks s node_is on told
-
-pub returns-in-Err-clause-asks : goal.returns-in-Err-clause-asks
-returns-in-Err-clause-asks g c s node_is on told = c.in-Err.ensures.asks s node_is on told
-
 pub returns-in-Ok-clause-calls : goal.returns-in-Ok-clause-calls
 returns-in-Ok-clause-calls g c s node_is on told = c.in-Ok.ensures.calls s node_is on told
 

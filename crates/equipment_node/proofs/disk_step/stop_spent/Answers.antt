@@ -2,7 +2,6 @@ use Rattle.std.proofs.Common.{ap}
 use Rattle.std.specs.Prelude.{Ok, Err}
 use Rattle.message_flow.specs.declared.step.StepOut.{StepOut}
 use Rattle.tool_core.specs.Node.{node_of}
-use Rattle.equipment_node.proofs.Asking.{spent-fallen}
 use Rattle.equipment_node.proofs.HandingBack.{kept-at, kept-then, works-back}
 use Rattle.equipment_node.proofs.OverDisk.{carry-spent-failed, spent-before}
 use Rattle.equipment_node.proofs.StepCalls.{spent-called, spent-stops}
@@ -21,11 +20,6 @@ returns-in-Err-clause-acts g c s input now stops begin =
     carry-spent-failed g.D.Disk s input now begin.went c.args.spool (node_of c.args.tool.now)
     (node_of c.carry_out.new.tool) c.args.out.now c.carry_out.new.out c.in-Err.ended stops begin.clear begin.told
     c.in-Err.ensures.works
-
-pub returns-in-Err-clause-asks : goal.returns-in-Err-clause-asks
-returns-in-Err-clause-asks g c s input now stops begin =
-    spent-fallen g.D.Disk s input now c.args.spool (node_of c.args.tool.now) c.args.out.now c.carry_out.new.out stops
-    c.in-Err.ended begin.clear c.in-Err.ensures.works
 
 pub returns-in-Ok-clause-calls : goal.returns-in-Ok-clause-calls
 returns-in-Ok-clause-calls g c s input now stops begin =

@@ -2,9 +2,10 @@ use Rattle.std.proofs.Common.{◌+◌, ◌≤◌, ◌^◌, ℕ, sym, subst, Opti
 use Rattle.gem_spool.specs.Spool.{ReservesFrom}
 use Rattle.gem_spool.specs.Standing.{Stands, standing_of}
 use Rattle.gem_spool.specs.Works.{standing_after_reserve}
-use Rattle.equipment_node.proofs.Beginning.{none-left, start-asked, start-failed, start-fallen, start-ready, started}
-use Rattle.equipment_node.proofs.HandingBack.{kept-at, kept-then, reserved-back, seat-then, seated-back, unreserved-back}
+use Rattle.equipment_node.proofs.Beginning.{none-left, start-failed, started}
+use Rattle.equipment_node.proofs.HandingBack.{kept-at, kept-then, reserved-back, seated-back, start-then, unreserved-back}
 use Rattle.equipment_node.proofs.StartCalled.{mark-moved, mark-stays, move-stops}
+use Rattle.equipment_node.proofs.Standings.{start-sure}
 use Rattle.equipment_node.proofs.equipment.start_over.Goals as goal
 
 pub start_with-requires : goal.start_with-requires
@@ -15,14 +16,8 @@ start_with-requires g c =
     record {
       plan = c.requires.plan;
       numbers = subst (λ (n : ℕ). n + 4096 ≤ 2 ^ 32) (sym done.0.1) done.0.0.left;
+      even = (c.in-Ok.ensures.stands (standing_of g.D.Disk c.args.spool.spool) c.len.ensures.stands).even;
     }
-
-pub returns-in-Some-clause-ready : goal.returns-in-Some-clause-ready
-returns-in-Some-clause-ready g c =
-    start-ready c.args.plan.now c.requires.plan c.in-Ok.spool c.in-Some.base c.args.out.now c.start_with.new.out
-    c.start_with.result
-    (c.in-Ok.ensures.stands (standing_of g.D.Disk c.args.spool.spool) c.len.ensures.stands).even
-    c.start_with.ensures.starts
 
 pub returns-in-Some-clause-starts : goal.returns-in-Some-clause-starts
 returns-in-Some-clause-starts g c fresh =
@@ -52,18 +47,6 @@ returns-in-Err-clause-starts g c fresh =
     c.requires.out c.in-Err.spent
     (λ s is. c.in-Err.ensures.moments (standing_of g.D.Disk c.args.spool.spool) c.len.ensures.stands s is)
 
-pub returns-in-Some-clause-asks : goal.returns-in-Some-clause-asks
-returns-in-Some-clause-asks g c =
-    start-asked g.D.Disk c.args.plan.now c.args.spool c.in-Ok.spool c.in-Some.base c.in-Some.base c.args.out.now
-    c.start_with.new.out c.start_with.result
-    (subst (λ (b : Option ℕ). ReservesFrom g.D.Disk c.args.spool c.in-Ok.spool b) c.in-Some.is
-    c.in-Ok.ensures.reserve)
-    c.start_with.ensures.starts
-
-pub returns-in-Err-clause-asks : goal.returns-in-Err-clause-asks
-returns-in-Err-clause-asks g c =
-    start-fallen g.D.Disk c.args.plan.now c.args.spool c.in-Err.spent c.in-Err.ensures.reserve
-
 pub returns-in-Some-clause-calls : goal.returns-in-Some-clause-calls
 returns-in-Some-clause-calls g c told =
     mark-moved g.D.Disk c.args.spool (standing_of g.D.Disk c.args.spool.spool) c.len.ensures.stands told
@@ -88,7 +71,7 @@ returns-in-Err-clause-calls g c told =
 
 pub returns-in-Some-clause-disk : goal.returns-in-Some-clause-disk
 returns-in-Some-clause-disk g c =
-    seat-then g.D.Disk c.args.spool.spool.disk c.in-Ok.spool.spool.disk c.start_with.result
+    start-then g.D.Disk c.args.spool.spool.disk c.in-Ok.spool.spool.disk c.start_with.result
     (reserved-back g.D.Disk c.args.spool c.in-Ok.spool _ c.in-Ok.ensures.reserve)
     (seated-back g.D.Disk c.args.plan.now c.in-Ok.spool c.in-Some.base c.args.out.now c.start_with.new.out
     c.start_with.result c.start_with.ensures.starts)
@@ -101,3 +84,11 @@ returns-in-None-clause-disk g c =
 
 pub returns-in-Err-clause-disk : goal.returns-in-Err-clause-disk
 returns-in-Err-clause-disk g c = unreserved-back g.D.Disk c.args.spool c.in-Err.spent c.in-Err.ensures.reserve
+
+pub returns-in-Some-clause-keeps : goal.returns-in-Some-clause-keeps
+returns-in-Some-clause-keeps g c =
+    start-sure g.D.Disk c.args.spool c.in-Ok.spool c.in-Some.base
+    (subst (λ (b : Option ℕ). ReservesFrom g.D.Disk c.args.spool c.in-Ok.spool b) c.in-Some.is
+    c.in-Ok.ensures.reserve)
+    c.args.plan.now c.in-Some.base c.args.out.now c.start_with.new.out c.start_with.result
+    c.start_with.ensures.starts

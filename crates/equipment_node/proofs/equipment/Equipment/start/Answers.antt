@@ -7,21 +7,21 @@ use Rattle.equipment_node.specs.StartCalls.{CallsInStart}
 use Rattle.equipment_node.proofs.HandingBack.{kept-at, kept-then, start-then, taken-back, untaken-back}
 use Rattle.equipment_node.proofs.SpentMoves.{begun-by-cause}
 use Rattle.equipment_node.proofs.StartCalled.{looked-only, looked-through}
-use Rattle.equipment_node.proofs.TakenUp.{begun-over, found, is-fresh, not-found, not-taken}
+use Rattle.equipment_node.proofs.TakenUp.{begun-over, found, is-fresh, not-found, not-taken, taken-sure}
 use Rattle.equipment_node.proofs.equipment.Equipment.start.Goals as goal
 
 pub returns-in-Ok-clause-begins : goal.returns-in-Ok-clause-begins
 returns-in-Ok-clause-begins g c s told =
     let same = ap (λ h. h.spool) c.new.ensures.made in
     begun-over g.D.Disk c.args.raw.disk s told c.in-Ok.spool c.in-Ok.ensures c.new.result same c.args.plan.now
-    c.requires.plan c.start_on.new.out c.start_on.result
-    (c.start_on.ensures.begins
+    c.requires.plan c.start_over.new.out c.start_over.result
+    (c.start_over.ensures.starts
     (is-fresh g.D.Disk c.args.raw.disk s told c.in-Ok.spool c.in-Ok.ensures c.new.result same))
 
 pub returns-in-Ok-clause-calls : goal.returns-in-Ok-clause-calls
 returns-in-Ok-clause-calls g c s told =
     looked-through g.D.Disk c.args.raw.disk s told c.in-Ok.spool c.in-Ok.ensures c.new.result
-    (ap (λ h. h.spool) c.new.ensures.made) c.start_on.result c.start_on.ensures.calls
+    (ap (λ h. h.spool) c.new.ensures.made) c.start_over.result c.start_over.ensures.calls
 
 pub returns-in-Err-clause-begins : goal.returns-in-Err-clause-begins
 returns-in-Err-clause-begins g c s told =
@@ -31,7 +31,7 @@ returns-in-Err-clause-begins g c s told =
 
 pub returns-in-Ok-clause-spent : goal.returns-in-Ok-clause-spent
 returns-in-Ok-clause-spent g c s told =
-    begun-by-cause g.D.Disk c.args.plan.now s c.start_on.new.out c.start_on.result
+    begun-by-cause g.D.Disk c.args.plan.now s c.start_over.new.out c.start_over.result
     (returns-in-Ok-clause-begins g c s told)
 
 pub returns-in-Err-clause-spent : goal.returns-in-Err-clause-spent
@@ -46,11 +46,11 @@ returns-in-Err-clause-calls g c s told =
 
 pub returns-in-Ok-clause-disk : goal.returns-in-Ok-clause-disk
 returns-in-Ok-clause-disk g c =
-    start-then g.D.Disk c.args.raw.disk c.new.result.spool.disk c.start_on.result
+    start-then g.D.Disk c.args.raw.disk c.new.result.spool.disk c.start_over.result
     (kept-then g.D.Disk c.args.raw.disk c.in-Ok.spool.disk c.new.result.spool.disk
     (taken-back g.D.Disk c.args.raw.disk c.in-Ok.spool c.in-Ok.ensures)
     (kept-at g.D.Disk c.in-Ok.spool.disk c.new.result.spool.disk (ap (λ h. h.spool.disk) c.new.ensures.made)))
-    c.start_on.ensures.disk
+    c.start_over.ensures.disk
 
 pub returns-in-Err-clause-disk : goal.returns-in-Err-clause-disk
 returns-in-Err-clause-disk g c =
@@ -58,8 +58,13 @@ returns-in-Err-clause-disk g c =
     (untaken-back g.D.Disk c.args.raw.disk c.in-Err.unknown c.in-Err.ensures)
 
 pub returns-in-Ok-clause-finds : goal.returns-in-Ok-clause-finds
-returns-in-Ok-clause-finds g c s told = found s c.start_on.result (c.in-Ok.ensures.1 s told).0.sound
+returns-in-Ok-clause-finds g c s told = found s c.start_over.result (c.in-Ok.ensures.1 s told).0.sound
 
 pub returns-in-Err-clause-finds : goal.returns-in-Err-clause-finds
 returns-in-Err-clause-finds g c s told =
     subst (λ e. FindsFile s (Err e)) (sym c.why_not.ensures) (not-found s c.in-Err.unknown)
+
+pub returns-in-Ok-clause-keeps : goal.returns-in-Ok-clause-keeps
+returns-in-Ok-clause-keeps g c =
+    taken-sure g.D.Disk c.args.raw.disk c.in-Ok.spool c.in-Ok.ensures c.new.result
+    (ap (λ h. h.spool) c.new.ensures.made) c.start_over.result c.start_over.ensures.keeps
