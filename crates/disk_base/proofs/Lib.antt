@@ -6,6 +6,7 @@ mod Made
 pub mod Marks
 pub mod Moments
 mod OneByte
+mod Pages
 mod Replays
 mod Steps
 mod Stopped

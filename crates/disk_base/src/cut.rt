@@ -1,6 +1,6 @@
 //! What a crash leaves: a chosen byte in each range written since the last good sync, and in all others the bytes now.
 
-ghost use Rattle.std.specs.Prelude.{◌≡◌, ℕ, ◌+◌, ◌≤◌, List, [], true, fold, length, replicate, IfOk};
+ghost use Rattle.std.specs.Prelude.{◌≡◌, ℕ, ◌+◌, ◌≤◌, List, [], ◌++◌, true, drop, fold, length, replicate, IfOk};
 ghost use Rattle.disk_base.specs.Cut.{byte_left, bytes_left, choice_left, marks_of};
 ghost use Rattle.disk_base.specs.Log.{AreSized, loose_behind, loose_under};
 ghost use Rattle.disk_base.specs.Story.{with_part};
@@ -9,6 +9,8 @@ use crate::disk::CallKind;
 use crate::log::LoggedCall;
 use crate::no_memory::NoMemory;
 use std::alloc::Global;
+use std::cmp::min;
+use std::ops::Range;
 
 /// What a crash leaves in the ranges that were written since the last good sync.
 #[derive(Clone, Copy, Debug, PartialEq, Eq)]
@@ -40,6 +42,37 @@ fn choose(choice: CutChoice, mark: bool, settled: u8, now: u8) -> (u8, CutChoice
     }
 }
 
+// How many places are looked at together, so that those in which nothing was written are copied at once.
+const PAGE: usize = 256;
+
+// Appends what the places of a range are left with, and gives the choice for those behind it.
+fn leave(
+    image: &mut Vec<u8>,
+    choice: CutChoice,
+    places: Range<usize>,
+    marks: &[bool],
+    settled: &[u8],
+    now: &[u8],
+) -> Result<CutChoice, NoMemory>
+    requires marks { length marks.now ≡ length now.now }
+    requires settled { length settled.now ≡ length now.now }
+    requires places { (places.start ≤ places.end) × (places.end ≤ length now.now) }
+    ensures { IfOk result (λ next.
+        image.new.items
+        ++ bytes_left next (drop places.end marks.now) (drop places.end settled.now) (drop places.end now.now)
+        ≡ image.old.items
+        ++ bytes_left choice (drop places.start marks.now) (drop places.start settled.now)
+        (drop places.start now.now)) }
+{
+    let mut choice = choice;
+    for place in places.start..places.end {
+        let (byte, next) = choose(choice, marks[place], settled[place], now[place]);
+        image.push(byte)?;
+        choice = next;
+    }
+    Ok(choice)
+}
+
 /// The bytes after a crash.
 pub fn left_bytes(
     alloc: Global,
@@ -54,10 +87,15 @@ pub fn left_bytes(
 {
     let mut image = Vec::with_capacity(alloc, now.len())?;
     let mut choice = choice;
-    for place in 0..now.len() {
-        let (byte, next) = choose(choice, marks[place], settled[place], now[place]);
-        image.push(byte)?;
-        choice = next;
+    let mut place = 0;
+    while place < now.len() {
+        let end = place + min(PAGE, now.len() - place);
+        if marks[place..end].contains(&true) {
+            choice = leave(&mut image, choice, place..end, marks, settled, now)?;
+        } else {
+            image.extend_from_slice(&now[place..end])?;
+        }
+        place = end;
     }
     Ok(image)
 }
