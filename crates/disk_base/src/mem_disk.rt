@@ -72,7 +72,7 @@ impl MemDisk {
     fn over(alloc: Global, bytes: Vec<u8>, most: usize, room: usize) -> Result<MemDisk, NoMemory>
         ensures { IfOk result (λ disk. disk ≡ disk_with bytes.items most room) }
     {
-        let base = bytes.as_slice().to_vec(alloc)?;
+        let base = copy_of(alloc, bytes.as_slice())?;
         let entries = Vec::with_capacity(alloc, most)?;
         let written = Vec::with_capacity(alloc, room)?;
         Ok(MemDisk {
@@ -154,7 +154,7 @@ impl MemDisk {
         ensures bytes { IfOk result (λ bytes. bytes.items ≡ settled_bytes self.now.story) }
         ensures len { IfOk result (λ bytes. length bytes.items ≡ disk_size self.now) }
     {
-        let mut bytes = self.base.as_slice().to_vec(alloc)?;
+        let mut bytes = copy_of(alloc, self.base.as_slice())?;
         replay(
             bytes.as_mut_slice(),
             &self.entries[..self.synced],
@@ -214,6 +214,15 @@ impl MemDisk {
         run_call(self.bytes.as_mut_slice(), kind, at as usize, bytes);
         answer
     }
+}
+
+// A copy of these bytes, made at once; `to_vec` would go over them one by one.
+fn copy_of(alloc: Global, bytes: &[u8]) -> Result<Vec<u8>, NoMemory>
+    ensures { IfOk result (λ copy. copy.items ≡ bytes.now) }
+{
+    let mut copy = Vec::with_capacity(alloc, bytes.len())?;
+    copy.extend_from_slice(bytes)?;
+    Ok(copy)
 }
 
 // Tells that the elements of a slice of bytes are bytes.

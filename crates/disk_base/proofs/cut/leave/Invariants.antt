@@ -8,4 +8,5 @@ abbrev pub invariant-loop-place : goal.invariant-loop-place
 invariant-loop-place l =
     l.image.items ++ bytes_left l.choice (drop l.place l.marks) (drop l.place l.settled) (drop l.place l.now)
     ≡ l.fn.image.items
-    ++ bytes_left l.fn.choice (drop l.fn.places.start l.marks) (drop l.fn.places.start l.settled) (drop l.fn.places.start l.now)
+    ++ bytes_left l.fn.choice (drop l.fn.places.start l.marks) (drop l.fn.places.start l.settled)
+    (drop l.fn.places.start l.now)
