@@ -1,0 +1,206 @@
+"""A trace as a story: its lines in order, with what has become of the characters that they write. `Told` finds that in
+the trace alone; replayed.py follows the schedule."""
+import re
+import sys
+from bisect import bisect_left
+
+OTHER = {"E": "H", "H": "E"}
+ENQ, EOT, ACK, NAK = 0x05, 0x04, 0x06, 0x15
+CONTROLS = {ENQ: "ENQ", EOT: "EOT", ACK: "ACK", NAK: "NAK"}
+FRAME = "a frame"
+# The lines that have a block's header.
+HEADED = ("duplicate", "unexpected", "foreign", "toolong", "crowded", "t4")
+
+
+def refuse(text):
+    sys.exit(f"ladder: {text}")
+
+
+class Line:
+    """A line of a trace. That of the end has no side."""
+
+    def __init__(self, number, moment, side, text):
+        self.number, self.moment, self.side, self.text = number, moment, side, text
+        self.kind, *self.words = text.split(" ")
+        self.raw = b""
+        if self.kind == "tx" and re.fullmatch("([0-9A-F]{2})+", " ".join(self.words)):
+            self.raw = bytes.fromhex(self.words[0])
+        elif self.kind == "tx":
+            self.kind = "unknown"
+
+    def header(self):
+        """The header in the line, where it has one."""
+        word = self.words[-1] if self.words else ""
+        return bytes.fromhex(word) if self.kind in HEADED and re.fullmatch("[0-9A-F]{20}", word) else None
+
+    def tells_block(self):
+        """Whether it tells of a block that has come."""
+        return self.kind in ("rx", "slip") or self.kind != "t4" and self.header() is not None
+
+    def starts_with(self, what):
+        """Whether it is `tx` of this character, or of a frame."""
+        first = first_of(self.raw)
+        return bool(self.raw) and (is_frame(first) if what == FRAME else first == bytes([what]))
+
+    def is_primary(self):
+        """Whether it names a message whose function is odd."""
+        return bool(re.match("S[0-9]+F[0-9]*[13579]$", " ".join(self.words[:1])))
+
+
+def read_trace(name, text):
+    lines = []
+    for number, line in enumerate(text.split("\n"), 1):
+        if not line:
+            continue
+        form = re.fullmatch("([0-9]+) (?:([EH]) (.*)|end)", line)
+        if not form:
+            refuse(f"{name}, line {number}: no moment and no end, or nothing behind them: {line[:40]!r}")
+        moment = int(form[1])
+        if lines and (lines[-1].text == "end" or moment < lines[-1].moment):
+            refuse(f"{name}, line {number}: it can't follow the line before it")
+        lines.append(Line(number, moment, form[2], form[3] or "end"))
+    return lines
+
+
+def first_of(raw):
+    """The first of what a step has written: a control character or a frame. A 15 is NAK unless a frame follows."""
+    if raw[:1] and raw[0] in CONTROLS and not (raw[0] == NAK and len(raw) >= NAK + 3):
+        return raw[:1]
+    return raw[:raw[0] + 3] if raw else raw
+
+
+def is_frame(raw):
+    return len(raw) == raw[0] + 3 > 12
+
+
+class Piece:
+    """A control character, a frame, or noise, on its way from this side. Places are those of items."""
+
+    def __init__(self, side, raw, at, is_noise=False):
+        self.side, self.raw, self.at, self.is_noise = side, raw, at, is_noise
+        self.left = len(raw)    # how many characters of it are on their way
+        self.marks = []         # where some of them were lost, or one was changed
+        self.end = self.moment = None   # where and when it has ended
+        self.fate = None        # how: taken, lost, or broken, where it came and was no whole frame
+
+    def is_frame(self):
+        return is_frame(self.raw)
+
+    def ends(self, place, moment, fate):
+        self.end, self.moment, self.fate = place, moment, fate
+
+    def name(self):
+        if self.is_frame():
+            return header_name(self.raw[1:11])
+        return self.raw.hex().upper() if self.is_noise else CONTROLS.get(self.raw[0], self.raw.hex().upper())
+
+
+def header_name(header):
+    """What a header says: the message's name and system bytes, and the block where it isn't the only one."""
+    name = f"S{header[2] & 127}F{header[3]}{' W' if header[2] & 128 else ''} {header[6:10].hex().upper()}"
+    number, is_last = (header[4] & 127) << 8 | header[5], header[4] & 128
+    return name if is_last and number <= 1 else f"{name} block {number}{' E' if is_last else ''}"
+
+
+class Item:
+    """Something that has a row of its own in the picture, or a part of one: a line of the trace, what the schedule does
+    to characters on their way to `side` (a deed), or a moment at which only silent things happen (a clock)."""
+
+    def __init__(self, kind, moment, side=None, text="", line=None):
+        self.kind, self.moment, self.side, self.text, self.line = kind, moment, side, text, line
+        self.pieces = []
+
+
+class Story:
+    """The items in their order, with the fate of each piece."""
+
+    def __init__(self, lines):
+        self.lines, self.items, self.now = lines, [], 0
+        self.frames = {side: [(at, line.raw) for at, line in enumerate(lines)
+                              if line.side == side and line.starts_with(FRAME)] for side in "EH"}
+
+    def add(self, item):
+        if self.items and self.items[-1].kind == "clock" and self.items[-1].moment == item.moment:
+            self.items.pop()
+        self.items.append(item)
+        return item
+
+    def add_line(self, line):
+        item = self.add(Item("tx" if line.raw else line.kind, line.moment, line.side, line.text, line))
+        rest = line.raw
+        while rest:
+            piece = Piece(line.side, first_of(rest), len(self.items) - 1)
+            item.pieces.append(piece)
+            rest = rest[len(piece.raw):]
+        return item
+
+    def has_frame(self, side, at):
+        """Whether this end writes a frame from this line on."""
+        return bool(self.frames[side]) and self.frames[side][-1][0] >= at
+
+    def is_again(self, side, at):
+        """Whether the first frame of this end from this line on is the one before it, or none is there."""
+        frames = self.frames[side]
+        behind = bisect_left(frames, (at, b""))
+        return behind == len(frames) or behind > 0 and frames[behind][1] == frames[behind - 1][1]
+
+    def place(self):
+        """The place of the next item. Where none has come at this moment, one is made."""
+        if not self.items or self.items[-1].moment != self.now:
+            self.items.append(Item("clock", self.now))
+        return len(self.items) - (self.items[-1].kind == "clock")
+
+
+class Told(Story):
+    """A piece is taken where the other end has answered it. What came before it on the same way has gone, too."""
+
+    def follow(self):
+        way = {"E": [], "H": []}
+        both = len({line.side for line in self.lines if line.side}) == 2
+        begin = 0
+        for at, line in enumerate(self.lines):
+            self.now = line.moment
+            item = self.add_line(line)
+            before = self.items[at - 1] if at else item
+            if before.side != item.side or before.moment != item.moment or before.kind == "tx":
+                begin = at
+            if line.tells_block():
+                self.hears(at, way[line.side])
+            if line.kind == "power" or not line.side:
+                for piece in way["E"] + way["H"]:
+                    if piece.is_frame() and piece.end is None and both:
+                        piece.ends(at, self.now, "lost")
+                way = {"E": [], "H": []}
+            for piece in item.pieces:
+                self.answers(piece, begin, at, way[line.side], both)
+            way[OTHER.get(line.side, "E")] += item.pieces
+        return self.items
+
+    def hears(self, at, way):
+        """A block has come: the newest one on its way."""
+        frames = [piece for piece in way if piece.is_frame()]
+        if frames and frames[-1].end is None:
+            frames[-1].ends(at, self.now, "taken")
+
+    def answers(self, piece, begin, at, way, both):
+        """This end has written a piece: what is taken of those on the way to it."""
+        wanted = {ENQ: None, EOT: ENQ, ACK: FRAME, NAK: FRAME}.get(piece.raw[0] if not piece.is_frame() else None, EOT)
+        if wanted is None:
+            is_heard = not self.is_again(piece.side, at)
+            for other in way:
+                if is_heard and other.raw[0] in (ACK, NAK) and not other.is_frame():
+                    other.ends(at, self.now, "taken")
+            way[:] = [other for other in way if other.end is None]
+            return
+        fits = [other for other in way if (FRAME if other.is_frame() else other.raw[0]) == wanted]
+        if not fits:
+            return
+        for other in way[:way.index(fits[-1])]:
+            if other.is_frame() and both:
+                other.ends(other.at + 1, self.now, "lost")
+            elif other.raw[0] in (ACK, NAK):
+                other.ends(begin, self.now, "taken")
+        if fits[-1].end is None:
+            is_broken = piece.raw[0] == NAK and not piece.is_frame()
+            fits[-1].ends(at, self.now, "broken" if is_broken else "taken")
+        del way[:way.index(fits[-1]) + 1]
