@@ -254,16 +254,17 @@ class Picture:
                 ground.append((since, at))
                 since = None
         if since is not None:
-            ground.append((since, len(self.items) - 1))
-        for (at, length), (until, _) in zip(self.lengths, self.lengths[1:] + [(len(self.items) - 1, 0)]):
+            ground.append((since, None))
+        for (at, length), (until, _) in zip(self.lengths, self.lengths[1:] + [(None, 0)]):
             if length:
                 bars.append((length * unit, at, until))
         out = []
         for name, colour, rects in (("ground", "#f7efdd", [(LANE, *one) for one in ground]), ("bar", "#d3a445", bars)):
             for wide, at, until in rects:
-                top, low = self.first[at].y - 3.5, self.first[until].y - 3.5
+                top = self.first[at].y - 3.5
+                low = self.bottom - 6 if until is None else self.first[until].y - 3.5
                 out.append(f'<rect class="{name}" x="{mark(right - wide)}" y="{mark(top)}" width="{mark(wide)}" '
-                           f'height="{mark(max(low - top, 1))}" fill="{colour}"/>')
+                           f'height="{mark(low - top)}" fill="{colour}"/>')
         return out
 
     def ends(self):
