@@ -17,8 +17,7 @@ use Rattle.recipe_disk.specs.File.{recipes_in}
 use Rattle.recipe_disk.specs.Listing.{ReadsBody}
 use Rattle.recipe_disk.specs.Reading.{HasLooked, HasMade, IsAnyCall}
 use Rattle.recipe_disk.specs.Slot.{is_open, name_of, slot_in}
-use Rattle.recipe_disk.specs.Survey.{IsSurvey}
-use Rattle.recipe_disk.specs.declared.survey.Survey.{Survey}
+use Rattle.recipe_disk.specs.Survey.{named_at}
 use Rattle.recipe_disk.proofs.Deleting.{delete_changes}
 use Rattle.recipe_disk.proofs.Keeping.{any_made, changed_done, changed_failed, changed_images, changed_kept, looked_kept, made_changed, of_told, unchanged}
 use Rattle.recipe_disk.proofs.Putting.{Changes, Replaces, not_done}
@@ -49,12 +48,12 @@ module _ {D : Type 0} (members : disk.Ghosts D) (slots : ℕ) (a : D) (name : Li
     made = any_made members slots a b kept _ Failed looked.made;
   }
 
-  module _ (mid : D) (survey : Survey) (looked : HasLooked members a mid Done)
-      (is : (s : Story) → members.told a ≡ Some s → IsSurvey (slot_in s.now.bytes) name slots survey) where
-    not_there : survey.found ≡ None → (s : Story) → members.told a ≡ Some s → get (recipes_in s.now.bytes) name ≡ None
-    not_there none s told = none_gets slots s (kept.rests s told) kept.some name survey (is s told) none
+  module _ (mid : D) (found : Option ℕ) (looked : HasLooked members a mid Done)
+      (is : (s : Story) → members.told a ≡ Some s → found ≡ named_at (slot_in s.now.bytes) name slots) where
+    not_there : found ≡ None → (s : Story) → members.told a ≡ Some s → get (recipes_in s.now.bytes) name ≡ None
+    not_there none s told = none_gets slots s (kept.rests s told) name found (is s told) none
 
-    pub delete_unknown : survey.found ≡ None → DeletesOn members a mid slots name deleting.Unknown
+    pub delete_unknown : found ≡ None → DeletesOn members a mid slots name deleting.Unknown
     delete_unknown none = record {
       answers = of_told (members.told a) (λ recipes. contains_key recipes name) false (λ s told. ap (λ (o : Option Recipe). is_some o) (not_there none s told));
       calls = looked;
@@ -64,17 +63,17 @@ module _ {D : Type 0} (members : disk.Ghosts D) (slots : ℕ) (a : D) (name : Li
       made = any_made members slots a mid kept _ Done looked.made;
     }
 
-    pub get_unknown : survey.found ≡ None → IsOf (recipes_told (members.told a)) (body_of name) None
+    pub get_unknown : found ≡ None → IsOf (recipes_told (members.told a)) (body_of name) None
     get_unknown none =
         of_told (members.told a) (body_of name) None (λ s told. ap (option_map (λ (recipe : Recipe). recipe.body)) (not_there none s told))
 
-    module _ (q : ℕ) (found : survey.found ≡ Some q) where
+    module _ (q : ℕ) (here : found ≡ Some q) where
       there : (s : Story) → members.told a ≡ Some s → (q < slots) × (is_open (slot_in s.now.bytes q) ≡ true) × (name_of (slot_in s.now.bytes q) ≡ name)
       there s told =
-          subst (Replaces slots name (slot_in s.now.bytes)) found (replaces slots s (kept.rests s told) kept.some name survey (is s told))
+          subst (Replaces slots name (slot_in s.now.bytes)) here (replaces slots s (kept.rests s told) name found (is s told))
 
       gets : (s : Story) → members.told a ≡ Some s → body_of name (recipes_in s.now.bytes) ≡ Some (slot_in s.now.bytes q).body
-      gets s told = ap (option_map (λ (recipe : Recipe). recipe.body)) (found_gets slots s (kept.rests s told) kept.some name survey (is s told) q found)
+      gets s told = ap (option_map (λ (recipe : Recipe). recipe.body)) (found_gets slots s (kept.rests s told) name found (is s told) q here)
 
       -- the body that was read
       pub got : (answer : RecipeGet) → ReadsBody (members.told mid) q answer → AnswersGet name (recipes_told (members.told a)) answer
@@ -99,14 +98,14 @@ module _ {D : Type 0} (members : disk.Ghosts D) (slots : ℕ) (a : D) (name : Li
         has_deleted : HasDeleted members a b slots name answer
         has_deleted = record {
           slot = q;
-          chosen = λ s told. sym (is s told).found ∙ found;
+          chosen = λ s told. sym (is s told) ∙ here;
           changed = (mid, looked, written);
         }
 
       pub delete_dropped : (b : D) → HasWritten members mid b (close_write q ∷ []) Done → DeletesOn members a b slots name deleting.Dropped
       delete_dropped b written = record {
         answers = of_told (members.told a) (λ recipes. contains_key recipes name) true
-            (λ s told. ap (λ (o : Option Recipe). is_some o) (found_gets slots s (kept.rests s told) kept.some name survey (is s told) q found));
+            (λ s told. ap (λ (o : Option Recipe). is_some o) (found_gets slots s (kept.rests s told) name found (is s told) q here));
         calls = has_deleted b Done written;
         images = changed_images members slots a b Done (without name) kept (deleted_made b Done written) (deleted_on b Done written);
         leaves = changed_done members slots a b Done (without name) kept (deleted_made b Done written) (deleted_on b Done written) refl;

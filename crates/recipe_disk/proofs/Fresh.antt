@@ -1,10 +1,11 @@
 -- A new file: its page, and slots that are all closed.
-use Rattle.std.proofs.Common.{◌≡◌, refl, sym, ap, subst, ◌∙◌, ℕ, zero, suc, ◌+◌, ◌-◌, ◌<◌, ◌≤◌, ◌==◌, ◌⊎◌, inl, inr, false, nat_lt, List, [], ◌∷◌, ◌++◌, length, length-append, replicate, take, Ok, Option, None, Some, Result, if◌then◌else◌, arith}
-use Rattle.std.proofs.lemmas.Bool.{cases_eq}
+use Rattle.std.proofs.Common.{◌≡◌, refl, sym, ap, subst, ◌∙◌, ℕ, zero, suc, ◌+◌, ◌-◌, ◌<◌, ◌≤◌, ◌==◌, ◌⊎◌, inl, inr, ◌&&◌, Bool, true, false, bytes_eq, is_some, nat_lt, List, [], ◌∷◌, ◌++◌, length, length-append, replicate, take, Ok, Option, None, Some, Result, if◌then◌else◌, arith, true≢false}
+use Rattle.std.proofs.lemmas.Bool.{and_from, cases_eq}
 use Rattle.std.proofs.lemmas.Bool.Decides.{nat_tests}
 use Rattle.std.proofs.lemmas.List.{length-replicate}
 use Rattle.std.proofs.lemmas.Nat.{from_be_bytes-to_be_bytes_4}
-use Rattle.std.specs.FinMap.{empty, len, len-empty}
+use Rattle.std.proofs.lemmas.Slice.Eq.{bytes_eq-Decides}
+use Rattle.std.specs.FinMap.{contains_key, empty, get-empty, len, len-empty}
 use Rattle.std.specs.Int.{w32, to_be_bytes}
 use Rattle.std.specs.Option.{option_map}
 use Rattle.std.specs.Result.{OnOk}
@@ -12,7 +13,7 @@ use Rattle.disk_base.specs.Story.{Story, with_part, with_sync, with_write}
 use Rattle.disk_base.specs.declared.disk.Disk as disk
 use Rattle.disk_base.specs.declared.disk.DiskAnswer.TheVariants.{Done}
 use Rattle.disk_base.proofs.Marks.{length-part}
-use Rattle.gem_recipes.specs.Recipes.{Recipe, by_bytes}
+use Rattle.gem_recipes.specs.Recipes.{Recipe, Recipes, by_bytes}
 use Rattle.spool_slots.specs.Area.{or_else}
 use Rattle.spool_slots.specs.Added.{WritesOrSyncs}
 use Rattle.recipe_disk.specs.Changes.{Rests}
@@ -20,12 +21,13 @@ use Rattle.recipe_disk.specs.File.{front_break, front_in, magic, magic_break, re
 use Rattle.recipe_disk.specs.Map.{IsTidy, recipes_below}
 use Rattle.recipe_disk.specs.Opening.{ClosesTo, FormatsRecipes, IsClosedTo, StandsEmpty, first_page}
 use Rattle.recipe_disk.specs.Reading.{HasMade}
-use Rattle.recipe_disk.specs.Slot.{RecipeSlot, is_open, slot_in, slot_place}
+use Rattle.recipe_disk.specs.Slot.{RecipeSlot, is_open, name_of, slot_in, slot_place}
 use Rattle.recipe_disk.proofs.Areas.{IsArea, shut_none}
 use Rattle.recipe_disk.proofs.Holders.{closed_same, not_both}
 use Rattle.recipe_disk.proofs.Images.{IsBut, IsFile, bytes_kept, side_of, slot_kept, written_but}
 use Rattle.recipe_disk.proofs.Parts.{byte_there, part_there}
-use Rattle.recipe_disk.proofs.Putting.{rests_of}
+use Rattle.recipe_disk.proofs.Putting.{recipes_are, rests_of}
+use Rattle.recipe_disk.proofs.Scanning.{any_true, known_below}
 use Rattle.recipe_disk.proofs.Stories.{story_or}
 
 pub from_ok : {T E P : Type 0} (r : Result T E) (x : T) → r ≡ Ok x → OnOk r P → P
@@ -193,3 +195,21 @@ formats_done members a b slots some most fits stand made = (
   refl,
   λ t is. (stand t is).1,
 )
+
+-- ---- a file at rest without recipes
+
+-- it has no slot that is open
+pub none_open : (slots : ℕ) (s : Story) → Rests slots s → recipes_in s.now.bytes ≡ empty → (k : ℕ) → k < slots → is_open (slot_in s.now.bytes k) ≡ false
+none_open slots s rests none k below = by (is_open (slot_in s.now.bytes k)) refl
+  where
+    by : (b : Bool) → is_open (slot_in s.now.bytes k) ≡ b → b ≡ false
+    by true opened =
+        let name = name_of (slot_in s.now.bytes k) in
+        let here = any_true (λ j. is_open (slot_in s.now.bytes j) && bytes_eq (name_of (slot_in s.now.bytes j)) name) slots k below
+        (and_from (is_open (slot_in s.now.bytes k)) (bytes_eq name name) opened ((bytes_eq-Decides name name).1 refl)) in
+        let known = known_below (slot_in s.now.bytes) slots name in
+        let nay : contains_key (recipes_below (slot_in s.now.bytes) slots) name ≡ false =
+        ap (λ (r : Recipes). contains_key r name) (recipes_are slots s rests ∙ none)
+        ∙ ap (λ (o : Option Recipe). is_some o) (get-empty by_bytes name) in
+        absurd (true≢false (sym here ∙ sym known ∙ nay))
+    by false shut = refl

@@ -217,7 +217,7 @@ module _ {D : Type 0} (members : disk.Ghosts D) (slots : ℕ) (a : D) (name : Li
           put_changes slots p survey.next name body s rests free.0 free.1 ppid short
           (next_is slots s rests kept.some name survey (is s told)) place.low
           (subst (λ (r : Recipes). contains_key r name ≡ false → len r < slots - 1) (sym (recipes_are slots s rests)) place.room)
-          members mid b (looked.told ∙ told) answer survey.found (replaces slots s rests kept.some name survey (is s told)) written
+          members mid b (looked.told ∙ told) answer survey.found (replaces slots s rests name survey.found (is s told).found) written
 
       put_on : (s : Story) → members.told a ≡ Some s → Changes slots (after_put slots name body (recipes_in s.now.bytes)) s (members.told b) answer
       put_on s told =

@@ -5,6 +5,7 @@ mod Deleting
 mod Entries
 mod Fresh
 mod Fronts
+mod Hinted
 mod Holders
 mod Images
 mod Keeping

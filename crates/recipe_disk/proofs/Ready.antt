@@ -1,5 +1,6 @@
 -- What a call of the keeper makes of it, by what it made of the disk.
-use Rattle.std.proofs.Common.{◌≡◌, refl, sym, subst, ◌∙◌, ℕ, Bool, true, false, true≢false}
+use Rattle.std.proofs.Common.{◌≡◌, refl, sym, subst, ◌∙◌, ℕ, Bool, true, false, List, Option, true≢false}
+use Rattle.disk_base.specs.Story.{Story}
 use Rattle.disk_base.specs.declared.disk.Disk as disk
 use Rattle.disk_base.specs.declared.disk.DiskAnswer.{DiskAnswer}
 use Rattle.gem_recipes.specs.Keeper.{HasKeeperCause, IsSoundUnless, delete_failed, get_failed, names_failed, put_failed}
@@ -12,9 +13,12 @@ use Rattle.gem_recipes.specs.declared.keeper.RecipeNames.TheVariants as listing
 use Rattle.gem_recipes.specs.declared.keeper.RecipePut.{RecipePut}
 use Rattle.gem_recipes.specs.declared.keeper.RecipePut.TheVariants as putting
 use Rattle.recipe_disk.specs.Changes.{IsKept, IsKeptUnless}
+use Rattle.recipe_disk.specs.Hints.{KnowsSlots, KnowsUnless}
 use Rattle.recipe_disk.specs.Listing.{get_answer, names_answer}
 use Rattle.recipe_disk.specs.Opening.{IsReady, RecipeView}
 use Rattle.recipe_disk.specs.Reading.{HasLooked, delete_answer_of, disk_failed, put_answer_of}
+use Rattle.recipe_disk.specs.declared.hints.Hint.{Hint}
+use Rattle.recipe_disk.proofs.Hinted.{known_looked}
 use Rattle.recipe_disk.proofs.Keeping.{looked_kept}
 
 -- the disk fails where the call does
@@ -53,3 +57,14 @@ pub kept_unless : {D : Type 0} (members : disk.Ghosts D) (slots : ℕ) (a b : D)
     IsKeptUnless failed (IsKept members b slots)
 kept_unless members slots a b kept answer true looked = tt
 kept_unless members slots a b kept answer false looked = looked_kept members slots a b kept looked
+
+-- ---- the hints of a store
+
+-- they are known where it can be asked
+pub known_ready : (failed : Bool) (told : Option Story) (n : ℕ) (hints : List Hint) → failed ≡ false → KnowsUnless failed told n hints → KnowsSlots told n hints
+known_ready failed told n hints going known = subst (λ b. KnowsUnless b told n hints) going known
+
+-- and stay so behind reads
+pub known_behind : (failed : Bool) (told after : Option Story) (n : ℕ) (hints : List Hint) → after ≡ told → KnowsSlots told n hints → KnowsUnless failed after n hints
+known_behind true told after n hints same known = tt
+known_behind false told after n hints same known = known_looked told after n hints same known

@@ -1,5 +1,5 @@
 -- What the tests of slots find, slot by slot.
-use Rattle.std.proofs.Common.{◌≡◌, refl, sym, ap, subst, ◌∙◌, ℕ, zero, suc, ◌+◌, ◌-◌, ◌<◌, ◌≤◌, ◌⊎◌, inl, inr, ◌&&◌, ◌||◌, Bool, true, false, cond, bytes_eq, is_some, length, not, List, Option, None, Some, if◌then◌else◌, arith}
+use Rattle.std.proofs.Common.{◌≡◌, refl, sym, ap, subst, ◌∙◌, ℕ, zero, suc, ◌+◌, ◌-◌, ◌<◌, ◌≤◌, ◌⊎◌, inl, inr, ◌&&◌, ◌||◌, Bool, true, false, cond, bytes_eq, is_some, length, not, List, Option, None, Some, Result, Ok, Err, if◌then◌else◌, arith}
 use Rattle.std.proofs.lemmas.Bool.{or_from, or_left, or_right}
 use Rattle.std.proofs.lemmas.Bool.Decides.{nat_tests}
 use Rattle.std.proofs.lemmas.Slice.Eq.{bytes_eq-Decides}
@@ -12,7 +12,7 @@ use Rattle.spool_slots.proofs.Firsts.{one_more}
 use Rattle.spool_slots.specs.Area.{first_at, or_else}
 use Rattle.recipe_disk.specs.File.{area_break, fields_at, front_break, front_in, in_slot, names_break, number_at, recipes_break, slots_in}
 use Rattle.recipe_disk.specs.Map.{any_below, has_name, has_number, is_new_name, is_newer, recipes_below, with_slot}
-use Rattle.recipe_disk.specs.Reading.{Breaks, Finds}
+use Rattle.recipe_disk.specs.Reading.{Breaks, Finds, SaysOf}
 use Rattle.recipe_disk.specs.Slot.{RecipeSlot, fields_break, head_break, is_open, name_of, number_of, recipe_of, slot_in, slot_place}
 use Rattle.recipe_disk.specs.declared.head.Head.{Head}
 use Rattle.recipe_disk.specs.declared.reading.Reading.{Reading}
@@ -50,6 +50,12 @@ finds_broken told test P at (reading.Broken break) found breaks = λ s is.
     (found s is ∙ ap (λ (n : ℕ). Some n) (sym here.0), here.1 ∙ ap (λ (n : ℕ). slice_get s.now.bytes n) (sym here.0))
 finds_broken told test P at reading.Failed found breaks = tt
 
+-- what is so of the bytes says another thing of them
+pub says_as : {T E : Type 0} (told : Option Story) (P Q : List ℕ → T → Type 0) (result : Result T E) →
+    ((s : Story) (value : T) → told ≡ Some s → P s.now.bytes value → Q s.now.bytes value) → SaysOf told P result → SaysOf told Q result
+says_as told P Q (Ok value) so says = λ s is. so s value is (says s is)
+says_as told P Q (Err fault) so says = tt
+
 pub breaks_before : {T : Type 0} (told before : Option Story) (at at' : ℕ) (result : Reading T) → told ≡ before → at ≡ at' → Breaks told at result → Breaks before at' result
 breaks_before told before at at' result same place is =
     subst (λ n. Breaks before n result) place (subst (λ b. Breaks b at result) same is)
@@ -60,6 +66,18 @@ pub fields_broken : (slot : ℕ → RecipeSlot) (k : ℕ) (head : Head) (place :
     fields_at slot k ≡ Some (slot_place k + place)
 fields_broken slot k head place is opened broken =
     ap (in_slot k) (sym (ap head_break is) ∙ ap (λ b. if b then fields_break head else None) opened ∙ broken)
+
+fields_by : (head : Head) (b : Bool) → head.opened ≡ b → (b ≡ true → fields_break head ≡ None) → head_break head ≡ None
+fields_by head true opened none = ap (λ b. if b then fields_break head else None) opened ∙ none refl
+fields_by head false shut none = ap (λ b. if b then fields_break head else None) shut
+
+pub fields_whole : (slot : ℕ → RecipeSlot) (k : ℕ) (head : Head) → head ≡ (slot k).head → fields_break head ≡ None → fields_at slot k ≡ None
+fields_whole slot k head is none =
+    ap (λ (h : Head). in_slot k (head_break h)) (sym is) ∙ ap (in_slot k) (fields_by head head.opened refl (λ opened. none))
+
+pub fields_shut : (slot : ℕ → RecipeSlot) (k : ℕ) (head : Head) → head ≡ (slot k).head → head.opened ≡ false → fields_at slot k ≡ None
+fields_shut slot k head is shut =
+    ap (λ (h : Head). in_slot k (head_break h)) (sym is) ∙ ap (in_slot k) (fields_by head false shut (λ opened. absurd cc))
 
 -- ---- numbers
 

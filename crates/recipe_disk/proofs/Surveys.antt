@@ -6,7 +6,7 @@ use Rattle.std.specs.FinMap.{contains_key, get, len}
 use Rattle.std.specs.Prelude.{IfSome}
 use Rattle.disk_base.specs.Story.{Story}
 use Rattle.gem_recipes.specs.Recipes.{Recipe, Recipes, has_space, next_number}
-use Rattle.spool_slots.proofs.Firsts.{none_below, one_more}
+use Rattle.spool_slots.proofs.Firsts.{none_below}
 use Rattle.spool_slots.specs.Area.{first_at, or_else}
 use Rattle.recipe_disk.specs.Changes.{Rests}
 use Rattle.recipe_disk.specs.File.{recipes_in}
@@ -15,30 +15,13 @@ use Rattle.recipe_disk.specs.Slot.{RecipeSlot, is_open, name_in, name_of, recipe
 use Rattle.recipe_disk.specs.Survey.{IsSurvey, behind_if, behind_live, count_if, free_at, free_if, is_live, live_count, named_at, named_if, place_for}
 use Rattle.recipe_disk.specs.declared.head.Head.{Head}
 use Rattle.recipe_disk.specs.declared.survey.Survey.{Survey}
+use Rattle.recipe_disk.proofs.Areas.{IsArea}
 use Rattle.recipe_disk.proofs.Holders.{held, names_agree, names_differ, unheld}
 use Rattle.recipe_disk.proofs.Images.{IsFile}
 use Rattle.recipe_disk.proofs.Putting.{Replaces, file_at, recipes_are}
 use Rattle.recipe_disk.proofs.Tidy.{behind_below, count_below, live_is}
 
--- ---- no slot, and one slot more
-
-pub survey_none : (slot : ℕ → RecipeSlot) (name : List ℕ) (survey : Survey) → survey ≡ record { found = None; free = None; count = 0; next = 0 } → IsSurvey slot name 0 survey
-survey_none slot name survey is = record {
-  found = ap (λ (v : Survey). v.found) is;
-  free = ap (λ (v : Survey). v.free) is;
-  count = ap (λ (v : Survey). v.count) is;
-  next = ap (λ (v : Survey). v.next) is;
-}
-
-pub survey_next : (slot : ℕ → RecipeSlot) (name : List ℕ) (k : ℕ) (survey next : Survey) (head : Head) → head ≡ (slot k).head → IsSurvey slot name k survey →
-    next.found ≡ or_else survey.found (named_if name head k) → next.free ≡ or_else survey.free (free_if head k) →
-    next.count ≡ count_if head survey.count → next.next ≡ behind_if head survey.next → IsSurvey slot name (k + 1) next
-survey_next slot name k survey next head here is found free count behind = subst (λ n. IsSurvey slot name n next) (one_more k) (record {
-  found = found ∙ ap (λ o. or_else o (named_if name head k)) is.found ∙ ap (λ (h : Head). or_else (named_at slot name k) (named_if name h k)) here;
-  free = free ∙ ap (λ o. or_else o (free_if head k)) is.free ∙ ap (λ (h : Head). or_else (free_at slot k) (free_if h k)) here;
-  count = count ∙ ap (count_if head) is.count ∙ ap (λ (h : Head). count_if h (live_count slot k)) here;
-  next = behind ∙ ap (behind_if head) is.next ∙ ap (λ (h : Head). behind_if h (behind_live slot k)) here;
-})
+-- ---- a slot that was found is one of those so far
 
 pub bound_if : (b : Bool) (place : Option ℕ) (k : ℕ) → IfSome place (λ j. j < k) → IfSome (or_else place (if b then Some k else None)) (λ j. j < k + 1)
 bound_if true None k below = omega arith
@@ -89,12 +72,19 @@ pub record HasPlace (slots : ℕ) (name : List ℕ) (recipes : Recipes) (survey 
   pub low : survey.next < 2 ^ 63
   pub room : contains_key recipes name ≡ false → len recipes < slots - 1
 
-module _ (slots : ℕ) (s : Story) (rests : Rests slots s) (two : 2 ≤ slots) (name : List ℕ) (survey : Survey) (is : IsSurvey (slot_in s.now.bytes) name slots survey) where
+-- two tests that find the same
+first_same : (one other : ℕ → Option ℕ) (n : ℕ) → ((k : ℕ) → k < n → one k ≡ other k) → first_at one n ≡ first_at other n
+first_same one other zero same = refl
+first_same one other (suc m) same =
+    ap (λ o. or_else o (one m)) (first_same one other m (λ k below. same k (omega (arith, below))))
+    ∙ ap (or_else (first_at other m)) (same m (omega arith))
+
+-- ---- a file at rest, and the slot of a name
+
+-- a slot that is open is live
+module _ (slots : ℕ) (s : Story) (rests : Rests slots s) where
   abbrev S : ℕ → RecipeSlot
   S = slot_in s.now.bytes
-
-  abbrev R : Recipes
-  R = recipes_below S slots
 
   file : IsFile slots s.now.bytes
   file = file_at slots s rests
@@ -102,63 +92,81 @@ module _ (slots : ℕ) (s : Story) (rests : Rests slots s) (two : 2 ≤ slots) (
   live : (k : ℕ) → k < slots → is_live (S k).head ≡ is_open (S k)
   live k below = live_is (S k).head (file.area.fields k below)
 
-  is_named : ℕ → Bool
-  is_named k = is_live (S k).head && bytes_eq (name_in (S k).head) name
+  -- the slot of a name, by what is looked for
+  pub named_there : (name : List ℕ) →
+      first_at (λ k. if is_open (S k) && bytes_eq (name_of (S k)) name then Some k else None) slots ≡ named_at S name slots
+  named_there name =
+      first_same _ _ slots
+      (λ k below. ap (λ b. if b && bytes_eq (name_of (S k)) name then Some k else None) (sym (live k below)))
 
-  nameless : named_at S name slots ≡ None → IsNoName S slots name
-  nameless none k below opened named =
-      let test = none_at (λ k. is_live (S k).head && bytes_eq (name_in (S k).head) name) slots k none below in
-      let other : bytes_eq (name_of (S k)) name ≡ false =
-      sym (ap (λ b. b && bytes_eq (name_of (S k)) name) (live k below ∙ opened)) ∙ test in
-      names_differ (name_of (S k)) name other named
+  module _ (name : List ℕ) (found : Option ℕ) (is : found ≡ named_at S name slots) where
+    nameless : named_at S name slots ≡ None → IsNoName S slots name
+    nameless none k below opened named =
+        let test = none_at (λ k. is_live (S k).head && bytes_eq (name_in (S k).head) name) slots k none below in
+        let other : bytes_eq (name_of (S k)) name ≡ false =
+        sym (ap (λ b. b && bytes_eq (name_of (S k)) name) (live k below ∙ opened)) ∙ test in
+        names_differ (name_of (S k)) name other named
 
-  named_there : (q : ℕ) → named_at S name slots ≡ Some q → (q < slots) × (is_open (S q) ≡ true) × (name_of (S q) ≡ name)
-  named_there q found =
-      let there = some_at (λ k. is_live (S k).head && bytes_eq (name_in (S k).head) name) slots q found in
-      let both = and_parts (is_live (S q).head) (bytes_eq (name_of (S q)) name) there.1 in
-      (there.0, sym (live q there.0) ∙ both.0, names_agree (name_of (S q)) name both.1)
+    slot_there : (q : ℕ) → named_at S name slots ≡ Some q → (q < slots) × (is_open (S q) ≡ true) × (name_of (S q) ≡ name)
+    slot_there q here =
+        let there = some_at (λ k. is_live (S k).head && bytes_eq (name_in (S k).head) name) slots q here in
+        let both = and_parts (is_live (S q).head) (bytes_eq (name_of (S q)) name) there.1 in
+        (there.0, sym (live q there.0) ∙ both.0, names_agree (name_of (S q)) name both.1)
 
-  replaces_by : (found : Option ℕ) → named_at S name slots ≡ found → Replaces slots name S found
-  replaces_by None at = nameless at
-  replaces_by (Some q) at = named_there q at
+    replaces_by : (place : Option ℕ) → named_at S name slots ≡ place → Replaces slots name S place
+    replaces_by None at = nameless at
+    replaces_by (Some q) at = slot_there q at
 
-  pub replaces : Replaces slots name S survey.found
-  replaces = replaces_by survey.found (sym is.found)
+    pub replaces : Replaces slots name S found
+    replaces = replaces_by found (sym is)
 
-  -- the recipe of the name
-  pub found_gets : (q : ℕ) → survey.found ≡ Some q → get (recipes_in s.now.bytes) name ≡ Some (recipe_of (S q))
-  found_gets q found =
-      let there = named_there q (sym is.found ∙ found) in
-      ap (λ (r : Recipes). get r name) (sym (recipes_are slots s rests))
-      ∙ held S slots name q (record {
-        below = there.0;
-        opened = there.1;
-        named = there.2;
-        newest = λ j below other opened named. absurd (other (rests.tidy j q below there.0 opened there.1 (named ∙ sym there.2)));
-      })
+    -- the recipe of the name
+    pub found_gets : (q : ℕ) → found ≡ Some q → get (recipes_in s.now.bytes) name ≡ Some (recipe_of (S q))
+    found_gets q here =
+        let there = slot_there q (sym is ∙ here) in
+        ap (λ (r : Recipes). get r name) (sym (recipes_are slots s rests))
+        ∙ held S slots name q (record {
+          below = there.0;
+          opened = there.1;
+          named = there.2;
+          newest = λ j below other opened named. absurd (other (rests.tidy j q below there.0 opened there.1 (named ∙ sym there.2)));
+        })
 
-  pub none_gets : survey.found ≡ None → get (recipes_in s.now.bytes) name ≡ None
-  none_gets none =
-      ap (λ (r : Recipes). get r name) (sym (recipes_are slots s rests)) ∙ unheld S slots name (nameless (sym is.found ∙ none))
+    pub none_gets : found ≡ None → get (recipes_in s.now.bytes) name ≡ None
+    none_gets none =
+        ap (λ (r : Recipes). get r name) (sym (recipes_are slots s rests)) ∙ unheld S slots name (nameless (sym is ∙ none))
 
-  known_by : (found : Option ℕ) → survey.found ≡ found → contains_key (recipes_in s.now.bytes) name ≡ is_some found
-  known_by None at = ap (λ (o : Option Recipe). is_some o) (none_gets at)
-  known_by (Some q) at = ap (λ (o : Option Recipe). is_some o) (found_gets q at)
+    known_by : (place : Option ℕ) → found ≡ place → contains_key (recipes_in s.now.bytes) name ≡ is_some place
+    known_by None at = ap (λ (o : Option Recipe). is_some o) (none_gets at)
+    known_by (Some q) at = ap (λ (o : Option Recipe). is_some o) (found_gets q at)
 
-  pub known : contains_key (recipes_in s.now.bytes) name ≡ is_some survey.found
-  known = known_by survey.found refl
+    pub known : contains_key (recipes_in s.now.bytes) name ≡ is_some found
+    known = known_by found refl
+
+module _ (slots : ℕ) (s : Story) (rests : Rests slots s) (two : 2 ≤ slots) (name : List ℕ) (survey : Survey) (is : IsSurvey (slot_in s.now.bytes) name slots survey) where
+  abbrev T : ℕ → RecipeSlot
+  T = slot_in s.now.bytes
+
+  abbrev R : Recipes
+  R = recipes_below T slots
+
+  area : IsArea T slots
+  area = (file slots s rests).area
+
+  known_is : contains_key (recipes_in s.now.bytes) name ≡ is_some survey.found
+  known_is = known slots s rests name survey.found is.found
 
   pub count_is : survey.count ≡ len (recipes_in s.now.bytes)
-  count_is = is.count ∙ count_below S slots rests.tidy file.area.fields slots (omega arith) ∙ ap len (recipes_are slots s rests)
+  count_is = is.count ∙ count_below T slots rests.tidy area.fields slots (omega arith) ∙ ap len (recipes_are slots s rests)
 
   pub next_is : survey.next ≡ next_number (recipes_in s.now.bytes)
-  next_is = is.next ∙ behind_below S slots rests.tidy file.area.fields slots (omega arith) ∙ ap next_number (recipes_are slots s rests)
+  next_is = is.next ∙ behind_below T slots rests.tidy area.fields slots (omega arith) ∙ ap next_number (recipes_are slots s rests)
 
   -- a free slot
-  pub free_there : (p : ℕ) → survey.free ≡ Some p → (p < slots) × (is_open (S p) ≡ false)
+  pub free_there : (p : ℕ) → survey.free ≡ Some p → (p < slots) × (is_open (T p) ≡ false)
   free_there p found =
-      let there = some_at (λ k. not (is_open (S k))) slots p (sym is.free ∙ found) in
-      (there.0, turned (is_open (S p)) there.1)
+      let there = some_at (λ k. not (is_open (T k))) slots p (sym is.free ∙ found) in
+      (there.0, turned (is_open (T p)) there.1)
     where
       turned : (b : Bool) → not b ≡ true → b ≡ false
       turned true h = absurd cc
@@ -167,19 +175,19 @@ module _ (slots : ℕ) (s : Story) (rests : Rests slots s) (two : 2 ≤ slots) (
   -- there is always one
   full : survey.free ≡ None → ⊥
   full none =
-      let all = all_counted slots (omega arith) (λ k below. shut_not (is_open (S k)) (none_at (λ k. not (is_open (S k))) slots k (sym is.free ∙ none) below)) in
-      let few = file.area.few in
-      let count : live_count S slots ≡ len R = count_below S slots rests.tidy file.area.fields slots (omega arith) in
+      let all = all_counted slots (omega arith) (λ k below. shut_not (is_open (T k)) (none_at (λ k. not (is_open (T k))) slots k (sym is.free ∙ none) below)) in
+      let few = area.few in
+      let count : live_count T slots ≡ len R = count_below T slots rests.tidy area.fields slots (omega arith) in
       omega (arith, all, few, count, two)
     where
       shut_not : (b : Bool) → not b ≡ false → b ≡ true
       shut_not true h = refl
       shut_not false h = absurd cc
 
-      all_counted : (m : ℕ) → m ≤ slots → ((k : ℕ) → k < slots → is_open (S k) ≡ true) → live_count S m ≡ m
+      all_counted : (m : ℕ) → m ≤ slots → ((k : ℕ) → k < slots → is_open (T k) ≡ true) → live_count T m ≡ m
       all_counted zero within each = refl
       all_counted (suc m) within each =
-          ap (λ b. if b then live_count S m + 1 else live_count S m) (live m (omega (arith, within)) ∙ each m (omega (arith, within)))
+          ap (λ b. if b then live_count T m + 1 else live_count T m) (live slots s rests m (omega (arith, within)) ∙ each m (omega (arith, within)))
           ∙ ap (λ (c : ℕ). c + 1) (all_counted m (omega (arith, within)) each)
           ∙ omega arith
 
@@ -190,7 +198,7 @@ module _ (slots : ℕ) (s : Story) (rests : Rests slots s) (two : 2 ≤ slots) (
 
   space_is : has_space slots name (recipes_in s.now.bytes) ≡ spaced (is_some survey.found) survey.count survey.next
   space_is =
-      ap (λ b. spaced b (len (recipes_in s.now.bytes)) (next_number (recipes_in s.now.bytes))) known
+      ap (λ b. spaced b (len (recipes_in s.now.bytes)) (next_number (recipes_in s.now.bytes))) known_is
       ∙ ap (λ (n : ℕ). spaced (is_some survey.found) n (next_number (recipes_in s.now.bytes))) (sym count_is)
       ∙ ap (λ (n : ℕ). spaced (is_some survey.found) survey.count n) (sym next_is)
 
@@ -206,7 +214,7 @@ module _ (slots : ℕ) (s : Story) (rests : Rests slots s) (two : 2 ≤ slots) (
         space = space_is ∙ spaced_by (is_some survey.found) refl low;
         free = found;
         low = low;
-        room = λ unknown. subst (λ n. n < slots - 1) count_is (narrow_not (is_some survey.found) refl (sym known ∙ unknown));
+        room = λ unknown. subst (λ n. n < slots - 1) count_is (narrow_not (is_some survey.found) refl (sym known_is ∙ unknown));
       }
     where
       wide : (found : Option ℕ) → is_some found ≡ false → (is_none found && nat_le slots (survey.count + 1)) ≡ false → nat_le slots (survey.count + 1) ≡ false

@@ -1,5 +1,6 @@
 pub mod Changes
 pub mod File
+pub mod Hints
 pub mod Laws
 pub mod Listing
 pub mod Map

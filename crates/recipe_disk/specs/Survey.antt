@@ -2,7 +2,7 @@
 -- (this profile).
 use Rattle.std.specs.Prelude.{◌≡◌, ◌+◌, ◌^◌, ◌<◌, ◌≤◌, ℕ, zero, suc, ◌&&◌, Bool, bytes_eq, is_none, max, nat_le, not, if◌then◌else◌, List, Option, Some, None, IfSome, Result, Ok, Err}
 use Rattle.spool_slots.specs.Area.{first_at}
-use Rattle.recipe_disk.specs.Slot.{RecipeSlot, fields_break, name_in}
+use Rattle.recipe_disk.specs.Slot.{RecipeSlot, fields_break, head_break, name_in}
 use Rattle.recipe_disk.specs.declared.head.Head.{Head}
 use Rattle.recipe_disk.specs.declared.survey.Survey.{Survey}
 
@@ -46,11 +46,14 @@ pub record IsSurvey (slot : ℕ → RecipeSlot) (name : List ℕ) (n : ℕ) (sur
   pub count : survey.count ≡ live_count slot n
   pub next : survey.next ≡ behind_live slot n
 
+-- the fields of n slots are in their ranges
+abbrev pub HasFields : (ℕ → RecipeSlot) → ℕ → Type 0
+HasFields slot n = (k : ℕ) → k < n → head_break (slot k).head ≡ None
+
 -- its numbers are in their ranges, also over a disk that tells nothing
 abbrev pub SurveyFits : {E : Type 0} → ℕ → Result Survey E → Type 0
 SurveyFits slots (Ok survey) =
-    (survey.count ≤ slots) × (survey.next ≤ 2 ^ 63) × IfSome survey.found (λ k. k < slots)
-    × IfSome survey.free (λ k. k < slots)
+    (survey.count ≤ slots) × IfSome survey.found (λ k. k < slots) × IfSome survey.free (λ k. k < slots)
 SurveyFits slots (Err fault) = Unit {0}
 
 -- the slot for a recipe of the name, if there is space for it

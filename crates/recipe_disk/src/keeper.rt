@@ -4,28 +4,31 @@ ghost use Rattle.std.specs.Prelude.{◌≡◌, true};
 ghost use Rattle.gem_recipes.specs.Keeper.{AnswersDelete, AnswersGet, AnswersNames, AnswersPut, AnswersRoom, DeleteLeaves, HasKeeperCause, IsSoundUnless, PutLeaves, delete_failed, get_failed, names_failed, put_failed};
 ghost use Rattle.gem_recipes.specs.Recipes.{IsPpid};
 ghost use Rattle.recipe_disk.specs.Changes.{DeletesOn, IsKept, PutsOn, recipes_told};
+ghost use Rattle.recipe_disk.specs.Hints.{KnowsSlots, KnowsUnless};
 ghost use Rattle.recipe_disk.specs.Listing.{get_answer, names_answer};
 ghost use Rattle.recipe_disk.specs.Opening.{IsReady, ready_fits};
 ghost use Rattle.recipe_disk.specs.Reading.{HasLooked, put_answer_of};
 
-use crate::head::{BODY_MOST, CLOSED};
+use crate::head::BODY_MOST;
+use crate::hints::Hints;
 use crate::listing::{read_body, read_names};
 use crate::reading::DiskFailed;
 use crate::recipe_disk::RecipeDisk;
-use crate::settling::{NewRecipe, replace, settle_gate};
-use crate::survey::look_over;
+use crate::settling::{NewRecipe, close_slot, replace};
+use crate::survey::{find, look_over};
 use disk_base::{Disk, DiskAnswer};
 use gem_recipes::{RecipeDrop, RecipeGet, RecipeKeeper, RecipeNames, RecipePut};
 use std::alloc::Global;
 
 // Whether there is space for a recipe of this name.
-fn room_for<D: Disk>(disk: &mut D, slots: u32, name: &[u8]) -> RecipePut
+fn room_for<D: Disk>(disk: &mut D, hints: &Hints, slots: u32, name: &[u8]) -> RecipePut
     requires name { IsPpid name.now }
     requires kept { IsKept D.Disk disk.old slots }
+    requires known { KnowsSlots (D.told disk.old) slots hints.now }
     ensures answer { AnswersRoom slots name.now (recipes_told (D.told disk.old)) result }
     ensures looked { HasLooked D.Disk disk.old disk.new (put_answer_of result) }
 {
-    match look_over(disk, slots, name) {
+    match look_over(disk, hints, slots, name) {
         Ok(survey) => match survey.place(slots) {
             Some(_) => RecipePut::Stored,
             None => RecipePut::NoSpace,
@@ -35,15 +38,23 @@ fn room_for<D: Disk>(disk: &mut D, slots: u32, name: &[u8]) -> RecipePut
 }
 
 // Stores a recipe, if there is space for it.
-fn put_on<D: Disk>(disk: &mut D, slots: u32, name: &[u8], body: &[u8]) -> RecipePut
+fn put_on<D: Disk>(
+    disk: &mut D,
+    hints: &mut Hints,
+    slots: u32,
+    name: &[u8],
+    body: &[u8],
+) -> RecipePut
     requires name { IsPpid name.now }
     requires kept { IsKept D.Disk disk.old slots }
-    ensures { PutsOn D.Disk disk.old disk.new slots name.now body.now result }
+    requires known { KnowsSlots (D.told disk.old) slots hints.old }
+    ensures done { PutsOn D.Disk disk.old disk.new slots name.now body.now result }
+    ensures known { KnowsUnless (put_failed result) (D.told disk.new) slots hints.new }
 {
     if body.len() > BODY_MOST {
         return RecipePut::TooLong;
     }
-    let survey = match look_over(disk, slots, name) {
+    let survey = match look_over(disk, hints, slots, name) {
         Ok(survey) => survey,
         Err(DiskFailed) => return RecipePut::Failed,
     };
@@ -56,44 +67,46 @@ fn put_on<D: Disk>(disk: &mut D, slots: u32, name: &[u8], body: &[u8]) -> Recipe
         name,
         body,
     };
-    match replace(disk, slot, survey.found, &recipe) {
+    match replace(disk, hints, slot, survey.found, &recipe) {
         DiskAnswer::Done => RecipePut::Stored,
         DiskAnswer::Failed => RecipePut::Failed,
     }
 }
 
 // The body of a recipe.
-fn get_on<D: Disk>(disk: &mut D, alloc: Global, slots: u32, name: &[u8]) -> RecipeGet
+fn get_on<D: Disk>(disk: &mut D, hints: &Hints, alloc: Global, slots: u32, name: &[u8]) -> RecipeGet
     requires name { IsPpid name.now }
     requires kept { IsKept D.Disk disk.old slots }
+    requires known { KnowsSlots (D.told disk.old) slots hints.now }
     ensures answer { AnswersGet name.now (recipes_told (D.told disk.old)) result }
     ensures looked { HasLooked D.Disk disk.old disk.new (get_answer result) }
 {
-    let survey = match look_over(disk, slots, name) {
-        Ok(survey) => survey,
-        Err(DiskFailed) => return RecipeGet::Failed,
-    };
-    match survey.found {
-        Some(slot) => read_body(disk, alloc, slot),
-        None => RecipeGet::Unknown,
+    match find(disk, hints, slots, name) {
+        Ok(found) => match found {
+            Some(slot) => read_body(disk, alloc, slot),
+            None => RecipeGet::Unknown,
+        },
+        Err(DiskFailed) => RecipeGet::Failed,
     }
 }
 
 // Deletes a recipe, if there is one.
-fn delete_on<D: Disk>(disk: &mut D, slots: u32, name: &[u8]) -> RecipeDrop
+fn delete_on<D: Disk>(disk: &mut D, hints: &mut Hints, slots: u32, name: &[u8]) -> RecipeDrop
     requires name { IsPpid name.now }
     requires kept { IsKept D.Disk disk.old slots }
-    ensures { DeletesOn D.Disk disk.old disk.new slots name.now result }
+    requires known { KnowsSlots (D.told disk.old) slots hints.old }
+    ensures done { DeletesOn D.Disk disk.old disk.new slots name.now result }
+    ensures known { KnowsUnless (delete_failed result) (D.told disk.new) slots hints.new }
 {
-    let survey = match look_over(disk, slots, name) {
-        Ok(survey) => survey,
+    let found = match find(disk, hints, slots, name) {
+        Ok(found) => found,
         Err(DiskFailed) => return RecipeDrop::Failed,
     };
-    let slot = match survey.found {
+    let slot = match found {
         Some(slot) => slot,
         None => return RecipeDrop::Unknown,
     };
-    match settle_gate(disk, slot, CLOSED) {
+    match close_slot(disk, hints, slot) {
         DiskAnswer::Done => RecipeDrop::Dropped,
         DiskAnswer::Failed => RecipeDrop::Failed,
     }
@@ -166,7 +179,7 @@ impl<D: Disk> RecipeKeeper for RecipeDisk<D> {
             (D.health self.new.disk).faults }
         ensures looked { HasLooked D.Disk self.old.disk self.new.disk (put_answer_of result) }
     {
-        let answer = room_for(&mut self.disk, self.slots, name);
+        let answer = room_for(&mut self.disk, &self.hints, self.slots, name);
         self.failed = has_put_failed(answer);
         answer
     }
@@ -186,7 +199,7 @@ impl<D: Disk> RecipeKeeper for RecipeDisk<D> {
             (D.health self.new.disk).faults }
         ensures done { PutsOn D.Disk self.old.disk self.new.disk self.old.slots name.now body.now result }
     {
-        let answer = put_on(&mut self.disk, self.slots, name, body);
+        let answer = put_on(&mut self.disk, &mut self.hints, self.slots, name, body);
         self.failed = has_put_failed(answer);
         answer
     }
@@ -202,7 +215,7 @@ impl<D: Disk> RecipeKeeper for RecipeDisk<D> {
             (D.health self.new.disk).faults }
         ensures looked { HasLooked D.Disk self.old.disk self.new.disk (get_answer result) }
     {
-        let answer = get_on(&mut self.disk, alloc, self.slots, name);
+        let answer = get_on(&mut self.disk, &self.hints, alloc, self.slots, name);
         self.failed = has_get_failed(&answer);
         answer
     }
@@ -220,7 +233,7 @@ impl<D: Disk> RecipeKeeper for RecipeDisk<D> {
             (D.health self.new.disk).faults }
         ensures done { DeletesOn D.Disk self.old.disk self.new.disk self.old.slots name.now result }
     {
-        let answer = delete_on(&mut self.disk, self.slots, name);
+        let answer = delete_on(&mut self.disk, &mut self.hints, self.slots, name);
         self.failed = has_delete_failed(answer);
         answer
     }

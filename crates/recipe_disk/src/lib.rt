@@ -4,6 +4,7 @@
 mod format;
 mod front;
 mod head;
+mod hints;
 mod keeper;
 mod laws;
 mod listing;

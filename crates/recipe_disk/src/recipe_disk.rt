@@ -5,6 +5,7 @@ ghost use Rattle.recipe_disk.specs.Opening.{FormatsRecipes, OpensRecipes};
 ghost use Rattle.recipe_disk.specs.Slot.{slot_place as place_of};
 
 use crate::format::write_empty;
+use crate::hints::{Hints, shut_hints};
 use crate::reading::Reading;
 use crate::scan::read_file;
 use crate::tidying::close_stale;
@@ -20,9 +21,12 @@ pub struct RecipeDisk<D: Disk> {
     pub(crate) slots: u32,
     // whether a call has failed
     pub(crate) failed: bool,
+    // of each slot, unless a call has failed
+    pub(crate) hints: Hints,
 }
 
 impl<D: Disk> Model for RecipeDisk<D> {
+    ghost use Rattle.recipe_disk.specs.Hints.{KnowsUnless};
     ghost use Rattle.recipe_disk.specs.Opening.{RecipeView, recipe_code};
 
     ghost Value = { RecipeView D };
@@ -30,6 +34,8 @@ impl<D: Disk> Model for RecipeDisk<D> {
     ghost coded = { recipe_code D.code };
 
     ghost view = { λ s. record { disk = s.disk; slots = s.slots; failed = s.failed } };
+
+    ghost invariant = { λ s. KnowsUnless s.failed (D.told s.disk) s.slots s.hints };
 }
 
 /// Why no store was taken up from a disk.
@@ -55,6 +61,7 @@ impl<D: Disk> RecipeDisk<D> {
                 disk,
                 slots,
                 failed: false,
+                hints: shut_hints::<4096>(),
             }),
             DiskAnswer::Failed => Err(disk),
         }
@@ -72,16 +79,18 @@ impl<D: Disk> RecipeDisk<D> {
             DiskAnswer::Failed => return Err(RecipeOpening::Failed(disk)),
             DiskAnswer::Done => {}
         }
-        let slots = match read_file(&mut disk) {
+        let mut hints = shut_hints::<4096>();
+        let slots = match read_file(&mut disk, &mut hints) {
             Reading::Whole(slots) => slots,
             Reading::Broken(not_spool) => return Err(RecipeOpening::NotRecipes(disk, not_spool)),
             Reading::Failed => return Err(RecipeOpening::Failed(disk)),
         };
-        match close_stale(&mut disk, slots) {
+        match close_stale(&mut disk, &mut hints, slots) {
             DiskAnswer::Done => Ok(RecipeDisk {
                 disk,
                 slots,
                 failed: false,
+                hints,
             }),
             DiskAnswer::Failed => Err(RecipeOpening::Failed(disk)),
         }

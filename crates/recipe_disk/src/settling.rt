@@ -1,11 +1,13 @@
 //! How a slot is changed: what stands behind its gate, and then the gate, each with a sync.
 
-ghost use Rattle.std.specs.Prelude.{◌≡◌, ◌+◌, ◌<◌, ◌≤◌, ◌^◌, ◌++◌, [], ◌∷◌, length, replicate, IfSome};
+ghost use Rattle.std.specs.Prelude.{◌≡◌, ◌+◌, ℕ, ◌<◌, ◌≤◌, ◌^◌, true, ◌++◌, [], ◌∷◌, length, replicate, IfSome};
 ghost use Rattle.spool_slots.specs.Changes.{HasSettled};
 ghost use Rattle.recipe_disk.specs.Changes.{HasWritten, open_writes, parts_of as bytes_of, put_writes};
+ghost use Rattle.recipe_disk.specs.Hints.{StillKnows, print_of};
 ghost use Rattle.recipe_disk.specs.Slot.{slot_place as place_of};
 
 use crate::head::{BODY_MOST, CLOSED, NAME_MOST, OPEN, slot_place};
+use crate::hints::{Hint, Hints, fingerprint, shut_hint};
 use arrayvec::ArrayVec;
 use disk_base::{Disk, DiskAnswer, settle};
 
@@ -53,12 +55,40 @@ fn parts_of(recipe: &NewRecipe<'_>) -> Parts
     parts
 }
 
-/// Writes the gate of a slot, and syncs.
-pub fn settle_gate<D: Disk>(disk: &mut D, slot: u32, gate: u8) -> DiskAnswer
+// The hint of an open slot with a recipe.
+fn hint_for(recipe: &NewRecipe<'_>) -> Hint
+    ensures number { recipe.now.number < 2 ^ 64 }
+    ensures hint { result ≡ record { opened = true; print = print_of recipe.now.name.now; number = recipe.now.number } }
+{
+    Hint {
+        opened: true,
+        print: fingerprint(recipe.name),
+        number: recipe.number,
+    }
+}
+
+// Writes the gate of a slot, and syncs.
+fn settle_gate<D: Disk>(disk: &mut D, slot: u32, gate: u8) -> DiskAnswer
     requires { place_of slot + 1 ≤ D.size_is disk.old }
     ensures { HasSettled D.Disk disk.old disk.new (place_of slot) (gate ∷ []) result }
 {
     settle(disk, slot_place(slot), &[gate])
+}
+
+/// Closes the gate of a slot, and syncs.
+pub fn close_slot<D: Disk>(disk: &mut D, hints: &mut Hints, slot: u32) -> DiskAnswer
+    requires within { place_of (slot + 1) ≤ D.size_is disk.old }
+    requires most { slot < 4096 }
+    ensures known { (n : ℕ) → place_of n ≤ D.size_is disk.old
+        → StillKnows (D.told disk.old) (D.told disk.new) n hints.old hints.new result }
+    ensures settled { HasSettled D.Disk disk.old disk.new (place_of slot) (0 ∷ []) result }
+{
+    match settle_gate(disk, slot, CLOSED) {
+        DiskAnswer::Failed => return DiskAnswer::Failed,
+        DiskAnswer::Done => {}
+    }
+    hints[slot as usize] = shut_hint();
+    DiskAnswer::Done
 }
 
 // Writes all of a slot but its gate, in one write, and syncs.
@@ -73,41 +103,58 @@ fn settle_parts<D: Disk>(disk: &mut D, slot: u32, recipe: &NewRecipe<'_>) -> Dis
 }
 
 // Writes a recipe into a slot that isn't open, and opens it.
-fn settle_recipe<D: Disk>(disk: &mut D, slot: u32, recipe: &NewRecipe<'_>) -> DiskAnswer
+fn settle_recipe<D: Disk>(
+    disk: &mut D,
+    hints: &mut Hints,
+    slot: u32,
+    recipe: &NewRecipe<'_>,
+) -> DiskAnswer
     requires within { place_of (slot + 1) ≤ D.size_is disk.old }
     requires name { length recipe.now.name.now ≤ 80 }
     requires body { length recipe.now.body.now ≤ 65442 }
-    ensures { HasWritten D.Disk disk.old disk.new
+    requires most { slot < 4096 }
+    ensures known { (n : ℕ) → place_of n ≤ D.size_is disk.old
+        → StillKnows (D.told disk.old) (D.told disk.new) n hints.old hints.new result }
+    ensures written { HasWritten D.Disk disk.old disk.new
         (open_writes slot recipe.now.number recipe.now.name.now recipe.now.body.now) result }
 {
     match settle_parts(disk, slot, recipe) {
         DiskAnswer::Failed => return DiskAnswer::Failed,
         DiskAnswer::Done => {}
     }
-    settle_gate(disk, slot, OPEN)
+    match settle_gate(disk, slot, OPEN) {
+        DiskAnswer::Failed => return DiskAnswer::Failed,
+        DiskAnswer::Done => {}
+    }
+    hints[slot as usize] = hint_for(recipe);
+    DiskAnswer::Done
 }
 
 /// Writes a recipe into a slot that isn't open, opens it, and closes the slot of the old recipe of that name, if there
 /// is one.
 pub fn replace<D: Disk>(
     disk: &mut D,
+    hints: &mut Hints,
     slot: u32,
     old: Option<u32>,
     recipe: &NewRecipe<'_>,
 ) -> DiskAnswer
     requires within { place_of (slot + 1) ≤ D.size_is disk.old }
-    requires old { IfSome old (λ slot. place_of (slot + 1) ≤ D.size_is disk.old) }
+    requires old { IfSome old (λ slot. (slot < 4096) × (place_of (slot + 1) ≤ D.size_is disk.old)) }
     requires name { length recipe.now.name.now ≤ 80 }
     requires body { length recipe.now.body.now ≤ 65442 }
-    ensures { HasWritten D.Disk disk.old disk.new
+    requires most { slot < 4096 }
+    ensures known { (n : ℕ) → place_of n ≤ D.size_is disk.old
+        → StillKnows (D.told disk.old) (D.told disk.new) n hints.old hints.new result }
+    ensures written { HasWritten D.Disk disk.old disk.new
         (put_writes slot old recipe.now.number recipe.now.name.now recipe.now.body.now) result }
 {
-    match settle_recipe(disk, slot, recipe) {
+    match settle_recipe(disk, hints, slot, recipe) {
         DiskAnswer::Failed => return DiskAnswer::Failed,
         DiskAnswer::Done => {}
     }
     match old {
-        Some(old) => settle_gate(disk, old, CLOSED),
+        Some(old) => close_slot(disk, hints, old),
         None => DiskAnswer::Done,
     }
 }

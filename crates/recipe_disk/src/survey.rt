@@ -1,13 +1,17 @@
-//! One pass over the slots of a file, which looks for all that a call of the keeper asks.
+//! All that a call of the keeper asks of the slots: that of a name, and what the hints of all tell.
 
-ghost use Rattle.std.specs.Prelude.{◌≡◌, ◌+◌, ◌^◌, ◌<◌, ◌≤◌, None};
+ghost use Rattle.std.specs.Prelude.{◌≡◌, ◌+◌, ◌-◌, ◌^◌, ◌<◌, ◌≤◌, ℕ, List, None, Some, IfSome, max, min, not, if◌then◌else◌};
 ghost use Rattle.spool_slots.specs.Area.{or_else};
+ghost use Rattle.recipe_disk.specs.Changes.{IsKept};
+ghost use Rattle.recipe_disk.specs.Hints.{AreHints, IsBelow, KnowsSlots};
 ghost use Rattle.recipe_disk.specs.Reading.{HasLooked, SaysOf, look_answer};
-ghost use Rattle.recipe_disk.specs.Slot.{slot_in, slot_place as place_of};
-ghost use Rattle.recipe_disk.specs.Survey.{IsSurvey, SurveyFits, behind_if, count_if, free_if, named_if, place_for};
+ghost use Rattle.recipe_disk.specs.Slot.{RecipeSlot, slot_in};
+ghost use Rattle.recipe_disk.specs.Survey.{HasFields, IsSurvey, SurveyFits, named_at, place_for};
 
-use crate::head::{Head, NUMBERS, is_live, name_of, read_head};
+use crate::head::NUMBERS;
+use crate::hints::{Hint, Hints, hint_at};
 use crate::reading::DiskFailed;
+use crate::sought::{Sought, first_sought};
 use disk_base::Disk;
 
 /// What is known of some slots: the first one of a name, the first one that isn't open, how many recipes there are, and
@@ -31,12 +35,12 @@ fn first_of(place: Option<u32>, other: Option<u32>) -> Option<u32>
 }
 
 impl Survey {
-    // Of no slot.
-    fn new() -> Survey
-        ensures { result ≡ record { found = None; free = None; count = 0; next = 0 } }
+    // Of no slot yet, but for that of a name.
+    fn new(found: Option<u32>) -> Survey
+        ensures { result ≡ record { found = found; free = None; count = 0; next = 0 } }
     {
         Survey {
-            found: None,
+            found,
             free: None,
             count: 0,
             next: 0,
@@ -44,32 +48,23 @@ impl Survey {
     }
 
     // With one slot more.
-    fn with_head(self, slot: u32, head: &Head, name: &[u8]) -> Survey
+    fn with_hint(self, slot: u32, hint: Hint) -> Survey
         requires count { self.count < 4096 }
-        ensures found { result.found ≡ or_else self.found (named_if name.now head.now slot) }
-        ensures free { result.free ≡ or_else self.free (free_if head.now slot) }
-        ensures count { result.count ≡ count_if head.now self.count }
-        ensures next { result.next ≡ behind_if head.now self.next }
-        ensures fits { self.next ≤ 2 ^ 63 → result.next ≤ 2 ^ 63 }
+        ensures found { result.found ≡ self.found }
+        ensures free { result.free ≡ or_else self.free (if not hint.opened then Some slot else None) }
+        ensures count { result.count ≡ (if hint.opened then self.count + 1 else self.count) }
+        ensures next { result.next ≡ (if hint.opened then max self.next (min (hint.number + 1) (2 ^ 64 - 1))
+            else self.next) }
     {
-        if !head.opened {
+        if !hint.opened {
             return Survey {
                 free: first_of(self.free, Some(slot)),
                 ..self
             };
         }
-        if !is_live(head) {
-            return self;
-        }
-        let here = if name_of(head) == name {
-            Some(slot)
-        } else {
-            None
-        };
         Survey {
-            found: first_of(self.found, here),
             count: self.count + 1,
-            next: self.next.max(head.number + 1),
+            next: self.next.max(hint.number.saturating_add(1)),
             ..self
         }
     }
@@ -90,20 +85,54 @@ impl Survey {
     }
 }
 
+// What the hints tell of all slots, beside the slot of a name.
+fn survey_of(hints: &Hints, slots: u32, found: Option<u32>) -> Survey
+    requires { slots ≤ 4096 }
+    ensures survey { (slot : ℕ → RecipeSlot) (name : List ℕ) → AreHints slot slots hints.now → HasFields slot slots
+        → found ≡ named_at slot name slots → IsSurvey slot name slots result }
+    ensures found { result.found ≡ found }
+    ensures count { result.count ≤ slots }
+    ensures free { IfSome result.free (λ k. k < slots) }
+{
+    let mut survey = Survey::new(found);
+    for slot in 0..slots {
+        let hint = hint_at(hints, slot);
+        survey = survey.with_hint(slot, hint);
+    }
+    survey
+}
+
+/// The slot of a name.
+pub fn find<D: Disk>(
+    disk: &mut D,
+    hints: &Hints,
+    slots: u32,
+    name: &[u8],
+) -> Result<Option<u32>, DiskFailed>
+    requires kept { IsKept D.Disk disk.old slots }
+    requires known { KnowsSlots (D.told disk.old) slots hints.now }
+    ensures found { SaysOf (D.told disk.old) (λ bytes found. found ≡ named_at (slot_in bytes) name.now slots) result }
+    ensures below { IsBelow slots result }
+    ensures looked { HasLooked D.Disk disk.old disk.new (look_answer result) }
+{
+    first_sought(disk, hints, slots, Sought::Name(name))
+}
+
 /// Looks over all slots.
-pub fn look_over<D: Disk>(disk: &mut D, slots: u32, name: &[u8]) -> Result<Survey, DiskFailed>
-    requires within { place_of slots ≤ D.size_is disk.old }
-    requires most { slots ≤ 4096 }
+pub fn look_over<D: Disk>(
+    disk: &mut D,
+    hints: &Hints,
+    slots: u32,
+    name: &[u8],
+) -> Result<Survey, DiskFailed>
+    requires kept { IsKept D.Disk disk.old slots }
+    requires known { KnowsSlots (D.told disk.old) slots hints.now }
     ensures survey { SaysOf (D.told disk.old) (λ bytes survey. IsSurvey (slot_in bytes) name.now slots survey) result }
     ensures fits { SurveyFits slots result }
     ensures looked { HasLooked D.Disk disk.old disk.new (look_answer result) }
 {
-    let mut survey = Survey::new();
-    for slot in 0..slots {
-        match read_head(disk, slot) {
-            Ok(head) => survey = survey.with_head(slot, &head, name),
-            Err(DiskFailed) => return Err(DiskFailed),
-        }
+    match find(disk, hints, slots, name) {
+        Ok(found) => Ok(survey_of(hints, slots, found)),
+        Err(DiskFailed) => Err(DiskFailed),
     }
-    Ok(survey)
 }

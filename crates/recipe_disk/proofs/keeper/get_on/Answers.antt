@@ -6,7 +6,7 @@ use Rattle.recipe_disk.proofs.keeper.get_on.Goals as goal
 
 pub returns-in-Some-clause-answer : goal.returns-in-Some-clause-answer
 returns-in-Some-clause-answer g c =
-    got g.D.Disk c.args.slots _ c.args.name.now c.requires.kept _ c.in-Ok.survey c.in-Ok.ensures.looked c.in-Ok.ensures.survey c.in-Some.slot c.in-Some.is
+    got g.D.Disk c.args.slots _ c.args.name.now c.requires.kept _ c.in-Ok.found c.in-Ok.ensures.looked c.in-Ok.ensures.found c.in-Some.slot c.in-Some.is
     c.read_body.result c.read_body.ensures.body
 
 pub returns-in-Some-clause-looked : goal.returns-in-Some-clause-looked
@@ -15,4 +15,4 @@ returns-in-Some-clause-looked g c =
 
 pub returns-in-None-clause-answer : goal.returns-in-None-clause-answer
 returns-in-None-clause-answer g c =
-    get_unknown g.D.Disk c.args.slots _ c.args.name.now c.requires.kept _ c.in-Ok.survey c.in-Ok.ensures.looked c.in-Ok.ensures.survey c.in-None.is
+    get_unknown g.D.Disk c.args.slots _ c.args.name.now c.requires.kept _ c.in-Ok.found c.in-Ok.ensures.looked c.in-Ok.ensures.found c.in-None.is

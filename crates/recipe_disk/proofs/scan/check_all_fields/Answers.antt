@@ -1,10 +1,12 @@
 -- The first slot whose fields break is the break; with none left none do. The slots so far were read.
-use Rattle.std.proofs.Common.{◌≡◌, ◌∙◌, None, arith, subst}
+use Rattle.std.proofs.Common.{◌≡◌, ◌∙◌, None, arith, length-set, subst}
 use Rattle.disk_base.specs.declared.disk.DiskAnswer.TheVariants.{Done, Failed}
 use Rattle.spool_slots.proofs.Firsts.{first_found, first_next}
 use Rattle.spool_slots.specs.Area.{first_at}
 use Rattle.recipe_disk.specs.File.{fields_at}
+use Rattle.recipe_disk.specs.Hints.{AreHints}
 use Rattle.recipe_disk.specs.Slot.{slot_in}
+use Rattle.recipe_disk.proofs.Hinted.{hints_next}
 use Rattle.recipe_disk.proofs.Made.{looked_behind}
 use Rattle.recipe_disk.proofs.scan.check_all_fields.Goals as goal
 
@@ -28,9 +30,15 @@ loop-slot-preserved g c = (
       (c.in-Whole.ensures.fields s (c.loop-slot.invariant.1.told ∙ is)).0,
   looked_behind g.D.Disk _ _ _ Done c.loop-slot.invariant.1 c.in-Whole.ensures.looked,
   c.in-Whole.ensures.looked.made.size ∙ c.loop-slot.invariant.2,
+  λ s is.
+      hints_next (slot_in s.now.bytes) c.loop-slot.slot c.loop-slot.hints c.in-Whole.hint (omega (arith, c.loop-slot.invariant.4, c.loop-slot-test.true, c.requires.most))
+      (c.loop-slot.invariant.3 s is) (c.in-Whole.ensures.fields s (c.loop-slot.invariant.1.told ∙ is)).1,
+  length-set _ _ _ ∙ c.loop-slot.invariant.4,
 )
 
 pub returns-clause-fields : goal.returns-clause-fields
 returns-clause-fields g c s is =
-    let end : c.loop-slot.slot ≡ c.args.slots = omega (arith, c.loop-slot-test.false, c.loop-slot.auto.slot-end) in
-    (subst (λ n. first_at (fields_at (slot_in s.now.bytes)) n ≡ None) end (c.loop-slot.invariant.0 s is), tt)
+    let end : c.loop-slot.slot ≡ c.args.slots = omega (arith, c.loop-slot-test.false, c.loop-slot.auto.slot-end) in (
+      subst (λ n. first_at (fields_at (slot_in s.now.bytes)) n ≡ None) end (c.loop-slot.invariant.0 s is),
+      subst (λ n. AreHints (slot_in s.now.bytes) n c.loop-slot.hints) end (c.loop-slot.invariant.3 s is),
+    )

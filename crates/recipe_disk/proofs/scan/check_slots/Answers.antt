@@ -1,8 +1,9 @@
 -- The tests in their order: fields, numbers, and how many names there are.
-use Rattle.std.proofs.Common.{◌∙◌, ◌+◌, ◌-◌, ℕ, None, Some, ap, arith}
+use Rattle.std.proofs.Common.{◌∙◌, ◌+◌, ◌-◌, ℕ, None, Some, ap, arith, sym}
 use Rattle.disk_base.specs.declared.disk.DiskAnswer.TheVariants.{Done, Failed}
 use Rattle.spool_slots.specs.Area.{or_else}
 use Rattle.recipe_disk.specs.File.{area_break, names_break}
+use Rattle.recipe_disk.specs.Hints.{AreHints}
 use Rattle.recipe_disk.specs.Reading.{reading_answer}
 use Rattle.recipe_disk.specs.Slot.{slot_in, slot_place}
 use Rattle.recipe_disk.proofs.Made.{looked_behind}
@@ -34,7 +35,7 @@ returns-then-names-slots-clause-area g c s told =
       area_numbers (slot_in s.now.bytes) c.args.slots None fields.0
           (behind_numbers (slot_in s.now.bytes) c.args.slots None found.0
           (names_few (slot_in s.now.bytes) c.args.slots c.in-Whole-count_names.names found.1 (omega (arith, c.if-names-slots.true)))),
-      tt,
+      fields.1,
     )
 
 pub returns-then-names-slots-clause-looked : goal.returns-then-names-slots-clause-looked
@@ -42,7 +43,7 @@ returns-then-names-slots-clause-looked g c = looked_behind g.D.Disk _ _ _ Done c
 
 pub returns-else-names-slots-clause-area : goal.returns-else-names-slots-clause-area
 returns-else-names-slots-clause-area g c =
-    finds_broken (g.D.Disk.told c.args.disk.now) (λ bytes. area_break (slot_in bytes) c.args.slots) (λ bytes value. Unit {0})
+    finds_broken (g.D.Disk.told c.args.disk.now) (λ bytes. area_break (slot_in bytes) c.args.slots) (λ bytes value. AreHints (slot_in bytes) c.args.slots c.check_all_fields.new.hints)
     (slot_place (c.args.slots - 1) + 10) c.broken_at.result
     (λ s told.
     let fields = c.in-Whole.ensures.fields s told in
@@ -57,3 +58,6 @@ pub returns-else-names-slots-clause-looked : goal.returns-else-names-slots-claus
 returns-else-names-slots-clause-looked g c =
     looked_behind g.D.Disk _ _ _ (reading_answer c.broken_at.result)
     (looked_behind g.D.Disk _ _ _ Done c.in-Whole.ensures.looked c.in-Whole-count_names.ensures.looked) c.broken_at.ensures.looked
+
+pub count_names-requires-clause-known : goal.count_names-requires-clause-known
+count_names-requires-clause-known g c s told = (c.in-Whole.ensures.fields s (sym c.in-Whole.ensures.looked.told ∙ told)).1

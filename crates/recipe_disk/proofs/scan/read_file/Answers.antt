@@ -12,7 +12,7 @@ pub returns-in-Whole-check_slots-clause-file : goal.returns-in-Whole-check_slots
 returns-in-Whole-check_slots-clause-file g c s told =
     let front = c.in-Whole.ensures.slots s told in
     let area = c.in-Whole-check_slots.ensures.area s (c.in-Whole.ensures.looked.told ∙ told) in
-    (file_whole s.now.bytes c.in-Whole.slots front.0 front.1 area.0, front.1)
+    (file_whole s.now.bytes c.in-Whole.slots front.0 front.1 area.0, (front.1, area.1))
 
 pub returns-in-Whole-check_slots-clause-looked : goal.returns-in-Whole-check_slots-clause-looked
 returns-in-Whole-check_slots-clause-looked g c = looked_behind g.D.Disk _ _ _ Done c.in-Whole.ensures.looked c.in-Whole-check_slots.ensures.looked

@@ -7,13 +7,14 @@ use Rattle.recipe_disk.proofs.Made.{made_behind, made_none}
 use Rattle.recipe_disk.proofs.tidying.close_stale.Goals as goal
 
 pub loop-slot-init : goal.loop-slot-init
-loop-slot-init g c = (tidies_none _ _, made_none g.D.Disk IsTidyCall _, refl)
+loop-slot-init g c = (tidies_none _ _, made_none g.D.Disk IsTidyCall _, refl, c.requires.known)
 
 pub loop-slot-preserved : goal.loop-slot-preserved
 loop-slot-preserved g c = (
   tidies_next _ _ _ c.args.slots c.loop-slot.slot c.loop-slot.invariant.0 c.in-Done.ensures.told,
   made_behind g.D.Disk IsTidyCall _ _ _ Done c.loop-slot.invariant.1 c.in-Done.ensures.made,
   c.in-Done.ensures.made.size ∙ c.loop-slot.invariant.2,
+  c.in-Done.ensures.known c.loop-slot.invariant.3,
 )
 
 pub returns-in-Failed-clause-told : goal.returns-in-Failed-clause-told
@@ -27,3 +28,6 @@ pub returns-clause-told : goal.returns-clause-told
 returns-clause-told g c =
     let end : c.loop-slot.slot ≡ c.args.slots = omega (arith, c.loop-slot-test.false, c.loop-slot.auto.slot-end) in
     subst (λ n. TidiesTo (g.D.Disk.told c.args.disk.now) (g.D.Disk.told c.loop-slot.disk) c.args.slots n Done) end c.loop-slot.invariant.0
+
+pub returns-clause-known : goal.returns-clause-known
+returns-clause-known g c known = c.loop-slot.invariant.3

@@ -5,7 +5,7 @@ use Rattle.recipe_disk.specs.Changes.{recipes_told}
 use Rattle.recipe_disk.specs.Listing.{get_answer}
 use Rattle.recipe_disk.specs.Opening.{IsReady, RecipeView}
 use Rattle.recipe_disk.specs.Reading.{HasLooked}
-use Rattle.recipe_disk.proofs.Ready.{get_fails, kept_unless, ready_unless, same_cause}
+use Rattle.recipe_disk.proofs.Ready.{known_behind, known_ready, get_fails, kept_unless, ready_unless, same_cause}
 use Rattle.recipe_disk.proofs.keeper.RecipeDiskRecipeKeeper.get.Goals as goal
 
 pub get_on-answer-requires-clause-kept : goal.get_on-answer-requires-clause-kept
@@ -35,3 +35,12 @@ returns-clause-cause g c =
 pub returns-clause-looked : goal.returns-clause-looked
 returns-clause-looked g c =
     subst (λ (v : RecipeView g.row.D.Denot). HasLooked g.D.Disk v.disk c.get_on-answer.new.disk (get_answer c.get_on-answer.result)) c.self.view_is c.get_on-answer.ensures.looked
+
+pub get_on-answer-requires-clause-known : goal.get_on-answer-requires-clause-known
+get_on-answer-requires-clause-known g c =
+    known_ready c.self.inside.failed _ _ _ (subst (IsReady g.D.Disk) (sym c.self.view_is) c.requires.sound).going c.self.invariant
+
+pub invariant_of-self : goal.invariant_of-self
+invariant_of-self g c =
+    known_behind c.has_get_failed-self-inside.result _ _ _ _ c.get_on-answer.ensures.looked.told
+    (known_ready c.self.inside.failed _ _ _ (subst (IsReady g.D.Disk) (sym c.self.view_is) c.requires.sound).going c.self.invariant)

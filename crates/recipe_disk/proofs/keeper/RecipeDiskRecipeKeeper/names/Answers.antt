@@ -5,7 +5,7 @@ use Rattle.recipe_disk.specs.Changes.{recipes_told}
 use Rattle.recipe_disk.specs.Listing.{names_answer}
 use Rattle.recipe_disk.specs.Opening.{IsReady, RecipeView}
 use Rattle.recipe_disk.specs.Reading.{HasLooked}
-use Rattle.recipe_disk.proofs.Ready.{names_fail, kept_unless, ready_unless, same_cause}
+use Rattle.recipe_disk.proofs.Ready.{known_behind, known_ready, names_fail, kept_unless, ready_unless, same_cause}
 use Rattle.recipe_disk.proofs.keeper.RecipeDiskRecipeKeeper.names.Goals as goal
 
 pub read_names-answer-requires : goal.read_names-answer-requires
@@ -35,3 +35,8 @@ returns-clause-cause g c =
 pub returns-clause-looked : goal.returns-clause-looked
 returns-clause-looked g c =
     subst (λ (v : RecipeView g.row.D.Denot). HasLooked g.D.Disk v.disk c.read_names-answer.new.disk (names_answer c.read_names-answer.result)) c.self.view_is c.read_names-answer.ensures.looked
+
+pub invariant_of-self : goal.invariant_of-self
+invariant_of-self g c =
+    known_behind c.have_names_failed-self-inside.result _ _ _ _ c.read_names-answer.ensures.looked.told
+    (known_ready c.self.inside.failed _ _ _ (subst (IsReady g.D.Disk) (sym c.self.view_is) c.requires).going c.self.invariant)

@@ -4,7 +4,7 @@ use Rattle.gem_recipes.specs.Keeper.{AnswersRoom, HasKeeperCause, put_failed}
 use Rattle.recipe_disk.specs.Changes.{recipes_told}
 use Rattle.recipe_disk.specs.Opening.{IsReady, RecipeView}
 use Rattle.recipe_disk.specs.Reading.{HasLooked, put_answer_of}
-use Rattle.recipe_disk.proofs.Ready.{put_fails, kept_unless, ready_unless, same_cause}
+use Rattle.recipe_disk.proofs.Ready.{known_behind, known_ready, put_fails, kept_unless, ready_unless, same_cause}
 use Rattle.recipe_disk.proofs.keeper.RecipeDiskRecipeKeeper.room.Goals as goal
 
 pub room_for-answer-requires-clause-kept : goal.room_for-answer-requires-clause-kept
@@ -34,3 +34,12 @@ returns-clause-cause g c =
 pub returns-clause-looked : goal.returns-clause-looked
 returns-clause-looked g c =
     subst (λ (v : RecipeView g.row.D.Denot). HasLooked g.D.Disk v.disk c.room_for-answer.new.disk (put_answer_of c.room_for-answer.result)) c.self.view_is c.room_for-answer.ensures.looked
+
+pub room_for-answer-requires-clause-known : goal.room_for-answer-requires-clause-known
+room_for-answer-requires-clause-known g c =
+    known_ready c.self.inside.failed _ _ _ (subst (IsReady g.D.Disk) (sym c.self.view_is) c.requires.sound).going c.self.invariant
+
+pub invariant_of-self : goal.invariant_of-self
+invariant_of-self g c =
+    known_behind c.has_put_failed-self-inside.result _ _ _ _ c.room_for-answer.ensures.looked.told
+    (known_ready c.self.inside.failed _ _ _ (subst (IsReady g.D.Disk) (sym c.self.view_is) c.requires.sound).going c.self.invariant)
