@@ -16,6 +16,7 @@ mod Opened
 mod Parts
 mod Putting
 mod Ready
+mod Rising
 mod Scanning
 mod Starts
 mod Stories

@@ -1,21 +1,22 @@
 -- The names that were read, and whether each is one.
-use Rattle.std.proofs.Common.{◌≡◌, refl, sym, ap, ◌∙◌, ℕ, ◌+◌, ◌<◌, ◌≤◌, ◌⊎◌, inl, inr, Bool, true, false, List, ◌∷◌, All, drop, get_or, is_none, length, min, take, Option, None, Some, if◌then◌else◌, arith}
+use Rattle.std.proofs.Common.{◌≡◌, refl, sym, ap, subst, ◌∙◌, ℕ, ◌+◌, ◌<◌, ◌≤◌, ◌⊎◌, inl, inr, Bool, true, false, List, [], ◌∷◌, ◌++◌, All, drop, is_none, length, min, take, Option, None, Some, if◌then◌else◌, arith}
 use Rattle.std.proofs.lemmas.Bool.{and_parts, cases_lt}
-use Rattle.std.proofs.lemmas.List.Elements.{All-append, All-cons, All-drop, All-take}
-use Rattle.std.proofs.lemmas.List.{drop_all, drop_more, length-take, take-take, take_all}
+use Rattle.std.proofs.lemmas.List.Elements.{All-append, All-cons, All-nil}
+use Rattle.std.proofs.lemmas.List.Sorted.{IsPermutation-insert, IsPermutation-push_more}
+use Rattle.std.proofs.lemmas.List.{length-take, take-take, take_all}
+use Rattle.std.specs.List.Sorted.{IsPermutation}
 use Rattle.std.specs.List.{insert as put_at}
-use Rattle.std.specs.Ordering.{is_lt}
 use Rattle.disk_base.specs.Story.{Story, bytes_at}
-use Rattle.gem_recipes.specs.Recipes.{IsPpid, by_bytes, most_body, names_of}
+use Rattle.gem_recipes.specs.Recipes.{IsPpid, most_body, names_of}
 use Rattle.gem_recipes.specs.declared.keeper.RecipeGet.{RecipeGet}
 use Rattle.gem_recipes.specs.declared.keeper.RecipeGet.TheVariants as getting
 use Rattle.recipe_disk.specs.Changes.{Rests}
-use Rattle.recipe_disk.specs.Listing.{GivesBody, ReadsBody, names_with, place_among}
+use Rattle.recipe_disk.specs.Listing.{GivesBody, ReadsBody, names_with}
 use Rattle.recipe_disk.specs.Map.{recipes_below}
 use Rattle.recipe_disk.specs.Slot.{fields_break, head_in, is_open, name_in, slot_in, slot_place}
 use Rattle.recipe_disk.specs.Survey.{is_live}
 use Rattle.recipe_disk.specs.declared.head.Head.{Head}
-use Rattle.recipe_disk.proofs.Names.{names_more, names_same}
+use Rattle.recipe_disk.proofs.Names.{names_more, names_same, place_among}
 use Rattle.recipe_disk.proofs.Putting.{fields_fit, file_at}
 use Rattle.recipe_disk.proofs.Tidy.{live_is}
 
@@ -37,60 +38,41 @@ live_short head live =
     let both = and_parts head.opened (is_none (fields_break head)) live in
     (fields_fit head (none_is (fields_break head) both.1)).most
 
-pub all_put : (names : List (List ℕ)) (at : ℕ) (name : List ℕ) → IsPpid name → All IsPpid names → All IsPpid (put_at names at name)
-all_put names at name is each =
-    All-append IsPpid (take at names) (name ∷ drop at names) (All-take IsPpid at names each)
-    (All-cons IsPpid name (drop at names) is (All-drop IsPpid at names each))
-
 -- of a file at rest
 module _ (slots : ℕ) (s : Story) (rests : Rests slots s) (m : ℕ) (below : m < slots) (head : Head) (is : head ≡ head_in s.now.bytes m)
-    (names : List (List ℕ)) (are : names ≡ names_of (recipes_below (slot_in s.now.bytes) m)) where
+    (names : List (List ℕ)) (are : IsPermutation names (names_of (recipes_below (slot_in s.now.bytes) m))) where
+  abbrev held : List (List ℕ)
+  held = names_of (recipes_below (slot_in s.now.bytes) m)
+
   live_open : is_live head ≡ is_open (slot_in s.now.bytes m)
   live_open = ap is_live is ∙ live_is (head_in s.now.bytes m) ((file_at slots s rests).area.fields m below)
 
   by_life : (b : Bool) → is_live head ≡ b →
-      (if b then put_at names (place_among (name_in head) names) (name_in head) else names) ≡ names_of (recipes_below (slot_in s.now.bytes) (m + 1))
+      IsPermutation (if b then names ++ name_in head ∷ [] else names) (names_of (recipes_below (slot_in s.now.bytes) (m + 1)))
   by_life true live =
-      ap (λ (n : List ℕ). put_at names (place_among n names) n) (ap name_in is)
-      ∙ names_more (slot_in s.now.bytes) slots rests.tidy m below names are (sym live_open ∙ live)
-  by_life false dead = names_same (slot_in s.now.bytes) slots rests.tidy m below names are (sym live_open ∙ dead)
+      subst (IsPermutation (names ++ name_in head ∷ []))
+      (ap (λ (n : List ℕ). put_at held (place_among n held) n) (ap name_in is)
+      ∙ names_more (slot_in s.now.bytes) slots rests.tidy m below held refl (sym live_open ∙ live))
+      (IsPermutation-push_more names held (put_at held (place_among (name_in head) held) (name_in head)) (name_in head) are
+      (IsPermutation-insert held (place_among (name_in head) held) (name_in head)))
+  by_life false dead =
+      subst (IsPermutation names) (names_same (slot_in s.now.bytes) slots rests.tidy m below held refl (sym live_open ∙ dead)) are
 
-  pub listed_next : names_with head names ≡ names_of (recipes_below (slot_in s.now.bytes) (m + 1))
+  pub listed_next : IsPermutation (names_with head names) (names_of (recipes_below (slot_in s.now.bytes) (m + 1)))
   listed_next = by_life (is_live head) refl
 
 -- what is put in is the name of a head that has a recipe
 pub all_with : (head : Head) (name : List ℕ) (names : List (List ℕ)) → is_live head ≡ true → name ≡ name_in head → length name ≡ head.name_len → All IsPpid names →
-    All IsPpid (put_at names (place_among name names) name)
-all_with head name names live named long each = all_put names (place_among name names) name (live_named head name live long) each
+    All IsPpid (names ++ name ∷ [])
+all_with head name names live named long each =
+    All-append IsPpid names (name ∷ []) each (All-cons IsPpid name [] (live_named head name live long) (All-nil IsPpid))
 
-pub with_live : (head : Head) (name : List ℕ) (names : List (List ℕ)) → is_live head ≡ true → name ≡ name_in head → put_at names (place_among name names) name ≡ names_with head names
+pub with_live : (head : Head) (name : List ℕ) (names : List (List ℕ)) → is_live head ≡ true → name ≡ name_in head → names ++ name ∷ [] ≡ names_with head names
 with_live head name names live named =
-    ap (λ (n : List ℕ). put_at names (place_among n names) n) named
-    ∙ sym (ap (λ (b : Bool). if b then put_at names (place_among (name_in head) names) (name_in head) else names) live)
+    ap (λ (n : List ℕ). names ++ n ∷ []) named ∙ sym (ap (λ (b : Bool). if b then names ++ name_in head ∷ [] else names) live)
 
 pub with_dead : (head : Head) (names : List (List ℕ)) → is_live head ≡ false → names ≡ names_with head names
-with_dead head names dead = sym (ap (λ (b : Bool). if b then put_at names (place_among (name_in head) names) (name_in head) else names) dead)
-
--- ---- where a name belongs
-
-pub place_next : (name : List ℕ) (names : List (List ℕ)) (at : ℕ) (other : List ℕ) → at < length names → other ≡ get_or names at other → is_lt (by_bytes other name) ≡ true →
-    at + place_among name (drop at names) ≡ at + 1 + place_among name (drop (at + 1) names)
-place_next name names at other below is less =
-    ap (λ (n : ℕ). at + n)
-    (ap (place_among name) (drop_more names at other below)
-    ∙ ap (λ (b : Bool). if b then place_among name (drop (at + 1) names) + 1 else 0) (ap (λ (x : List ℕ). is_lt (by_bytes x name)) (sym is) ∙ less))
-    ∙ omega arith
-
-pub place_here : (name : List ℕ) (names : List (List ℕ)) (at : ℕ) (other : List ℕ) → at < length names → other ≡ get_or names at other → is_lt (by_bytes other name) ≡ false →
-    at ≡ at + place_among name (drop at names)
-place_here name names at other below is more =
-    let none : place_among name (drop at names) ≡ 0 =
-    ap (place_among name) (drop_more names at other below)
-    ∙ ap (λ (b : Bool). if b then place_among name (drop (at + 1) names) + 1 else 0) (ap (λ (x : List ℕ). is_lt (by_bytes x name)) (sym is) ∙ more) in
-    omega (arith, none)
-
-pub place_end : (name : List ℕ) (names : List (List ℕ)) (at : ℕ) → length names ≤ at → place_among name (drop at names) ≡ 0
-place_end name names at past = ap (place_among name) (drop_all at names past)
+with_dead head names dead = sym (ap (λ (b : Bool). if b then names ++ name_in head ∷ [] else names) dead)
 
 -- ---- a body
 

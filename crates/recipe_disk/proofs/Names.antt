@@ -8,11 +8,15 @@ use Rattle.std.specs.Ordering.{is_lt, ordering_reverse}
 use Rattle.std.specs.declared.cmp.Ordering.{Ordering}
 use Rattle.gem_recipes.specs.NoRecipes.{no_entries}
 use Rattle.gem_recipes.specs.Recipes.{Recipe, Recipes, by_bytes, names_of}
-use Rattle.recipe_disk.specs.Listing.{place_among}
 use Rattle.recipe_disk.specs.Map.{IsTidy, recipes_below}
 use Rattle.recipe_disk.specs.Slot.{RecipeSlot, is_open, name_of, recipe_of}
 use Rattle.recipe_disk.proofs.Entries.{Entries, later_too, not_tied}
 use Rattle.recipe_disk.proofs.Tidy.{adds, new_name, skips}
+
+-- how many names at the front of a list come before this one
+abbrev pub place_among : List ℕ → List (List ℕ) → ℕ
+place_among name [] = 0
+place_among name (other ∷ names) = if is_lt (by_bytes other name) then place_among name names + 1 else 0
 
 abbrev names_in : Entries → List (List ℕ)
 names_in held = map (λ e. e.0) held
@@ -21,7 +25,7 @@ names_in held = map (λ e. e.0) held
 turned : (name other : List ℕ) (o : Ordering) → by_bytes name other ≡ o → is_lt (by_bytes other name) ≡ is_lt (ordering_reverse o)
 turned name other o is = ap is_lt (nat_list_cmp_total.antisymm other name ∙ ap ordering_reverse is)
 
-one_behind : (names : List (List ℕ)) (name other : List ℕ) (n : ℕ) → put_at (other ∷ names) (n + 1) name ≡ other ∷ put_at names n name
+pub one_behind : (names : List (List ℕ)) (name other : List ℕ) (n : ℕ) → put_at (other ∷ names) (n + 1) name ≡ other ∷ put_at names n name
 one_behind names name other n =
     let one : n + 1 ≡ suc n = omega arith in ap (λ (k : ℕ). put_at (other ∷ names) k name) one
 

@@ -1,11 +1,9 @@
 -- What reading a body and all names comes to (this profile).
-use Rattle.std.specs.Prelude.{◌≡◌, ◌+◌, ◌≤◌, ℕ, List, [], ◌∷◌, length, Option, Some, if◌then◌else◌}
-use Rattle.std.specs.List.{insert}
-use Rattle.std.specs.Ordering.{is_lt}
+use Rattle.std.specs.Prelude.{◌≡◌, ◌+◌, ◌≤◌, ℕ, List, [], ◌∷◌, ◌++◌, length, Option, Some, if◌then◌else◌}
 use Rattle.disk_base.specs.Story.{Story, bytes_at}
 use Rattle.disk_base.specs.declared.disk.DiskAnswer.{DiskAnswer}
 use Rattle.disk_base.specs.declared.disk.DiskAnswer.TheVariants.{Done, Failed}
-use Rattle.gem_recipes.specs.Recipes.{by_bytes, most_body}
+use Rattle.gem_recipes.specs.Recipes.{most_body}
 use Rattle.gem_recipes.specs.declared.keeper.RecipeGet.{RecipeGet}
 use Rattle.gem_recipes.specs.declared.keeper.RecipeGet.TheVariants as getting
 use Rattle.gem_recipes.specs.declared.keeper.RecipeNames.{RecipeNames}
@@ -34,11 +32,6 @@ GivesBody told at long getting.Unknown = ⊥
 GivesBody told at long getting.Failed = Unit {0}
 GivesBody told at long getting.NoMemory = Unit {0}
 
--- how many names at the front of a list come before this one
-abbrev pub place_among : List ℕ → List (List ℕ) → ℕ
-place_among name [] = 0
-place_among name (other ∷ names) = if is_lt (by_bytes other name) then place_among name names + 1 else 0
-
 -- the body of a slot
 abbrev pub ReadsBody : Option Story → (slot : ℕ) → RecipeGet → Type 0
 ReadsBody told slot (getting.Found body) =
@@ -48,6 +41,6 @@ ReadsBody told slot getting.Unknown = ⊥
 ReadsBody told slot getting.Failed = Unit {0}
 ReadsBody told slot getting.NoMemory = Unit {0}
 
--- an ordered list of names with that of a head, if it has a recipe
+-- names, and behind them that of a head, if it has a recipe
 abbrev pub names_with : Head → List (List ℕ) → List (List ℕ)
-names_with head names = if is_live head then insert names (place_among (name_in head) names) (name_in head) else names
+names_with head names = if is_live head then names ++ name_in head ∷ [] else names

@@ -1,4 +1,4 @@
-//! The calls of a keeper: each looks over the slots, and changes the file or answers.
+//! The calls of a keeper: each looks for what it is asked for, and changes the file or answers.
 
 ghost use Rattle.std.specs.Prelude.{◌≡◌, true};
 ghost use Rattle.gem_recipes.specs.Keeper.{AnswersDelete, AnswersGet, AnswersNames, AnswersPut, AnswersRoom, DeleteLeaves, HasKeeperCause, IsSoundUnless, PutLeaves, delete_failed, get_failed, names_failed, put_failed};
@@ -149,8 +149,9 @@ fn have_names_failed(answer: &RecipeNames) -> bool
     }
 }
 
-/// Each call but `offers` looks over the slots first, which is reads alone; where it changes nothing, it makes no other
-/// call of the disk. A fault of the disk is its only fault, and behind one it can't be asked any more.
+/// Each call but `offers` looks for what it is asked for first, which is reads alone, of all slots for `names`, and else
+/// of those whose hints have the fingerprint of the name; where it changes nothing, it makes no other call of the disk. A
+/// fault of the disk is its only fault, and behind one it can't be asked any more.
 impl<D: Disk> RecipeKeeper for RecipeDisk<D> {
     ghost told = { λ v. recipes_told (D.told v.disk) };
 

@@ -1,11 +1,11 @@
 //! What is read of the recipes themselves: a body, and all names.
 
-ghost use Rattle.std.specs.Prelude.{◌≡◌, ◌+◌, ◌≤◌, All, length, OnOk};
-ghost use Rattle.std.specs.Ordering.{is_lt};
+ghost use Rattle.std.specs.Prelude.{◌≡◌, ◌+◌, ◌≤◌, All, OnOk};
+ghost use Rattle.std.specs.List.Sorted.{IsPermutation, IsSorted};
 ghost use Rattle.gem_recipes.specs.Keeper.{AnswersNames};
 ghost use Rattle.gem_recipes.specs.Recipes.{IsPpid, by_bytes};
 ghost use Rattle.recipe_disk.specs.Changes.{IsKept, recipes_told};
-ghost use Rattle.recipe_disk.specs.Listing.{GivesBody, ReadsBody, get_answer, names_answer, names_with, place_among};
+ghost use Rattle.recipe_disk.specs.Listing.{GivesBody, ReadsBody, get_answer, names_answer, names_with};
 ghost use Rattle.recipe_disk.specs.Reading.{HasLooked};
 ghost use Rattle.recipe_disk.specs.Slot.{slot_place as place_of};
 
@@ -31,26 +31,7 @@ fn read_bytes<D: Disk>(disk: &mut D, alloc: Global, at: u64, len: usize) -> Reci
     }
 }
 
-// Whether a name comes before another one.
-fn is_before(name: &[u8], other: &[u8]) -> bool
-    ensures { result ≡ is_lt (by_bytes name.now other.now) }
-{
-    name.cmp(other).is_lt()
-}
-
-// Where in an ordered list of names this one belongs.
-fn place_of_name(names: &[Row<u8>], name: &[u8]) -> usize
-    ensures place { result ≡ place_among name.now names.now }
-    ensures bound { result ≤ length names.now }
-{
-    let mut at = 0;
-    while at < names.len() && is_before(names[at].as_slice(), name) {
-        at += 1;
-    }
-    at
-}
-
-// Puts the name of a slot into an ordered list, if it has a recipe.
+// Puts the name of a slot behind others, if it has a recipe.
 fn put_name(alloc: Global, names: &mut Vec<Row<u8>>, head: &Head) -> Result<(), NoMemory>
     ensures names { OnOk result (names.new.items ≡ names_with head.now names.old.items) }
     ensures each { OnOk result (All IsPpid names.old.items → All IsPpid names.new.items) }
@@ -58,11 +39,17 @@ fn put_name(alloc: Global, names: &mut Vec<Row<u8>>, head: &Head) -> Result<(), 
     if !is_live(head) {
         return Ok(());
     }
-    let name = name_of(head);
-    let row = Row::of(alloc, name)?;
-    let at = place_of_name(names.as_slice(), name);
-    names.insert(at, row)?;
+    let row = Row::of(alloc, name_of(head))?;
+    names.push(row)?;
     Ok(())
+}
+
+// Puts names into the order of their bytes.
+fn sort_names(names: &mut Vec<Row<u8>>)
+    ensures same { IsPermutation names.old.items names.new.items }
+    ensures order { IsSorted by_bytes names.new.items }
+{
+    names.sort_unstable_by(|name, other| name.as_slice().cmp(other.as_slice()));
 }
 
 /// The body of the recipe in a slot.
@@ -97,5 +84,6 @@ pub fn read_names<D: Disk>(disk: &mut D, alloc: Global, slots: u32) -> RecipeNam
             Err(NoMemory) => return RecipeNames::NoMemory,
         }
     }
+    sort_names(&mut names);
     RecipeNames::Names(Row::from_vec(names))
 }

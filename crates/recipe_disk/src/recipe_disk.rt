@@ -14,7 +14,8 @@ use spool_slots::NotSpool;
 use std::marker::Model;
 
 /// Recipes on a disk, each in a slot of a file. One slot stays free, in which the successor of a recipe is written
-/// before the old one goes, so a loss of power leaves either of them.
+/// before the old one goes, so a loss of power leaves either of them. A hint of each slot, 64 KiB for all, lies in the
+/// value itself.
 #[derive(Debug, Drop)]
 pub struct RecipeDisk<D: Disk> {
     pub(crate) disk: D,
