@@ -6,10 +6,10 @@ use Rattle.recipe_disk.specs.Map.{recipes_below}
 use Rattle.recipe_disk.specs.Slot.{RecipeSlot, slot_place}
 
 abbrev pub first : List ℕ
-first = codes "R1"
+first = codes "Au"
 
 abbrev pub second : List ℕ
-second = codes "R2"
+second = codes "Cu"
 
 -- a slot with these fields
 abbrev pub slot_with : (opened : Bool) (number : ℕ) (name : List ℕ) (long : ℕ) (body : List ℕ) → RecipeSlot
@@ -27,7 +27,7 @@ slots [] k = recipe_slot false 0 [] []
 slots (slot ∷ more) zero = slot
 slots (slot ∷ more) (suc k) = slots more k
 
--- R1 with a B of one byte, the same with another one, and R2
+-- Au with a B of one byte, the same with another one, and Cu
 abbrev pub old_slot : Bool → RecipeSlot
 old_slot opened = recipe_slot opened 0 first (33 ∷ 1 ∷ 2 ∷ [])
 
