@@ -137,21 +137,21 @@ fn open_slots(disk: &mut MemDisk, slots: u32) -> u32 {
 }
 
 // How many calls an opening of two slots makes where one is open, with the look behind it: a sync, the front, the heads
-// for their fields, for numbers, for stale ones with what these are compared with, and for the look.
-const BEFORE_PUT: u32 = 1 + 1 + 2 + 2 + 4 + 2;
+// for their fields, for numbers and for stale ones, and the one of the name.
+const BEFORE_PUT: u32 = 1 + 1 + 2 + 2 + 2 + 1;
 
 // The same of three slots of which two are open.
-const BEFORE_DROP: u32 = 1 + 1 + 3 + 5 + 9 + 3;
+const BEFORE_DROP: u32 = 1 + 1 + 3 + 3 + 3 + 1;
 
-// R1 with another body in a store of two slots, stopped at a call behind the look.
+// Au with another body in a store of two slots, stopped at a call behind the look.
 fn replaced(alloc: Global, call: u32) -> Option<MemDisk> {
-    let Some(mut disk) = filled(alloc, 2, &[*b"R1"]) else {
+    let Some(mut disk) = filled(alloc, 2, &[*b"Au"]) else {
         return None;
     };
     if call < 100 {
         disk.stop_at(BEFORE_PUT + call);
     }
-    Some(put(disk, b"R1", &[33, 1, 3]).1)
+    Some(put(disk, b"Au", &[33, 1, 3]).1)
 }
 
 // Whether a replacement that stops at a call behind the look leaves the new body, or the old one.
@@ -159,11 +159,11 @@ fn leaves_new(alloc: Global, call: u32, choice: CutChoice, is_new: bool) -> bool
     let body = if is_new {
         [33, 1, 3].as_slice()
     } else {
-        b"R1".as_slice()
+        b"Au".as_slice()
     };
     match replaced(alloc, call) {
         Some(disk) => {
-            disk.stopped() == (call < 7) && leaves(alloc, &disk, choice, b"R1", Some(body))
+            disk.stopped() == (call < 7) && leaves(alloc, &disk, choice, b"Au", Some(body))
         }
         None => false,
     }
@@ -196,7 +196,7 @@ fn a_replacement_makes_six_calls(rt: HostRuntime) -> Result<(), Fail> {
     Ok(())
 }
 
-// A store with two open slots of R1, since its replacement stopped at the closing write.
+// A store with two open slots of Au, since its replacement stopped at the closing write.
 fn doubled(alloc: Global) -> Option<MemDisk> {
     match replaced(alloc, 5) {
         Some(disk) => match disk.cut(alloc, CutChoice::Old) {
@@ -229,7 +229,7 @@ fn opening_keeps(alloc: Global, call: u32, choice: CutChoice) -> bool {
         Ok(store) => store.into_disk(),
         Err(opening) => unopened(opening),
     };
-    leaves(alloc, &disk, choice, b"R1", Some([33, 1, 3].as_slice()))
+    leaves(alloc, &disk, choice, b"Au", Some([33, 1, 3].as_slice()))
 }
 
 #[test]
@@ -238,22 +238,22 @@ fn an_opening_leaves_one_slot_a_name(rt: HostRuntime) -> Result<(), Fail> {
     let (left, opened) = open_behind(alloc);
     assert_eq!(rt; left, 2);
     assert_eq!(rt; opened, 1);
-    assert!(rt; opening_keeps(alloc, 12, CutChoice::Old));
-    assert!(rt; opening_keeps(alloc, 13, CutChoice::Fill(0x5A)));
+    assert!(rt; opening_keeps(alloc, 10, CutChoice::Old));
+    assert!(rt; opening_keeps(alloc, 11, CutChoice::Fill(0x5A)));
     Ok(())
 }
 
-// Whether the deletion of R2, stopped at a call behind the look, leaves it, and R1.
+// Whether the deletion of Cu, stopped at a call behind the look, leaves it.
 fn deletion_leaves(alloc: Global, call: u32, choice: CutChoice, there: bool) -> bool {
-    let Some(mut disk) = filled(alloc, 3, &[*b"R1", *b"R2"]) else {
+    let Some(mut disk) = filled(alloc, 3, &[*b"Au", *b"Cu"]) else {
         return false;
     };
     if call < 100 {
         disk.stop_at(BEFORE_DROP + call);
     }
-    let (_, disk) = delete(disk, b"R2");
-    let body = if there { Some(b"R2".as_slice()) } else { None };
-    disk.stopped() == (call < 3) && leaves(alloc, &disk, choice, b"R2", body)
+    let (_, disk) = delete(disk, b"Cu");
+    let body = if there { Some(b"Cu".as_slice()) } else { None };
+    disk.stopped() == (call < 3) && leaves(alloc, &disk, choice, b"Cu", body)
 }
 
 #[test]
@@ -291,34 +291,34 @@ fn takes_longest(alloc: Global) -> bool {
     let Some(disk) = formatted(alloc, 2) else {
         return false;
     };
-    let (answer, disk) = put(disk, b"R1", &[7; 65_442]);
-    answer == Some(RecipePut::Stored) && has(alloc, disk, b"R1", Some(&[7; 65_442])).0
+    let (answer, disk) = put(disk, b"Au", &[7; 65_442]);
+    answer == Some(RecipePut::Stored) && has(alloc, disk, b"Au", Some(&[7; 65_442])).0
 }
 
 #[test]
 fn what_has_no_space_is_refused(rt: HostRuntime) -> Result<(), Fail> {
     let alloc = rt.alloc();
-    let full = [*b"R1"];
-    assert!(rt; put_answers(alloc, 2, &full, b"R2", &[1]) == Some(RecipePut::NoSpace));
-    assert!(rt; put_answers(alloc, 2, &full, b"R1", &[1]) == Some(RecipePut::Stored));
-    assert!(rt; put_answers(alloc, 3, &full, b"R2", &[1]) == Some(RecipePut::Stored));
-    assert!(rt; put_answers(alloc, 2, &full, b"R2", &[0; 65_443]) == Some(RecipePut::TooLong));
-    assert!(rt; room_answers(alloc, 2, &full, b"R2") == Some(RecipePut::NoSpace));
-    assert!(rt; room_answers(alloc, 2, &full, b"R1") == Some(RecipePut::Stored));
+    let full = [*b"Au"];
+    assert!(rt; put_answers(alloc, 2, &full, b"Cu", &[1]) == Some(RecipePut::NoSpace));
+    assert!(rt; put_answers(alloc, 2, &full, b"Au", &[1]) == Some(RecipePut::Stored));
+    assert!(rt; put_answers(alloc, 3, &full, b"Cu", &[1]) == Some(RecipePut::Stored));
+    assert!(rt; put_answers(alloc, 2, &full, b"Cu", &[0; 65_443]) == Some(RecipePut::TooLong));
+    assert!(rt; room_answers(alloc, 2, &full, b"Cu") == Some(RecipePut::NoSpace));
+    assert!(rt; room_answers(alloc, 2, &full, b"Au") == Some(RecipePut::Stored));
     assert!(rt; takes_longest(alloc));
     Ok(())
 }
 
 // Whether a recipe is stored, found, deleted, and found no more.
 fn goes_round(alloc: Global) -> bool {
-    let Some(disk) = filled(alloc, 3, &[*b"R1"]) else {
+    let Some(disk) = filled(alloc, 3, &[*b"Au"]) else {
         return false;
     };
-    let (found, disk) = has(alloc, disk, b"R1", Some(b"R1".as_slice()));
-    let (other, disk) = has(alloc, disk, b"R2", None);
-    let (first, disk) = delete(disk, b"R1");
-    let (second, disk) = delete(disk, b"R1");
-    let (gone, _) = has(alloc, disk, b"R1", None);
+    let (found, disk) = has(alloc, disk, b"Au", Some(b"Au".as_slice()));
+    let (other, disk) = has(alloc, disk, b"Cu", None);
+    let (first, disk) = delete(disk, b"Au");
+    let (second, disk) = delete(disk, b"Au");
+    let (gone, _) = has(alloc, disk, b"Au", None);
     found
         && other
         && first == Some(RecipeDrop::Dropped)
@@ -328,15 +328,15 @@ fn goes_round(alloc: Global) -> bool {
 
 // Whether the names come by their bytes.
 fn lists_by_bytes(alloc: Global) -> bool {
-    let Some(disk) = filled(alloc, 4, &[*b"R2", *b"R1", *b"Q9"]) else {
+    let Some(disk) = filled(alloc, 4, &[*b"Cu", *b"Au", *b"Ag"]) else {
         return false;
     };
     match RecipeDisk::open(disk) {
         Ok(mut store) => match store.names(alloc) {
             RecipeNames::Names(names) => match names.as_slice() {
-                [a, b, c] => a.as_slice() == b"Q9".as_slice()
-                    && b.as_slice() == b"R1".as_slice()
-                    && c.as_slice() == b"R2".as_slice(),
+                [a, b, c] => a.as_slice() == b"Ag".as_slice()
+                    && b.as_slice() == b"Au".as_slice()
+                    && c.as_slice() == b"Cu".as_slice(),
                 _ => false,
             },
             RecipeNames::Failed | RecipeNames::NoMemory => false,
@@ -355,17 +355,17 @@ fn recipes_are_kept_by_name(rt: HostRuntime) -> Result<(), Fail> {
 
 // Whether a fault of one call of an opening or a put is told, and leaves the old body or the new one.
 fn survives_fault(alloc: Global, call: u32) -> bool {
-    let Some(mut disk) = filled(alloc, 2, &[*b"R1"]) else {
+    let Some(mut disk) = filled(alloc, 2, &[*b"Au"]) else {
         return false;
     };
     disk.fail_at(call);
-    let (answer, disk) = put(disk, b"R1", &[33, 1, 3]);
+    let (answer, disk) = put(disk, b"Au", &[33, 1, 3]);
     match answer {
         None | Some(RecipePut::Failed) => {}
         Some(_) => return false,
     }
-    let (is_old, disk) = has(alloc, disk, b"R1", Some(b"R1".as_slice()));
-    let (is_new, _) = has(alloc, disk, b"R1", Some([33, 1, 3].as_slice()));
+    let (is_old, disk) = has(alloc, disk, b"Au", Some(b"Au".as_slice()));
+    let (is_new, _) = has(alloc, disk, b"Au", Some([33, 1, 3].as_slice()));
     is_old != is_new
 }
 
@@ -389,7 +389,7 @@ fn break_of(disk: MemDisk) -> Option<(u64, Option<u8>)> {
 
 // Where a store of two slots with one recipe breaks once these bytes stand at a place.
 fn broken(alloc: Global, at: u64, bytes: &[u8]) -> Option<(u64, Option<u8>)> {
-    let Some(mut disk) = filled(alloc, 2, &[*b"R1"]) else {
+    let Some(mut disk) = filled(alloc, 2, &[*b"Au"]) else {
         return None;
     };
     if at < 100_000 && bytes.len() < 100 && disk.size() > 100_100 {
@@ -400,7 +400,7 @@ fn broken(alloc: Global, at: u64, bytes: &[u8]) -> Option<(u64, Option<u8>)> {
 
 // Where the first `size` bytes of a store break.
 fn prefix_breaks(alloc: Global, size: u64) -> Option<(u64, Option<u8>)> {
-    let Some(mut disk) = filled(alloc, 2, &[*b"R1"]) else {
+    let Some(mut disk) = filled(alloc, 2, &[*b"Au"]) else {
         return None;
     };
     let Ok(mut short) = MemDisk::new(alloc, size, 100, 100_000) else {
@@ -420,7 +420,7 @@ fn prefix_breaks(alloc: Global, size: u64) -> Option<(u64, Option<u8>)> {
 
 // A second slot with another name, number and body: all slots are open then.
 fn second_slot(alloc: Global, number: u8, name: u8) -> Option<(u64, Option<u8>)> {
-    let Some(mut disk) = filled(alloc, 2, &[*b"R1"]) else {
+    let Some(mut disk) = filled(alloc, 2, &[*b"Au"]) else {
         return None;
     };
     let at = 4096 + 65_536;
@@ -428,7 +428,7 @@ fn second_slot(alloc: Global, number: u8, name: u8) -> Option<(u64, Option<u8>)>
         let _ = settle(
             &mut disk,
             at,
-            &[0x5A, 0, 0, 0, 0, 0, 0, 0, number, 2, 0x52, name],
+            &[0x5A, 0, 0, 0, 0, 0, 0, 0, number, 2, b'A', name],
         );
     }
     break_of(disk)
@@ -452,8 +452,135 @@ fn a_file_breaks_at_its_first_place(rt: HostRuntime) -> Result<(), Fail> {
     assert!(rt; prefix_breaks(alloc, 11) == Some((11, None)));
     assert!(rt; prefix_breaks(alloc, 12) == Some((12, None)));
     assert!(rt; prefix_breaks(alloc, 5000) == Some((5000, None)));
-    assert!(rt; second_slot(alloc, 0, 0x31) == Some((4096 + 65_536 + 1, Some(0))));
-    assert!(rt; second_slot(alloc, 1, 0x32) == Some((4096 + 65_536 + 10, Some(0x52))));
-    assert!(rt; second_slot(alloc, 1, 0x31) == None);
+    assert!(rt; second_slot(alloc, 0, b'u') == Some((4096 + 65_536 + 1, Some(0))));
+    assert!(rt; second_slot(alloc, 1, b'g') == Some((4096 + 65_536 + 10, Some(b'A'))));
+    assert!(rt; second_slot(alloc, 1, b'u') == None);
+    Ok(())
+}
+
+// What a crash may leave of what was written since the last sync: choices of all kinds.
+static CHOICES: [CutChoice; 5] = [
+    CutChoice::Old,
+    CutChoice::New,
+    CutChoice::Fill(0x5A),
+    CutChoice::Fill(0),
+    CutChoice::First(50),
+];
+
+// The bodies of Au, old and new.
+const OLD: &[u8] = b"Au";
+
+const NEW: &[u8] = &[33, 1, 3];
+
+// Whether a disk with two slots stands for Au with one of these bodies, and has one open slot then.
+fn has_one_of(alloc: Global, disk: MemDisk, first: &[u8], second: &[u8]) -> bool {
+    let (is_first, disk) = has(alloc, disk, b"Au", Some(first));
+    let (is_second, mut disk) = has(alloc, disk, b"Au", Some(second));
+    (is_first || is_second) && open_slots(&mut disk, 2) == 1
+}
+
+// Whether a replacement that stops at a call, those of the opening counted, leaves the old body or the new one.
+fn put_leaves(alloc: Global, call: u32, choice: CutChoice) -> bool {
+    let Some(mut disk) = filled(alloc, 2, &[*b"Au"]) else {
+        return false;
+    };
+    disk.stop_at(call);
+    let (_, disk) = put(disk, b"Au", NEW);
+    match disk.cut(alloc, choice) {
+        Ok(cut) => has_one_of(alloc, cut, OLD, NEW),
+        Err(_) => false,
+    }
+}
+
+// Whether an opening over two slots of Au that stops at a call leaves the new body.
+fn opening_leaves(alloc: Global, call: u32, choice: CutChoice) -> bool {
+    let Some(mut disk) = doubled(alloc) else {
+        return false;
+    };
+    disk.stop_at(call);
+    let disk = match RecipeDisk::open(disk) {
+        Ok(store) => store.into_disk(),
+        Err(opening) => unopened(opening),
+    };
+    match disk.cut(alloc, choice) {
+        Ok(cut) => has_one_of(alloc, cut, NEW, NEW),
+        Err(_) => false,
+    }
+}
+
+// Whether a deletion of Cu that stops at a call leaves Cu or not, and Au.
+fn deletion_keeps(alloc: Global, call: u32, choice: CutChoice) -> bool {
+    let Some(mut disk) = filled(alloc, 3, &[*b"Au", *b"Cu"]) else {
+        return false;
+    };
+    disk.stop_at(call);
+    let (_, disk) = delete(disk, b"Cu");
+    let Ok(cut) = disk.cut(alloc, choice) else {
+        return false;
+    };
+    let (there, cut) = has(alloc, cut, b"Cu", Some(b"Cu".as_slice()));
+    let (gone, cut) = has(alloc, cut, b"Cu", None);
+    there != gone && has(alloc, cut, b"Au", Some(OLD)).0
+}
+
+// A stop at a read leaves nothing to choose.
+#[test]
+fn each_call_of_a_put_may_be_the_last(rt: HostRuntime) -> Result<(), Fail> {
+    let alloc = rt.alloc();
+    for call in 1..BEFORE_PUT + 1 {
+        assert!(rt; put_leaves(alloc, call, CutChoice::Old));
+    }
+    for call in BEFORE_PUT + 1..BEFORE_PUT + 8 {
+        for choice in &CHOICES {
+            assert!(rt; put_leaves(alloc, call, *choice));
+        }
+    }
+    Ok(())
+}
+
+#[test]
+fn each_call_of_an_opening_may_be_the_last(rt: HostRuntime) -> Result<(), Fail> {
+    let alloc = rt.alloc();
+    for call in 1..10 {
+        assert!(rt; opening_leaves(alloc, call, CutChoice::Old));
+    }
+    for call in 10..13 {
+        for choice in &CHOICES {
+            assert!(rt; opening_leaves(alloc, call, *choice));
+        }
+    }
+    Ok(())
+}
+
+#[test]
+fn each_call_of_a_deletion_may_be_the_last(rt: HostRuntime) -> Result<(), Fail> {
+    let alloc = rt.alloc();
+    for call in 1..BEFORE_DROP + 1 {
+        assert!(rt; deletion_keeps(alloc, call, CutChoice::Old));
+    }
+    for call in BEFORE_DROP + 1..BEFORE_DROP + 4 {
+        for choice in &CHOICES {
+            assert!(rt; deletion_keeps(alloc, call, *choice));
+        }
+    }
+    Ok(())
+}
+
+// Whether the first `size` bytes of a store break at their end.
+fn breaks_at_end(alloc: Global, size: u64) -> bool {
+    prefix_breaks(alloc, size) == Some((size, None))
+}
+
+#[test]
+fn each_prefix_breaks_at_its_end(rt: HostRuntime) -> Result<(), Fail> {
+    let alloc = rt.alloc();
+    for size in 0..40 {
+        assert!(rt; breaks_at_end(alloc, size));
+    }
+    assert!(rt; breaks_at_end(alloc, 4095));
+    assert!(rt; breaks_at_end(alloc, 4096));
+    assert!(rt; breaks_at_end(alloc, 4096 + 65_536));
+    assert!(rt; breaks_at_end(alloc, 4096 + 2 * 65_536 - 1));
+    assert!(rt; prefix_breaks(alloc, 4096 + 2 * 65_536) == None);
     Ok(())
 }
